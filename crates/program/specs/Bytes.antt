@@ -1,0 +1,17 @@
+-- Numbers in bytes. 01, "The bytes of a sheet": "all numbers have their highest byte first". Past the end there are zeros.
+use mathlib.Core.List.{List}
+use Prim.Native.Nat.{ℕ, _+_, _*_, _<_}
+use lib.ListN.{getD}
+
+abbrev pub byte : List ℕ → (at : ℕ) → ℕ
+byte s i = getD s i 0
+
+abbrev pub word16 : List ℕ → (at : ℕ) → ℕ
+word16 s i = byte s i * 256 + byte s (i + 1)
+
+abbrev pub word32 : List ℕ → (at : ℕ) → ℕ
+word32 s i = word16 s i * 65536 + word16 s (i + 2)
+
+-- what a slice of bytes holds
+pub record Bytes (s : List ℕ) : Type 0 where
+  pub below : (i : ℕ) → byte s i < 256

@@ -1,0 +1,6 @@
+-- What is proved of the definitions, for the crates above. Nothing here has to be believed.
+pub mod Screening
+pub mod Readable
+pub mod Types
+pub mod Trees
+pub mod Nesting

@@ -1,0 +1,91 @@
+-- What a readable sheet has, condition by condition.
+use mathlib.Core.Bool.{Bool, true}
+use mathlib.Core.List.{List, [], _∷_}
+use mathlib.Core.Path.{_≡_}
+use Prim.Native.Nat.{ℕ, _+_, _*_, _/_, _<_, _≤_}
+use native.Mathlib.Omega.{arith}
+use lib.Dec.{eqb}
+use lib.ListN.{length}
+use borrow.Author.Tests.{leb-true, eqb-true}
+use Rattle.privileges.specs.Booleans.{and-left, and-right}
+use Rattle.program.specs.Bytes.{byte, word16}
+use Rattle.program.specs.Layout.{principals, typeField, types, termField, terms, termAt}
+use Rattle.program.specs.Screening.{None, none-end, none-next, unless, seek}
+use Rattle.program.specs.Decoding.{holds, field, typeOk, termOk, placedOk, nestedIn, decodingConditions, decoding, Readable}
+use Rattle.program.specs.Laws.Screening.{clear-none, none-cons, none-append, unless-none, lowest-none}
+
+-- ---- the fields
+record FieldOk (s : List ℕ) (o tag : ℕ) (ok : ℕ → Bool) : Type 0 where
+  header : o + 3 ≤ length s
+  tagged : byte s o ≡ tag
+  sized : ok (word16 s (o + 1)) ≡ true
+  content : o + 3 + word16 s (o + 1) ≤ length s
+
+field-ok : (s : List ℕ) (o tag : ℕ) (ok : ℕ → Bool) → None (field s o tag ok) → FieldOk s o tag ok
+field-ok s o tag ok (none-next a (none-next b (none-next c (none-next d none-end)))) = record {
+  header = leb-true (o + 3) (length s) (unless-none 1 _ a);
+  tagged = eqb-true (byte s o) tag (unless-none 2 _ b);
+  sized = unless-none 4 _ c;
+  content = leb-true (o + 3 + word16 s (o + 1)) (length s) (unless-none 1 _ d);
+}
+
+record Counted (size least most n : ℕ) : Type 0 where
+  exact : n / size * size ≡ n
+  low : least ≤ n / size
+  high : n / size ≤ most
+
+counted : (size least most n : ℕ) → holds size least most n ≡ true → Counted size least most n
+counted size least most n h = record {
+  exact = eqb-true (n / size * size) n (search (and-left, and-right));
+  low = leb-true least (n / size) (search (and-left, and-right));
+  high = leb-true (n / size) most (search (and-left, and-right));
+}
+
+-- ---- the whole sheet
+pub record WellFormed (s : List ℕ) : Type 0 where
+  pub version : word16 s 3 ≡ 1
+  pub principals-least : 1 ≤ principals s
+  pub principals-most : principals s ≤ 32
+  pub types-least : 2 ≤ types s
+  pub types-most : types s ≤ 256
+  pub terms-least : 1 ≤ terms s
+  pub terms-most : terms s ≤ 1024
+  pub whole : termAt s (terms s) ≡ length s
+  pub type-ok : (t : ℕ) → t < types s → typeOk s t ≡ true
+  pub term-ok : (t : ℕ) → t < terms s → termOk s t ≡ true
+  pub placed-ok : (t : ℕ) → t < terms s → placedOk s t ≡ true
+  pub nested-ok : (t : ℕ) → t < terms s → nestedIn s 32 t ≡ true
+
+tables-ok : (s : List ℕ) → FieldOk s 5 2 (holds 4 1 32) → FieldOk s (typeField s) 3 (holds 10 2 256) → FieldOk s (termField s) 4 (holds 8 1 1024)
+    → word16 s 3 ≡ 1
+    → None (unless 2 (eqb (termAt s (terms s)) (length s)) ∷ seek 5 (typeOk s) (types s) ∷ seek 6 (termOk s) (terms s) ∷ seek 7 (placedOk s) (terms s) ∷ seek 8 (nestedIn s 32) (terms s) ∷ [])
+    → WellFormed s
+tables-ok s p y m v (none-next e (none-next a (none-next b (none-next c (none-next d none-end))))) =
+    let cp = counted 4 1 32 (word16 s 6) (p .sized) in
+    let cy = counted 10 2 256 (word16 s (typeField s + 1)) (y .sized) in
+    let cm = counted 8 1 1024 (word16 s (termField s + 1)) (m .sized) in
+    record {
+      version = v;
+      principals-least = cp .low;
+      principals-most = cp .high;
+      types-least = cy .low;
+      types-most = cy .high;
+      terms-least = cm .low;
+      terms-most = cm .high;
+      whole = eqb-true (termAt s (terms s)) (length s) (unless-none 2 _ e);
+      type-ok = λ t h. lowest-none (typeOk s) 0 (types s) a t (omega arith) (omega arith);
+      term-ok = λ t h. lowest-none (termOk s) 0 (terms s) b t (omega arith) (omega arith);
+      placed-ok = λ t h. lowest-none (placedOk s) 0 (terms s) c t (omega arith) (omega arith);
+      nested-ok = λ t h. lowest-none (nestedIn s 32) 0 (terms s) d t (omega arith) (omega arith);
+    }
+
+pub well-formed : (s : List ℕ) → Readable s → WellFormed s
+unfolding decoding
+well-formed s e =
+    let n = clear-none (decodingConditions s) e in
+    let a = none-append (field s 0 1 (holds 2 1 1)) _ n in
+    let v = none-cons (a .1) in
+    let b = none-append (field s 5 2 (holds 4 1 32)) _ (v .1) in
+    let c = none-append (field s (typeField s) 3 (holds 10 2 256)) _ (b .1) in
+    let d = none-append (field s (termField s) 4 (holds 8 1 1024)) _ (c .1) in
+    tables-ok s (field-ok s _ _ _ (b .0)) (field-ok s _ _ _ (c .0)) (field-ok s _ _ _ (d .0)) (eqb-true (word16 s 3) 1 (unless-none 3 _ (v .0))) (d .1)

@@ -1,0 +1,187 @@
+-- The tree of a readable sheet: children are lower, parts in range, bodies and the root signed.
+use mathlib.Core.Bool.{Bool, true, false, not, cond, _||_, false≢true}
+use mathlib.Core.List.{List}
+use mathlib.Core.Path.{_≡_, refl, sym, ap, subst}
+use Prim.Native.Nat.{ℕ, zero, suc, _<_, _≤_}
+use native.Mathlib.Omega.{arith}
+use lib.Dec.{eqb}
+use borrow.Author.Tests.{ltb-true, leb-true, eqb-true, eq-eqb}
+use Rattle.privileges.specs.Booleans.{and-left, and-right}
+use Rattle.program.specs.Layout.{terms, root, kindByte, small, first, second, third, Types, typesOf}
+use Rattle.program.specs.Formats.{Part, unused, flag, anyNumber, privilege, principal, functionType, child, bodyChild, isChild, Format, Kind, Boolean, Number, Variable, Function, Letrec, Call, If, Check, Enable, Sign, Test, Sum, Difference, Less, Post, kindOf, format}
+use Rattle.program.specs.Terms.{Term, boolean, number, variable, function, letrec, call, if, check, enable, sign, test, binary, post, sum, difference, less, node, treeTo, tree, program}
+use Rattle.program.specs.Decoding.{partOk, formatAt, timesBelow, isSign, signedBody}
+use Rattle.program.specs.Laws.Readable.{WellFormed}
+
+-- ---- the parts of a record
+pub record Parts (s : List ℕ) (t : ℕ) : Type 0 where
+  pub kind-ok : kindByte s t ≤ 14
+  pub small-ok : partOk s t (formatAt s t .small) (small s t) ≡ true
+  pub first-ok : partOk s t (formatAt s t .first) (first s t) ≡ true
+  pub second-ok : partOk s t (formatAt s t .second) (second s t) ≡ true
+  pub third-ok : partOk s t (formatAt s t .third) (third s t) ≡ true
+
+pub parts : (s : List ℕ) → WellFormed s → (t : ℕ) → t < terms s → Parts s t
+parts s w t l =
+    let h = w .term-ok t l in
+    record {
+      kind-ok = leb-true (kindByte s t) 14 (search (and-left, and-right));
+      small-ok = search (and-left, and-right);
+      first-ok = search (and-left, and-right);
+      second-ok = search (and-left, and-right);
+      third-ok = search (and-left, and-right);
+    }
+
+-- ---- children are lower than their parent
+child-lower : (s : List ℕ) (t : ℕ) (p : Part) (x : ℕ) → partOk s t p x ≡ true → isChild p ≡ true → x < t
+child-lower s t unused x h c = absurd (false≢true c)
+child-lower s t flag x h c = absurd (false≢true c)
+child-lower s t anyNumber x h c = absurd (false≢true c)
+child-lower s t privilege x h c = absurd (false≢true c)
+child-lower s t principal x h c = absurd (false≢true c)
+child-lower s t functionType x h c = absurd (false≢true c)
+child-lower s t child x h c = ltb-true x t h
+child-lower s t bodyChild x h c = ltb-true x t h
+
+pub record Below (f : Format) (t a b c : ℕ) : Type 0 where
+  pub first-below : isChild (f .first) ≡ true → a < t
+  pub second-below : isChild (f .second) ≡ true → b < t
+  pub third-below : isChild (f .third) ≡ true → c < t
+
+pub below : (s : List ℕ) → WellFormed s → (t : ℕ) → t < terms s → Below (formatAt s t) t (first s t) (second s t) (third s t)
+below s w t l =
+    let p = parts s w t l in
+    record {
+      first-below = child-lower s t (formatAt s t .first) (first s t) (p .first-ok);
+      second-below = child-lower s t (formatAt s t .second) (second s t) (p .second-ok);
+      third-below = child-lower s t (formatAt s t .third) (third s t) (p .third-ok);
+    }
+
+-- ---- a term of the tree is the node of its record over its children's trees
+node-same : (k : Kind) (t x a b c : ℕ) (f g : ℕ → Term) → Below (format k) t a b c → ((y : ℕ) → y < t → f y ≡ g y) → node k t x a b c f ≡ node k t x a b c g
+node-same Boolean t x a b c f g w h = refl
+node-same Number t x a b c f g w h = refl
+node-same Variable t x a b c f g w h = refl
+node-same Function t x a b c f g w h = λ i. function t a (h b (w .second-below refl) i)
+node-same Letrec t x a b c f g w h = λ i. letrec t a (h b (w .second-below refl) i) (h c (w .third-below refl) i)
+node-same Call t x a b c f g w h = λ i. call t (h a (w .first-below refl) i) (h b (w .second-below refl) i)
+node-same If t x a b c f g w h = λ i. if t (h a (w .first-below refl) i) (h b (w .second-below refl) i) (h c (w .third-below refl) i)
+node-same Check t x a b c f g w h = λ i. check t x (h a (w .first-below refl) i)
+node-same Enable t x a b c f g w h = λ i. enable t x (h a (w .first-below refl) i)
+node-same Sign t x a b c f g w h = λ i. sign t x (h a (w .first-below refl) i)
+node-same Test t x a b c f g w h = λ i. test t x (h a (w .first-below refl) i) (h b (w .second-below refl) i)
+node-same Sum t x a b c f g w h = λ i. binary t sum (h a (w .first-below refl) i) (h b (w .second-below refl) i)
+node-same Difference t x a b c f g w h = λ i. binary t difference (h a (w .first-below refl) i) (h b (w .second-below refl) i)
+node-same Less t x a b c f g w h = λ i. binary t less (h a (w .first-below refl) i) (h b (w .second-below refl) i)
+node-same Post t x a b c f g w h = λ i. post t (h a (w .first-below refl) i)
+
+-- the same at every depth that reaches all of it
+pub tree-depth : (s : List ℕ) → WellFormed s → (j k t : ℕ) → t < terms s → t < j → t < k → treeTo s j t ≡ treeTo s k t
+tree-depth s w zero k t l p q = absurd (omega arith)
+tree-depth s w (suc j) zero t l p q = absurd (omega arith)
+tree-depth s w (suc j) (suc k) t l p q =
+    node-same (kindOf (kindByte s t)) t (small s t) (first s t) (second s t) (third s t) (λ y. treeTo s j y) (λ y. treeTo s k y) (below s w t l)
+    (λ y h. tree-depth s w j k y (omega arith) (omega arith) (omega arith))
+
+pub tree-node : (s : List ℕ) → WellFormed s → (t : ℕ) → t < terms s
+    → tree s t ≡ node (kindOf (kindByte s t)) t (small s t) (first s t) (second s t) (third s t) (tree s)
+tree-node s w t l =
+    node-same (kindOf (kindByte s t)) t (small s t) (first s t) (second s t) (third s t) (λ y. treeTo s t y) (tree s) (below s w t l)
+    (λ y h. tree-depth s w t (suc y) y (omega arith) h (omega arith))
+
+-- ---- 003's standard expressions (its Definition 2.1): the body of every function is signed. Here its type is also a function type.
+pub data Signed : Term → Type 0 where
+  signed : {at n : ℕ} {c : Term} → Signed (sign at n c)
+
+abbrev pub Standard : Types → Term → Type 0
+Standard T (boolean at b) = Unit {0}
+Standard T (number at n) = Unit {0}
+Standard T (variable at i) = Unit {0}
+Standard T (function at ty body) = (T .isFun ty ≡ true) × Signed body × Standard T body
+Standard T (letrec at ty body rest) = (T .isFun ty ≡ true) × Signed body × Standard T body × Standard T rest
+Standard T (call at f a) = Standard T f × Standard T a
+Standard T (if at c y n) = Standard T c × Standard T y × Standard T n
+Standard T (check at p c) = Standard T c
+Standard T (enable at p c) = Standard T c
+Standard T (sign at n c) = Standard T c
+Standard T (test at p y n) = Standard T y × Standard T n
+Standard T (binary at op a b) = Standard T a × Standard T b
+Standard T (post at c) = Standard T c
+
+-- a sign's record gives a sign
+sign-node : (k : Kind) (t x a b c : ℕ) (f : ℕ → Term) → k ≡ Sign → Signed (node k t x a b c f)
+sign-node k t x a b c f e = subst (λ (z : Kind). Signed (node z t x a b c f)) (sym e) signed
+
+pub kind-sign : (s : List ℕ) (t : ℕ) → isSign s t ≡ true → kindOf (kindByte s t) ≡ Sign
+kind-sign s t h = ap kindOf (eqb-true (kindByte s t) 9 h)
+
+pub tree-signed : (s : List ℕ) (k t : ℕ) → isSign s t ≡ true → Signed (treeTo s (suc k) t)
+tree-signed s k t h = sign-node (kindOf (kindByte s t)) t (small s t) (first s t) (second s t) (third s t) (λ x. treeTo s k x) (kind-sign s t h)
+
+-- a record over standard terms gives a standard term, if its function type is one and its body is signed
+module _ (T : Types) (f : ℕ → Term) (t : ℕ) (std : (y : ℕ) → y < t → Standard T (f y)) where
+  node-standard : (k : Kind) (x a b c : ℕ) → Below (format k) t a b c → (format k .first ≡ functionType → T .isFun a ≡ true)
+      → (format k .second ≡ bodyChild → Signed (f b)) → Standard T (node k t x a b c f)
+  node-standard Boolean x a b c w ty sg = tt
+  node-standard Number x a b c w ty sg = tt
+  node-standard Variable x a b c w ty sg = tt
+  node-standard Function x a b c w ty sg = (ty refl, sg refl, std b (w .second-below refl))
+  node-standard Letrec x a b c w ty sg = (ty refl, sg refl, std b (w .second-below refl), std c (w .third-below refl))
+  node-standard Call x a b c w ty sg = (std a (w .first-below refl), std b (w .second-below refl))
+  node-standard If x a b c w ty sg = (std a (w .first-below refl), std b (w .second-below refl), std c (w .third-below refl))
+  node-standard Check x a b c w ty sg = std a (w .first-below refl)
+  node-standard Enable x a b c w ty sg = std a (w .first-below refl)
+  node-standard Sign x a b c w ty sg = std a (w .first-below refl)
+  node-standard Test x a b c w ty sg = (std a (w .first-below refl), std b (w .second-below refl))
+  node-standard Sum x a b c w ty sg = (std a (w .first-below refl), std b (w .second-below refl))
+  node-standard Difference x a b c w ty sg = (std a (w .first-below refl), std b (w .second-below refl))
+  node-standard Less x a b c w ty sg = (std a (w .first-below refl), std b (w .second-below refl))
+  node-standard Post x a b c w ty sg = std a (w .first-below refl)
+
+-- ---- parents, bodies and the root
+pub record Placed (s : List ℕ) (t : ℕ) : Type 0 where
+  pub times : timesBelow s t (terms s) ≡ cond (eqb t (root s)) 0 1
+  pub body-signed : signedBody s (formatAt s t .second) (second s t) ≡ true
+  pub root-signed : (not (eqb t (root s)) || isSign s t) ≡ true
+
+pub placed : (s : List ℕ) → WellFormed s → (t : ℕ) → t < terms s → Placed s t
+placed s w t l =
+    let h = w .placed-ok t l in
+    record {
+      times = eqb-true (timesBelow s t (terms s)) (cond (eqb t (root s)) 0 1) (search (and-left, and-right));
+      body-signed = search (and-left, and-right);
+      root-signed = search (and-left, and-right);
+    }
+
+body-sign : (s : List ℕ) (p : Part) (x : ℕ) → signedBody s p x ≡ true → p ≡ bodyChild → isSign s x ≡ true
+body-sign s p x h e = subst (λ (q : Part). signedBody s q x ≡ true) e h
+
+type-function : (s : List ℕ) (t : ℕ) (p : Part) (x : ℕ) → partOk s t p x ≡ true → p ≡ functionType → typesOf s .isFun x ≡ true
+type-function s t p x h e = subst (λ (q : Part). partOk s t q x ≡ true) e h
+
+tree-standard : (s : List ℕ) → WellFormed s → (k t : ℕ) → t < terms s → t < k → Standard (typesOf s) (treeTo s k t)
+tree-standard s w zero t l h = absurd (omega arith)
+tree-standard s w (suc k) t l h =
+    node-standard (typesOf s) (λ y. treeTo s k y) t (λ y g. tree-standard s w k y (omega arith) (omega arith)) (kindOf (kindByte s t)) (small s t) (first s t) (second s t) (third s t)
+    (below s w t l) (type-function s t (formatAt s t .first) (first s t) (parts s w t l .first-ok))
+    (λ e. deep k (omega (arith, below s w t l .second-below (ap isChild e))) (body-sign s (formatAt s t .second) (second s t) (placed s w t l .body-signed) e))
+  where
+    deep : (k : ℕ) → second s t < k → isSign s (second s t) ≡ true → Signed (treeTo s k (second s t))
+    deep zero g i = absurd (omega arith)
+    deep (suc j) g i = tree-signed s j (second s t) i
+
+or-not : (a b : Bool) → a ≡ true → (not a || b) ≡ true → b ≡ true
+or-not true b e h = h
+or-not false b e h = absurd (false≢true e)
+
+pub root-lower : (s : List ℕ) → WellFormed s → root s < terms s
+root-lower s w = omega (arith, w .terms-least)
+
+-- every body of the program is signed, and so is its root
+pub program-standard : (s : List ℕ) → WellFormed s → Standard (typesOf s) (program s)
+program-standard s w = tree-standard s w (suc (root s)) (root s) (root-lower s w) (omega arith)
+
+pub program-signed : (s : List ℕ) → WellFormed s → Signed (program s)
+program-signed s w =
+    tree-signed s (root s) (root s)
+    (or-not (eqb (root s) (root s)) (isSign s (root s)) (eq-eqb (root s) (root s) refl) (placed s w (root s) (root-lower s w) .root-signed))
