@@ -1,0 +1,166 @@
+-- The algorithm accepts exactly the derivable terms, with the type that every derivation has and the least needs.
+use mathlib.Core.Bool.{Bool, true, false, cond}
+use mathlib.Core.List.{List, _∷_}
+use mathlib.Core.Option.{Option, none, some}
+use mathlib.Core.Path.{_≡_, refl, sym, ap, _∙_, subst}
+use Prim.Native.Nat.{ℕ}
+use lib.Dec.{eqb}
+use borrow.Author.Tests.{eqb-true, eq-eqb}
+use Rattle.privileges.specs.Booleans.{and-left, and-right, and-both}
+use Rattle.privileges.specs.Sets.{has, union, insert, remove, _⊆_}
+use Rattle.privileges.specs.Laws.{⊆-refl, ⊆-trans, union-mono, insert-mono, remove-mono, subset-⊆, ⊆-subset}
+use Rattle.program.specs.Layout.{Types}
+use Rattle.program.specs.Terms.{Term, boolean, number, variable, function, letrec, call, if, check, enable, sign, test, binary, post}
+use Rattle.program.specs.Laws.Types.{Lower}
+use Rattle.program.specs.Laws.Trees.{Standard}
+use Rattle.typing.specs.Subtyping.{subtype}
+use Rattle.typing.specs.Rules.{bound, removeAuthorised, Derives, d-boolean, d-number, d-variable, d-function, d-letrec, d-call, d-if, d-test, d-check, d-enable, d-sign, d-binary, d-post, d-widen}
+use Rattle.typing.specs.Checking.{Judgement, typed, fault, _next_, require, variableType, bodyFits, infer}
+use Rattle.typing.specs.Laws.Subtyping.{subtype-sound, subtype-complete}
+
+pub removeAuthorised-mono : (A : ℕ → ℕ) (n p : ℕ) {a b : ℕ} → a ⊆ b → removeAuthorised A n p a ⊆ removeAuthorised A n p b
+unfolding removeAuthorised
+removeAuthorised-mono A n p {a} {b} f = go (has p (A n))
+  where
+    go : (z : Bool) → cond z (remove p a) a ⊆ cond z (remove p b) b
+    go true = remove-mono p f
+    go false = f
+
+-- ---- sound: what is typed is derived
+pub data Sound (T : Types) (A : ℕ → ℕ) (Γ : List ℕ) (n : ℕ) (c : Term) : Judgement → Type 0 where
+  derived : {τ N : ℕ} → Derives T A Γ n c τ N → Sound T A Γ n c (typed τ N)
+  faulty : {cause at : ℕ} → Sound T A Γ n c (fault cause at)
+
+module _ {T : Types} {A : ℕ → ℕ} {Γ : List ℕ} {n : ℕ} {c : Term} where
+  next-sound : {Γ′ : List ℕ} {n′ : ℕ} {c′ : Term} {j : Judgement} (k : ℕ → ℕ → Judgement) → Sound T A Γ′ n′ c′ j
+      → ((τ N : ℕ) → Derives T A Γ′ n′ c′ τ N → Sound T A Γ n c (k τ N)) → Sound T A Γ n c (j next k)
+  next-sound k (derived {τ} {N} d) h = h τ N d
+  next-sound k faulty h = faulty
+
+  require-sound : (b : Bool) (cause at : ℕ) {j : Judgement} → (b ≡ true → Sound T A Γ n c j) → Sound T A Γ n c (require b cause at j)
+  require-sound true cause at h = h refl
+  require-sound false cause at h = faulty
+
+  retype : {τ σ N : ℕ} → τ ≡ σ → Derives T A Γ n c τ N → Derives T A Γ n c σ N
+  retype {N = N} e d = subst (λ x. Derives T A Γ n c x N) e d
+
+  body-sound : {τ N : ℕ} (at ty : ℕ) {j : Judgement} → (τ ≡ T .res ty → N ⊆ T .latent ty → Sound T A Γ n c j) → Sound T A Γ n c (bodyFits T A at ty τ N j)
+  body-sound {τ} {N} at ty h = require-sound _ 10 at λ e. require-sound _ 12 at λ l. h (eqb-true τ (T .res ty) e) (subset-⊆ N (T .latent ty) l)
+
+  typed-derives : {j : Judgement} {τ N : ℕ} → Sound T A Γ n c j → j ≡ typed τ N → Derives T A Γ n c τ N
+  typed-derives s e = go (subst (Sound T A Γ n c) e s)
+    where
+      go : {τ N : ℕ} → Sound T A Γ n c (typed τ N) → Derives T A Γ n c τ N
+      go (derived d) = d
+
+module _ (T : Types) (A : ℕ → ℕ) where
+  variable-sound : (Γ : List ℕ) (n at i : ℕ) (o : Option ℕ) → bound Γ i ≡ o → Sound T A Γ n (variable at i) (variableType at o)
+  variable-sound Γ n at i none e = faulty
+  variable-sound Γ n at i (some τ) e = derived (d-variable e)
+
+  pub infer-sound : (Γ : List ℕ) (n : ℕ) (c : Term) → Standard T c → Sound T A Γ n c (infer T A Γ n c)
+  unfolding infer
+  infer-sound Γ n (boolean at b) w = derived d-boolean
+  infer-sound Γ n (number at k) w = derived d-number
+  infer-sound Γ n (variable at i) w = variable-sound Γ n at i (bound Γ i) refl
+  infer-sound Γ n (function at ty body) w = next-sound _ (infer-sound (T .arg ty ∷ Γ) n body (w .2)) λ τ N d.
+      body-sound at ty λ e l. derived (d-function (w .0) (retype e d) l)
+  infer-sound Γ n (letrec at ty body rest) w = next-sound _ (infer-sound (T .arg ty ∷ ty ∷ Γ) n body (w .2)) λ τ N d.
+      next-sound _ (infer-sound (ty ∷ Γ) n rest (w .3)) λ ρ M d′. body-sound at ty λ e l. derived (d-letrec (w .0) (retype e d) l d′)
+  infer-sound Γ n (call at f a) w = next-sound _ (infer-sound Γ n f (w .0)) λ φ N d. next-sound _ (infer-sound Γ n a (w .1)) λ α M d′.
+      require-sound _ 10 at λ h. let fits : subtype T α (T .arg φ) ≡ true = and-right (T .isFun φ) (subtype T α (T .arg φ)) h in
+      derived (d-call d d′ (and-left (T .isFun φ) (subtype T α (T .arg φ)) h) (subtype-sound T α (T .arg φ) fits))
+  infer-sound Γ n (if at c y o) w = next-sound _ (infer-sound Γ n c (w .0)) λ σ N d. next-sound _ (infer-sound Γ n y (w .1)) λ τ M d′.
+      next-sound _ (infer-sound Γ n o (w .2)) λ ρ K d″. require-sound _ 10 at λ h.
+      derived (d-if (retype (eqb-true σ 0 (and-left (eqb σ 0) (eqb τ ρ) h)) d) (retype (eqb-true τ ρ (and-right (eqb σ 0) (eqb τ ρ) h)) d′) d″)
+  infer-sound Γ n (check at p c) w = next-sound _ (infer-sound Γ n c w) λ τ N d. derived (d-check d)
+  infer-sound Γ n (enable at p c) w = next-sound _ (infer-sound Γ n c w) λ τ N d. derived (d-enable d)
+  infer-sound Γ n (sign at m c) w = next-sound _ (infer-sound Γ m c w) λ τ N d. require-sound _ 11 at λ h. derived (d-sign d (subset-⊆ N (A m) h))
+  infer-sound Γ n (test at p y o) w = next-sound _ (infer-sound Γ n y (w .0)) λ τ N d. next-sound _ (infer-sound Γ n o (w .1)) λ ρ M d′.
+      require-sound _ 10 at λ h. derived (d-test (retype (eqb-true τ ρ h) d) d′)
+  infer-sound Γ n (binary at op a b) w = next-sound _ (infer-sound Γ n a (w .0)) λ τ N d. next-sound _ (infer-sound Γ n b (w .1)) λ ρ M d′.
+      require-sound _ 10 at λ h.
+      derived (d-binary (retype (eqb-true τ 1 (and-left (eqb τ 1) (eqb ρ 1) h)) d) (retype (eqb-true ρ 1 (and-right (eqb τ 1) (eqb ρ 1) h)) d′))
+  infer-sound Γ n (post at c) w = next-sound _ (infer-sound Γ n c w) λ τ N d. require-sound _ 10 at λ h. derived (d-post (retype (eqb-true τ 1 h) d))
+
+  -- ---- complete: what is derived is typed, with needs inside every derivation's
+  pub record Typed (Γ : List ℕ) (n : ℕ) (c : Term) (τ N : ℕ) : Type 0 where
+    pub least : ℕ
+    pub is : infer T A Γ n c ≡ typed τ least
+    pub inside : least ⊆ N
+
+  then : {j : Judgement} {τ N : ℕ} (k : ℕ → ℕ → Judgement) → j ≡ typed τ N → (j next k) ≡ k τ N
+  then k e = λ i. e i next k
+
+  met : (b : Bool) (cause at : ℕ) (j : Judgement) → b ≡ true → require b cause at j ≡ j
+  met b cause at j e = λ i. require (e i) cause at j
+
+  body-met : (at ty : ℕ) {N L : ℕ} (j : Judgement) → L ⊆ N → N ⊆ T .latent ty → bodyFits T A at ty (T .res ty) L j ≡ j
+  body-met at ty j s l = met _ 10 at _ (eq-eqb (T .res ty) (T .res ty) refl) ∙ met _ 12 at j (⊆-subset (⊆-trans s l))
+
+  pub infer-complete : Lower T → {Γ : List ℕ} {n : ℕ} {c : Term} {τ N : ℕ} → Derives T A Γ n c τ N → Typed Γ n c τ N
+  unfolding infer
+  infer-complete L d-boolean = record { least = 0; is = refl; inside = ⊆-refl 0 }
+  infer-complete L d-number = record { least = 0; is = refl; inside = ⊆-refl 0 }
+  infer-complete L (d-variable {at = at} h) = record { least = 0; is = ap (variableType at) h; inside = ⊆-refl 0 }
+  infer-complete L (d-function {at = at} {ty = ty} hf d s) =
+      let x = infer-complete L d in
+      record { least = 0; is = then _ (x .is) ∙ body-met at ty _ (x .inside) s; inside = ⊆-refl 0 }
+  infer-complete L (d-letrec {at = at} {ty = ty} hf d s d′) =
+      let x = infer-complete L d in
+      let y = infer-complete L d′ in
+      record {
+        least = union (T .latent ty) (y .least);
+        is = then _ (x .is) ∙ then _ (y .is) ∙ body-met at ty _ (x .inside) s;
+        inside = union-mono (⊆-refl (T .latent ty)) (y .inside);
+      }
+  infer-complete L (d-call {at = at} {φ = φ} d d′ hf f) =
+      let x = infer-complete L d in
+      let y = infer-complete L d′ in
+      record {
+        least = union (T .latent φ) (union (x .least) (y .least));
+        is = then _ (x .is) ∙ then _ (y .is) ∙ met _ 10 at _ (and-both hf (subtype-complete T L f));
+        inside = union-mono (⊆-refl (T .latent φ)) (union-mono (x .inside) (y .inside));
+      }
+  infer-complete L (d-if {at = at} {τ = τ} d d′ d″) =
+      let x = infer-complete L d in
+      let y = infer-complete L d′ in
+      let z = infer-complete L d″ in
+      record {
+        least = union (x .least) (union (y .least) (z .least));
+        is = then _ (x .is) ∙ then _ (y .is) ∙ then _ (z .is) ∙ met _ 10 at _ (eq-eqb τ τ refl);
+        inside = union-mono (x .inside) (union-mono (y .inside) (z .inside));
+      }
+  infer-complete L (d-test {at = at} {τ = τ} d d′) =
+      let x = infer-complete L d in
+      let y = infer-complete L d′ in
+      record { least = union (x .least) (y .least); is = then _ (x .is) ∙ then _ (y .is) ∙ met _ 10 at _ (eq-eqb τ τ refl); inside = union-mono (x .inside) (y .inside) }
+  infer-complete L (d-check {p = p} d) =
+      let x = infer-complete L d in
+      record { least = insert p (x .least); is = then _ (x .is); inside = insert-mono p (x .inside) }
+  infer-complete L (d-enable {n = n} {p = p} d) =
+      let x = infer-complete L d in
+      record { least = removeAuthorised A n p (x .least); is = then _ (x .is); inside = removeAuthorised-mono A n p (x .inside) }
+  infer-complete L (d-sign {at = at} d s) =
+      let x = infer-complete L d in
+      record { least = x .least; is = then _ (x .is) ∙ met _ 11 at _ (⊆-subset (⊆-trans (x .inside) s)); inside = x .inside }
+  infer-complete L (d-binary {at = at} d d′) =
+      let x = infer-complete L d in
+      let y = infer-complete L d′ in
+      record { least = union (x .least) (y .least); is = then _ (x .is) ∙ then _ (y .is); inside = union-mono (x .inside) (y .inside) }
+  infer-complete L (d-post {at = at} d) =
+      let x = infer-complete L d in
+      record { least = x .least; is = then _ (x .is); inside = x .inside }
+  infer-complete L (d-widen d s) =
+      let x = infer-complete L d in
+      record { least = x .least; is = x .is; inside = ⊆-trans (x .inside) s }
+
+  pub infer-derives : {Γ : List ℕ} {n : ℕ} {c : Term} {τ N : ℕ} → Standard T c → infer T A Γ n c ≡ typed τ N → Derives T A Γ n c τ N
+  infer-derives {Γ} {n} {c} w e = typed-derives (infer-sound Γ n c w) e
+
+  -- every derivation has the type that is inferred, and needs no less
+  pub derives-least : Lower T → {Γ : List ℕ} {n : ℕ} {c : Term} {τ N σ M : ℕ} → infer T A Γ n c ≡ typed τ N → Derives T A Γ n c σ M → (σ ≡ τ) × N ⊆ M
+  derives-least L {τ = τ} {N = N} {σ = σ} {M = M} e d =
+      let x = infer-complete L d in
+      let g : typed σ (x .least) ≡ typed τ N = sym (x .is) ∙ e in
+      (cc, subst (λ z. z ⊆ M) (let q : x .least ≡ N = cc in q) (x .inside))

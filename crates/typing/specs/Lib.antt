@@ -1,0 +1,6 @@
+pub mod Subtyping
+pub mod Rules
+pub mod Checking
+pub mod Verdicts
+pub mod Laws
+pub mod Theorems

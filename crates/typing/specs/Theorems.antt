@@ -1,0 +1,127 @@
+-- The theorems about the rules: subtyping is an order that the test decides; a readable sheet is accepted exactly if it has a derivation; the
+-- needs told are the least, and the type told is that of every derivation.
+use mathlib.Core.Bool.{Bool, true, false, cond}
+use mathlib.Core.List.{List}
+use mathlib.Core.Logic.{_↔_}
+use mathlib.Core.Path.{_≡_, refl, _∙_, subst}
+use Prim.Native.Nat.{ℕ, _<_}
+use native.Mathlib.Omega.{arith}
+use lib.Dec.{ltb}
+use borrow.Author.Tests.{ltb-true, lt-ltb}
+use Rattle.privileges.specs.Sets.{_⊆_}
+use Rattle.program.specs.Bytes.{Bytes}
+use Rattle.program.specs.Layout.{authority, terms, root, typesOf}
+use Rattle.program.specs.Screening.{Screening, clear, refused as unreadable}
+use Rattle.program.specs.Decoding.{decoding, Readable}
+use Rattle.program.specs.Laws.Readable.{well-formed}
+use Rattle.program.specs.Laws.Types.{lower-types, distinct-types}
+use Rattle.program.specs.Laws.Trees.{program-standard}
+use Rattle.typing.specs.Subtyping.{Subtype, sub-same, subtype}
+use Rattle.typing.specs.Checking.{Judgement, typed, fault}
+use Rattle.typing.specs.Verdicts.{accepted, refused, concluded, ifReadable, judgement, verdict, SheetDerives}
+use Rattle.typing.specs.Laws.Subtyping.{sub-trans, sub-antisym, subtype-sound, subtype-complete}
+use Rattle.typing.specs.Laws.Checking.{infer-complete, infer-derives, derives-least}
+
+-- ---- Theorem 1: subtyping
+
+pub record SubtypeOrder (s : List ℕ) : Type 0 where
+  pub reflexive : (a : ℕ) → Subtype (typesOf s) a a
+  pub transitive : (a b c : ℕ) → Subtype (typesOf s) a b → Subtype (typesOf s) b c → Subtype (typesOf s) a c
+  pub antisymmetric : (a b : ℕ) → Subtype (typesOf s) a b → Subtype (typesOf s) b a → a ≡ b
+  pub decided : (a b : ℕ) → (subtype (typesOf s) a b ≡ true) ↔ Subtype (typesOf s) a b
+
+pub subtyping : (s : List ℕ) → Bytes s → Readable s → SubtypeOrder s
+subtyping s bytes r =
+    let w = well-formed s r in
+    record {
+      reflexive = λ a. sub-same;
+      transitive = λ a b c p q. sub-trans (typesOf s) p q;
+      antisymmetric = λ a b p q. sub-antisym (typesOf s) (distinct-types s bytes w) p q;
+      decided = λ a b. (subtype-sound (typesOf s) a b, subtype-complete (typesOf s) (lower-types s w));
+    }
+
+-- ---- Theorem 2: acceptance
+
+-- a derivation with these, and none with another type or without some of these needs
+pub record LeastNeeds (s : List ℕ) (τ N : ℕ) : Type 0 where
+  pub derivation : SheetDerives s τ N
+  pub same-type : (σ M : ℕ) → SheetDerives s σ M → σ ≡ τ
+  pub least : (σ M : ℕ) → SheetDerives s σ M → N ⊆ M
+
+-- what an acceptance says
+pub record Acceptance (s : List ℕ) (n τ N : ℕ) : Type 0 where
+  pub readable : Readable s
+  pub count : n ≡ terms s
+  pub root-type : τ < 2
+  pub needs : LeastNeeds s τ N
+
+record Inferred (s : List ℕ) (n τ N : ℕ) : Type 0 where
+  readable : Readable s
+  count : n ≡ terms s
+  root-type : τ < 2
+  is : judgement s ≡ typed τ N
+
+refused≢accepted : {c p n τ N : ℕ} {A : Type 0} → refused c p ≡ accepted n τ N → A
+refused≢accepted e = absurd (let z : _≡_ {A = ℕ} 0 1 = cc in omega arith)
+
+module _ (s : List ℕ) (n τ N : ℕ) where
+  root-accepted : (σ M : ℕ) (b : Bool) → ltb σ 2 ≡ b → Readable s → judgement s ≡ typed σ M
+      → cond b (accepted (terms s) σ M) (refused 13 (root s)) ≡ accepted n τ N → Inferred s n τ N
+  root-accepted σ M true h r j e =
+      let p : σ ≡ τ = cc in
+      let q : M ≡ N = cc in
+      record { readable = r; count = (let c : n ≡ terms s = cc in c); root-type = subst (λ x. x < 2) p (ltb-true σ 2 h); is = j ∙ λ i. typed (p i) (q i) }
+  root-accepted σ M false h r j e = refused≢accepted e
+
+  judged : (j : Judgement) → judgement s ≡ j → Readable s → concluded (terms s) (root s) j ≡ accepted n τ N → Inferred s n τ N
+  judged (typed σ M) h r e = root-accepted σ M (ltb σ 2) refl r h e
+  judged (fault c at) h r e = refused≢accepted e
+
+  inferred : verdict s ≡ accepted n τ N → Inferred s n τ N
+  unfolding verdict
+  inferred e = go (decoding s) refl e
+    where
+      go : (d : Screening) → decoding s ≡ d → ifReadable d (λ _. concluded (terms s) (root s) (judgement s)) ≡ accepted n τ N → Inferred s n τ N
+      go clear h f = judged (judgement s) refl h f
+      go (unreadable c p) h f = refused≢accepted f
+
+-- an accepted sheet is readable and derivable, with the least needs
+pub acceptance : (s : List ℕ) (n τ N : ℕ) → verdict s ≡ accepted n τ N → Acceptance s n τ N
+acceptance s n τ N e =
+    let h = inferred s n τ N e in
+    let w = well-formed s (h .readable) in
+    let l : (σ M : ℕ) → SheetDerives s σ M → (σ ≡ τ) × N ⊆ M = λ σ M d. derives-least (typesOf s) (authority s) (lower-types s w) (h .is) d in
+    record {
+      readable = h .readable;
+      count = h .count;
+      root-type = h .root-type;
+      needs = record {
+        derivation = infer-derives (typesOf s) (authority s) (program-standard s w) (h .is);
+        same-type = λ σ M d. l σ M d .0;
+        least = λ σ M d. l σ M d .1;
+      };
+    }
+
+abbrev pub Accepted : List ℕ → Type 0
+Accepted s = (n : ℕ) × (τ : ℕ) × (N : ℕ) × (verdict s ≡ accepted n τ N)
+
+-- "The root has type 0 or 1."
+abbrev pub Derivable : List ℕ → Type 0
+Derivable s = (τ : ℕ) × (N : ℕ) × (τ < 2) × SheetDerives s τ N
+
+-- 01, "The two runs of demand 3": "A readable sheet is accepted exactly when the rules give a derivation."
+pub accepted-exactly : (s : List ℕ) → Readable s → Accepted s ↔ Derivable s
+unfolding verdict
+accepted-exactly s r = (forth, back)
+  where
+    forth : Accepted s → Derivable s
+    forth a = let h = acceptance s (a .0) (a .1) (a .2) (a .3) in (a .1, a .2, h .root-type, h .needs .derivation)
+
+    back : Derivable s → Accepted s
+    back d =
+        let x = infer-complete (typesOf s) (authority s) (lower-types s (well-formed s r)) (d .3) in (
+          terms s,
+          d .0,
+          x .least,
+          (λ i. ifReadable (r i) (λ _. concluded (terms s) (root s) (x .is i))) ∙ λ i. cond (lt-ltb (d .0) 2 (d .2) i) (accepted (terms s) (d .0) (x .least)) (refused 13 (root s)),
+        )

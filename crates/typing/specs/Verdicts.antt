@@ -1,0 +1,35 @@
+-- 01's judge on the bytes of a sheet: the reader's refusals 1 to 8, then the rules' 9 to 12 at a term, then "13 type of the root", which "is last".
+use mathlib.Core.Bool.{cond}
+use mathlib.Core.List.{List, []}
+use Prim.Native.Nat.{ℕ}
+use lib.Dec.{ltb}
+use Rattle.program.specs.Layout.{authority, terms, root, typesOf}
+use Rattle.program.specs.Terms.{program}
+use Rattle.program.specs.Screening.{Screening, clear, refused as unreadable}
+use Rattle.program.specs.Decoding.{decoding}
+use Rattle.typing.specs.Rules.{Derives}
+use Rattle.typing.specs.Checking.{Judgement, typed, fault, infer}
+
+pub data Verdict : Type 0 where
+  accepted : (terms type needs : ℕ) → Verdict
+  refused : (cause place : ℕ) → Verdict
+
+-- "The root has type 0 or 1."
+abbrev pub concluded : (terms root : ℕ) → Judgement → Verdict
+concluded n r (typed τ N) = cond (ltb τ 2) (accepted n τ N) (refused 13 r)
+concluded n r (fault c at) = refused c at
+
+abbrev pub ifReadable : Screening → (Unit {0} → Verdict) → Verdict
+ifReadable clear k = k tt
+ifReadable (unreadable c p) k = refused c p
+
+-- The program is judged without bindings. It is a sign, so that the principal named here is never looked at.
+abbrev pub judgement : List ℕ → Judgement
+judgement s = infer (typesOf s) (authority s) [] 0 (program s)
+
+unfoldable pub verdict : List ℕ → Verdict
+verdict s = ifReadable (decoding s) λ _. concluded (terms s) (root s) (judgement s)
+
+-- a derivation of the sheet: of its program, without bindings
+abbrev pub SheetDerives : List ℕ → (type needs : ℕ) → Type 0
+SheetDerives s τ N = Derives (typesOf s) (authority s) [] 0 (program s) τ N
