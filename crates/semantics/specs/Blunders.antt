@@ -1,0 +1,59 @@
+-- 01's "Plausible blunders" about runs, and the order of 19 and 20: for each a term that tells the blunder from the meaning, in one table that one
+-- theorem proves by computation, for both access controls.
+use mathlib.Core.Bool.{true}
+use mathlib.Core.List.{List, [], _∷_, map}
+use mathlib.Core.Path.{_≡_, refl}
+use Prim.Native.Nat.{ℕ, zero, suc}
+use Rattle.privileges.specs.Sets.{has, meet, union, insert}
+use Rattle.program.specs.Terms.{sum, Term, number, variable, function, letrec, call, check, enable, sign, binary}
+use Rattle.semantics.specs.Values.{num, empty, budget, Result, ends, stops}
+use Rattle.semantics.specs.Meaning.{evalWith, apply, eval}
+use Rattle.semantics.specs.Access.{frame, privs, lazyControl, rights, addAuthorised, eagerControl}
+
+-- principal 0 may use privilege 1, principal 1 nothing
+abbrev authority : ℕ → ℕ
+authority zero = 2
+authority (suc n) = 0
+
+pub record Example : Type 0 where
+  pub term : Term
+  pub start : List (ℕ × ℕ)
+  pub calls : ℕ
+  pub depth : ℕ
+  pub result : Result
+
+abbrev example : Term → List (ℕ × ℕ) → (calls depth : ℕ) → Result → Example
+example c fs k d r = record { term = c; start = fs; calls = k; depth = d; result = r }
+
+-- f is made where privilege 1 is not granted, and its body checks for it
+abbrev withChecker : (rest : Term) → Term
+withChecker rest = sign 20 0 (letrec 19 2 (sign 3 0 (check 2 1 (number 1 7))) rest)
+
+pub examples : List Example
+examples =
+    -- "Enabling what the principal isn't authorised for."
+    example (sign 3 1 (enable 2 1 (check 1 1 (number 0 7)))) [] 9 9 (stops 17 1 (budget 9 9 9 []))
+    -- "Running a body with the privileges of where the function was made": called under an enable, its check passes
+    ∷ example (withChecker (enable 7 1 (call 6 (variable 4 0) (number 5 0)))) [] 9 9 (ends (num 7) (budget 8 7 9 []))
+    -- "Undoing an enable when the call inside it returns, not when its own term ends."
+    ∷ example (withChecker (enable 10 1 (binary 9 sum (call 6 (variable 4 0) (number 5 0)) (check 8 1 (number 7 1))))) [] 9 9 (ends (num 8) (budget 8 7 9 []))
+    -- a frame without authority hides what is enabled behind it
+    ∷ example (sign 2 0 (check 1 1 (number 0 7))) ((1, 0) ∷ (0, 2) ∷ []) 9 9 (stops 17 1 (budget 9 9 9 []))
+    -- "19 open calls would pass the allowance, then 20 calls spent"
+    ∷ example (sign 5 0 (call 4 (function 3 2 (sign 2 0 (number 1 7))) (number 0 0))) [] 0 0 (stops 19 4 (budget 0 9 9 []))
+    ∷ []
+
+pub eagerly : Example → Result
+eagerly x =
+    eval (eagerControl authority) true (x .depth) (x .term) (rights 0 (privs authority (map (λ f. frame (f .0) (f .1)) (x .start)))) empty (budget (x .calls) 9 9 [])
+
+pub lazily : Example → Result
+lazily x = eval (lazyControl authority) true (x .depth) (x .term) (map (λ f. frame (f .0) (f .1)) (x .start)) empty (budget (x .calls) 9 9 [])
+
+pub record Told : Type 0 where
+  pub by-eager : map eagerly examples ≡ map (λ x. x .result) examples
+  pub by-lazy : map lazily examples ≡ map (λ x. x .result) examples
+
+pub told : Told
+unfolding examples eagerly lazily eval apply evalWith addAuthorised has meet union insert
+told = record { by-eager = refl; by-lazy = refl }

@@ -1,0 +1,4 @@
+-- What is proved of the definitions, for the crates above. Nothing here has to be believed.
+pub mod Agree
+pub mod Access
+pub mod Budgets

@@ -1,0 +1,7 @@
+pub mod Values
+pub mod Meaning
+pub mod Access
+pub mod Runs
+pub mod Blunders
+pub mod Laws
+pub mod Theorems

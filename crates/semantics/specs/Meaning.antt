@@ -1,0 +1,134 @@
+-- The meaning of a term: a definitional interpreter, for any access control. 003's Figures 2 and 4 are its two instances in Access.antt, so
+-- that each clause below is one clause of both figures. Numbers 17 to 22 are 01's stops.
+use mathlib.Core.Bool.{Bool, true, false}
+use mathlib.Core.List.{_∷_}
+use mathlib.Core.Option.{Option, none, some}
+use Prim.Native.Nat.{ℕ, zero, suc, _+_, _-_, min}
+use lib.Dec.{ltb}
+use Rattle.program.specs.Terms.{Op, sum, difference, less, Term, boolean, number, variable, function, letrec, call, if, check, enable, sign, test, binary, post}
+use Rattle.semantics.specs.Values.{Value, bool, num, closure, Env, bind, lookup, entered, Budget, budget, Result, ends, stops}
+
+-- what access control keeps, how a sign and an enable change it, and what it grants
+pub record Control : Type 1 where
+  pub State : Type 0
+  pub signs : (n : ℕ) → State → State
+  pub enables : (p : ℕ) → State → State
+  pub grants : State → (p : ℕ) → Bool
+
+-- 003's let: a stop is the result of the whole
+infixl 20 _then_
+abbrev pub _then_ : Result → (Value → Budget → Result) → Result
+_then_ (ends v u) k = k v u
+_then_ (stops c at u) k = stops c at u
+
+abbrev pub choose : Bool → (onTrue onFalse : Budget → Result) → Budget → Result
+choose true y n u = y u
+choose false y n u = n u
+
+-- "18 stuck: unbound variable, wrong kind of value, or a root that gives a function."
+abbrev pub found : (at : ℕ) → Option Value → Budget → Result
+found at (some v) u = ends v u
+found at none u = stops 18 at u
+
+-- the branch that a boolean picks
+abbrev pub branch : (at : ℕ) → Value → (onTrue onFalse : Budget → Result) → Budget → Result
+branch at (bool b) y n u = choose b y n u
+branch at (num m) y n u = stops 18 at u
+branch at (closure r ty body env) y n u = stops 18 at u
+
+-- "Sums are held at 65,535, differences at 0."
+abbrev pub operate : Op → (m n : ℕ) → Value
+operate sum m n = num (min 65535 (m + n))
+operate difference m n = num (m - n)
+operate less m n = bool (ltb m n)
+
+-- "The kinds of values are looked at when all operands of a term have one"
+abbrev pub compute : (at : ℕ) → Op → (left right : Value) → Budget → Result
+compute at op (num m) (num n) u = ends (operate op m n) u
+compute at op (num m) (bool b) u = stops 18 at u
+compute at op (num m) (closure r ty body env) u = stops 18 at u
+compute at op (bool b) w u = stops 18 at u
+compute at op (closure r ty body env) w u = stops 18 at u
+
+-- "A post appends its number and yields it." "22 no place for a post, after 18."
+abbrev pub appendPost : (at : ℕ) → Value → Budget → Result
+appendPost at (num n) (budget c d zero ps) = stops 22 at (budget c d zero ps)
+appendPost at (num n) (budget c d (suc r) ps) = ends (num n) (budget c d r (n ∷ ps))
+appendPost at (bool b) u = stops 18 at u
+appendPost at (closure r ty body env) u = stops 18 at u
+
+-- "a recursive binder one" cell; "21 no cell … also at a recursive binder"
+abbrev pub takeCell : (at : ℕ) → (Budget → Result) → Budget → Result
+takeCell at k (budget c zero r ps) = stops 21 at (budget c zero r ps)
+takeCell at k (budget c (suc d) r ps) = k (budget c d r ps)
+
+-- A call takes one of the calls and one cell: "20 calls spent, then 21 no cell". "A call, cell or post that a stop prevents isn't counted."
+abbrev pub beginCall : (at : ℕ) → (Budget → Result) → Budget → Result
+beginCall at k (budget zero d r ps) = stops 20 at (budget zero d r ps)
+beginCall at k (budget (suc c) zero r ps) = stops 21 at (budget (suc c) zero r ps)
+beginCall at k (budget (suc c) (suc d) r ps) = k (budget c d r ps)
+
+-- a call where no more may be open: "calling a non-function is stuck after its argument, before 19"; "19 open calls would pass the allowance, then 20"
+abbrev pub tooDeep : (at : ℕ) → (fun : Value) → Budget → Result
+tooDeep at (closure r ty body env) u = stops 19 at u
+tooDeep at (bool b) u = stops 18 at u
+tooDeep at (num n) u = stops 18 at u
+
+-- a call where another may be open; `run` is what becomes of the body
+abbrev pub enter : (at : ℕ) → (fun arg : Value) → (run : Term → Env → Budget → Result) → Budget → Result
+enter at (closure r ty body env) w run u = beginCall at (λ u′. run body (entered r ty body env w) u′) u
+enter at (bool b) w run u = stops 18 at u
+enter at (num n) w run u = stops 18 at u
+
+-- "'Passed over' means that a check is read as its inner term."
+abbrev pub passes : (enforce granted : Bool) → Bool
+passes true g = g
+passes false g = true
+
+module _ (X : Control) where
+  abbrev pub Evaluation : Type 0
+  Evaluation = X .State → Env → Budget → Result
+
+  -- a call at a term, of a function and an argument
+  abbrev pub Application : Type 0
+  Application = (at : ℕ) (fun arg : Value) → X .State → Budget → Result
+
+  -- `enforce` says whether the checks are in force
+  module _ (enforce : Bool) where
+    -- "Evaluation goes left to right."
+    unfoldable pub evalWith : Application → Term → Evaluation
+    -- Figures 2 and 4: true, x
+    evalWith app (boolean at b) st env u = ends (bool b) u
+    evalWith app (number at n) st env u = ends (num n) u
+    evalWith app (variable at i) st env u = found at (lookup env i) u
+    -- fun: the body will run with the caller's state, not with this one
+    evalWith app (function at ty body) st env u = ends (closure false ty body env) u
+    -- letrec
+    evalWith app (letrec at ty body rest) st env u =
+        takeCell at (λ u₁. evalWith app rest st (bind (closure true ty body env) env) u₁) u
+    -- e1 e2: "At a call the function is evaluated, then the argument, then the body, in the caller's stack or P."
+    evalWith app (call at f a) st env u =
+        evalWith app f st env u then λ v u₁. evalWith app a st env u₁ then λ w u₂. app at v w st u₂
+    -- if
+    evalWith app (if at c y n) st env u =
+        evalWith app c st env u then λ v u₁. branch at v (λ u₂. evalWith app y st env u₂) (λ u₂. evalWith app n st env u₂) u₁
+    -- check p for e: "Check refuses, before its inner term, if p isn't granted", by 17
+    evalWith app (check at p c) st env u =
+        choose (passes enforce (X .grants st p)) (λ u₁. evalWith app c st env u₁) (λ u₁. stops 17 at u₁) u
+    -- dopriv p in e, and signs n e: "both are undone when their term ends", since what follows has the old state
+    evalWith app (enable at p c) st env u = evalWith app c (X .enables p st) env u
+    evalWith app (sign at n c) st env u = evalWith app c (X .signs n st) env u
+    -- test p then e1 else e2: "test chooses by it", also where checks are passed over
+    evalWith app (test at p y n) st env u =
+        choose (X .grants st p) (λ u₁. evalWith app y st env u₁) (λ u₁. evalWith app n st env u₁) u
+    evalWith app (binary at op a b) st env u =
+        evalWith app a st env u then λ v u₁. evalWith app b st env u₁ then λ w u₂. compute at op v w u₂
+    evalWith app (post at c) st env u = evalWith app c st env u then λ v u₁. appendPost at v u₁
+
+    -- A call where so many more calls may be open. "A call is open while its body runs."
+    unfoldable pub apply : (depth : ℕ) → Application
+    apply zero at v w st u = tooDeep at v u
+    apply (suc k) at v w st u = enter at v w (λ body env u₁. evalWith (λ at′ v′ w′ st′ u′. apply k at′ v′ w′ st′ u′) body st env u₁) u
+
+    unfoldable pub eval : (depth : ℕ) → Term → Evaluation
+    eval k = evalWith (apply k)

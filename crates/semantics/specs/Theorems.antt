@@ -1,0 +1,107 @@
+-- The theorems about whole runs: what a stack grants as a set is what 01's sentence grants; a run is refused exactly on 01's conditions; every buffer
+-- keeps its length.
+use mathlib.Core.Bool.{true}
+use mathlib.Core.List.{List, _++_, reverse}
+use mathlib.Core.Logic.{_↔_}
+use mathlib.Core.Path.{_≡_, refl, sym, ap, _∙_}
+use Prim.Native.Nat.{ℕ, _+_}
+use native.Mathlib.Omega.{arith}
+use lib.ListN.{length, drop, length-replicate, length-append, length-drop, length-reverse}
+use Rattle.privileges.specs.Sets.{has}
+use Rattle.program.specs.Layout.{root, authority}
+use Rattle.program.specs.Terms.{program}
+use Rattle.program.specs.Screening.{Screening, clear, refused as found, screen, First, None}
+use Rattle.program.specs.Laws.Screening.{told-first, first-told, clear-none, none-clear}
+use Rattle.semantics.specs.Values.{empty, Budget, budget}
+use Rattle.semantics.specs.Access.{Frame, chk, privs, lazyControl, rights, eagerControl}
+use Rattle.semantics.specs.Runs.{Runner, eager, lazy, Request, Buffers, Sizes, sizes, stack, runConditions, initial, evaluation, Course, turnedBack, started, settled, course, Outcome, Counts, refused, ran, left, answerOf, inOrder, clearedFrames, buffersAfter, After, run}
+use Rattle.semantics.specs.Laws.Access.{privs-chk}
+use Rattle.semantics.specs.Laws.Budgets.{places, Spent, spends}
+
+-- ---- What a stack grants
+-- The eager runner starts with the set `privs`; a privilege is in it exactly if the stack grants it by 01's sentence, which is `chk`.
+pub grants-as-a-set : (A : ℕ → ℕ) (fs : List Frame) (p : ℕ) → (has p (privs A fs) ≡ true) ↔ (chk A fs p ≡ true)
+grants-as-a-set A fs p = (λ h. sym (privs-chk A fs p) ∙ h, λ h. privs-chk A fs p ∙ h)
+
+-- ---- When a run is refused
+ran≢refused : {c p : ℕ} {o : Outcome} {k : Counts} {A : Type 0} → ran o k ≡ refused c p → A
+ran≢refused e = absurd (let z : _≡_ {A = ℕ} 0 1 = cc in omega arith)
+
+module _ (s : List ℕ) (q : Request) (b : Buffers) where
+  abbrev conditions : Screening
+  conditions = screen (runConditions s q (sizes b))
+
+  -- the course that a run takes, by what its conditions come to
+  pub course-clear : conditions ≡ clear → course s q (sizes b) ≡ started (evaluation (q .runner) s q (sizes b))
+  unfolding course
+  course-clear e = λ i. settled (e i) (λ _. evaluation (q .runner) s q (sizes b))
+
+  pub course-found : (c p : ℕ) → conditions ≡ found c p → course s q (sizes b) ≡ turnedBack c p
+  unfolding course
+  course-found c p e = λ i. settled (e i) (λ _. evaluation (q .runner) s q (sizes b))
+
+  pub run-course : (x : Course) → course s q (sizes b) ≡ x → run s q b ≡ record { answer = answerOf (root s) q (sizes b) x; buffers = buffersAfter (q .runner) b x }
+  unfolding run
+  run-course x e = λ i. record { answer = answerOf (root s) q (sizes b) (e i); buffers = buffersAfter (q .runner) b (e i) }
+
+  answer-course : (x : Course) → course s q (sizes b) ≡ x → run s q b .answer ≡ answerOf (root s) q (sizes b) x
+  answer-course x e = ap (λ (a : After). a .answer) (run-course x e)
+
+  refused-found : (c p : ℕ) (x : Screening) → conditions ≡ x → run s q b .answer ≡ refused c p → x ≡ found c p
+  refused-found c p clear h e = ran≢refused (sym (answer-course _ (course-clear h)) ∙ e)
+  refused-found c p (found d r) h e =
+      let g : refused d r ≡ refused c p = sym (answer-course _ (course-found d r h)) ∙ e in
+      cc
+
+  -- A run is refused exactly when one of 1 to 8 or 14 to 16 is found, and the first of them, in 01's order, is told.
+  pub refused-exactly : (c p : ℕ) → (run s q b .answer ≡ refused c p) ↔ First c p (runConditions s q (sizes b))
+  refused-exactly c p = (
+    λ e. told-first (runConditions s q (sizes b)) c p (refused-found c p conditions refl e),
+    λ f. answer-course _ (course-found c p (first-told f)),
+  )
+
+  -- Then "every buffer is untouched and no count is told".
+  pub refused-untouched : (c p : ℕ) → run s q b .answer ≡ refused c p → run s q b .buffers ≡ b
+  refused-untouched c p e = ap (λ (a : After). a .buffers) (run-course _ (course-found c p (refused-found c p conditions refl e)))
+
+  -- "every other run starts": it ends or stops, with its counts
+  abbrev pub Starts : Type 0
+  Starts = (o : Outcome) × (k : Counts) × (run s q b .answer ≡ ran o k)
+
+  starts-clear : (x : Screening) → conditions ≡ x → Starts → x ≡ clear
+  starts-clear clear h st = refl
+  starts-clear (found c p) h st = ran≢refused (sym (st .2) ∙ answer-course _ (course-found c p h))
+
+  pub starts-screened : Starts → screen (runConditions s q (sizes b)) ≡ clear
+  starts-screened st = starts-clear conditions refl st
+
+  pub starts-exactly : Starts ↔ None (runConditions s q (sizes b))
+  starts-exactly = (λ st. clear-none (runConditions s q (sizes b)) (starts-screened st), λ n. (_, _, answer-course _ (course-clear (none-clear n))))
+
+-- ---- What a run leaves
+-- Every buffer keeps its length, whatever becomes of the run: the posts made find their places in the lent list.
+evaluation-spends : (r : Runner) (s : List ℕ) (q : Request) (z : Sizes) → Spent (initial q z) (left (evaluation r s q z))
+evaluation-spends eager s q z =
+    spends (eagerControl (authority s)) (q .enforce) (q .depth) (program s) (rights 0 (privs (authority s) (stack (q .start)))) empty (initial q z)
+evaluation-spends lazy s q z = spends (lazyControl (authority s)) (q .enforce) (q .depth) (program s) (stack (q .start)) empty (initial q z)
+
+frames-length : (r : Runner) (fs : List ℕ) → length (clearedFrames r fs) ≡ length fs
+frames-length eager fs = refl
+frames-length lazy fs = length-replicate {A = ℕ} (length fs) 0
+
+posts-length : (u : Budget) (ps : List ℕ) → places u ≡ length ps + 0 → length (inOrder u ++ drop (length (inOrder u)) ps) ≡ length ps
+posts-length (budget c d r qs) ps e =
+    length-append (reverse qs) _ ∙ ap (λ (n : ℕ). length (reverse qs) + n) (length-drop (length (reverse qs)) ps)
+    ∙ omega (arith, length-reverse qs)
+
+after-sizes : (s : List ℕ) (q : Request) (b : Buffers) (x : Screening) → sizes (buffersAfter (q .runner) b (settled x (λ _. evaluation (q .runner) s q (sizes b)))) ≡ sizes b
+after-sizes s q b (found c p) = refl
+after-sizes s q b clear = λ i. record {
+  cells = length-replicate {A = ℕ} (length (b .cells)) 0 i;
+  posts = posts-length (left (evaluation (q .runner) s q (sizes b))) (b .posts) (evaluation-spends (q .runner) s q (sizes b) .posts) i;
+  frames = frames-length (q .runner) (b .frames) i;
+}
+
+pub lengths-kept : (s : List ℕ) (q : Request) (b : Buffers) → sizes (run s q b .buffers) ≡ sizes b
+unfolding run course
+lengths-kept s q b = after-sizes s q b (screen (runConditions s q (sizes b)))

@@ -1,0 +1,37 @@
+-- What a run holds: values and environments, what is left of its allowances, and the result of a term.
+use mathlib.Core.Bool.{Bool, true, false}
+use mathlib.Core.List.{List}
+use mathlib.Core.Option.{Option, none, some}
+use Prim.Native.Nat.{ℕ, zero, suc}
+use Rattle.program.specs.Terms.{Term}
+
+-- A closure is a function type's number, a body and the environment where it was made. It is recursive if a letrec made it: then its body also
+-- sees the function itself.
+mutual
+  pub data Value : Type 0 where
+    bool : Bool → Value
+    num : ℕ → Value
+    closure : (recursive : Bool) (ty : ℕ) (body : Term) (env : Env) → Value
+
+  pub data Env : Type 0 where
+    empty : Env
+    bind : Value → Env → Env
+
+abbrev pub lookup : Env → (i : ℕ) → Option Value
+lookup empty i = none
+lookup (bind v e) zero = some v
+lookup (bind v e) (suc i) = lookup e i
+
+-- The environment of a called body. "In a body of kind 3 variable 0 is the argument. In a body of kind 4 variable 0 is the argument and 1 the function".
+abbrev pub entered : (recursive : Bool) (ty : ℕ) (body : Term) (env : Env) (arg : Value) → Env
+entered true ty body env w = bind w (bind (closure true ty body env) env)
+entered false ty body env w = bind w env
+
+-- what is left: calls, cells and places for posts; and the posts made so far, the latest first
+pub data Budget : Type 0 where
+  budget : (calls cells room : ℕ) (posts : List ℕ) → Budget
+
+-- a term ends with a value, or a cause stops it at a term
+pub data Result : Type 0 where
+  ends : Value → Budget → Result
+  stops : (cause at : ℕ) → Budget → Result
