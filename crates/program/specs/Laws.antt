@@ -4,3 +4,4 @@ pub mod Readable
 pub mod Types
 pub mod Trees
 pub mod Nesting
+pub mod Records

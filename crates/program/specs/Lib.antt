@@ -5,4 +5,5 @@ pub mod Formats
 pub mod Terms
 pub mod Screening
 pub mod Decoding
+pub mod Records
 pub mod Laws

@@ -1,1 +1,2 @@
-// Definitions only so far: specs/ says what the bytes of a sheet are, which sheets are readable, and what tree of terms they hold.
+// The bytes of a sheet: the records that the other crates read.
+pub mod records;

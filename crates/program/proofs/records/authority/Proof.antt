@@ -1,0 +1,28 @@
+use Rattle.program.proofs.RecordLaws.{no-authority, an-authority}
+use borrow.Author.Needs.{needs}
+use Rattle.program.proofs.records.authority.Statement.{statement}
+use Rattle.program.proofs.records.authority.Tie as tie
+use Rattle.program.proofs.records.authority.Reads as reads
+use Rattle.program.proofs.records.authority.Lts as lts
+use Rattle.program.proofs.records.be32.Reads as be32-reads
+
+mul-at : tie.Need-mul-at
+mul-at c = search needs
+
+add-at : tie.Need-add-at
+add-at c = search needs
+
+add-if1 : tie.Need-add-if1
+add-if1 c = search needs
+
+returns : tie.Need-returns
+returns c = no-authority _ _ (c .if1 .taken)
+
+be32-requires : tie.Need-be32-requires
+be32-requires c κs = search needs
+
+returns-2 : tie.Need-returns-2
+returns-2 c = an-authority _ _ (c .before .if1 .left) (c .be32 .ensures)
+
+pub authority-spec : {M : Type 1} → statement M
+authority-spec = tie.close (tie.spec mul-at add-at add-if1 returns be32-requires returns-2)

@@ -1,0 +1,92 @@
+use Rattle.program.proofs.RecordLaws.{no-term, a-term}
+use borrow.Author.Needs.{needs}
+use Rattle.program.proofs.records.term.Statement.{statement}
+use Rattle.program.proofs.records.term.Tie as tie
+use Rattle.program.proofs.records.term.Reads as reads
+use Rattle.program.proofs.records.term.Lts as lts
+use Rattle.program.proofs.records.be16.Reads as be16-reads
+
+cast-at : tie.Need-cast-at
+cast-at c = search needs
+
+mul-at : tie.Need-mul-at
+mul-at c = search needs
+
+add-at : tie.Need-add-at
+add-at c = search needs
+
+cast-at-2 : tie.Need-cast-at-2
+cast-at-2 c = search needs
+
+mul-at-2 : tie.Need-mul-at-2
+mul-at-2 c = search needs
+
+add-at-2 : tie.Need-add-at-2
+add-at-2 c = search needs
+
+mul-at-3 : tie.Need-mul-at-3
+mul-at-3 c = search needs
+
+add-at-3 : tie.Need-add-at-3
+add-at-3 c = search needs
+
+add-if1 : tie.Need-add-if1
+add-if1 c = search needs
+
+returns : tie.Need-returns
+returns c = no-term _ (c .before .before .before .before .args .c) _ (c .if1 .taken)
+
+shared-slice-read-t15 : tie.Need-shared-slice-read-t15
+shared-slice-read-t15 c = search needs
+
+add-t11 : tie.Need-add-t11
+add-t11 c = search needs
+
+shared-slice-read-t17 : tie.Need-shared-slice-read-t17
+shared-slice-read-t17 c = search needs
+
+add-be16 : tie.Need-add-be16
+add-be16 c = search needs
+
+be16-requires : tie.Need-be16-requires
+be16-requires c κs = search needs
+
+add-be16-2 : tie.Need-add-be16-2
+add-be16-2 c = search needs
+
+be16-requires-2 : tie.Need-be16-requires-2
+be16-requires-2 c κs = search needs
+
+add-be16-3 : tie.Need-add-be16-3
+add-be16-3 c = search needs
+
+be16-requires-3 : tie.Need-be16-requires-3
+be16-requires-3 c κs = search needs
+
+returns-2 : tie.Need-returns-2
+returns-2 c = a-term _ (c .before .before .before .before .before .before .before .before .before .args .c) _ (c .before .before .before .before .before .if1 .left) (c .before .before .be16 .ensures) (c .before .be162 .ensures) (c .be163 .ensures)
+
+pub term-spec : {M : Type 1} → statement M
+term-spec =
+    tie.close
+    (tie.spec
+    cast-at
+    mul-at
+    add-at
+    cast-at-2
+    mul-at-2
+    add-at-2
+    mul-at-3
+    add-at-3
+    add-if1
+    returns
+    shared-slice-read-t15
+    add-t11
+    shared-slice-read-t17
+    add-be16
+    be16-requires
+    add-be16-2
+    be16-requires-2
+    add-be16-3
+    be16-requires-3
+    returns-2)

@@ -1,0 +1,81 @@
+use Rattle.program.proofs.RecordLaws.{no-type, a-type}
+use borrow.Author.Needs.{needs}
+use Rattle.program.proofs.records.type_record.Statement.{statement}
+use Rattle.program.proofs.records.type_record.Tie as tie
+use Rattle.program.proofs.records.type_record.Reads as reads
+use Rattle.program.proofs.records.type_record.Lts as lts
+use Rattle.program.proofs.records.be16.Reads as be16-reads
+use Rattle.program.proofs.records.be32.Reads as be32-reads
+
+cast-at : tie.Need-cast-at
+cast-at c = search needs
+
+mul-at : tie.Need-mul-at
+mul-at c = search needs
+
+add-at : tie.Need-add-at
+add-at c = search needs
+
+mul-at-2 : tie.Need-mul-at-2
+mul-at-2 c = search needs
+
+add-at-2 : tie.Need-add-at-2
+add-at-2 c = search needs
+
+add-if1 : tie.Need-add-if1
+add-if1 c = search needs
+
+returns : tie.Need-returns
+returns c = no-type _ (c .before .before .before .args .c) _ (c .if1 .taken)
+
+shared-slice-read-t12 : tie.Need-shared-slice-read-t12
+shared-slice-read-t12 c = search needs
+
+add-t8 : tie.Need-add-t8
+add-t8 c = search needs
+
+shared-slice-read-t14 : tie.Need-shared-slice-read-t14
+shared-slice-read-t14 c = search needs
+
+add-be16 : tie.Need-add-be16
+add-be16 c = search needs
+
+be16-requires : tie.Need-be16-requires
+be16-requires c κs = search needs
+
+add-be16-2 : tie.Need-add-be16-2
+add-be16-2 c = search needs
+
+be16-requires-2 : tie.Need-be16-requires-2
+be16-requires-2 c κs = search needs
+
+add-be32 : tie.Need-add-be32
+add-be32 c = search needs
+
+be32-requires : tie.Need-be32-requires
+be32-requires c κs = search needs
+
+returns-2 : tie.Need-returns-2
+returns-2 c = a-type _ (c .before .before .before .before .before .before .before .before .args .c) _ (c .before .before .before .before .before .if1 .left) (c .before .before .be16 .ensures) (c .before .be162 .ensures) (c .be32 .ensures)
+
+pub type-record-spec : {M : Type 1} → statement M
+type-record-spec =
+    tie.close
+    (tie.spec
+    cast-at
+    mul-at
+    add-at
+    mul-at-2
+    add-at-2
+    add-if1
+    returns
+    shared-slice-read-t12
+    add-t8
+    shared-slice-read-t14
+    add-be16
+    be16-requires
+    add-be16-2
+    be16-requires-2
+    add-be32
+    be32-requires
+    returns-2)
