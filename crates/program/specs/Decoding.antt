@@ -40,15 +40,15 @@ abbrev pub shallow : List ℕ → (deep t : ℕ) → Bool
 shallow s zero t = ltb t 2
 shallow s (suc k) t = orElse (ltb t 2) λ _. also (shallow s k (typesOf s .arg t)) λ _. shallow s k (typesOf s .res t)
 
--- the records of the types t and u agree in so many of their first bytes
-abbrev pub alike : List ℕ → (t u count : ℕ) → Bool
-alike s t u zero = true
-alike s t u (suc n) = eqb (byte s (typeAt s t + n)) (byte s (typeAt s u + n)) && alike s t u n
+-- so many bytes at i and at j agree
+abbrev pub sameBytes : List ℕ → (i j count : ℕ) → Bool
+sameBytes s i j zero = true
+sameBytes s i j (suc n) = eqb (byte s (i + n)) (byte s (j + n)) && sameBytes s i j n
 
 -- "No two records are equal": the record of t differs from those of the first so many types
 abbrev pub fresh : List ℕ → (t count : ℕ) → Bool
 fresh s t zero = true
-fresh s t (suc u) = not (alike s u t 10) && fresh s t u
+fresh s t (suc u) = not (sameBytes s (typeAt s u) (typeAt s t) 10) && fresh s t u
 
 abbrev pub typeOk : List ℕ → (t : ℕ) → Bool
 typeOk s t = cond (ltb t 2) (baseOk s t) (functionOk s t && shallow s 12 t && fresh s t t)
@@ -122,13 +122,20 @@ nestedIn s (suc k) t = orElse (eqb t (root s)) λ _. nestedIn s k (parent s t (t
 
 -- ---- all of them
 
--- "version (3)" follows the first field; "then bytes after the end (2)"; 5 to 8 are "each … sought over the whole table in ascending order before the next"
-abbrev pub decodingConditions : List ℕ → List Condition
-decodingConditions s =
+-- "version (3)" follows the first field; "then bytes after the end (2)"
+abbrev pub fieldConditions : List ℕ → List Condition
+fieldConditions s =
     field s 0 1 (holds 2 1 1) ++ unless 3 (eqb (word16 s 3) 1)
     ∷ field s 5 2 (holds 4 1 32) ++ field s (typeField s) 3 (holds 10 2 256) ++ field s (termField s) 4 (holds 8 1 1024)
-    ++ unless 2 (eqb (termAt s (terms s)) (length s))
-    ∷ seek 5 (typeOk s) (types s) ∷ seek 6 (termOk s) (terms s) ∷ seek 7 (placedOk s) (terms s) ∷ seek 8 (nestedIn s 32) (terms s) ∷ []
+    ++ unless 2 (eqb (termAt s (terms s)) (length s)) ∷ []
+
+-- "Each is sought over the whole table in ascending order before the next."
+abbrev pub tableConditions : List ℕ → List Condition
+tableConditions s =
+    seek 5 (typeOk s) (types s) ∷ seek 6 (termOk s) (terms s) ∷ seek 7 (placedOk s) (terms s) ∷ seek 8 (nestedIn s 32) (terms s) ∷ []
+
+abbrev pub decodingConditions : List ℕ → List Condition
+decodingConditions s = fieldConditions s ++ tableConditions s
 
 -- 01's reader
 unfoldable pub decoding : List ℕ → Screening

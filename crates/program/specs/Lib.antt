@@ -6,4 +6,6 @@ pub mod Terms
 pub mod Screening
 pub mod Decoding
 pub mod Records
+pub mod Answers
+pub mod Internal
 pub mod Laws

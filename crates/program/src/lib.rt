@@ -1,2 +1,4 @@
-// The bytes of a sheet: the records that the other crates read.
+// The bytes of a sheet: the decoder, and the records that the other crates read.
+pub mod answer;
+pub mod header;
 pub mod records;

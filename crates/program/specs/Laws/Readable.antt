@@ -11,7 +11,7 @@ use Rattle.privileges.specs.Booleans.{and-left, and-right}
 use Rattle.program.specs.Bytes.{byte, word16}
 use Rattle.program.specs.Layout.{principals, typeField, types, termField, terms, termAt}
 use Rattle.program.specs.Screening.{None, none-end, none-next, unless, seek}
-use Rattle.program.specs.Decoding.{holds, field, typeOk, termOk, placedOk, nestedIn, decodingConditions, decoding, Readable}
+use Rattle.program.specs.Decoding.{holds, field, typeOk, termOk, placedOk, nestedIn, fieldConditions, tableConditions, decodingConditions, decoding, Readable}
 use Rattle.program.specs.Laws.Screening.{clear-none, none-cons, none-append, unless-none, lowest-none}
 
 -- ---- the fields
@@ -56,36 +56,57 @@ pub record WellFormed (s : List ℕ) : Type 0 where
   pub placed-ok : (t : ℕ) → t < terms s → placedOk s t ≡ true
   pub nested-ok : (t : ℕ) → t < terms s → nestedIn s 32 t ≡ true
 
-tables-ok : (s : List ℕ) → FieldOk s 5 2 (holds 4 1 32) → FieldOk s (typeField s) 3 (holds 10 2 256) → FieldOk s (termField s) 4 (holds 8 1 1024)
-    → word16 s 3 ≡ 1
-    → None (unless 2 (eqb (termAt s (terms s)) (length s)) ∷ seek 5 (typeOk s) (types s) ∷ seek 6 (termOk s) (terms s) ∷ seek 7 (placedOk s) (terms s) ∷ seek 8 (nestedIn s 32) (terms s) ∷ [])
-    → WellFormed s
-tables-ok s p y m v (none-next e (none-next a (none-next b (none-next c (none-next d none-end))))) =
-    let cp = counted 4 1 32 (word16 s 6) (p .sized) in
-    let cy = counted 10 2 256 (word16 s (typeField s + 1)) (y .sized) in
-    let cm = counted 8 1 1024 (word16 s (termField s + 1)) (m .sized) in
-    record {
-      version = v;
-      principals-least = cp .low;
-      principals-most = cp .high;
-      types-least = cy .low;
-      types-most = cy .high;
-      terms-least = cm .low;
-      terms-most = cm .high;
-      whole = eqb-true (termAt s (terms s)) (length s) (unless-none 2 _ e);
-      type-ok = λ t h. lowest-none (typeOk s) 0 (types s) a t (omega arith) (omega arith);
-      term-ok = λ t h. lowest-none (termOk s) 0 (terms s) b t (omega arith) (omega arith);
-      placed-ok = λ t h. lowest-none (placedOk s) 0 (terms s) c t (omega arith) (omega arith);
-      nested-ok = λ t h. lowest-none (nestedIn s 32) 0 (terms s) d t (omega arith) (omega arith);
-    }
+-- what the fields give
+pub record FieldsOk (s : List ℕ) : Type 0 where
+  pub version-is : word16 s 3 ≡ 1
+  pub principals-low : 1 ≤ principals s
+  pub principals-high : principals s ≤ 32
+  pub types-low : 2 ≤ types s
+  pub types-high : types s ≤ 256
+  pub terms-low : 1 ≤ terms s
+  pub terms-high : terms s ≤ 1024
+  pub ends : termAt s (terms s) ≡ length s
 
-pub well-formed : (s : List ℕ) → Readable s → WellFormed s
-unfolding decoding
-well-formed s e =
-    let n = clear-none (decodingConditions s) e in
+pub fields-ok : (s : List ℕ) → None (fieldConditions s) → FieldsOk s
+fields-ok s n =
     let a = none-append (field s 0 1 (holds 2 1 1)) _ n in
     let v = none-cons (a .1) in
     let b = none-append (field s 5 2 (holds 4 1 32)) _ (v .1) in
     let c = none-append (field s (typeField s) 3 (holds 10 2 256)) _ (b .1) in
     let d = none-append (field s (termField s) 4 (holds 8 1 1024)) _ (c .1) in
-    tables-ok s (field-ok s _ _ _ (b .0)) (field-ok s _ _ _ (c .0)) (field-ok s _ _ _ (d .0)) (eqb-true (word16 s 3) 1 (unless-none 3 _ (v .0))) (d .1)
+    let e = none-cons (d .1) in
+    let cp = counted 4 1 32 (word16 s 6) (field-ok s 5 2 (holds 4 1 32) (b .0) .sized) in
+    let cy = counted 10 2 256 (word16 s (typeField s + 1)) (field-ok s (typeField s) 3 (holds 10 2 256) (c .0) .sized) in
+    let cm = counted 8 1 1024 (word16 s (termField s + 1)) (field-ok s (termField s) 4 (holds 8 1 1024) (d .0) .sized) in
+    record {
+      version-is = eqb-true (word16 s 3) 1 (unless-none 3 _ (v .0));
+      principals-low = cp .low;
+      principals-high = cp .high;
+      types-low = cy .low;
+      types-high = cy .high;
+      terms-low = cm .low;
+      terms-high = cm .high;
+      ends = eqb-true (termAt s (terms s)) (length s) (unless-none 2 _ (e .0));
+    }
+
+tables-ok : (s : List ℕ) → FieldsOk s → None (tableConditions s) → WellFormed s
+tables-ok s f (none-next a (none-next b (none-next c (none-next d none-end)))) = record {
+  version = f .version-is;
+  principals-least = f .principals-low;
+  principals-most = f .principals-high;
+  types-least = f .types-low;
+  types-most = f .types-high;
+  terms-least = f .terms-low;
+  terms-most = f .terms-high;
+  whole = f .ends;
+  type-ok = λ t h. lowest-none (typeOk s) 0 (types s) a t (omega arith) (omega arith);
+  term-ok = λ t h. lowest-none (termOk s) 0 (terms s) b t (omega arith) (omega arith);
+  placed-ok = λ t h. lowest-none (placedOk s) 0 (terms s) c t (omega arith) (omega arith);
+  nested-ok = λ t h. lowest-none (nestedIn s 32) 0 (terms s) d t (omega arith) (omega arith);
+}
+
+pub well-formed : (s : List ℕ) → Readable s → WellFormed s
+unfolding decoding
+well-formed s e =
+    let n = none-append (fieldConditions s) (tableConditions s) (clear-none (decodingConditions s) e) in
+    tables-ok s (fields-ok s (n .0)) (n .1)

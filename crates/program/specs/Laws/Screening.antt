@@ -92,6 +92,9 @@ unless-none cause false e = absurd (some≢none e)
 pub none-unless : {ok : Bool} (cause : ℕ) → ok ≡ true → unless cause ok .found tt ≡ none
 none-unless cause e = λ i. cond (e i) none (some 0)
 
+pub found-unless : {ok : Bool} (cause : ℕ) → ok ≡ false → unless cause ok .found tt ≡ some 0
+found-unless cause e = λ i. cond (e i) none (some 0)
+
 pub unless-found : (cause place : ℕ) (ok : Bool) → unless cause ok .found tt ≡ some place → ok ≡ false
 unless-found cause place true e = absurd (some≢none (sym e))
 unless-found cause place false e = refl

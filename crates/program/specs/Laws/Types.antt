@@ -10,7 +10,7 @@ use borrow.Author.Tests.{ltb-true, leb-true, eqb-true, eq-eqb, le-ltb, not-true}
 use Rattle.privileges.specs.Booleans.{and-left, and-right, and-both}
 use Rattle.program.specs.Bytes.{byte, word16, word32, Bytes}
 use Rattle.program.specs.Layout.{types, typeAt, Types, typesOf}
-use Rattle.program.specs.Decoding.{baseOk, functionOk, shallow, alike, fresh}
+use Rattle.program.specs.Decoding.{baseOk, functionOk, shallow, sameBytes, fresh}
 use Rattle.program.specs.Laws.Readable.{WellFormed}
 
 pub record Lower (T : Types) : Type 0 where
@@ -58,21 +58,21 @@ word32-halves s b i j e =
     (omega (arith, f (i + 2), f (j + 2)), omega (arith, f (i + 2), f (j + 2)))
 
 -- ---- no two function types have the same parts
-differs-below : (s : List ℕ) (t n u : ℕ) → fresh s t n ≡ true → u < n → alike s u t 10 ≡ false
+differs-below : (s : List ℕ) (t n u : ℕ) → fresh s t n ≡ true → u < n → sameBytes s (typeAt s u) (typeAt s t) 10 ≡ false
 differs-below s t zero u h l = absurd (omega arith)
-differs-below s t (suc n) u h l = go (decLt u n) (differs-below s t n u (and-right (not (alike s n t 10)) (fresh s t n) h))
+differs-below s t (suc n) u h l = go (decLt u n) (differs-below s t n u (and-right (not (sameBytes s (typeAt s n) (typeAt s t) 10)) (fresh s t n) h))
   where
-    go : Dec (u < n) → (u < n → alike s u t 10 ≡ false) → alike s u t 10 ≡ false
+    go : Dec (u < n) → (u < n → sameBytes s (typeAt s u) (typeAt s t) 10 ≡ false) → sameBytes s (typeAt s u) (typeAt s t) 10 ≡ false
     go (yes k) rest = rest k
     go (no k) rest =
         let e : u ≡ n = omega arith in
-        ap (λ (x : ℕ). alike s x t 10) e ∙ not-true (alike s n t 10) (and-left (not (alike s n t 10)) (fresh s t n) h)
+        ap (λ (x : ℕ). sameBytes s (typeAt s x) (typeAt s t) 10) e ∙ not-true (sameBytes s (typeAt s n) (typeAt s t) 10) (and-left (not (sameBytes s (typeAt s n) (typeAt s t) 10)) (fresh s t n) h)
 
 module _ (s : List ℕ) (b : Bytes s) (t u : ℕ) where
-  -- byte by byte, from the last: two records with the same kind and parts are alike
-  same-alike : FunctionType s t → FunctionType s u → typesOf s .arg t ≡ typesOf s .arg u → typesOf s .res t ≡ typesOf s .res u
-      → typesOf s .latent t ≡ typesOf s .latent u → alike s t u 10 ≡ true
-  same-alike f g ea er el =
+  -- byte by byte, from the last: two records with the same kind and parts are sameBytes
+  same-sameBytes : FunctionType s t → FunctionType s u → typesOf s .arg t ≡ typesOf s .arg u → typesOf s .res t ≡ typesOf s .res u
+      → typesOf s .latent t ≡ typesOf s .latent u → sameBytes s (typeAt s t) (typeAt s u) 10 ≡ true
+  same-sameBytes f g ea er el =
       let i : ℕ = typeAt s t in
       let j : ℕ = typeAt s u in
       let a = word16-bytes s b (i + 2) (j + 2) ea in
@@ -99,7 +99,7 @@ module _ (s : List ℕ) (b : Bytes s) (t u : ℕ) where
   later-differs w ht hu ea er el l =
       let f = function-type s w t ht in
       let g = function-type s w u hu in
-      true≢false (sym (same-alike f g ea er el) ∙ differs-below s u u t (g .differs) l)
+      true≢false (sym (same-sameBytes f g ea er el) ∙ differs-below s u u t (g .differs) l)
 
 -- "No two records are equal": function types with the same argument, result and latent set have the same number
 pub distinct-types : (s : List ℕ) → Bytes s → WellFormed s → (t u : ℕ) → typesOf s .isFun t ≡ true → typesOf s .isFun u ≡ true
