@@ -1,2 +1,4 @@
 pub mod RecordLaws
 pub mod FieldLaws
+pub mod SearchLaws
+pub mod TypeLaws

@@ -7,12 +7,16 @@ use Prim.Native.Nat.{ℕ, zero, suc, _+_, _*_, _/_, _<_, _≤_}
 use lib.Dec.{leb, eqb}
 use lib.ListN.{length, getD}
 use Rattle.program.specs.Bytes.{word16}
-use Rattle.program.specs.Layout.{terms, termAt, root}
+use Rattle.program.specs.Layout.{typeAt}
 use Rattle.program.specs.Screening.{First, None}
-use Rattle.program.specs.Decoding.{holds, field, fieldConditions}
+use Rattle.program.specs.Decoding.{holds, field, fieldConditions, shallow, typeOk}
 use Rattle.program.specs.Records.{CountsOf}
 use Rattle.program.specs.Answers.{causeOf, placeOf}
 use Rattle.program.specs.declared.records.Counts.{Counts}
+use Rattle.program.specs.declared.answer.Found.{Found}
+use Rattle.program.specs.declared.answer.Found.the-variants.{At, Nothing}
+use Rattle.program.specs.declared.types.Depth.{Depth}
+use Rattle.program.specs.declared.types.Depth.the-variants.{Is, Fault as DepthFault}
 use Rattle.program.specs.declared.header.Field.{Field}
 use Rattle.program.specs.declared.header.Field.the-variants.{Records, Fault as FieldFault}
 use Rattle.program.specs.declared.header.Header.{Header}
@@ -38,3 +42,29 @@ pub record Laid (s : List ℕ) (c : Counts) : Type 0 where
 abbrev pub HeaderIs : List ℕ → Header → Type 0
 HeaderIs s (HeaderLaid c) = Laid s c
 HeaderIs s (HeaderFault f) = First (causeOf f) (placeOf f) (fieldConditions s)
+
+-- ---- a search over a table
+abbrev pub foundOf : Found → Option ℕ
+foundOf (At t) = some t
+foundOf Nothing = none
+
+-- ---- types
+-- the type table begins at `at`, and the record of type t lies in the sheet
+pub record TableAt (s : List ℕ) (at t : ℕ) : Type 0 where
+  pub begins : (u : ℕ) → at + 10 * u ≡ typeAt s u
+  pub near : at ≤ 139
+  pub inside : at + 10 * t + 10 ≤ length s
+
+-- the list has the depths of the first so many types
+pub record Depths (s d : List ℕ) (t : ℕ) : Type 0 where
+  pub each : (u : ℕ) → u < t → (k : ℕ) → shallow s k u ≡ leb (getD d u 0) k
+  pub few : (u : ℕ) → u < t → getD d u 0 ≤ 12
+
+pub record Deep (s : List ℕ) (t d : ℕ) : Type 0 where
+  pub right : typeOk s t ≡ true
+  pub deep : (k : ℕ) → shallow s k t ≡ leb d k
+  pub most : d ≤ 12
+
+abbrev pub DepthIs : List ℕ → ℕ → Depth → Type 0
+DepthIs s t (Is d) = Deep s t d
+DepthIs s t DepthFault = typeOk s t ≡ false

@@ -2,3 +2,4 @@
 pub mod answer;
 pub mod header;
 pub mod records;
+pub mod types;

@@ -1,4 +1,4 @@
--- The records that the functions read, of a well-formed sheet with its own counts, are the parts that the definitions name.
+-- The records that the functions read, of a sheet with its own counts whose term table ends it, are the parts that the definitions name.
 use mathlib.Core.Bool.{Bool, cond}
 use mathlib.Core.List.{List}
 use mathlib.Core.Path.{_≡_, sym, ap, _∙_}
@@ -21,7 +21,7 @@ past s i h = List·getD-eq-default s 0 {n = i} h
 past-16 : (s : List ℕ) (i : ℕ) → length s ≤ i → word16 s i ≡ 0
 past-16 s i h = omega (arith, past s i h, past s (i + 1) (omega arith))
 
-module _ (s : List ℕ) (w : WellFormed s) (c : Counts) (k : CountsOf s c) where
+module _ (s : List ℕ) (whole : termAt s (terms s) ≡ length s) (c : Counts) (k : CountsOf s c) where
   abbrev byteOf : ℕ → ℕ
   byteOf t = 14 + 4 * c .principals + 10 * c .types + 8 * t
 
@@ -38,21 +38,29 @@ module _ (s : List ℕ) (w : WellFormed s) (c : Counts) (k : CountsOf s c) where
   }
 
   -- of every number of a term, also past the table, where all is zero
-  pub term-is : (t : ℕ) → termRecord s c t ≡ termAtByte s (termAt s t)
+  pub term-laid : (t : ℕ) → termRecord s c t ≡ termAtByte s (termAt s t)
   unfolding termRecord
-  term-is t = go (decLt t (terms s))
+  term-laid t = go (decLt t (terms s))
     where
       go : Dec (t < terms s) → cond (leb (byteOf t + 8) (length s)) (termAtByte s (byteOf t)) noTerm ≡ termAtByte s (termAt s t)
-      go (yes h) = ap (λ (b : Bool). cond b (termAtByte s (byteOf t)) noTerm) (le-leb (byteOf t + 8) (length s) (omega (arith, same-place t, w .whole))) ∙ ap (termAtByte s) (same-place t)
-      go (no h) = ap (λ (b : Bool). cond b (termAtByte s (byteOf t)) noTerm) (lt-leb (byteOf t + 8) (length s) (omega (arith, same-place t, w .whole))) ∙ sym (zeros t (omega (arith, w .whole)))
+      go (yes h) = ap (λ (b : Bool). cond b (termAtByte s (byteOf t)) noTerm) (le-leb (byteOf t + 8) (length s) (omega (arith, same-place t, whole))) ∙ ap (termAtByte s) (same-place t)
+      go (no h) = ap (λ (b : Bool). cond b (termAtByte s (byteOf t)) noTerm) (lt-leb (byteOf t + 8) (length s) (omega (arith, same-place t, whole))) ∙ sym (zeros t (omega (arith, whole)))
 
-  pub type-is : (t : ℕ) → t < types s → typeRecord s c t ≡ typeAtByte s (typeAt s t)
+  pub type-laid : (t : ℕ) → t < types s → typeRecord s c t ≡ typeAtByte s (typeAt s t)
   unfolding typeRecord
-  type-is t h =
+  type-laid t h =
       let e : 11 + 4 * c .principals + 10 * t ≡ typeAt s t = omega (arith, k .principals-are) in
-      ap (λ (b : Bool). cond b (typeAtByte s (11 + 4 * c .principals + 10 * t)) noType) (le-leb (11 + 4 * c .principals + 10 * t + 10) (length s) (omega (arith, w .whole)))
+      ap (λ (b : Bool). cond b (typeAtByte s (11 + 4 * c .principals + 10 * t)) noType) (le-leb (11 + 4 * c .principals + 10 * t + 10) (length s) (omega (arith, whole)))
       ∙ ap (typeAtByte s) e
 
-pub authority-is : (s : List ℕ) → WellFormed s → (n : ℕ) → n < principals s → authorityRecord s n ≡ authority s n
-unfolding authorityRecord
-authority-is s w n h = ap (λ (b : Bool). cond b (word32 s (8 + 4 * n)) 0) (le-leb (8 + 4 * n + 4) (length s) (omega (arith, w .whole)))
+-- of a well-formed sheet
+module _ (s : List ℕ) (w : WellFormed s) where
+  pub term-is : (c : Counts) → CountsOf s c → (t : ℕ) → termRecord s c t ≡ termAtByte s (termAt s t)
+  term-is c k t = term-laid s (w .whole) c k t
+
+  pub type-is : (c : Counts) → CountsOf s c → (t : ℕ) → t < types s → typeRecord s c t ≡ typeAtByte s (typeAt s t)
+  type-is c k t h = type-laid s (w .whole) c k t h
+
+  pub authority-is : (n : ℕ) → n < principals s → authorityRecord s n ≡ authority s n
+  unfolding authorityRecord
+  authority-is n h = ap (λ (b : Bool). cond b (word32 s (8 + 4 * n)) 0) (le-leb (8 + 4 * n + 4) (length s) (omega (arith, w .whole)))

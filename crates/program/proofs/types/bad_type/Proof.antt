@@ -1,0 +1,74 @@
+use borrow.Author.Needs.{needs}
+use mathlib.Core.Path.{_≡_, refl, sym, ap, _∙_, subst}
+use Prim.Native.Nat.{ℕ, _≤_, _<_, _-_}
+use native.Mathlib.Omega.{arith}
+use lib.ListN.{length, length-set}
+use Rattle.program.specs.Layout.{types}
+use Rattle.program.specs.Screening.{lowest}
+use Rattle.program.specs.Decoding.{typeOk}
+use Rattle.program.specs.Internal.{Depths, DepthIs}
+use Rattle.program.specs.Laws.Readable.{fields-ok}
+use Rattle.program.proofs.SearchLaws.{lowest-here, lowest-more, lowest-past, lowest-starts}
+use Rattle.program.proofs.TypeLaws.{depths-none, depths-more}
+use Rattle.program.proofs.types.bad_type.Statement.{statement}
+use Rattle.program.proofs.types.bad_type.Tie as tie
+use Rattle.program.proofs.types.bad_type.Reads as reads
+use Rattle.program.proofs.types.bad_type.Lts as lts
+use Rattle.program.proofs.types.type_depth.Reads as type-depth-reads
+
+abbrev Inv-loop : tie.InvT-loop
+Inv-loop s c depths₀ n t₀ depths t = (t ≤ n) × ((n ≡ types s) × ((length depths ≡ 256) × (Depths s depths t × (lowest (typeOk s) 0 n ≡ lowest (typeOk s) t (n - t)))))
+
+abbrev μ-loop : tie.MeasureT-loop
+μ-loop s c depths₀ n t₀ depths t = n - t
+
+loop-holds : tie.Need-loop-holds Inv-loop μ-loop
+loop-holds c = (omega arith, (c .before .pre .counts-are .types-are, (refl, (depths-none (c .before .args .s .now) _, lowest-starts (typeOk (c .before .args .s .now)) (c .before .args .c .types)))))
+
+type-depth-requires : tie.Need-type-depth-requires Inv-loop μ-loop
+type-depth-requires c κs = (c .before .before .before .before .pre, (omega (arith, c .before .before .loop .inv .1 .0), c .before .before .loop .inv .1 .1 .1 .0))
+
+enum-known-d : tie.Need-enum-known-d Inv-loop μ-loop
+enum-known-d c = search needs
+
+enum-told : tie.Need-enum-told Inv-loop μ-loop
+enum-told c = search needs
+
+returns : tie.Need-returns Inv-loop μ-loop
+returns c = lowest-here (typeOk (c .before .before .before .before .before .before .before .args .s .now)) _ _ (c .before .before .before .before .loop-test .taken) (subst (DepthIs (c .before .before .before .before .before .before .before .args .s .now) (c .before .before .before .before .before .loop .t)) (c .enum-told .given .1) (c .before .before .type-depth .ensures)) ∙ sym (c .before .before .before .before .before .loop .inv .1 .1 .1 .1) ∙ (ap (lowest (typeOk (c .before .before .before .before .before .before .before .args .s .now)) 0) (c .before .before .before .before .before .loop .inv .1 .0))
+
+cast-depths : tie.Need-cast-depths Inv-loop μ-loop
+cast-depths c = omega (arith, c .before .before .before .before .before .before .loop .inv .1 .0, (fields-ok (c .before .before .before .before .before .before .before .before .args .s .now) (c .before .before .before .before .before .before .before .before .pre .none-found) .types-high))
+
+array-write-depths : tie.Need-array-write-depths Inv-loop μ-loop
+array-write-depths c = omega (arith, c .before .before .before .before .before .before .loop .inv .1 .0, (fields-ok (c .before .before .before .before .before .before .before .before .args .s .now) (c .before .before .before .before .before .before .before .before .pre .none-found) .types-high))
+
+add-t : tie.Need-add-t Inv-loop μ-loop
+add-t c = omega (arith, c .before .before .before .before .before .before .loop .inv .1 .0, (fields-ok (c .before .before .before .before .before .before .before .before .args .s .now) (c .before .before .before .before .before .before .before .before .pre .none-found) .types-high))
+
+loop-less : tie.Need-loop-less Inv-loop μ-loop
+loop-less c = omega arith
+
+loop-again : tie.Need-loop-again Inv-loop μ-loop
+loop-again c = (omega arith, (c .before .before .before .before .before .before .loop .inv .1 .0, (simp length-set (c .before .before .before .before .before .before .loop .inv .1 .1 .0), (depths-more (c .before .before .before .before .before .before .before .before .args .s .now) (c .before .before .before .before .before .before .loop .depths) _ _ (c .before .before .before .before .before .before .loop .inv .1 .1 .1 .0) (omega (arith, c .before .before .before .before .before .before .loop .inv .1 .0, (fields-ok (c .before .before .before .before .before .before .before .before .args .s .now) (c .before .before .before .before .before .before .before .before .pre .none-found) .types-high), c .before .before .before .before .before .before .loop .inv .1 .1 .0)) (subst (DepthIs (c .before .before .before .before .before .before .before .before .args .s .now) (c .before .before .before .before .before .before .loop .t)) (c .before .d .given .1) (c .before .before .before .type-depth .ensures)), c .before .before .before .before .before .before .loop .inv .1 .1 .1 .1 ∙ lowest-more (typeOk (c .before .before .before .before .before .before .before .before .args .s .now)) _ _ (c .before .before .before .before .before .loop-test .taken) ((subst (DepthIs (c .before .before .before .before .before .before .before .before .args .s .now) (c .before .before .before .before .before .before .loop .t)) (c .before .d .given .1) (c .before .before .before .type-depth .ensures)) .right)))))
+
+returns-2 : tie.Need-returns-2 Inv-loop μ-loop
+returns-2 c = lowest-past (typeOk (c .before .before .before .args .s .now)) _ _ (c .loop-test .left) ∙ sym (c .before .loop .inv .1 .1 .1 .1) ∙ (ap (lowest (typeOk (c .before .before .before .args .s .now)) 0) (c .before .loop .inv .1 .0))
+
+pub bad-type-spec : {M : Type 1} → statement M
+bad-type-spec =
+    tie.close
+    (tie.spec
+    Inv-loop
+    μ-loop
+    loop-holds
+    type-depth-requires
+    enum-known-d
+    enum-told
+    returns
+    cast-depths
+    array-write-depths
+    add-t
+    loop-less
+    loop-again
+    returns-2)
