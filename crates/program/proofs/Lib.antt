@@ -2,3 +2,4 @@ pub mod RecordLaws
 pub mod FieldLaws
 pub mod SearchLaws
 pub mod TypeLaws
+pub mod TermLaws

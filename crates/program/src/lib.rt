@@ -2,4 +2,5 @@
 pub mod answer;
 pub mod header;
 pub mod records;
+pub mod terms;
 pub mod types;

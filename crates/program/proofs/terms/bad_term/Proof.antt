@@ -1,0 +1,61 @@
+use borrow.Author.Needs.{needs}
+use mathlib.Core.Path.{_≡_, refl, sym, ap, _∙_}
+use Prim.Native.Nat.{ℕ, _≤_, _-_}
+use native.Mathlib.Omega.{arith}
+use Rattle.program.specs.Layout.{terms}
+use Rattle.program.specs.Screening.{lowest}
+use Rattle.program.specs.Decoding.{termOk}
+use Rattle.program.specs.Laws.Readable.{fields-ok}
+use Rattle.program.proofs.SearchLaws.{lowest-here, lowest-more, lowest-past, lowest-starts}
+use Rattle.program.proofs.TermLaws.{wrong-is, wrong-bad, right-good}
+use Rattle.program.proofs.terms.bad_term.Statement.{statement}
+use Rattle.program.proofs.terms.bad_term.Tie as tie
+use Rattle.program.proofs.terms.bad_term.Reads as reads
+use Rattle.program.proofs.terms.bad_term.Lts as lts
+use Rattle.program.proofs.terms.is_wrong.Reads as is-wrong-reads
+use Rattle.program.proofs.terms.shape_at.Reads as shape-at-reads
+
+abbrev Inv-loop : tie.InvT-loop
+Inv-loop s c n t₀ t = (t ≤ n) × ((n ≡ terms s) × (lowest (termOk s) 0 n ≡ lowest (termOk s) t (n - t)))
+
+abbrev μ-loop : tie.MeasureT-loop
+μ-loop s c n t₀ t = n - t
+
+loop-holds : tie.Need-loop-holds Inv-loop μ-loop
+loop-holds c = (omega arith, (c .before .pre .counts-are .terms-are, lowest-starts (termOk (c .before .args .s .now)) (c .before .args .c .terms)))
+
+shape-at-requires : tie.Need-shape-at-requires Inv-loop μ-loop
+shape-at-requires c κs = c .before .before .before .pre
+
+is-wrong-requires : tie.Need-is-wrong-requires Inv-loop μ-loop
+is-wrong-requires c κs = search needs
+
+returns : tie.Need-returns Inv-loop μ-loop
+returns c = lowest-here (termOk (c .before .before .before .before .before .before .args .s .now)) _ _ (c .before .before .before .loop-test .taken) (wrong-bad (c .before .before .before .before .before .before .args .s .now) (c .before .before .before .before .loop .t) (wrong-is (c .before .before .before .before .before .before .args .s .now) (c .before .before .before .before .loop .t) (c .before .before .shape-at .ensures) (c .before .is-wrong .ensures)) (c .if1 .taken)) ∙ sym (c .before .before .before .before .loop .inv .1 .1) ∙ (ap (lowest (termOk (c .before .before .before .before .before .before .args .s .now)) 0) (c .before .before .before .before .loop .inv .1 .0))
+
+add-t : tie.Need-add-t Inv-loop μ-loop
+add-t c = omega (arith, fields-ok (c .before .before .before .before .before .before .args .s .now) (c .before .before .before .before .before .before .pre .none-found) .terms-high, c .before .before .before .before .loop .inv .1 .0)
+
+loop-less : tie.Need-loop-less Inv-loop μ-loop
+loop-less c = omega arith
+
+loop-again : tie.Need-loop-again Inv-loop μ-loop
+loop-again c = (omega arith, (c .before .before .before .before .loop .inv .1 .0, c .before .before .before .before .loop .inv .1 .1 ∙ lowest-more (termOk (c .before .before .before .before .before .before .args .s .now)) _ _ (c .before .before .before .loop-test .taken) (right-good (c .before .before .before .before .before .before .args .s .now) (c .before .before .before .before .loop .t) (wrong-is (c .before .before .before .before .before .before .args .s .now) (c .before .before .before .before .loop .t) (c .before .before .shape-at .ensures) (c .before .is-wrong .ensures)) (c .if1 .left))))
+
+returns-2 : tie.Need-returns-2 Inv-loop μ-loop
+returns-2 c = lowest-past (termOk (c .before .before .before .args .s .now)) _ _ (c .loop-test .left) ∙ sym (c .before .loop .inv .1 .1) ∙ (ap (lowest (termOk (c .before .before .before .args .s .now)) 0) (c .before .loop .inv .1 .0))
+
+pub bad-term-spec : {M : Type 1} → statement M
+bad-term-spec =
+    tie.close
+    (tie.spec
+    Inv-loop
+    μ-loop
+    loop-holds
+    shape-at-requires
+    is-wrong-requires
+    returns
+    add-t
+    loop-less
+    loop-again
+    returns-2)
