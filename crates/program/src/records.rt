@@ -91,7 +91,7 @@ pub fn type_record(s: &[u8], c: Counts, t: u16) -> TypeRecord
 }
 
 // The set A(n) that principal n may use.
-pub fn authority(s: &[u8], n: u8) -> u32
+pub fn authority(s: &[u8], n: u32) -> u32
     ensures { λ r. ⌜ r ≡ authorityRecord (now (s .entry)) n ⌝ }
 {
     let at = 8 + 4 * (n as usize);
