@@ -1,1 +1,4 @@
-// Definitions only so far: specs/ has the rules, the algorithm that decides them, and what is proved of the two.
+// The type checker: so far its answers, the bindings and subtyping.
+pub mod answer;
+pub mod bindings;
+pub mod subtypes;
