@@ -1,2 +1,4 @@
 pub mod BindingLaws
 pub mod SubtypeLaws
+pub mod StepLaws
+pub mod TermLaws
