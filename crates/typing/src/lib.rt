@@ -1,6 +1,52 @@
-// The type checker: so far the judgement of one term of a sheet.
+// The type checker: 01's judge on the bytes of a sheet.
 pub mod answer;
 pub mod bindings;
 pub mod judge;
 mod steps;
 pub mod subtypes;
+
+use crate::answer::Fault;
+use crate::answer::Judged;
+use crate::answer::Verdict;
+use crate::bindings::Bindings;
+use crate::judge::infer;
+use program::records::Counts;
+ghost use mathlib.Core.Path.{_≡_};
+ghost use Rattle.program.specs.Layout.{terms as termsOf, root as rootOf};
+ghost use Rattle.typing.specs.Verdicts.{concluded, judgement};
+ghost use Rattle.typing.specs.Answers.{told};
+ghost use Rattle.typing.specs.Judging.{judged, Sheet};
+
+// The verdict on a readable sheet with these counts. The root is a sign, so that the principal named here is never looked at.
+fn judge_program(s: &[u8], c: Counts) -> Verdict
+    requires { ⌜ Sheet (now s) c ⌝ }
+    ensures { λ r. ⌜ told r ≡ concluded (termsOf (now (s .entry))) (rootOf (now (s .entry))) (judgement (now (s .entry))) ⌝ }
+{
+    let terms = c.terms;
+    let root = terms - 1;
+    let none = Bindings {
+        types: [0; 32],
+        len: 0,
+    };
+    let j = infer(s, c, root, none, 0);
+    conclude(terms, root, j)
+}
+
+// The verdict from the root's judgement: a root has type 0 or 1.
+fn conclude(terms: u16, root: u16, j: Judged) -> Verdict
+    ensures { λ r. ⌜ told r ≡ concluded terms root (judged j) ⌝ }
+{
+    match j {
+        Judged::Faulty(f) => Verdict::Refused(f),
+        Judged::Typed { ty, needs } => {
+            if ty < 2 {
+                return Verdict::Accepted {
+                    terms: terms,
+                    ty: ty,
+                    needs: needs,
+                };
+            }
+            Verdict::Refused(Fault::RootType(root))
+        }
+    }
+}
