@@ -1,6 +1,6 @@
 -- The fields of a sheet: which condition each way out of the code has found.
-use mathlib.Core.Bool.{Bool, true, false, _&&_}
-use mathlib.Core.List.{List, [], _∷_, _++_}
+use mathlib.Core.Bool.{Bool, true, false}
+use mathlib.Core.List.{List}
 use mathlib.Core.Path.{_≡_, refl, sym, ap, _∙_, subst}
 use Prim.Native.Nat.{ℕ, _+_, _*_, _/_, _<_, _≤_}
 use native.Mathlib.Omega.{arith}
@@ -9,14 +9,12 @@ use lib.ListN.{length}
 use borrow.Author.Tests.{lt-leb, le-leb, eq-eqb, ne-eqb, leb-true, eqb-true}
 use Rattle.privileges.specs.Booleans.{and-left, and-right}
 use Rattle.program.specs.Bytes.{byte, word16}
-use Rattle.program.specs.Layout.{principals, typeField, types, typeAt, termField, terms, termAt}
+use Rattle.program.specs.Layout.{principals, typeField, types, termField, terms, termAt}
 use Rattle.program.specs.Screening.{First, first-here, first-later, None, none-end, none-next, unless}
 use Rattle.program.specs.Decoding.{holds, field, fieldConditions}
 use Rattle.program.specs.Laws.Screening.{first-left, first-right, append-none, none-unless, found-unless}
-use Rattle.program.specs.Records.{CountsOf}
 use Rattle.program.specs.Answers.{causeOf, placeOf}
 use Rattle.program.specs.Internal.{FieldHolds, FieldIs, Laid}
-use Rattle.program.specs.declared.records.Counts.{Counts}
 use Rattle.program.specs.declared.answer.Refusal.{Refusal}
 use Rattle.program.specs.declared.header.Field.{Field}
 use Rattle.program.specs.declared.header.Field.the-variants.{Records, Fault}
@@ -51,12 +49,12 @@ module _ (s : List ℕ) (at tag size least most : ℕ) where
         field-whole c =
             let h = sym g ∙ f in
             record {
-          count = ap (λ (x : ℕ). x / size) l;
-          least-are = leb-true least (len / size) (search (and-left, and-right));
-          most-are = leb-true (len / size) most (search (and-left, and-right));
-          inside = omega (arith, c, eqb-true (len / size * size) len (search (and-left, and-right)));
-          none-found = none-next headed (none-next tagged (none-next (none-unless 4 (sized ∙ f)) (none-next (none-unless 1 (le-leb (at + 3 + word16 s (at + 1)) (length s) (omega arith))) none-end)));
-        }
+              count = ap (λ (x : ℕ). x / size) l;
+              least-are = leb-true least (len / size) (search (and-left, and-right));
+              most-are = leb-true (len / size) most (search (and-left, and-right));
+              inside = omega (arith, c, eqb-true (len / size * size) len (search (and-left, and-right)));
+              none-found = none-next headed (none-next tagged (none-next (none-unless 4 (sized ∙ f)) (none-next (none-unless 1 (le-leb (at + 3 + word16 s (at + 1)) (length s) (omega arith))) none-end)));
+            }
 
 -- ---- a field's answer, by its cases
 pub is-fault : (s : List ℕ) (at tag size least most : ℕ) {r : Field} {f : Refusal} → r ≡ Fault f → FieldIs s at tag size least most r

@@ -2,15 +2,15 @@
 use mathlib.Core.Bool.{Bool, true, false, not, _&&_, and-true}
 use mathlib.Core.List.{List}
 use mathlib.Core.Path.{_≡_, refl, sym, ap, _∙_}
-use Prim.Native.Nat.{ℕ, _+_, _<_, _≤_}
+use Prim.Native.Nat.{ℕ, _<_, _≤_}
 use native.Mathlib.Decide.{ℕ-discrete}
 use native.Mathlib.Omega.{arith}
 use lib.Dec.{leb, ltb, eqb}
 use borrow.Author.Tests.{lt-leb}
-use Rattle.program.specs.Layout.{principals, types, kindByte, small, first, second, third, termAt}
+use Rattle.program.specs.Layout.{principals, types, kindByte, small, first, second, third}
 use Rattle.program.specs.Formats.{Part, unused, flag, anyNumber, privilege, principal, functionType, child, bodyChild, Kind, Boolean, Number, Variable, Function, Letrec, Call, If, Check, Enable, Sign, Test, Sum, Difference, Less, Post, kindOf, format}
 use Rattle.program.specs.Decoding.{partOk, formatAt, termOk}
-use Rattle.program.specs.Records.{termAtByte, termRecord}
+use Rattle.program.specs.Records.{termRecord}
 use Rattle.program.specs.Internal.{Laid, partIn, recordOk, childrenOf, shapeIf, shapeFrom, shapeOf, shapeAt, isWrong}
 use Rattle.program.specs.Laws.Readable.{fields-ok}
 use Rattle.program.specs.Laws.Records.{term-laid}
@@ -53,8 +53,10 @@ module _ (P Y t : ℕ) (r : TermRecord) where
     where
       rest : Bool × Bool × Bool × Bool
       rest = (
-        partIn P Y t (format (kindOf (r .kind)) .small) (r .small), partIn P Y t (format (kindOf (r .kind)) .first) (r .first),
-        partIn P Y t (format (kindOf (r .kind)) .second) (r .second), partIn P Y t (format (kindOf (r .kind)) .third) (r .third),
+        partIn P Y t (format (kindOf (r .kind)) .small) (r .small),
+        partIn P Y t (format (kindOf (r .kind)) .first) (r .first),
+        partIn P Y t (format (kindOf (r .kind)) .second) (r .second),
+        partIn P Y t (format (kindOf (r .kind)) .third) (r .third),
       )
 
 -- ---- the shape of a term

@@ -1,20 +1,20 @@
 -- The type table: what each way out of the code has found of a record.
-use mathlib.Core.Bool.{Bool, true, false, not, cond, _&&_, true≢false, false≢true}
+use mathlib.Core.Bool.{Bool, true, false, not, cond, _&&_, false≢true}
 use mathlib.Core.List.{List}
-use mathlib.Core.Path.{_≡_, refl, sym, ap, _∙_, subst}
+use mathlib.Core.Path.{_≡_, refl, sym, ap, _∙_}
 use Prim.Native.Nat.{ℕ, zero, suc, _+_, _*_, _-_, _<_, _≤_, max}
 use native.Mathlib.Decide.{ℕ-discrete}
 use native.Mathlib.Omega.{arith}
 use lib.Dec.{leb, ltb, eqb}
 use lib.ListN.{getD, length, set}
 use lib.Seq.{getD-set-same, getD-set-other}
-use borrow.Author.Tests.{ltb-true, leb-true, leb-false, lt-ltb, le-ltb, le-leb, lt-leb, eq-eqb, ne-eqb, not-true, not-false}
+use borrow.Author.Tests.{ltb-true, leb-true, leb-false, lt-ltb, le-ltb, le-leb, lt-leb, eq-eqb, ne-eqb}
 use Rattle.privileges.specs.Booleans.{and-left, and-right}
 use Rattle.program.specs.Tests.{also, orElse}
-use Rattle.program.specs.Bytes.{byte, word16}
-use Rattle.program.specs.Layout.{principals, typeField, types, typeAt, terms, termAt, Types, typesOf}
+use Rattle.program.specs.Bytes.{byte}
+use Rattle.program.specs.Layout.{principals, types, typeAt, typesOf}
 use Rattle.program.specs.Decoding.{baseOk, functionOk, shallow, sameBytes, fresh, typeOk}
-use Rattle.program.specs.Records.{CountsOf, typeAtByte, typeRecord}
+use Rattle.program.specs.Records.{typeAtByte, typeRecord}
 use Rattle.program.specs.Internal.{Laid, TableAt, Depths, Deep}
 use Rattle.program.specs.Laws.Readable.{FieldsOk, fields-ok}
 use Rattle.program.specs.Laws.Records.{type-laid}

@@ -3,7 +3,6 @@ ghost use mathlib.Core.Path.{_≡_};
 ghost use Prim.Native.Nat.{_<_};
 ghost use Rattle.program.specs.Decoding.{holds as holdsOf};
 ghost use Rattle.program.specs.Internal.{FieldIs, HeaderIs};
-
 use crate::answer::Refusal;
 use crate::records::Counts;
 use crate::records::be16;

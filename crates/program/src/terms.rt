@@ -6,7 +6,6 @@ ghost use Rattle.program.specs.Layout.{terms};
 ghost use Rattle.program.specs.Screening.{lowest};
 ghost use Rattle.program.specs.Decoding.{termOk};
 ghost use Rattle.program.specs.Internal.{Laid, foundOf, shapeIf, shapeOf, shapeAt, isWrong};
-
 use crate::answer::Found;
 use crate::records::Counts;
 use crate::records::TermRecord;
@@ -42,12 +41,24 @@ fn shape_of(r: TermRecord, c: Counts, t: u16) -> Shape
     match kind {
         0 => shape_if((x <= 1) & (a == 0) & (b == 0) & (d == 0), Shape::Leaf),
         1..=2 => shape_if((x == 0) & (b == 0) & (d == 0), Shape::Leaf),
-        3 => shape_if((x == 0) & ((2 <= a) & (a < y)) & (b < t) & (d == 0), Shape::Function(b)),
-        4 => shape_if((x == 0) & ((2 <= a) & (a < y)) & (b < t) & (d < t), Shape::Letrec(b, d)),
+        3 => shape_if(
+            (x == 0) & ((2 <= a) & (a < y)) & (b < t) & (d == 0),
+            Shape::Function(b),
+        ),
+        4 => shape_if(
+            (x == 0) & ((2 <= a) & (a < y)) & (b < t) & (d < t),
+            Shape::Letrec(b, d),
+        ),
         5 => shape_if((x == 0) & (a < t) & (b < t) & (d == 0), Shape::Two(a, b)),
-        6 => shape_if((x == 0) & (a < t) & (b < t) & (d < t), Shape::Three(a, b, d)),
+        6 => shape_if(
+            (x == 0) & (a < t) & (b < t) & (d < t),
+            Shape::Three(a, b, d),
+        ),
         7..=8 => shape_if((x <= 31) & (a < t) & (b == 0) & (d == 0), Shape::One(a)),
-        9 => shape_if((x < c.principals) & (a < t) & (b == 0) & (d == 0), Shape::One(a)),
+        9 => shape_if(
+            (x < c.principals) & (a < t) & (b == 0) & (d == 0),
+            Shape::One(a),
+        ),
         10 => shape_if((x <= 31) & (a < t) & (b < t) & (d == 0), Shape::Two(a, b)),
         11..=13 => shape_if((x == 0) & (a < t) & (b < t) & (d == 0), Shape::Two(a, b)),
         14 => shape_if((x == 0) & (a < t) & (b == 0) & (d == 0), Shape::One(a)),

@@ -8,7 +8,6 @@ ghost use Rattle.program.specs.Layout.{types, typeAt};
 ghost use Rattle.program.specs.Screening.{lowest};
 ghost use Rattle.program.specs.Decoding.{sameBytes, fresh, typeOk};
 ghost use Rattle.program.specs.Internal.{Laid, TableAt, Depths, DepthIs, foundOf};
-
 use crate::answer::Found;
 use crate::records::Counts;
 use crate::records::TypeRecord;

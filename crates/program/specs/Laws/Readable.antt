@@ -1,16 +1,15 @@
 -- What a readable sheet has, condition by condition.
 use mathlib.Core.Bool.{Bool, true}
-use mathlib.Core.List.{List, [], _∷_}
+use mathlib.Core.List.{List}
 use mathlib.Core.Path.{_≡_}
 use Prim.Native.Nat.{ℕ, _+_, _*_, _/_, _<_, _≤_}
 use native.Mathlib.Omega.{arith}
-use lib.Dec.{eqb}
 use lib.ListN.{length}
 use borrow.Author.Tests.{leb-true, eqb-true}
 use Rattle.privileges.specs.Booleans.{and-left, and-right}
 use Rattle.program.specs.Bytes.{byte, word16}
 use Rattle.program.specs.Layout.{principals, typeField, types, termField, terms, termAt}
-use Rattle.program.specs.Screening.{None, none-end, none-next, unless, seek}
+use Rattle.program.specs.Screening.{None, none-end, none-next}
 use Rattle.program.specs.Decoding.{holds, field, typeOk, termOk, placedOk, nestedIn, fieldConditions, tableConditions, decodingConditions, decoding, Readable}
 use Rattle.program.specs.Laws.Screening.{clear-none, none-cons, none-append, unless-none, lowest-none}
 

@@ -10,7 +10,7 @@ use Rattle.privileges.specs.Booleans.{and-left, and-right}
 use Rattle.program.specs.Layout.{terms, root, kindByte, small, first, second, third, Types, typesOf}
 use Rattle.program.specs.Formats.{Part, unused, flag, anyNumber, privilege, principal, functionType, child, bodyChild, isChild, Format, Kind, Boolean, Number, Variable, Function, Letrec, Call, If, Check, Enable, Sign, Test, Sum, Difference, Less, Post, kindOf, format}
 use Rattle.program.specs.Terms.{Term, boolean, number, variable, function, letrec, call, if, check, enable, sign, test, binary, post, sum, difference, less, node, treeTo, tree, program}
-use Rattle.program.specs.Decoding.{partOk, formatAt, timesBelow, isSign, signedBody}
+use Rattle.program.specs.Decoding.{partOk, formatAt, termOk, timesBelow, isSign, signedBody}
 use Rattle.program.specs.Laws.Readable.{WellFormed}
 
 -- ---- the parts of a record
@@ -21,16 +21,17 @@ pub record Parts (s : List ℕ) (t : ℕ) : Type 0 where
   pub second-ok : partOk s t (formatAt s t .second) (second s t) ≡ true
   pub third-ok : partOk s t (formatAt s t .third) (third s t) ≡ true
 
+pub parts-of : (s : List ℕ) (t : ℕ) → termOk s t ≡ true → Parts s t
+parts-of s t h = record {
+  kind-ok = leb-true (kindByte s t) 14 (search (and-left, and-right));
+  small-ok = search (and-left, and-right);
+  first-ok = search (and-left, and-right);
+  second-ok = search (and-left, and-right);
+  third-ok = search (and-left, and-right);
+}
+
 pub parts : (s : List ℕ) → WellFormed s → (t : ℕ) → t < terms s → Parts s t
-parts s w t l =
-    let h = w .term-ok t l in
-    record {
-      kind-ok = leb-true (kindByte s t) 14 (search (and-left, and-right));
-      small-ok = search (and-left, and-right);
-      first-ok = search (and-left, and-right);
-      second-ok = search (and-left, and-right);
-      third-ok = search (and-left, and-right);
-    }
+parts s w t l = parts-of s t (w .term-ok t l)
 
 -- ---- children are lower than their parent
 child-lower : (s : List ℕ) (t : ℕ) (p : Part) (x : ℕ) → partOk s t p x ≡ true → isChild p ≡ true → x < t
@@ -48,14 +49,17 @@ pub record Below (f : Format) (t a b c : ℕ) : Type 0 where
   pub second-below : isChild (f .second) ≡ true → b < t
   pub third-below : isChild (f .third) ≡ true → c < t
 
-pub below : (s : List ℕ) → WellFormed s → (t : ℕ) → t < terms s → Below (formatAt s t) t (first s t) (second s t) (third s t)
-below s w t l =
-    let p = parts s w t l in
+pub below-of : (s : List ℕ) (t : ℕ) → termOk s t ≡ true → Below (formatAt s t) t (first s t) (second s t) (third s t)
+below-of s t h =
+    let p = parts-of s t h in
     record {
       first-below = child-lower s t (formatAt s t .first) (first s t) (p .first-ok);
       second-below = child-lower s t (formatAt s t .second) (second s t) (p .second-ok);
       third-below = child-lower s t (formatAt s t .third) (third s t) (p .third-ok);
     }
+
+pub below : (s : List ℕ) → WellFormed s → (t : ℕ) → t < terms s → Below (formatAt s t) t (first s t) (second s t) (third s t)
+below s w t l = below-of s t (w .term-ok t l)
 
 -- ---- a term of the tree is the node of its record over its children's trees
 node-same : (k : Kind) (t x a b c : ℕ) (f g : ℕ → Term) → Below (format k) t a b c → ((y : ℕ) → y < t → f y ≡ g y) → node k t x a b c f ≡ node k t x a b c g

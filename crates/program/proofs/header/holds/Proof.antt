@@ -3,8 +3,6 @@ use native.Mathlib.Omega.{arith}
 use borrow.Author.Needs.{needs}
 use Rattle.program.proofs.header.holds.Statement.{statement}
 use Rattle.program.proofs.header.holds.Tie as tie
-use Rattle.program.proofs.header.holds.Reads as reads
-use Rattle.program.proofs.header.holds.Lts as lts
 
 div-n : tie.Need-div-n
 div-n c = search needs

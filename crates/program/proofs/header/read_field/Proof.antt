@@ -1,13 +1,8 @@
-use native.Mathlib.Omega.{arith}
 use borrow.Author.Tests.{not-true, not-false}
 use Rattle.program.proofs.FieldLaws.{field-short, field-tag, field-length, field-cut, field-whole}
 use borrow.Author.Needs.{needs}
 use Rattle.program.proofs.header.read_field.Statement.{statement}
 use Rattle.program.proofs.header.read_field.Tie as tie
-use Rattle.program.proofs.header.read_field.Reads as reads
-use Rattle.program.proofs.header.read_field.Lts as lts
-use Rattle.program.proofs.header.holds.Reads as holds-reads
-use Rattle.program.proofs.records.be16.Reads as be16-reads
 
 add-if1 : tie.Need-add-if1
 add-if1 c = search needs

@@ -1,13 +1,8 @@
 use native.Mathlib.Omega.{arith}
-use Prim.Native.Nat.{_+_, _*_}
 use Rattle.program.proofs.FieldLaws.{is-fault, is-records, fault-1, fault-version, fault-2, fault-3, fault-4, fault-end, laid}
 use borrow.Author.Needs.{needs}
 use Rattle.program.proofs.header.read_header.Statement.{statement}
 use Rattle.program.proofs.header.read_header.Tie as tie
-use Rattle.program.proofs.header.read_header.Reads as reads
-use Rattle.program.proofs.header.read_header.Lts as lts
-use Rattle.program.proofs.header.read_field.Reads as read-field-reads
-use Rattle.program.proofs.records.be16.Reads as be16-reads
 
 read-field-requires : tie.Need-read-field-requires
 read-field-requires c κs = search needs

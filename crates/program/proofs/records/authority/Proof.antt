@@ -2,9 +2,6 @@ use Rattle.program.proofs.RecordLaws.{no-authority, an-authority}
 use borrow.Author.Needs.{needs}
 use Rattle.program.proofs.records.authority.Statement.{statement}
 use Rattle.program.proofs.records.authority.Tie as tie
-use Rattle.program.proofs.records.authority.Reads as reads
-use Rattle.program.proofs.records.authority.Lts as lts
-use Rattle.program.proofs.records.be32.Reads as be32-reads
 
 mul-at : tie.Need-mul-at
 mul-at c = search needs

@@ -3,8 +3,6 @@ use Prim.Native.Nat.{_+_}
 use borrow.Author.Needs.{needs}
 use Rattle.program.proofs.records.be16.Statement.{statement}
 use Rattle.program.proofs.records.be16.Tie as tie
-use Rattle.program.proofs.records.be16.Reads as reads
-use Rattle.program.proofs.records.be16.Lts as lts
 
 shared-slice-read-result : tie.Need-shared-slice-read-result
 shared-slice-read-result c = search needs

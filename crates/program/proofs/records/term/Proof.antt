@@ -2,9 +2,6 @@ use Rattle.program.proofs.RecordLaws.{no-term, a-term}
 use borrow.Author.Needs.{needs}
 use Rattle.program.proofs.records.term.Statement.{statement}
 use Rattle.program.proofs.records.term.Tie as tie
-use Rattle.program.proofs.records.term.Reads as reads
-use Rattle.program.proofs.records.term.Lts as lts
-use Rattle.program.proofs.records.be16.Reads as be16-reads
 
 cast-at : tie.Need-cast-at
 cast-at c = search needs

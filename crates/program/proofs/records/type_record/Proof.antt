@@ -2,10 +2,6 @@ use Rattle.program.proofs.RecordLaws.{no-type, a-type}
 use borrow.Author.Needs.{needs}
 use Rattle.program.proofs.records.type_record.Statement.{statement}
 use Rattle.program.proofs.records.type_record.Tie as tie
-use Rattle.program.proofs.records.type_record.Reads as reads
-use Rattle.program.proofs.records.type_record.Lts as lts
-use Rattle.program.proofs.records.be16.Reads as be16-reads
-use Rattle.program.proofs.records.be32.Reads as be32-reads
 
 cast-at : tie.Need-cast-at
 cast-at c = search needs

@@ -1,6 +1,6 @@
 use borrow.Author.Needs.{needs}
-use mathlib.Core.Path.{_≡_, refl, sym, ap, _∙_}
-use Prim.Native.Nat.{ℕ, _≤_, _-_}
+use mathlib.Core.Path.{_≡_, sym, ap, _∙_}
+use Prim.Native.Nat.{_≤_, _-_}
 use native.Mathlib.Omega.{arith}
 use Rattle.program.specs.Layout.{terms}
 use Rattle.program.specs.Screening.{lowest}
@@ -10,10 +10,6 @@ use Rattle.program.proofs.SearchLaws.{lowest-here, lowest-more, lowest-
 use Rattle.program.proofs.TermLaws.{wrong-is, wrong-bad, right-good}
 use Rattle.program.proofs.terms.bad_term.Statement.{statement}
 use Rattle.program.proofs.terms.bad_term.Tie as tie
-use Rattle.program.proofs.terms.bad_term.Reads as reads
-use Rattle.program.proofs.terms.bad_term.Lts as lts
-use Rattle.program.proofs.terms.is_wrong.Reads as is-wrong-reads
-use Rattle.program.proofs.terms.shape_at.Reads as shape-at-reads
 
 abbrev Inv-loop : tie.InvT-loop
 Inv-loop s c n t₀ t = (t ≤ n) × ((n ≡ terms s) × (lowest (termOk s) 0 n ≡ lowest (termOk s) t (n - t)))

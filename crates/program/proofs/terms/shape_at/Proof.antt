@@ -2,10 +2,6 @@ use Rattle.program.proofs.TermLaws.{shape-is}
 use borrow.Author.Needs.{needs}
 use Rattle.program.proofs.terms.shape_at.Statement.{statement}
 use Rattle.program.proofs.terms.shape_at.Tie as tie
-use Rattle.program.proofs.terms.shape_at.Reads as reads
-use Rattle.program.proofs.terms.shape_at.Lts as lts
-use Rattle.program.proofs.records.term.Reads as term-reads
-use Rattle.program.proofs.terms.shape_of.Reads as shape-of-reads
 
 term-requires : tie.Need-term-requires
 term-requires c κs = search needs

@@ -3,9 +3,6 @@ use Rattle.program.proofs.TermLaws.{at-kind, kinds-1-2, kinds-7-8, kind
 use borrow.Author.Needs.{needs}
 use Rattle.program.proofs.terms.shape_of.Statement.{statement}
 use Rattle.program.proofs.terms.shape_of.Tie as tie
-use Rattle.program.proofs.terms.shape_of.Reads as reads
-use Rattle.program.proofs.terms.shape_of.Lts as lts
-use Rattle.program.proofs.terms.shape_if.Reads as shape-if-reads
 
 shape-if-requires : tie.Need-shape-if-requires
 shape-if-requires c κs = search needs

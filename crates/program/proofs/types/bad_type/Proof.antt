@@ -1,6 +1,6 @@
 use borrow.Author.Needs.{needs}
 use mathlib.Core.Path.{_≡_, refl, sym, ap, _∙_, subst}
-use Prim.Native.Nat.{ℕ, _≤_, _<_, _-_}
+use Prim.Native.Nat.{_≤_, _-_}
 use native.Mathlib.Omega.{arith}
 use lib.ListN.{length, length-set}
 use Rattle.program.specs.Layout.{types}
@@ -12,9 +12,6 @@ use Rattle.program.proofs.SearchLaws.{lowest-here, lowest-more, lowest-
 use Rattle.program.proofs.TypeLaws.{depths-none, depths-more}
 use Rattle.program.proofs.types.bad_type.Statement.{statement}
 use Rattle.program.proofs.types.bad_type.Tie as tie
-use Rattle.program.proofs.types.bad_type.Reads as reads
-use Rattle.program.proofs.types.bad_type.Lts as lts
-use Rattle.program.proofs.types.type_depth.Reads as type-depth-reads
 
 abbrev Inv-loop : tie.InvT-loop
 Inv-loop s c depths₀ n t₀ depths t = (t ≤ n) × ((n ≡ types s) × ((length depths ≡ 256) × (Depths s depths t × (lowest (typeOk s) 0 n ≡ lowest (typeOk s) t (n - t)))))

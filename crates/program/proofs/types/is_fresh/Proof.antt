@@ -1,14 +1,10 @@
-use mathlib.Core.Path.{_≡_, refl, sym, ap, _∙_}
-use Prim.Native.Nat.{ℕ, _+_, _*_, _≤_}
+use mathlib.Core.Path.{_≡_, refl, sym, _∙_}
+use Prim.Native.Nat.{_≤_}
 use native.Mathlib.Omega.{arith}
 use Rattle.program.specs.Decoding.{fresh}
 use Rattle.program.proofs.TypeLaws.{fresh-not, fresh-more, fresh-end}
-use Rattle.program.specs.Decoding.{sameBytes}
 use Rattle.program.proofs.types.is_fresh.Statement.{statement}
 use Rattle.program.proofs.types.is_fresh.Tie as tie
-use Rattle.program.proofs.types.is_fresh.Reads as reads
-use Rattle.program.proofs.types.is_fresh.Lts as lts
-use Rattle.program.proofs.types.same_record.Reads as same-record-reads
 
 abbrev Inv-loop : tie.InvT-loop
 Inv-loop s at t here j₀ j = (j ≤ t) × (fresh s t t ≡ fresh s t j)

@@ -5,8 +5,6 @@ use Rattle.program.specs.Decoding.{sameBytes}
 use Rattle.program.proofs.TypeLaws.{same-not, same-more, same-end}
 use Rattle.program.proofs.types.same_record.Statement.{statement}
 use Rattle.program.proofs.types.same_record.Tie as tie
-use Rattle.program.proofs.types.same_record.Reads as reads
-use Rattle.program.proofs.types.same_record.Lts as lts
 
 abbrev Inv-loop : tie.InvT-loop
 Inv-loop s i j k₀ k = (k ≤ 10) × (sameBytes s i j 10 ≡ sameBytes s i j k)

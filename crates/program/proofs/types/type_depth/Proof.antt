@@ -1,4 +1,3 @@
-use mathlib.Core.Path.{_≡_}
 use native.Mathlib.Omega.{arith}
 use borrow.Author.Tests.{not-true, not-false}
 use Rattle.program.specs.Laws.Readable.{fields-ok}
@@ -6,13 +5,6 @@ use Rattle.program.proofs.TypeLaws.{table-at, base-good, base-bad, form
 use borrow.Author.Needs.{needs}
 use Rattle.program.proofs.types.type_depth.Statement.{statement}
 use Rattle.program.proofs.types.type_depth.Tie as tie
-use Rattle.program.proofs.types.type_depth.Reads as reads
-use Rattle.program.proofs.types.type_depth.Lts as lts
-use Rattle.program.proofs.records.type_record.Reads as type-record-reads
-use Rattle.program.proofs.types.base_ok.Reads as base-ok-reads
-use Rattle.program.proofs.types.function_ok.Reads as function-ok-reads
-use Rattle.program.proofs.types.is_fresh.Reads as is-fresh-reads
-use Rattle.program.proofs.types.larger.Reads as larger-reads
 
 type-record-requires : tie.Need-type-record-requires
 type-record-requires c κs = search needs
