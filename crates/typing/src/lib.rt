@@ -10,12 +10,24 @@ use crate::answer::Judged;
 use crate::answer::Verdict;
 use crate::bindings::Bindings;
 use crate::judge::infer;
+use program::answer::Decoded;
 use program::records::Counts;
 ghost use mathlib.Core.Path.{_≡_};
 ghost use Rattle.program.specs.Layout.{terms as termsOf, root as rootOf};
-ghost use Rattle.typing.specs.Verdicts.{concluded, judgement};
+ghost use Rattle.typing.specs.Verdicts.{concluded, judgement, verdict};
 ghost use Rattle.typing.specs.Answers.{told};
 ghost use Rattle.typing.specs.Judging.{judged, Sheet};
+
+// 01's judge, on any bytes: the reader's refusals 1 to 8, then the rules' 9 to 12, then 13.
+pub fn typecheck(sheet: &[u8]) -> Verdict
+    ensures { λ r. ⌜ told r ≡ verdict (now (sheet .entry)) ⌝ }
+{
+    let d = program::decode(sheet);
+    match d {
+        Decoded::Refused(f) => Verdict::Unreadable(f),
+        Decoded::Readable(c) => judge_program(sheet, c),
+    }
+}
 
 // The verdict on a readable sheet with these counts. The root is a sign, so that the principal named here is never looked at.
 fn judge_program(s: &[u8], c: Counts) -> Verdict
