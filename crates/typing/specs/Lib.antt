@@ -2,5 +2,8 @@ pub mod Subtyping
 pub mod Rules
 pub mod Checking
 pub mod Verdicts
+pub mod Answers
+pub mod Judging
+pub mod Internal
 pub mod Laws
 pub mod Theorems

@@ -1,0 +1,5 @@
+pub mod BindingLaws
+pub mod SubtypeLaws
+pub mod StepLaws
+pub mod TermLaws
+pub mod VerdictLaws

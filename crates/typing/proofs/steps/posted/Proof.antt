@@ -1,0 +1,24 @@
+use Rattle.typing.specs.Internal.{postStep}
+use Rattle.typing.proofs.StepLaws.{stop, post-number, post-other}
+use borrow.Author.Needs.{needs}
+use Rattle.typing.proofs.steps.posted.Statement.{statement}
+use Rattle.typing.proofs.steps.posted.Tie as tie
+
+enum-known-j : tie.Need-enum-known-j
+enum-known-j c = search needs
+
+enum-told : tie.Need-enum-told
+enum-told c = search needs
+
+returns : tie.Need-returns
+unfolding postStep
+returns c = stop _ (c .before .before .args .j) (c .before .match .keys2)
+
+returns-2 : tie.Need-returns-2
+returns-2 c = post-number (c .before .before .j .given .1) _ (c .if1 .taken)
+
+returns-3 : tie.Need-returns-3
+returns-3 c = post-other (c .before .before .j .given .1) _ (c .if1 .left)
+
+pub posted-spec : {M : Type 1} → statement M
+posted-spec = tie.close (tie.spec enum-known-j enum-told returns returns-2 returns-3)
