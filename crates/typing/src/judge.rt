@@ -111,7 +111,7 @@ fn infer_enable(s: &[u8], c: Counts, t: u16, x: TermRecord, b: Bindings, n: u8) 
     ensures { λ r. ⌜ judged r ≡ termJudgement (now (s .entry)) (context b) n t ⌝ }
 {
     let j = infer(s, c, x.first, b, n);
-    let may = authority(s, n);
+    let may = authority(s, n as u32);
     steps::enabled(may, x.small, j)
 }
 
@@ -122,7 +122,7 @@ fn infer_sign(s: &[u8], c: Counts, t: u16, x: TermRecord, b: Bindings, n: u8) ->
     ensures { λ r. ⌜ judged r ≡ termJudgement (now (s .entry)) (context b) n t ⌝ }
 {
     let j = infer(s, c, x.first, b, x.small);
-    let may = authority(s, x.small);
+    let may = authority(s, x.small as u32);
     steps::signed(may, t, j)
 }
 

@@ -400,9 +400,10 @@ pub +infer+infer-binary+infer-call+infer-check+infer-enable+infer-function+infer
     (infer-sign-at t)
     infer-sign.Post
     (λ c κs. let h = sign-child (c .before .pre .1 .0) (c .before .pre .1 .1) in (omega (arith, c .before .pre .0, h .lower), h .ready))  -- infer-sign-infer-requires
+    (λ c. search needs)  -- infer-sign-cast-authority
     (λ c κs. search needs)  -- infer-sign-authority-requires
     (λ c κs. search needs)  -- infer-sign-signed-requires
-    (λ c. sign-is (c .before .before .before .before .pre .1 .0) _ (c .before .before .before .before .pre .1 .1) (c .before .authority .ensures) (c .before .before .infer .ensures) (c .signed .ensures)))  -- infer-sign-returns
+    (λ c. sign-is (c .before .before .before .before .before .pre .1 .0) _ (c .before .before .before .before .before .pre .1 .1) (c .before .authority .ensures) (c .before .before .before .infer .ensures) (c .signed .ensures)))  -- infer-sign-returns
     λ t. infer-test-lts.spec
     (infer-below t, infer.Post, tested-reads.Asked, tested-reads.Learnt)
     (infer-test-at t)
