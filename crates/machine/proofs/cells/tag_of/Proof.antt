@@ -1,0 +1,28 @@
+use Rattle.machine.specs.Store.{tagOf}
+use borrow.Author.Needs.{needs}
+use Rattle.machine.proofs.cells.tag_of.Statement.{statement}
+use Rattle.machine.proofs.cells.tag_of.Tie as tie
+
+enum-told : tie.Need-enum-told
+enum-told c = search needs
+
+enum-told-2 : tie.Need-enum-told-2
+enum-told-2 c = search needs
+
+enum-told-3 : tie.Need-enum-told-3
+enum-told-3 c = search needs
+
+returns : tie.Need-returns
+unfolding tagOf
+returns c = search needs
+
+returns-2 : tie.Need-returns-2
+unfolding tagOf
+returns-2 c = search needs
+
+returns-3 : tie.Need-returns-3
+unfolding tagOf
+returns-3 c = search needs
+
+pub tag-of-spec : {M : Type 1} → statement M
+tag-of-spec = tie.close (tie.spec enum-told enum-told-2 enum-told-3 returns returns-2 returns-3)
