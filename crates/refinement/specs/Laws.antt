@@ -1,0 +1,8 @@
+-- What the theorems are proved from. Nothing here has to be believed.
+pub mod Cells
+pub mod Relation
+pub mod Steps
+pub mod Controls
+pub mod Simulation
+pub mod Trees
+pub mod Runs

@@ -1,0 +1,1 @@
+// Theorems only: the store-level interpreter of machine is the meaning.
