@@ -1,0 +1,83 @@
+-- Whether a run may start, from the reader's answer and the three tests that follow it.
+use mathlib.Core.Bool.{Bool, true, false, _&&_}
+use mathlib.Core.List.{List, [], _∷_}
+use mathlib.Core.Path.{_≡_, sym, ap, _∙_, subst}
+use Prim.Native.Nat.{ℕ, _%_}
+use lib.Dec.{leb}
+use lib.ListN.{length}
+use borrow.Author.Tests.{leb-true, eqb-true}
+use Rattle.privileges.specs.Booleans.{and-left, and-right}
+use Rattle.program.specs.Layout.{principals}
+use Rattle.program.specs.Records.{CountsOf}
+use Rattle.program.specs.Screening.{Condition, Screening, refused, tell, screen, unless}
+use Rattle.program.specs.Decoding.{decodingConditions, decoding, Readable}
+use Rattle.program.specs.Answers.{causeOf as readerCause, placeOf as readerPlace, told as toldDecoded, Counted}
+use Rattle.program.specs.Laws.Screening.{screen-clear, screen-refused}
+use Rattle.program.specs.Laws.Readable.{well-formed}
+use Rattle.program.specs.declared.answer.Refusal.{Refusal}
+use Rattle.program.specs.declared.answer.Decoded.{Decoded}
+use Rattle.program.specs.declared.answer.Decoded.the-variants.{Readable as IsReadable, Refused as IsRefused}
+use Rattle.program.specs.declared.records.Counts.{Counts}
+use Rattle.interp.specs.Internal.{startRight, conditions, Cleared}
+
+-- the caller's part of the conditions
+abbrev callers : (start buffers limits : Bool) → List Condition
+callers a b d = unless 14 a ∷ unless 15 b ∷ unless 16 d ∷ []
+
+module _ (s start : List ℕ) (cells posts : ℕ) (frames : Bool) (calls depth : ℕ) where
+  abbrev outcome : Screening
+  outcome = screen (conditions s start cells posts frames calls depth)
+
+  -- ---- a sheet that cannot be read
+  module _ {d : Decoded} (p : toldDecoded d ≡ decoding s) where
+    pub unreadable : {f : Refusal} → d ≡ IsRefused f → outcome ≡ refused (readerCause f) (readerPlace f)
+    unfolding decoding
+    unreadable {f = f} e = screen-refused (decodingConditions s) _ (readerCause f) (readerPlace f) (sym p ∙ ap toldDecoded e)
+
+    pub readable : {c : Counts} → d ≡ IsReadable c → Readable s
+    readable e = sym p ∙ ap toldDecoded e
+
+  pub counted : {d : Decoded} {c : Counts} → d ≡ IsReadable c → Counted s d → CountsOf s c
+  counted e k = subst (Counted s) e k
+
+  -- ---- a readable one
+  module _ (r : Readable s) {c : Counts} (k : CountsOf s c) {a b d : Bool} (at-start : a ≡ startRight (c .principals) start)
+      (of-buffers : b ≡ (leb cells 65536 && leb posts 256 && frames)) (of-limits : d ≡ (leb calls 4096 && leb depth 100)) where
+    start-is : startRight (principals s) start ≡ a
+    start-is = sym (at-start ∙ ap (λ (n : ℕ). startRight n start) (k .principals-are))
+
+    told-by : outcome ≡ screen (callers a b d)
+    unfolding decoding
+    told-by = screen-clear (decodingConditions s) _ r ∙ (λ i. screen (callers (start-is i) (sym of-buffers i) (sym of-limits i)))
+
+    pub start-refused : a ≡ false → outcome ≡ refused 14 0
+    unfolding screen tell
+    start-refused e = told-by ∙ (λ i. screen (callers (e i) b d))
+
+    pub buffers-refused : a ≡ true → b ≡ false → outcome ≡ refused 15 0
+    unfolding screen tell
+    buffers-refused e f = told-by ∙ (λ i. screen (callers (e i) (f i) d))
+
+    pub limits-refused : a ≡ true → b ≡ true → d ≡ false → outcome ≡ refused 16 0
+    unfolding screen tell
+    limits-refused e f g = told-by ∙ (λ i. screen (callers (e i) (f i) (g i)))
+
+    pub admitted : a ≡ true → b ≡ true → d ≡ true → Cleared s start cells posts frames calls depth c
+    unfolding screen tell
+    admitted e f g =
+        let start-right : startRight (principals s) start ≡ true = start-is ∙ e in
+        let buffers-right : (leb cells 65536 && leb posts 256 && frames) ≡ true = sym of-buffers ∙ f in
+        let limits-right : (leb calls 4096 && leb depth 100) ≡ true = sym of-limits ∙ g in
+        record {
+          none-found = told-by ∙ (λ i. screen (callers (e i) (f i) (g i)));
+          well-formed = well-formed s r;
+          counts-are = k;
+          whole = record {
+            few = leb-true (length start) 32 (search (and-left, and-right));
+            even = eqb-true (length start % 2) 0 (search (and-left, and-right));
+          };
+          all-known = search (and-left, and-right);
+          cells-most = leb-true cells 65536 (search (and-left, and-right));
+          frames-right = search (and-left, and-right);
+          depth-most = leb-true depth 100 (search (and-left, and-right));
+        }

@@ -1,0 +1,48 @@
+use mathlib.Core.Path.{ap, _∙_}
+use borrow.Author.Needs.{needs}
+use Rattle.machine.specs.declared.state.Value.{Value}
+use Rattle.machine.specs.declared.state.Out.the-variants.{Val}
+use Rattle.interp.proofs.RunLaws.{out-told}
+use Rattle.interp.proofs.outcome_of.Statement.{statement}
+use Rattle.interp.proofs.outcome_of.Tie as tie
+
+enum-known-out : tie.Need-enum-known-out
+enum-known-out c = search needs
+
+enum-known-out-2 : tie.Need-enum-known-out-2
+enum-known-out-2 c = search needs
+
+enum-known-v : tie.Need-enum-known-v
+enum-known-v c = search needs
+
+enum-known-v-2 : tie.Need-enum-known-v-2
+enum-known-v-2 c = search needs
+
+enum-known-v-3 : tie.Need-enum-known-v-3
+enum-known-v-3 c = search needs
+
+returns : tie.Need-returns
+returns c = out-told (c .before .before .before .args .root) _ (c .before .out .given .1)
+
+returns-2 : tie.Need-returns-2
+returns-2 c = out-told (c .before .before .before .before .before .before .args .root) _ (c .before .before .before .before .out2 .given .1 ∙ ap (λ (v : Value). Val v) (c .before .v .given .1))
+
+returns-3 : tie.Need-returns-3
+returns-3 c = out-told (c .before .before .before .before .before .before .args .root) _ (c .before .before .before .before .out2 .given .1 ∙ ap (λ (v : Value). Val v) (c .before .v2 .given .1))
+
+returns-4 : tie.Need-returns-4
+returns-4 c = out-told (c .before .before .before .before .before .before .args .root) _ (c .before .before .before .before .out2 .given .1 ∙ ap (λ (v : Value). Val v) (c .before .v3 .given .1))
+
+pub outcome-of-spec : {M : Type 1} → statement M
+outcome-of-spec =
+    tie.close
+    (tie.spec
+    enum-known-out
+    enum-known-out-2
+    enum-known-v
+    enum-known-v-2
+    enum-known-v-3
+    returns
+    returns-2
+    returns-3
+    returns-4)

@@ -1,0 +1,42 @@
+use borrow.Author.Needs.{needs}
+use mathlib.Core.Bool.{true}
+use Rattle.interp.proofs.RunLaws.{is-admitted, eager-refused}
+use Rattle.interp.proofs.run_eager.Statement.{statement}
+use Rattle.interp.proofs.run_eager.Tie as tie
+
+admit-requires : tie.Need-admit-requires
+admit-requires c κs = search needs
+
+enum-known-a : tie.Need-enum-known-a
+enum-known-a c = search needs
+
+enum-known-a-2 : tie.Need-enum-known-a-2
+enum-known-a-2 c = search needs
+
+eager-requires : tie.Need-eager-requires
+eager-requires c κs = is-admitted (c .before .before .before .before .before .before .before .before .before .before .args .sheet .now) (c .before .before .before .before .before .before .before .before .before .before .args .start .now) (c .before .before .before .before .before .before .before .before .before .before .args .enforce) (c .before .before .before .before .before .before .before .before .before .before .args .cells .now) (c .before .before .before .before .before .before .before .before .before .before .args .posts .now) (c .before .before .before .before .before .before .before .before .before .before .args .calls) (c .before .before .before .before .before .before .before .before .before .before .args .depth) true (c .before .before .before .a2 .given .1) (c .before .before .before .before .before .admit .ensures)
+
+returns : tie.Need-returns
+returns c = eager-refused (c .before .before .before .before .before .before .before .before .args .sheet .now) (c .before .before .before .before .before .before .before .before .args .start .now) (c .before .before .before .before .before .before .before .before .args .enforce) (c .before .before .before .before .before .before .before .before .args .cells .now) (c .before .before .before .before .before .before .before .before .args .posts .now) (c .before .before .before .before .before .before .before .before .args .calls) (c .before .before .before .before .before .before .before .before .args .depth) (c .before .a .given .1) (c .before .before .before .admit .ensures)
+
+same-length : tie.Need-same-length
+same-length c = search needs
+
+same-length-2 : tie.Need-same-length-2
+same-length-2 c = search needs
+
+returns-2 : tie.Need-returns-2
+returns-2 c = search needs
+
+pub run-eager-spec : {M : Type 1} → statement M
+run-eager-spec =
+    tie.close
+    (tie.spec
+    admit-requires
+    enum-known-a
+    enum-known-a-2
+    eager-requires
+    returns
+    same-length
+    same-length-2
+    returns-2)

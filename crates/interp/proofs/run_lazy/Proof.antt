@@ -1,0 +1,47 @@
+use borrow.Author.Needs.{needs}
+use lib.Dec.{eqb}
+use lib.ListN.{length}
+use Rattle.interp.proofs.RunLaws.{is-admitted, lazy-refused}
+use Rattle.interp.proofs.run_lazy.Statement.{statement}
+use Rattle.interp.proofs.run_lazy.Tie as tie
+
+admit-requires : tie.Need-admit-requires
+admit-requires c κs = search needs
+
+enum-known-a : tie.Need-enum-known-a
+enum-known-a c = search needs
+
+enum-known-a-2 : tie.Need-enum-known-a-2
+enum-known-a-2 c = search needs
+
+lazy-requires : tie.Need-lazy-requires
+lazy-requires c κs = is-admitted (c .before .before .before .before .before .before .before .before .before .before .before .before .args .sheet .now) (c .before .before .before .before .before .before .before .before .before .before .before .before .args .start .now) (c .before .before .before .before .before .before .before .before .before .before .before .before .args .enforce) (c .before .before .before .before .before .before .before .before .before .before .before .before .args .cells .now) (c .before .before .before .before .before .before .before .before .before .before .before .before .args .posts .now) (c .before .before .before .before .before .before .before .before .before .before .before .before .args .calls) (c .before .before .before .before .before .before .before .before .before .before .before .before .args .depth) (eqb (length (c .before .before .before .before .before .before .before .before .before .before .before .before .args .frames .now)) 6496) (c .before .before .before .before .a2 .given .1) (c .before .before .before .before .before .before .admit .ensures)
+
+returns : tie.Need-returns
+returns c = lazy-refused (c .before .before .before .before .before .before .before .before .before .args .sheet .now) (c .before .before .before .before .before .before .before .before .before .args .start .now) (c .before .before .before .before .before .before .before .before .before .args .enforce) (c .before .before .before .before .before .before .before .before .before .args .cells .now) (c .before .before .before .before .before .before .before .before .before .args .posts .now) (c .before .before .before .before .before .before .before .before .before .args .calls) (c .before .before .before .before .before .before .before .before .before .args .depth) (c .before .before .before .before .before .before .before .before .before .args .frames .now) (c .before .a .given .1) (c .before .before .before .admit .ensures)
+
+same-length : tie.Need-same-length
+same-length c = search needs
+
+same-length-2 : tie.Need-same-length-2
+same-length-2 c = search needs
+
+same-length-3 : tie.Need-same-length-3
+same-length-3 c = search needs
+
+returns-2 : tie.Need-returns-2
+returns-2 c = search needs
+
+pub run-lazy-spec : {M : Type 1} → statement M
+run-lazy-spec =
+    tie.close
+    (tie.spec
+    admit-requires
+    enum-known-a
+    enum-known-a-2
+    lazy-requires
+    returns
+    same-length
+    same-length-2
+    same-length-3
+    returns-2)

@@ -1,0 +1,53 @@
+use mathlib.Core.Path.{_≡_, refl, sym, _∙_}
+use Prim.Native.Nat.{_-_, _%_, _≤_}
+use native.Mathlib.Omega.{arith}
+use lib.ListN.{length, drop}
+use Rattle.semantics.specs.Runs.{stack, known}
+use Rattle.interp.proofs.StartLaws.{unknown-here, known-here, known-end}
+use Rattle.interp.proofs.start.principals_known.Statement.{statement}
+use Rattle.interp.proofs.start.principals_known.Tie as tie
+
+abbrev Inv-loop : tie.InvT-loop
+Inv-loop start count i₀ i = (i % 2 ≡ 0) × ((i ≤ length start) × (known count (stack start) ≡ known count (stack (drop i start))))
+
+abbrev μ-loop : tie.MeasureT-loop
+μ-loop start count i₀ i = length start - i
+
+loop-holds : tie.Need-loop-holds Inv-loop μ-loop
+loop-holds c = (omega arith, (omega arith, refl))
+
+mul-if1 : tie.Need-mul-if1 Inv-loop μ-loop
+mul-if1 c = omega (arith, c .before .before .pre .few, c .before .before .pre .even, c .before .loop .inv .0)
+
+shared-slice-read-if1 : tie.Need-shared-slice-read-if1 Inv-loop μ-loop
+shared-slice-read-if1 c = omega (arith, c .before .before .before .pre .few, c .before .before .before .pre .even, c .before .before .loop .inv .0)
+
+returns : tie.Need-returns Inv-loop μ-loop
+returns c = unknown-here (c .before .before .before .before .args .count) (c .before .before .before .before .args .start .now) _ (omega (arith, c .before .before .before .before .pre .even, c .before .before .before .loop .inv .0, c .before .before .loop-test .taken)) (c .if1 .taken) ∙ sym (c .before .before .before .loop .inv .1 .1)
+
+add-i : tie.Need-add-i Inv-loop μ-loop
+add-i c = omega (arith, c .before .before .before .before .pre .few, c .before .before .before .before .pre .even, c .before .before .before .loop .inv .0)
+
+loop-less : tie.Need-loop-less Inv-loop μ-loop
+loop-less c = omega (arith, c .before .before .before .before .pre .few, c .before .before .before .before .pre .even, c .before .before .before .loop .inv .0)
+
+loop-again : tie.Need-loop-again Inv-loop μ-loop
+loop-again c = (omega (arith, c .before .before .before .loop .inv .0), (omega (arith, c .before .before .before .before .pre .even, c .before .before .before .loop .inv .0, c .before .before .loop-test .taken), c .before .before .before .loop .inv .1 .1 ∙ known-here (c .before .before .before .before .args .count) (c .before .before .before .before .args .start .now) _ (omega (arith, c .before .before .before .before .pre .even, c .before .before .before .loop .inv .0, c .before .before .loop-test .taken)) (c .if1 .left)))
+
+returns-2 : tie.Need-returns-2 Inv-loop μ-loop
+returns-2 c = known-end (c .before .before .args .count) (c .before .before .args .start .now) _ (c .loop-test .left) ∙ sym (c .before .loop .inv .1 .1)
+
+pub principals-known-spec : {M : Type 1} → statement M
+principals-known-spec =
+    tie.close
+    (tie.spec
+    Inv-loop
+    μ-loop
+    loop-holds
+    mul-if1
+    shared-slice-read-if1
+    returns
+    add-i
+    loop-less
+    loop-again
+    returns-2)

@@ -1,0 +1,70 @@
+-- What the contracts of the runners' own functions say. No reader of the public promises needs this file.
+use mathlib.Core.Bool.{Bool, true, _&&_}
+use mathlib.Core.List.{List, [], _∷_, _++_}
+use mathlib.Core.Path.{_≡_}
+use Prim.Native.Nat.{ℕ, _%_, _≤_}
+use lib.Dec.{leb, eqb}
+use lib.ListN.{length}
+use Rattle.program.specs.Layout.{principals}
+use Rattle.program.specs.Records.{CountsOf}
+use Rattle.program.specs.Screening.{Condition, clear, refused, screen, unless}
+use Rattle.program.specs.Decoding.{decodingConditions}
+use Rattle.program.specs.Laws.Readable.{WellFormed}
+use Rattle.program.specs.declared.records.Counts.{Counts}
+use Rattle.semantics.specs.Runs.{stack, known, ran}
+use Rattle.machine.specs.declared.state.Tally.{Tally}
+use Rattle.machine.specs.Store.{Done, zerosLike}
+use Rattle.refinement.specs.Claims.{outcomeOf, countsOf}
+use Rattle.interp.specs.Answers.{causeOf, placeOf, told}
+use Rattle.interp.specs.declared.answer.Admission.{Admission}
+use Rattle.interp.specs.declared.answer.Admission.the-variants.{Admitted, Refused}
+use Rattle.interp.specs.declared.answer.Run.{Run}
+
+-- ---- the start stack
+-- at most 16 frames, none of them half
+pub record Whole (start : List ℕ) : Type 0 where
+  pub few : length start ≤ 32
+  pub even : length start % 2 ≡ 0
+
+-- ---- admission
+abbrev pub startRight : (count : ℕ) (start : List ℕ) → Bool
+startRight count start = leb (length start) 32 && eqb (length start % 2) 0 && known count (stack start)
+
+-- the conditions of a run by what they depend on; whether the frame store is right is a test of its own
+abbrev pub conditions : (s start : List ℕ) (cells posts : ℕ) (frames : Bool) (calls depth : ℕ) → List Condition
+conditions s start cells posts frames calls depth =
+    decodingConditions s ++ unless 14 (startRight (principals s) start) ∷ unless 15 (leb cells 65536 && leb posts 256 && frames)
+    ∷ unless 16 (leb calls 4096 && leb depth 100) ∷ []
+
+pub record Cleared (s start : List ℕ) (cells posts : ℕ) (frames : Bool) (calls depth : ℕ) (c : Counts) : Type 0 where
+  pub none-found : screen (conditions s start cells posts frames calls depth) ≡ clear
+  pub well-formed : WellFormed s
+  pub counts-are : CountsOf s c
+  pub whole : Whole start
+  pub all-known : known (principals s) (stack start) ≡ true
+  pub cells-most : cells ≤ 65536
+  pub frames-right : frames ≡ true
+  pub depth-most : depth ≤ 100
+
+abbrev pub Admits : (s start : List ℕ) (cells posts : ℕ) (frames : Bool) (calls depth : ℕ) → Admission → Type 0
+Admits s start cells posts frames calls depth (Admitted c) = Cleared s start cells posts frames calls depth c
+Admits s start cells posts frames calls depth (Refused f) = screen (conditions s start cells posts frames calls depth) ≡ refused (causeOf f) (placeOf f)
+
+-- ---- evaluation
+-- what evaluating the root asks of the counts, the cell store, the frames and the open calls
+pub record Startable (s : List ℕ) (c : Counts) (cells : List ℕ) (frames depth : ℕ) : Type 0 where
+  pub well-formed : WellFormed s
+  pub counts-are : CountsOf s c
+  pub cells-most : length cells ≤ 65536
+  pub frames-most : frames ≤ 16
+  pub depth-most : depth ≤ 100
+
+abbrev pub fresh : (calls : ℕ) → Tally
+fresh calls = record { calls = calls; cells = 0; posts = 0 }
+
+-- the answer from what the interpreter comes to, and the stores: cells cleared, posts and frames as it leaves them
+pub record Evaluated (root calls : ℕ) (d : Done) (r : Run) (cells posts frames : List ℕ) : Type 0 where
+  pub answer-is : told r ≡ ran (outcomeOf root (d .out)) (countsOf calls (d .store .n))
+  pub cells-are : cells ≡ zerosLike (d .store .cells)
+  pub posts-are : posts ≡ d .store .posts
+  pub frames-are : frames ≡ d .store .frames

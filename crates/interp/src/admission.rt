@@ -1,0 +1,69 @@
+// Refusals 1 to 8, then 14 to 16, before a run starts.
+ghost use mathlib.Core.Bool.{_&&_};
+ghost use mathlib.Core.Path.{_≡_};
+ghost use lib.Dec.{leb};
+ghost use Rattle.program.specs.Records.{CountsOf};
+ghost use Rattle.program.specs.Decoding.{Readable};
+ghost use Rattle.interp.specs.Internal.{Admits};
+use crate::answer::Admission;
+use crate::answer::Refusal;
+use crate::start::start_ok;
+use program::answer::Decoded;
+use program::records::Counts;
+
+fn buffers_ok(cells: usize, posts: usize, frames: bool) -> bool
+    ensures { λ r. ⌜ r ≡ (leb cells 65536 && leb posts 256 && frames) ⌝ }
+{
+    (cells <= 65536) & (posts <= 256) & frames
+}
+
+fn limits_ok(calls: u32, depth: u32) -> bool
+    ensures { λ r. ⌜ r ≡ (leb calls 4096 && leb depth 100) ⌝ }
+{
+    (calls <= 4096) & (depth <= 100)
+}
+
+// 14 to 16 on a readable sheet with these counts. The caller says whether the frame store is right.
+fn admit_readable(
+    s: &[u8],
+    c: Counts,
+    start: &[u32],
+    cells: usize,
+    posts: usize,
+    frames: bool,
+    calls: u32,
+    depth: u32,
+) -> Admission
+    requires { ⌜ Readable (now s) ⌝ }
+    requires { ⌜ CountsOf (now s) c ⌝ }
+    ensures { λ r. ⌜ Admits (now (s .entry)) (now (start .entry)) cells posts frames calls depth r ⌝ }
+{
+    if !start_ok(start, c.principals) {
+        return Admission::Refused(Refusal::Start);
+    }
+    if !buffers_ok(cells, posts, frames) {
+        return Admission::Refused(Refusal::Buffers);
+    }
+    if !limits_ok(calls, depth) {
+        return Admission::Refused(Refusal::Allowance);
+    }
+    Admission::Admitted(c)
+}
+
+pub fn admit(
+    s: &[u8],
+    start: &[u32],
+    cells: usize,
+    posts: usize,
+    frames: bool,
+    calls: u32,
+    depth: u32,
+) -> Admission
+    ensures { λ r. ⌜ Admits (now (s .entry)) (now (start .entry)) cells posts frames calls depth r ⌝ }
+{
+    let d = program::decode(s);
+    match d {
+        Decoded::Refused(f) => Admission::Refused(Refusal::Unreadable(f)),
+        Decoded::Readable(c) => admit_readable(s, c, start, cells, posts, frames, calls, depth),
+    }
+}

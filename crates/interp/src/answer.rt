@@ -1,0 +1,39 @@
+// The answer of a run. specs/Answers.antt gives the paper's number and values of each case.
+use machine::state::Stop;
+use program::records::Counts;
+
+// 1 to 8 are the reader's; 14 to 16 follow in this order.
+pub enum Refusal {
+    Unreadable(program::answer::Refusal),
+    Start,
+    Buffers,
+    Allowance,
+}
+
+// Whether a run may start, on a readable sheet with these counts.
+pub enum Admission {
+    Admitted(Counts),
+    Refused(Refusal),
+}
+
+pub enum Value {
+    Bool(bool),
+    Num(u16),
+}
+
+pub enum Outcome {
+    End(Value),
+    Stop(Stop),
+}
+
+// Calls, cells and posts made.
+pub struct Made {
+    pub calls: usize,
+    pub cells: usize,
+    pub posts: usize,
+}
+
+pub enum Run {
+    Refused(Refusal),
+    Ran { outcome: Outcome, made: Made },
+}

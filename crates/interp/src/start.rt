@@ -1,0 +1,69 @@
+// The caller's start stack: a principal and a set of enabled privileges for each frame, innermost first.
+ghost use mathlib.Core.List.{_++_};
+ghost use mathlib.Core.Path.{_≡_};
+ghost use Prim.Native.Nat.{_≤_};
+ghost use lib.ListN.{length, drop};
+ghost use Rattle.program.specs.Records.{authorityRecord};
+ghost use Rattle.semantics.specs.Access.{privs};
+ghost use Rattle.semantics.specs.Runs.{stack, known};
+ghost use Rattle.refinement.specs.Claims.{laidOut};
+ghost use Rattle.interp.specs.Internal.{Whole, startRight};
+
+// Whether every frame's principal is one of so many.
+fn principals_known(start: &[u32], count: u8) -> bool
+    requires { ⌜ Whole (now start) ⌝ }
+    ensures { λ r. ⌜ r ≡ known count (stack (now (start .entry))) ⌝ }
+{
+    let mut i = 0;
+    while i < start.len() {
+        if (count as u32) <= start[i] {
+            return false;
+        }
+        i += 2;
+    }
+    true
+}
+
+// Whether it is a stack of at most 16 whole frames of known principals.
+pub fn start_ok(start: &[u32], count: u8) -> bool
+    ensures { λ r. ⌜ r ≡ startRight count (now (start .entry)) ⌝ }
+{
+    if 32 < start.len() {
+        return false;
+    }
+    if start.len() % 2 != 0 {
+        return false;
+    }
+    principals_known(start, count)
+}
+
+// The set that the stack grants.
+pub fn start_grants(s: &[u8], start: &[u32]) -> u32
+    requires { ⌜ Whole (now start) ⌝ }
+    ensures { λ r. ⌜ r ≡ privs (authorityRecord (now (s .entry))) (stack (now (start .entry))) ⌝ }
+{
+    let mut set = 0;
+    let mut i = start.len();
+    while 0 < i {
+        i -= 2;
+        let may = program::records::authority(s, start[i]);
+        set = privileges::meet(may, privileges::union(start[i + 1], set));
+    }
+    set
+}
+
+// Lays the stack into the frame store, the outermost frame first.
+pub fn lay_frames(start: &[u32], frames: &mut [u32])
+    requires { ⌜ Whole (now start) ⌝ }
+    requires { ⌜ 32 ≤ length (now frames) ⌝ }
+    ensures { λ _. ⌜ now (frames .exit) ≡ laidOut (stack (now (start .entry))) ++ drop (length (now (start .entry))) (now (frames .entry)) ⌝ }
+{
+    let mut at = 0;
+    let mut i = start.len();
+    while 0 < i {
+        i -= 2;
+        frames[at] = start[i];
+        frames[at + 1] = start[i + 1];
+        at += 2;
+    }
+}
