@@ -1,0 +1,74 @@
+// Demand 3 about the code: the type checker's verdict on a sheet, and two actual runs of it, one with checks in force and one with checks passed over.
+ghost use mathlib.Core.Path.{_≡_};
+ghost use lib.ListN.{length};
+ghost use Rattle.semantics.specs.Runs.{run};
+ghost use Rattle.interp.specs.Answers.{asked, lent, after};
+ghost use Rattle.agreement.specs.Agreement.{Agreement};
+ghost use Rattle.agreement.specs.Runners.{runnerOf, framesOf};
+use interp::answer::Run;
+use interp::run_eager;
+use interp::run_lazy;
+use typing::answer::Verdict;
+
+pub struct Compared {
+    pub verdict: Verdict,
+    pub in_force: Run,
+    pub passed_over: Run,
+}
+
+// A run of either runner. An eager one does without the frame store.
+fn run_either(
+    lazy: bool,
+    sheet: &[u8],
+    start: &[u32],
+    calls: u32,
+    depth: u32,
+    enforce: bool,
+    cells: &mut [u8],
+    posts: &mut [u16],
+    frames: &mut [u32],
+) -> Run
+    ensures { λ r. ⌜ after r (now (cells .exit)) (now (posts .exit)) (framesOf lazy (now (frames .exit))) ≡ run (now (sheet .entry)) (asked (runnerOf lazy) enforce (now (start .entry)) calls depth) (lent (now (cells .entry)) (now (posts .entry)) (framesOf lazy (now (frames .entry)))) ⌝ }
+{
+    if lazy {
+        return run_lazy(sheet, start, calls, depth, enforce, cells, posts, frames);
+    }
+    run_eager(sheet, start, calls, depth, enforce, cells, posts)
+}
+
+// The verdict and the two runs, each of either runner and on buffers of its own.
+pub fn compare(
+    sheet: &[u8],
+    start: &[u32],
+    calls: u32,
+    depth: u32,
+    lazy: bool,
+    cells: &mut [u8],
+    posts: &mut [u16],
+    frames: &mut [u32],
+    lazy2: bool,
+    cells2: &mut [u8],
+    posts2: &mut [u16],
+    frames2: &mut [u32],
+) -> Compared
+    ensures { λ r. ⌜ (length (now (cells .entry)) ≡ length (now (cells2 .entry)) → length (now (posts .entry)) ≡ length (now (posts2 .entry)) → Agreement (now (sheet .entry)) (now (start .entry)) (r .verdict) (after (r .«in_force») (now (cells .exit)) (now (posts .exit)) (framesOf lazy (now (frames .exit)))) (after (r .«passed_over») (now (cells2 .exit)) (now (posts2 .exit)) (framesOf lazy2 (now (frames2 .exit))))) ⌝ }
+{
+    let verdict = typing::typecheck(sheet);
+    let first = run_either(lazy, sheet, start, calls, depth, true, cells, posts, frames);
+    let second = run_either(
+        lazy2,
+        sheet,
+        start,
+        calls,
+        depth,
+        false,
+        cells2,
+        posts2,
+        frames2,
+    );
+    Compared {
+        verdict: verdict,
+        in_force: first,
+        passed_over: second,
+    }
+}
