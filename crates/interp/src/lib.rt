@@ -2,11 +2,9 @@
 ghost use mathlib.Core.Bool.{true};
 ghost use mathlib.Core.List.{[]};
 ghost use mathlib.Core.Path.{_≡_};
-ghost use Prim.Native.Nat.{_-_, _≤_};
+ghost use Prim.Native.Nat.{_-_};
 ghost use lib.Dec.{eqb};
 ghost use lib.ListN.{length};
-ghost use Rattle.program.specs.Records.{CountsOf};
-ghost use Rattle.program.specs.Laws.Readable.{WellFormed};
 ghost use Rattle.semantics.specs.Runs.{eager as eagerRunner, lazy as lazyRunner, run};
 ghost use Rattle.machine.specs.Store.{storeOf, evalAt};
 ghost use Rattle.refinement.specs.Claims.{outcomeOf};
