@@ -1,10 +1,13 @@
 // Demand 3 about the code: the type checker's verdict on a sheet, and two actual runs of it, one with checks in force and one with checks passed over.
+ghost use mathlib.Core.Bool.{true, false};
 ghost use mathlib.Core.Path.{_≡_};
 ghost use lib.ListN.{length};
+ghost use Rattle.typing.specs.Verdicts.{verdict};
+ghost use Rattle.typing.specs.Answers.{told};
 ghost use Rattle.semantics.specs.Runs.{run};
 ghost use Rattle.interp.specs.Answers.{asked, lent, after};
 ghost use Rattle.agreement.specs.Agreement.{Agreement};
-ghost use Rattle.agreement.specs.Runners.{runnerOf, framesOf};
+ghost use Rattle.agreement.specs.Runners.{runnerOf};
 use interp::answer::Run;
 use interp::run_eager;
 use interp::run_lazy;
@@ -16,7 +19,7 @@ pub struct Compared {
     pub passed_over: Run,
 }
 
-// A run of either runner. An eager one does without the frame store.
+// A run of either runner. An eager one leaves the frame store as it is.
 fn run_either(
     lazy: bool,
     sheet: &[u8],
@@ -28,7 +31,7 @@ fn run_either(
     posts: &mut [u16],
     frames: &mut [u32],
 ) -> Run
-    ensures { λ r. ⌜ after r (now (cells .exit)) (now (posts .exit)) (framesOf lazy (now (frames .exit))) ≡ run (now (sheet .entry)) (asked (runnerOf lazy) enforce (now (start .entry)) calls depth) (lent (now (cells .entry)) (now (posts .entry)) (framesOf lazy (now (frames .entry)))) ⌝ }
+    ensures { λ r. ⌜ after r (now (cells .exit)) (now (posts .exit)) (now (frames .exit)) ≡ run (now (sheet .entry)) (asked (runnerOf lazy) enforce (now (start .entry)) calls depth) (lent (now (cells .entry)) (now (posts .entry)) (now (frames .entry))) ⌝ }
 {
     if lazy {
         return run_lazy(sheet, start, calls, depth, enforce, cells, posts, frames);
@@ -51,7 +54,10 @@ pub fn compare(
     posts2: &mut [u16],
     frames2: &mut [u32],
 ) -> Compared
-    ensures { λ r. ⌜ (length (now (cells .entry)) ≡ length (now (cells2 .entry)) → length (now (posts .entry)) ≡ length (now (posts2 .entry)) → Agreement (now (sheet .entry)) (now (start .entry)) (r .verdict) (after (r .«in_force») (now (cells .exit)) (now (posts .exit)) (framesOf lazy (now (frames .exit)))) (after (r .«passed_over») (now (cells2 .exit)) (now (posts2 .exit)) (framesOf lazy2 (now (frames2 .exit))))) ⌝ }
+    ensures { λ r. ⌜ told (r .verdict) ≡ verdict (now (sheet .entry)) ⌝ }
+    ensures { λ r. ⌜ after (r .«in_force») (now (cells .exit)) (now (posts .exit)) (now (frames .exit)) ≡ run (now (sheet .entry)) (asked (runnerOf lazy) true (now (start .entry)) calls depth) (lent (now (cells .entry)) (now (posts .entry)) (now (frames .entry))) ⌝ }
+    ensures { λ r. ⌜ after (r .«passed_over») (now (cells2 .exit)) (now (posts2 .exit)) (now (frames2 .exit)) ≡ run (now (sheet .entry)) (asked (runnerOf lazy2) false (now (start .entry)) calls depth) (lent (now (cells2 .entry)) (now (posts2 .entry)) (now (frames2 .entry))) ⌝ }
+    ensures { λ r. ⌜ (length (now (cells .entry)) ≡ length (now (cells2 .entry)) → length (now (posts .entry)) ≡ length (now (posts2 .entry)) → Agreement (now (sheet .entry)) (now (start .entry)) (r .verdict) (after (r .«in_force») (now (cells .exit)) (now (posts .exit)) (now (frames .exit))) (after (r .«passed_over») (now (cells2 .exit)) (now (posts2 .exit)) (now (frames2 .exit)))) ⌝ }
 {
     let verdict = typing::typecheck(sheet);
     let first = run_either(lazy, sheet, start, calls, depth, true, cells, posts, frames);
