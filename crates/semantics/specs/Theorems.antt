@@ -1,20 +1,24 @@
 -- The theorems about whole runs: what a stack grants as a set is what 01's sentence grants; a run is refused exactly on 01's conditions; every buffer
--- keeps its length.
-use mathlib.Core.Bool.{true}
+-- keeps its length; the counts stay within the largest allowances and buffers.
+use mathlib.Core.Bool.{true, _&&_}
 use mathlib.Core.List.{List, _++_, reverse}
 use mathlib.Core.Logic.{_↔_}
-use mathlib.Core.Path.{_≡_, refl, sym, ap, _∙_}
-use Prim.Native.Nat.{ℕ, _+_}
+use mathlib.Core.Path.{_≡_, refl, sym, ap, _∙_, subst}
+use Prim.Native.Nat.{ℕ, _+_, _≤_}
 use native.Mathlib.Omega.{arith}
+use lib.Dec.{leb}
 use lib.ListN.{length, drop, length-replicate, length-append, length-drop, length-reverse}
+use borrow.Author.Tests.{leb-true}
 use Rattle.privileges.specs.Sets.{has}
+use Rattle.privileges.specs.Booleans.{and-left, and-right}
 use Rattle.program.specs.Layout.{root, authority}
 use Rattle.program.specs.Terms.{program}
 use Rattle.program.specs.Screening.{Screening, clear, refused as found, screen, First, None}
-use Rattle.program.specs.Laws.Screening.{told-first, first-told, clear-none, none-clear}
+use Rattle.program.specs.Decoding.{decodingConditions}
+use Rattle.program.specs.Laws.Screening.{told-first, first-told, clear-none, none-clear, none-append, none-cons, unless-none}
 use Rattle.semantics.specs.Values.{empty, Budget, budget}
 use Rattle.semantics.specs.Access.{Frame, chk, privs, lazyControl, rights, eagerControl}
-use Rattle.semantics.specs.Runs.{Runner, eager, lazy, Request, Buffers, Sizes, sizes, stack, runConditions, initial, evaluation, Course, turnedBack, started, settled, course, Outcome, Counts, refused, ran, left, answerOf, inOrder, clearedFrames, buffersAfter, After, run}
+use Rattle.semantics.specs.Runs.{Runner, eager, lazy, Request, Buffers, Sizes, sizes, stack, framesOk, runConditions, initial, evaluation, Course, turnedBack, started, settled, course, Outcome, Counts, Answer, refused, ran, left, counts, answerOf, inOrder, clearedFrames, buffersAfter, After, run}
 use Rattle.semantics.specs.Laws.Access.{privs-chk}
 use Rattle.semantics.specs.Laws.Budgets.{places, Spent, spends}
 
@@ -105,3 +109,35 @@ after-sizes s q b clear = λ i. record {
 pub lengths-kept : (s : List ℕ) (q : Request) (b : Buffers) → sizes (run s q b .buffers) ≡ sizes b
 unfolding run course
 lengths-kept s q b = after-sizes s q b (screen (runConditions s q (sizes b)))
+
+-- How large the counts are that a run tells.
+pub record Few (k : Counts) : Type 0 where
+  pub calls-most : k .calls ≤ 4096
+  pub cells-most : k .cells ≤ 8192
+  pub posts-most : k .posts ≤ 256
+
+few : (q : Request) (z : Sizes) (u : Budget) → q .calls ≤ 4096 → z .cells ≤ 65536 → z .posts ≤ 256 → Spent (initial q z) u → Few (counts q z u)
+few q z (budget c d r ps) calls cells posts h = record {
+  calls-most = omega (arith, calls);
+  cells-most = omega (arith, cells);
+  posts-most = omega (arith, posts, h .posts);
+}
+
+abbrev countsIn : Counts → Answer → Counts
+countsIn k (refused c p) = k
+countsIn k (ran o k′) = k′
+
+pub counts-few : (s : List ℕ) (q : Request) (b : Buffers) (o : Outcome) (k : Counts) → run s q b .answer ≡ ran o k → Few k
+counts-few s q b o k e =
+    let clear-of = starts-screened s q b (o, k, e) in
+    let callers = none-append (decodingConditions s) _ (clear-none (runConditions s q (sizes b)) clear-of) .1 in
+    let buffers = none-cons callers .1 in
+    let fits : (leb (length (b .cells)) 65536 && leb (length (b .posts)) 256 && framesOk (q .runner) (length (b .frames))) ≡ true = unless-none 15 _ (none-cons buffers .0) in
+    let within : (leb (q .calls) 4096 && leb (q .depth) 100) ≡ true = unless-none 16 _ (none-cons (none-cons buffers .1) .0) in
+    subst Few
+    (ap (countsIn k) (sym (answer-course s q b _ (course-clear s q b clear-of)) ∙ e))
+    (few q (sizes b) (left (evaluation (q .runner) s q (sizes b)))
+    (leb-true (q .calls) 4096 (search (within, and-left)))
+    (leb-true (length (b .cells)) 65536 (search (fits, and-left, and-right)))
+    (leb-true (length (b .posts)) 256 (search (fits, and-left, and-right)))
+    (evaluation-spends (q .runner) s q (sizes b)))

@@ -1,0 +1,58 @@
+-- From the numbers that the code puts together to the replies of specs/Replies.antt.
+use mathlib.Core.Bool.{Bool, true, false}
+use mathlib.Core.List.{List, [], _∷_, _++_, map}
+use mathlib.Core.Path.{_≡_, refl, sym, ap, _∙_, subst}
+use Prim.Native.Nat.{ℕ, zero, suc, _+_, _<_, _≤_}
+use native.Mathlib.Omega.{arith}
+use lib.ListN.{length, getD, set, take, drop, length-map, length-append, length-take, length-drop}
+use native.Mathlib.Numerals.{add-one}
+use mir.Val.{boolByte}
+use Rattle.semantics.specs.Runs.{ground-bool, ended, stopped}
+use Rattle.interp.specs.Answers.{countsTold}
+use Rattle.interp.specs.declared.answer.Made.{Made}
+use Rattle.capi.specs.Replies.{Reply, refusal, finished}
+use Rattle.capi.specs.Internal.{withCounts}
+
+-- a promise about the case that a match found
+pub by : {A : Type 0} (f : A → Reply) {x y : A} {r : Reply} → x ≡ y → r ≡ f y → r ≡ f x
+by f e h = h ∙ sym (ap f e)
+
+pub refused-as : {r : Reply} {c p : ℕ} (cause place : ℕ) → r ≡ refusal c p → (c ≡ cause) × (p ≡ place) → r ≡ refusal cause place
+refused-as cause place h e = h ∙ (λ i. refusal (e .0 i) (e .1 i))
+
+-- ---- writing the eight numbers
+pub copied : (xs ys : List ℕ) (i : ℕ) → i < length xs → i < length ys → set (take i xs ++ drop i ys) i (getD xs i 0) ≡ take (suc i) xs ++ drop (suc i) ys
+copied [] ys i h k = absurd (omega (arith, h))
+copied (x ∷ xs) [] i h k = absurd (omega (arith, k))
+copied (x ∷ xs) (y ∷ ys) zero h k = refl
+copied (x ∷ xs) (y ∷ ys) (suc i) h k = ap (λ (l : List ℕ). x ∷ l) (copied xs ys i (omega arith) (omega arith))
+
+pub take-whole : (xs : List ℕ) (n : ℕ) → length xs ≡ n → take n xs ≡ xs
+take-whole [] zero h = refl
+take-whole [] (suc n) h = refl
+take-whole (x ∷ xs) zero h = absurd (omega (arith, h))
+take-whole (x ∷ xs) (suc n) h = ap (λ (l : List ℕ). x ∷ l) (take-whole xs n (omega arith))
+
+-- ---- a stop
+pub stopped-as : (m : Made) {r : Reply} {c p : ℕ} (cause term : ℕ) → r ≡ withCounts 1 c p 0 0 m → (c ≡ cause) × (p ≡ term) → r ≡ finished (stopped cause term) (countsTold m)
+stopped-as m cause term h e = h ∙ (λ i. withCounts 1 (e .0 i) (e .1 i) 0 0 m)
+
+pub ended-bool : (m : Made) {r : Reply} (b : Bool) → r ≡ withCounts 0 0 0 0 (boolByte b) m → r ≡ finished (ended (ground-bool b)) (countsTold m)
+ended-bool m true h = h
+ended-bool m false h = h
+
+-- ---- an array's length, and what is written of it
+pub sized : (l : List ℕ) (n : ℕ) → length (map (λ (v : ℕ). v) l) ≡ n → length l ≡ n
+sized l n e = simp length-map at e
+
+module _ (numbers before : List ℕ) (i : ℕ) {now : List ℕ} (eight : length numbers ≡ 8) where
+  pub written-length : 8 ≤ length before → i ≤ 8 → now ≡ take i numbers ++ drop i before → length now ≡ length before
+  written-length h k e = ap (λ (l : List ℕ). length l) e ∙ length-append (take i numbers) (drop i before) ∙ omega (arith, length-take i numbers, length-drop i before, eight)
+
+  pub written-more : 8 ≤ length before → i < 8 → now ≡ take i numbers ++ drop i before → set now i (getD numbers i 0) ≡ take (i + 1) numbers ++ drop (i + 1) before
+  written-more h k e = ap (λ (l : List ℕ). set l i (getD numbers i 0)) e ∙ rw add-one (copied numbers before i (omega (arith, eight)) (omega arith))
+
+  pub written-all : i ≤ 8 → 8 ≤ i → now ≡ take i numbers ++ drop i before → now ≡ numbers ++ drop 8 before
+  written-all h k e =
+      let done : i ≡ 8 = omega arith in
+      e ∙ ap (λ (n : ℕ). take n numbers ++ drop n before) done ∙ ap (λ (l : List ℕ). l ++ drop 8 before) (take-whole numbers 8 eight)

@@ -1,0 +1,71 @@
+use mathlib.Core.Path.{_∙_, ap}
+use Rattle.interp.specs.Answers.{outcomeTold, countsTold}
+use Rattle.interp.specs.declared.answer.Value.{Value}
+use Rattle.interp.specs.declared.answer.Outcome.{Outcome}
+use Rattle.interp.specs.declared.answer.Outcome.the-variants.{End}
+use Rattle.capi.specs.Replies.{finished}
+use Rattle.capi.proofs.ReplyLaws.{by, stopped-as, ended-bool}
+use borrow.Author.Needs.{needs}
+use Rattle.capi.proofs.reply.of_outcome.Statement.{statement}
+use Rattle.capi.proofs.reply.of_outcome.Tie as tie
+use Rattle.capi.proofs.reply.of_outcome.Reads as reads
+use Rattle.capi.proofs.reply.of_outcome.Lts as lts
+use Rattle.capi.proofs.reply.counted.Reads as counted-reads
+use Rattle.numbers.proofs.of_stop.Reads as of-stop-reads
+
+enum-known-o : tie.Need-enum-known-o
+enum-known-o c = search needs
+
+of-stop-requires : tie.Need-of-stop-requires
+of-stop-requires c κs = search needs
+
+counted-requires : tie.Need-counted-requires
+counted-requires c κs = search needs
+
+enum-known-o-2 : tie.Need-enum-known-o-2
+enum-known-o-2 c = search needs
+
+enum-known-v : tie.Need-enum-known-v
+enum-known-v c = search needs
+
+cast-counted : tie.Need-cast-counted
+cast-counted c = search needs
+
+counted-requires-2 : tie.Need-counted-requires-2
+counted-requires-2 c κs = search needs
+
+enum-known-v-2 : tie.Need-enum-known-v-2
+enum-known-v-2 c = search needs
+
+cast-counted-2 : tie.Need-cast-counted-2
+cast-counted-2 c = search needs
+
+counted-requires-3 : tie.Need-counted-requires-3
+counted-requires-3 c κs = search needs
+
+returns : tie.Need-returns
+returns c = by (λ (o : Outcome). finished (outcomeTold o) (countsTold (c .before .before .before .before .before .args .m))) (c .before .before .before .o .given .1) (stopped-as (c .before .before .before .before .before .args .m) _ _ (c .counted .ensures) (c .before .of-stop .ensures))
+
+returns-2 : tie.Need-returns-2
+returns-2 c = by (λ (o : Outcome). finished (outcomeTold o) (countsTold (c .before .before .before .before .before .before .before .args .m))) (c .before .before .before .before .before .o2 .given .1 ∙ ap (λ (v : Value). End v) (c .before .before .v .given .1)) (ended-bool (c .before .before .before .before .before .before .before .args .m) (c .before .before .v .given .0 .0) (c .counted2 .ensures))
+
+returns-3 : tie.Need-returns-3
+returns-3 c = by (λ (o : Outcome). finished (outcomeTold o) (countsTold (c .before .before .before .before .before .before .before .args .m))) (c .before .before .before .before .before .o2 .given .1 ∙ ap (λ (v : Value). End v) (c .before .before .v2 .given .1)) (c .counted3 .ensures)
+
+pub of-outcome-spec : {M : Type 1} → statement M
+of-outcome-spec =
+    tie.close
+    (tie.spec
+    enum-known-o
+    of-stop-requires
+    counted-requires
+    enum-known-o-2
+    enum-known-v
+    cast-counted
+    counted-requires-2
+    enum-known-v-2
+    cast-counted-2
+    counted-requires-3
+    returns
+    returns-2
+    returns-3)

@@ -1,0 +1,66 @@
+use mathlib.Core.Path.{refl}
+use Rattle.typing.specs.Answers.{told}
+use Rattle.typing.specs.declared.answer.Verdict.{Verdict}
+use Rattle.capi.specs.Replies.{judged}
+use Rattle.capi.proofs.ReplyLaws.{by, refused-as}
+use borrow.Author.Needs.{needs}
+use Rattle.capi.proofs.reply.of_verdict.Statement.{statement}
+use Rattle.capi.proofs.reply.of_verdict.Tie as tie
+use Rattle.capi.proofs.reply.of_verdict.Reads as reads
+use Rattle.capi.proofs.reply.of_verdict.Lts as lts
+use Rattle.capi.proofs.reply.refused.Reads as refused-reads
+use Rattle.numbers.proofs.of_fault.Reads as of-fault-reads
+use Rattle.numbers.proofs.of_reader.Reads as of-reader-reads
+
+enum-known-v : tie.Need-enum-known-v
+enum-known-v c = search needs
+
+of-reader-requires : tie.Need-of-reader-requires
+of-reader-requires c κs = search needs
+
+refused-requires : tie.Need-refused-requires
+refused-requires c κs = search needs
+
+enum-known-v-2 : tie.Need-enum-known-v-2
+enum-known-v-2 c = search needs
+
+of-fault-requires : tie.Need-of-fault-requires
+of-fault-requires c κs = search needs
+
+refused-requires-2 : tie.Need-refused-requires-2
+refused-requires-2 c κs = search needs
+
+enum-known-v-3 : tie.Need-enum-known-v-3
+enum-known-v-3 c = search needs
+
+cast-t10 : tie.Need-cast-t10
+cast-t10 c = search needs
+
+cast-t11 : tie.Need-cast-t11
+cast-t11 c = search needs
+
+returns : tie.Need-returns
+returns c = by (λ (v : Verdict). judged (told v)) (c .before .before .before .v .given .1) (refused-as _ _ (c .refused .ensures) (c .before .of-reader .ensures))
+
+returns-2 : tie.Need-returns-2
+returns-2 c = by (λ (v : Verdict). judged (told v)) (c .before .before .before .v2 .given .1) (refused-as _ _ (c .refused2 .ensures) (c .before .of-fault .ensures))
+
+returns-3 : tie.Need-returns-3
+returns-3 c = by (λ (v : Verdict). judged (told v)) (c .before .v3 .given .1) refl
+
+pub of-verdict-spec : {M : Type 1} → statement M
+of-verdict-spec =
+    tie.close
+    (tie.spec
+    enum-known-v
+    of-reader-requires
+    refused-requires
+    enum-known-v-2
+    of-fault-requires
+    refused-requires-2
+    enum-known-v-3
+    cast-t10
+    cast-t11
+    returns
+    returns-2
+    returns-3)

@@ -1,0 +1,51 @@
+use mathlib.Core.List.{[]}
+use mathlib.Core.Path.{ap}
+use Rattle.semantics.specs.Runs.{eager, After, run}
+use Rattle.interp.specs.Answers.{asked, lent}
+use Rattle.capi.specs.Replies.{inForce}
+use Rattle.capi.proofs.EntryLaws.{run-away, run-given, small}
+use borrow.Author.Needs.{needs}
+use Rattle.capi.proofs.sovzedal_run_eager.Statement.{statement}
+use Rattle.capi.proofs.sovzedal_run_eager.Tie as tie
+use Rattle.capi.proofs.sovzedal_run_eager.Reads as reads
+use Rattle.capi.proofs.sovzedal_run_eager.Lts as lts
+use Rattle.capi.proofs.reply.of_run.Reads as of-run-reads
+use Rattle.capi.proofs.reply.put.Reads as put-reads
+use Rattle.interp.proofs.run_eager.Reads as run-eager-reads
+
+returns : tie.Need-returns
+returns c = run-away (c .before .before .before .before .before .before .args .answer .now) (c .if1 .taken) (lent (c .before .before .before .before .before .before .args .cells .now) (c .before .before .before .before .before .before .args .posts .now) []) (run (c .before .before .before .before .before .before .args .sheet .now) (asked eager (inForce (c .before .before .before .before .before .before .args .enforce)) (c .before .before .before .before .before .before .args .start .now) (c .before .before .before .before .before .before .args .calls) (c .before .before .before .before .before .before .args .depth)) (lent (c .before .before .before .before .before .before .args .cells .now) (c .before .before .before .before .before .before .args .posts .now) []))
+
+run-eager-requires : tie.Need-run-eager-requires
+run-eager-requires c κs = search needs
+
+of-run-requires : tie.Need-of-run-requires
+of-run-requires c κs = small (c .before .before .before .before .before .before .before .before .before .before .before .before .before .args .sheet .now) (asked eager (inForce (c .before .before .before .before .before .before .before .before .before .before .before .before .before .args .enforce)) (c .before .before .before .before .before .before .before .before .before .before .before .before .before .args .start .now) (c .before .before .before .before .before .before .before .before .before .before .before .before .before .args .calls) (c .before .before .before .before .before .before .before .before .before .before .before .before .before .args .depth)) (lent (c .before .before .before .before .before .before .before .before .before .before .before .before .before .args .cells .now) (c .before .before .before .before .before .before .before .before .before .before .before .before .before .args .posts .now) []) (c .before .before .before .before .run-eager .result) (ap (λ (a : After). a .answer) (c .before .before .before .before .run-eager .ensures))
+
+put-requires : tie.Need-put-requires
+put-requires c κs = c .before .before .before .before .before .before .before .before .before .if1 .left
+
+same-length : tie.Need-same-length
+same-length c = search needs
+
+same-length-2 : tie.Need-same-length-2
+same-length-2 c = search needs
+
+same-length-3 : tie.Need-same-length-3
+same-length-3 c = search needs
+
+returns-2 : tie.Need-returns-2
+returns-2 c = run-given (c .before .before .before .before .before .before .before .before .before .before .before .before .before .before .before .before .before .before .args .answer .now) (c .before .before .before .before .before .before .before .before .before .before .before .before .if1 .left) (lent (c .before .before .before .before .before .before .before .before .before .before .before .before .before .before .before .before .before .before .args .cells .now) (c .before .before .before .before .before .before .before .before .before .before .before .before .before .before .before .before .before .before .args .posts .now) []) _ (run (c .before .before .before .before .before .before .before .before .before .before .before .before .before .before .before .before .before .before .args .sheet .now) (asked eager (inForce (c .before .before .before .before .before .before .before .before .before .before .before .before .before .before .before .before .before .before .args .enforce)) (c .before .before .before .before .before .before .before .before .before .before .before .before .before .before .before .before .before .before .args .start .now) (c .before .before .before .before .before .before .before .before .before .before .before .before .before .before .before .before .before .before .args .calls) (c .before .before .before .before .before .before .before .before .before .before .before .before .before .before .before .before .before .before .args .depth)) (lent (c .before .before .before .before .before .before .before .before .before .before .before .before .before .before .before .before .before .before .args .cells .now) (c .before .before .before .before .before .before .before .before .before .before .before .before .before .before .before .before .before .before .args .posts .now) [])) (c .before .before .before .before .before .before .before .before .before .run-eager .result) (c .before .before .before .before .of-run .ensures) (c .before .before .put .ensures) (c .before .before .before .before .before .before .before .before .before .run-eager .ensures)
+
+pub sovzedal-run-eager-spec : {M : Type 1} → statement M
+sovzedal-run-eager-spec =
+    tie.close
+    (tie.spec
+    returns
+    run-eager-requires
+    of-run-requires
+    put-requires
+    same-length
+    same-length-2
+    same-length-3
+    returns-2)

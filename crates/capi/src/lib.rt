@@ -1,0 +1,87 @@
+// The entries for C: slices pass as pointer and length. include/sovzedal.h documents each argument.
+ghost use mathlib.Core.List.{[]};
+ghost use mathlib.Core.Path.{_≡_};
+ghost use Rattle.semantics.specs.Runs.{eager as eagerRunner, lazy as lazyRunner, run};
+ghost use Rattle.interp.specs.Answers.{asked, lent};
+ghost use Rattle.capi.specs.Replies.{decodeReply, typecheckReply, replied, called, inForce, left, leftAll};
+
+mod reply;
+
+use reply::of_decoded;
+use reply::of_run;
+use reply::of_verdict;
+use reply::put;
+
+// What any bytes are as a sheet.
+#[no_mangle]
+pub extern "C" fn sovzedal_decode(sheet: &[u8], answer: &mut [u32]) -> u32
+    ensures { λ r. ⌜ left r (now (answer .exit)) ≡ replied (now (answer .entry)) (decodeReply (now (sheet .entry))) ⌝ }
+{
+    if answer.len() < 8 {
+        return 3;
+    }
+    put(of_decoded(program::decode(sheet)), answer)
+}
+
+// The type checker's verdict on a sheet.
+#[no_mangle]
+pub extern "C" fn sovzedal_typecheck(sheet: &[u8], answer: &mut [u32]) -> u32
+    ensures { λ r. ⌜ left r (now (answer .exit)) ≡ replied (now (answer .entry)) (typecheckReply (now (sheet .entry))) ⌝ }
+{
+    if answer.len() < 8 {
+        return 3;
+    }
+    put(of_verdict(typing::typecheck(sheet)), answer)
+}
+
+// A run that holds the granted set.
+#[no_mangle]
+pub extern "C" fn sovzedal_run_eager(
+    sheet: &[u8],
+    start: &[u32],
+    calls: u32,
+    depth: u32,
+    enforce: u32,
+    cells: &mut [u8],
+    posts: &mut [u16],
+    answer: &mut [u32],
+) -> u32
+    ensures { λ r. ⌜ leftAll r (now (answer .exit)) (lent (now (cells .exit)) (now (posts .exit)) []) ≡ called (now (answer .entry)) (lent (now (cells .entry)) (now (posts .entry)) []) (run (now (sheet .entry)) (asked eagerRunner (inForce enforce) (now (start .entry)) calls depth) (lent (now (cells .entry)) (now (posts .entry)) [])) ⌝ }
+{
+    if answer.len() < 8 {
+        return 3;
+    }
+    let r = interp::run_eager(sheet, start, calls, depth, enforce != 0, cells, posts);
+    put(of_run(r), answer)
+}
+
+// A run that walks the frames of a store of 6,496 numbers.
+#[no_mangle]
+pub extern "C" fn sovzedal_run_lazy(
+    sheet: &[u8],
+    start: &[u32],
+    calls: u32,
+    depth: u32,
+    enforce: u32,
+    cells: &mut [u8],
+    posts: &mut [u16],
+    frames: &mut [u32],
+    answer: &mut [u32],
+) -> u32
+    ensures { λ r. ⌜ leftAll r (now (answer .exit)) (lent (now (cells .exit)) (now (posts .exit)) (now (frames .exit))) ≡ called (now (answer .entry)) (lent (now (cells .entry)) (now (posts .entry)) (now (frames .entry))) (run (now (sheet .entry)) (asked lazyRunner (inForce enforce) (now (start .entry)) calls depth) (lent (now (cells .entry)) (now (posts .entry)) (now (frames .entry)))) ⌝ }
+{
+    if answer.len() < 8 {
+        return 3;
+    }
+    let r = interp::run_lazy(
+        sheet,
+        start,
+        calls,
+        depth,
+        enforce != 0,
+        cells,
+        posts,
+        frames,
+    );
+    put(of_run(r), answer)
+}

@@ -1,0 +1,111 @@
+/* Sovzedal: rule sheets decoded, type-checked and run, with or without their checks.
+ *
+ * Link target/staticlib/libcapi.a, which `rt staticlib capi` writes. It needs nothing beside it: no heap, no system call, no global state, so that
+ * calls on buffers of their own may be made from several threads.
+ *
+ * What the proof assumes of a C caller, for every function here:
+ *   - each pointer is valid for as many elements as the length after it says, and is aligned for its type; with a length of 0 it may be anything but
+ *     is best not null;
+ *   - no buffer that a function writes (`answer`, `cells`, `posts`, `frames`) overlaps another argument, and nobody else writes to any of them or to
+ *     `sheet` and `start` until the call returns;
+ *   - no length exceeds PTRDIFF_MAX bytes.
+ * Under these each function does exactly what is said here, on any contents.
+ *
+ * Every function returns
+ *   SOVZEDAL_OK       0  the sheet is readable, or accepted, or the run ended;
+ *   SOVZEDAL_STOPPED  1  the run was stopped, for one of the causes 17 to 22;
+ *   SOVZEDAL_REFUSED  2  refused, for one of the causes 1 to 16: every buffer but `answer` is as it was;
+ *   SOVZEDAL_SHORT    3  `answer` has fewer than 8 entries: nothing was done and nothing written anywhere;
+ * and writes exactly the first 8 entries of `answer`:
+ *
+ *   entry   decode, readable   typecheck, accepted   run, ended or stopped             refused
+ *   0       0                  0                     0, or the stop's cause            cause
+ *   1       0                  0                     0, or the stop's term             place
+ *   2       0                  root's type, 0 or 1   an end's value: 0 boolean, 1 number   0
+ *   3       terms              terms                 an end's value                    0
+ *   4       principals         0                     calls made                        0
+ *   5       types              0                     cells made                        0
+ *   6       0                  0                     posts made                        0
+ *   7       0                  needs                 0                                 0
+ *
+ * Types: 0 is the boolean, 1 the number. Needs are a set of privileges: bit k, worth 2^k, stands for privilege k. docs/REFUSALS.md explains the causes.
+ */
+#ifndef SOVZEDAL_H
+#define SOVZEDAL_H
+
+#include <stddef.h>
+#include <stdint.h>
+
+#ifdef __cplusplus
+extern "C" {
+#endif
+
+enum {
+    SOVZEDAL_OK = 0,
+    SOVZEDAL_STOPPED = 1,
+    SOVZEDAL_REFUSED = 2,
+    SOVZEDAL_SHORT = 3
+};
+
+enum {
+    SOVZEDAL_ANSWER = 8,          /* entries that are written of `answer` */
+    SOVZEDAL_MOST_SHEET = 10894,  /* bytes of the longest readable sheet */
+    SOVZEDAL_MOST_START = 32,     /* numbers of the largest start stack: 16 frames */
+    SOVZEDAL_MOST_CALLS = 4096,   /* the largest allowance of calls */
+    SOVZEDAL_MOST_DEPTH = 100,    /* the largest allowance of open calls */
+    SOVZEDAL_MOST_CELLS = 65536,  /* bytes of the largest cell store */
+    SOVZEDAL_MOST_POSTS = 256,    /* entries of the largest post list */
+    SOVZEDAL_FRAMES = 6496        /* numbers of a lazy run's frame store, exactly */
+};
+
+/* Whether any bytes are a readable sheet.
+ *   sheet, sheet_len    the sheet and its length in bytes; only read
+ *   answer, answer_len  the list for the answer and its length in entries
+ * Refusals: 1 to 8. */
+uint32_t sovzedal_decode(const uint8_t *sheet, size_t sheet_len,
+                         uint32_t *answer, size_t answer_len);
+
+/* Whether the rules accept a sheet, with its type and the least needs.
+ *   sheet, sheet_len    the sheet and its length in bytes; only read
+ *   answer, answer_len  the list for the answer and its length in entries
+ * Refusals: 1 to 13. */
+uint32_t sovzedal_typecheck(const uint8_t *sheet, size_t sheet_len,
+                            uint32_t *answer, size_t answer_len);
+
+/* Runs a readable sheet, accepted or not, holding the set of granted privileges.
+ *   sheet, sheet_len    the sheet and its length in bytes; only read
+ *   start, start_len    the start stack, innermost frame first, each frame two numbers: a principal and its set of enabled privileges; start_len
+ *                       counts numbers, not frames; only read
+ *   calls               how many calls may be made, at most 4,096
+ *   depth               how many calls may be open at a time, at most 100
+ *   enforce             0 passes over the checks; anything else has them in force
+ *   cells, cells_len    the cell store and its length in bytes, at most 65,536; a cell takes eight. It may hold anything; after a run that was not
+ *                       refused all of it is zero
+ *   posts, posts_len    the list for posts and its length in entries, at most 256. After a run that was not refused its first entries are the posts
+ *                       made, in order, and the others are as they were
+ *   answer, answer_len  the list for the answer and its length in entries
+ * Refusals: 1 to 8, 14, 15, 16. Stops: 17 to 22. */
+uint32_t sovzedal_run_eager(const uint8_t *sheet, size_t sheet_len,
+                            const uint32_t *start, size_t start_len,
+                            uint32_t calls, uint32_t depth, uint32_t enforce,
+                            uint8_t *cells, size_t cells_len,
+                            uint16_t *posts, size_t posts_len,
+                            uint32_t *answer, size_t answer_len);
+
+/* The same, walking the frames of a store. It gives the same answer.
+ *   frames, frames_len  the frame store and its length in numbers, exactly 6,496. It may hold anything; after a run that was not refused all of it is
+ *                       zero
+ * and the others as for sovzedal_run_eager. */
+uint32_t sovzedal_run_lazy(const uint8_t *sheet, size_t sheet_len,
+                           const uint32_t *start, size_t start_len,
+                           uint32_t calls, uint32_t depth, uint32_t enforce,
+                           uint8_t *cells, size_t cells_len,
+                           uint16_t *posts, size_t posts_len,
+                           uint32_t *frames, size_t frames_len,
+                           uint32_t *answer, size_t answer_len);
+
+#ifdef __cplusplus
+}
+#endif
+
+#endif
