@@ -22,7 +22,7 @@ ghost use Rattle.typing.specs.Judging.{judged, Sheet};
 pub fn typecheck(sheet: &[u8]) -> Verdict
     ensures { λ r. ⌜ told r ≡ verdict (now (sheet .entry)) ⌝ }
 {
-    let d = program::decode(sheet);
+    let d = decoder::decode(sheet);
     match d {
         Decoded::Refused(f) => Verdict::Unreadable(f),
         Decoded::Readable(c) => judge_program(sheet, c),
