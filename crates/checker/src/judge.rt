@@ -1,17 +1,17 @@
 // The judgement of a term: children in order, and nothing after the first fault.
-use crate::answer::Judged;
-use crate::bindings::Bindings;
-use crate::bindings::push;
-use crate::steps;
 use program::records::Counts;
 use program::records::TermRecord;
 use program::records::authority;
 use program::records::term;
 use program::records::type_record;
+use typing::answer::Judged;
+use typing::bindings::Bindings;
+use typing::bindings::push;
+use typing::steps;
 ghost use mathlib.Core.Path.{_≡_};
 ghost use Prim.Native.Nat.{_<_, _≤_};
 ghost use Rattle.typing.specs.Judging.{judged, context, termJudgement, Ready};
-ghost use Rattle.typing.specs.Internal.{ReadyAt};
+ghost use Rattle.checker.specs.Internal.{ReadyAt};
 
 // The type and needs of term t under the bindings b and the principal n, or its first fault.
 pub fn infer(s: &[u8], c: Counts, t: u16, b: Bindings, n: u8) -> Judged

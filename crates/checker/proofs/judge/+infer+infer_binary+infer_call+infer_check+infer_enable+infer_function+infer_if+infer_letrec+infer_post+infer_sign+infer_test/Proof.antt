@@ -2,63 +2,63 @@ use borrow.Author.Needs.{needs}
 use mathlib.Core.Path.{refl}
 use Prim.Native.Nat.{_+_, _*_}
 use native.Mathlib.Omega.{arith}
-use Rattle.typing.proofs.TermLaws.{past-ten, kind-most, check-child, enable-child, sign-child, post-child, check-privilege, enable-privilege, call-first, call-second, test-first, test-second, binary-first, binary-second, if-first, if-second, if-third, function-room, function-child, letrec-room, letrec-body, letrec-rest, leaf-is, check-is, enable-is, sign-is, post-is, test-stops, test-is, call-stops, call-is, binary-stops, binary-is, if-stops, branch-stops, if-is, function-is, letrec-stops, letrec-is}
+use Rattle.checker.proofs.TermLaws.{past-ten, kind-most, check-child, enable-child, sign-child, post-child, check-privilege, enable-privilege, call-first, call-second, test-first, test-second, binary-first, binary-second, if-first, if-second, if-third, function-room, function-child, letrec-room, letrec-body, letrec-rest, leaf-is, check-is, enable-is, sign-is, post-is, test-stops, test-is, call-stops, call-is, binary-stops, binary-is, if-stops, branch-stops, if-is, function-is, letrec-stops, letrec-is}
 use Prim.Native.Nat.{ℕ, _<_}
 use borrow.Fn.Kinds.{In}
 use borrow.Fn.PlainCycle.{Measures, is, falls, and}
-use Rattle.typing.proofs.judge.infer.Reads as infer
-use Rattle.typing.proofs.judge.infer.Kinds as infer-kinds
-use Rattle.typing.proofs.judge.+infer+infer_binary+infer_call+infer_check+infer_enable+infer_function+infer_if+infer_letrec+infer_post+infer_sign+infer_test.Lts-infer as infer-lts
-use Rattle.typing.proofs.judge.infer_binary.Reads as infer-binary
-use Rattle.typing.proofs.judge.infer_binary.Kinds as infer-binary-kinds
-use Rattle.typing.proofs.judge.+infer+infer_binary+infer_call+infer_check+infer_enable+infer_function+infer_if+infer_letrec+infer_post+infer_sign+infer_test.Lts-infer_binary as infer-binary-lts
-use Rattle.typing.proofs.judge.infer_call.Reads as infer-call
-use Rattle.typing.proofs.judge.infer_call.Kinds as infer-call-kinds
-use Rattle.typing.proofs.judge.+infer+infer_binary+infer_call+infer_check+infer_enable+infer_function+infer_if+infer_letrec+infer_post+infer_sign+infer_test.Lts-infer_call as infer-call-lts
-use Rattle.typing.proofs.judge.infer_check.Reads as infer-check
-use Rattle.typing.proofs.judge.infer_check.Kinds as infer-check-kinds
-use Rattle.typing.proofs.judge.+infer+infer_binary+infer_call+infer_check+infer_enable+infer_function+infer_if+infer_letrec+infer_post+infer_sign+infer_test.Lts-infer_check as infer-check-lts
-use Rattle.typing.proofs.judge.infer_enable.Reads as infer-enable
-use Rattle.typing.proofs.judge.infer_enable.Kinds as infer-enable-kinds
-use Rattle.typing.proofs.judge.+infer+infer_binary+infer_call+infer_check+infer_enable+infer_function+infer_if+infer_letrec+infer_post+infer_sign+infer_test.Lts-infer_enable as infer-enable-lts
-use Rattle.typing.proofs.judge.infer_function.Reads as infer-function
-use Rattle.typing.proofs.judge.infer_function.Kinds as infer-function-kinds
-use Rattle.typing.proofs.judge.+infer+infer_binary+infer_call+infer_check+infer_enable+infer_function+infer_if+infer_letrec+infer_post+infer_sign+infer_test.Lts-infer_function as infer-function-lts
-use Rattle.typing.proofs.judge.infer_if.Reads as infer-if
-use Rattle.typing.proofs.judge.infer_if.Kinds as infer-if-kinds
-use Rattle.typing.proofs.judge.+infer+infer_binary+infer_call+infer_check+infer_enable+infer_function+infer_if+infer_letrec+infer_post+infer_sign+infer_test.Lts-infer_if as infer-if-lts
-use Rattle.typing.proofs.judge.infer_letrec.Reads as infer-letrec
-use Rattle.typing.proofs.judge.infer_letrec.Kinds as infer-letrec-kinds
-use Rattle.typing.proofs.judge.+infer+infer_binary+infer_call+infer_check+infer_enable+infer_function+infer_if+infer_letrec+infer_post+infer_sign+infer_test.Lts-infer_letrec as infer-letrec-lts
-use Rattle.typing.proofs.judge.infer_post.Reads as infer-post
-use Rattle.typing.proofs.judge.infer_post.Kinds as infer-post-kinds
-use Rattle.typing.proofs.judge.+infer+infer_binary+infer_call+infer_check+infer_enable+infer_function+infer_if+infer_letrec+infer_post+infer_sign+infer_test.Lts-infer_post as infer-post-lts
-use Rattle.typing.proofs.judge.infer_sign.Reads as infer-sign
-use Rattle.typing.proofs.judge.infer_sign.Kinds as infer-sign-kinds
-use Rattle.typing.proofs.judge.+infer+infer_binary+infer_call+infer_check+infer_enable+infer_function+infer_if+infer_letrec+infer_post+infer_sign+infer_test.Lts-infer_sign as infer-sign-lts
-use Rattle.typing.proofs.judge.infer_test.Reads as infer-test
-use Rattle.typing.proofs.judge.infer_test.Kinds as infer-test-kinds
-use Rattle.typing.proofs.judge.+infer+infer_binary+infer_call+infer_check+infer_enable+infer_function+infer_if+infer_letrec+infer_post+infer_sign+infer_test.Lts-infer_test as infer-test-lts
+use Rattle.checker.proofs.judge.infer.Reads as infer
+use Rattle.checker.proofs.judge.infer.Kinds as infer-kinds
+use Rattle.checker.proofs.judge.+infer+infer_binary+infer_call+infer_check+infer_enable+infer_function+infer_if+infer_letrec+infer_post+infer_sign+infer_test.Lts-infer as infer-lts
+use Rattle.checker.proofs.judge.infer_binary.Reads as infer-binary
+use Rattle.checker.proofs.judge.infer_binary.Kinds as infer-binary-kinds
+use Rattle.checker.proofs.judge.+infer+infer_binary+infer_call+infer_check+infer_enable+infer_function+infer_if+infer_letrec+infer_post+infer_sign+infer_test.Lts-infer_binary as infer-binary-lts
+use Rattle.checker.proofs.judge.infer_call.Reads as infer-call
+use Rattle.checker.proofs.judge.infer_call.Kinds as infer-call-kinds
+use Rattle.checker.proofs.judge.+infer+infer_binary+infer_call+infer_check+infer_enable+infer_function+infer_if+infer_letrec+infer_post+infer_sign+infer_test.Lts-infer_call as infer-call-lts
+use Rattle.checker.proofs.judge.infer_check.Reads as infer-check
+use Rattle.checker.proofs.judge.infer_check.Kinds as infer-check-kinds
+use Rattle.checker.proofs.judge.+infer+infer_binary+infer_call+infer_check+infer_enable+infer_function+infer_if+infer_letrec+infer_post+infer_sign+infer_test.Lts-infer_check as infer-check-lts
+use Rattle.checker.proofs.judge.infer_enable.Reads as infer-enable
+use Rattle.checker.proofs.judge.infer_enable.Kinds as infer-enable-kinds
+use Rattle.checker.proofs.judge.+infer+infer_binary+infer_call+infer_check+infer_enable+infer_function+infer_if+infer_letrec+infer_post+infer_sign+infer_test.Lts-infer_enable as infer-enable-lts
+use Rattle.checker.proofs.judge.infer_function.Reads as infer-function
+use Rattle.checker.proofs.judge.infer_function.Kinds as infer-function-kinds
+use Rattle.checker.proofs.judge.+infer+infer_binary+infer_call+infer_check+infer_enable+infer_function+infer_if+infer_letrec+infer_post+infer_sign+infer_test.Lts-infer_function as infer-function-lts
+use Rattle.checker.proofs.judge.infer_if.Reads as infer-if
+use Rattle.checker.proofs.judge.infer_if.Kinds as infer-if-kinds
+use Rattle.checker.proofs.judge.+infer+infer_binary+infer_call+infer_check+infer_enable+infer_function+infer_if+infer_letrec+infer_post+infer_sign+infer_test.Lts-infer_if as infer-if-lts
+use Rattle.checker.proofs.judge.infer_letrec.Reads as infer-letrec
+use Rattle.checker.proofs.judge.infer_letrec.Kinds as infer-letrec-kinds
+use Rattle.checker.proofs.judge.+infer+infer_binary+infer_call+infer_check+infer_enable+infer_function+infer_if+infer_letrec+infer_post+infer_sign+infer_test.Lts-infer_letrec as infer-letrec-lts
+use Rattle.checker.proofs.judge.infer_post.Reads as infer-post
+use Rattle.checker.proofs.judge.infer_post.Kinds as infer-post-kinds
+use Rattle.checker.proofs.judge.+infer+infer_binary+infer_call+infer_check+infer_enable+infer_function+infer_if+infer_letrec+infer_post+infer_sign+infer_test.Lts-infer_post as infer-post-lts
+use Rattle.checker.proofs.judge.infer_sign.Reads as infer-sign
+use Rattle.checker.proofs.judge.infer_sign.Kinds as infer-sign-kinds
+use Rattle.checker.proofs.judge.+infer+infer_binary+infer_call+infer_check+infer_enable+infer_function+infer_if+infer_letrec+infer_post+infer_sign+infer_test.Lts-infer_sign as infer-sign-lts
+use Rattle.checker.proofs.judge.infer_test.Reads as infer-test
+use Rattle.checker.proofs.judge.infer_test.Kinds as infer-test-kinds
+use Rattle.checker.proofs.judge.+infer+infer_binary+infer_call+infer_check+infer_enable+infer_function+infer_if+infer_letrec+infer_post+infer_sign+infer_test.Lts-infer_test as infer-test-lts
 use Rattle.program.proofs.records.authority.Reads as authority-reads
 use Rattle.program.proofs.records.term.Reads as term-reads
 use Rattle.program.proofs.records.type_record.Reads as type-record-reads
 use Rattle.typing.proofs.bindings.push.Reads as push-reads
 use Rattle.typing.proofs.steps.branched.Reads as branched-reads
 use Rattle.typing.proofs.steps.call_of.Reads as call-of-reads
 use Rattle.typing.proofs.steps.checked.Reads as checked-reads
 use Rattle.typing.proofs.steps.computed.Reads as computed-reads
 use Rattle.typing.proofs.steps.enabled.Reads as enabled-reads
 use Rattle.typing.proofs.steps.function_of.Reads as function-of-reads
 use Rattle.typing.proofs.steps.leaf.Reads as leaf-reads
 use Rattle.typing.proofs.steps.letrec_of.Reads as letrec-of-reads
 use Rattle.typing.proofs.steps.posted.Reads as posted-reads
 use Rattle.typing.proofs.steps.result_of.Reads as result-of-reads
 use Rattle.typing.proofs.steps.signed.Reads as signed-reads
 use Rattle.typing.proofs.steps.tested.Reads as tested-reads
-use Rattle.typing.proofs.judge.+infer+infer_binary+infer_call+infer_check+infer_enable+infer_function+infer_if+infer_letrec+infer_post+infer_sign+infer_test.{
+use Rattle.checker.proofs.judge.+infer+infer_binary+infer_call+infer_check+infer_enable+infer_function+infer_if+infer_letrec+infer_post+infer_sign+infer_test.{
   statement,
 }
-use Rattle.typing.proofs.judge.+infer+infer_binary+infer_call+infer_check+infer_enable+infer_function+infer_if+infer_letrec+infer_post+infer_sign+infer_test.Tie.{
+use Rattle.checker.proofs.judge.+infer+infer_binary+infer_call+infer_check+infer_enable+infer_function+infer_if+infer_letrec+infer_post+infer_sign+infer_test.Tie.{
   close,
 }
 

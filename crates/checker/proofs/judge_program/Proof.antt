@@ -1,9 +1,9 @@
 use mathlib.Core.Path.{refl}
 use native.Mathlib.Omega.{arith}
-use Rattle.typing.proofs.VerdictLaws.{some-terms, root-ready, program-is}
+use Rattle.checker.proofs.VerdictLaws.{some-terms, root-ready, program-is}
 use borrow.Author.Needs.{needs}
-use Rattle.typing.proofs.judge_program.Statement.{statement}
-use Rattle.typing.proofs.judge_program.Tie as tie
+use Rattle.checker.proofs.judge_program.Statement.{statement}
+use Rattle.checker.proofs.judge_program.Tie as tie
 
 sub-root : tie.Need-sub-root
 sub-root c = omega (arith, some-terms (c .before .pre))

@@ -1,7 +1,7 @@
-use Rattle.typing.proofs.VerdictLaws.{conclude-fault, conclude-base, conclude-function}
+use Rattle.checker.proofs.VerdictLaws.{conclude-fault, conclude-base, conclude-function}
 use borrow.Author.Needs.{needs}
-use Rattle.typing.proofs.conclude.Statement.{statement}
-use Rattle.typing.proofs.conclude.Tie as tie
+use Rattle.checker.proofs.conclude.Statement.{statement}
+use Rattle.checker.proofs.conclude.Tie as tie
 
 enum-known-j : tie.Need-enum-known-j
 enum-known-j c = search needs

@@ -1,7 +1,7 @@
-use Rattle.typing.proofs.VerdictLaws.{unreadable-is, readable-sheet, readable-is}
+use Rattle.checker.proofs.VerdictLaws.{unreadable-is, readable-sheet, readable-is}
 use borrow.Author.Needs.{needs}
-use Rattle.typing.proofs.typecheck.Statement.{statement}
-use Rattle.typing.proofs.typecheck.Tie as tie
+use Rattle.checker.proofs.typecheck.Statement.{statement}
+use Rattle.checker.proofs.typecheck.Tie as tie
 
 decode-requires : tie.Need-decode-requires
 decode-requires c κs = search needs

@@ -22,15 +22,16 @@ use Rattle.program.specs.declared.records.TypeRecord.{TypeRecord}
 use Rattle.program.specs.Laws.Readable.{WellFormed}
 use Rattle.program.specs.Laws.Records.{term-is, authority-is}
 use Rattle.program.specs.Laws.Trees.{Below, below, parts, tree-node}
 use Rattle.typing.specs.Rules.{removeAuthorised}
 use Rattle.typing.specs.Checking.{Judgement, typed, _next_, require, bodyFits, infer}
 use Rattle.typing.specs.Judging.{judged, context, room, roomAt, termJudgement, Ready}
-use Rattle.typing.specs.Internal.{Pushed, ReadyAt, leafStep, checkStep, enableStep, signStep, postStep, testStep, ifStep, binaryStep, bodyStep, functionStep, letrecStep, callStep, resultOf}
+use Rattle.typing.specs.Internal.{Pushed, leafStep, checkStep, enableStep, signStep, postStep, testStep, ifStep, binaryStep, bodyStep, functionStep, letrecStep, callStep, resultOf}
+use Rattle.checker.specs.Internal.{ReadyAt}
 use Rattle.typing.specs.declared.answer.Judged.{Judged}
 use Rattle.typing.specs.declared.answer.Judged.the-variants.{Typed}
 use Rattle.typing.specs.declared.bindings.Bindings.{Bindings}
-use Rattle.typing.proofs.SubtypeLaws.{TypeParts, type-parts}
+use Rattle.typing.specs.Laws.Records.{TypeParts, type-parts}
 use Rattle.typing.proofs.StepLaws.{stop}
 
 up : {m k : ℕ} → (k ≡ m → ⊥) → m ≤ k → suc m ≤ k
 up n h = omega (arith, n)
