@@ -59,7 +59,7 @@ pub fn compare(
     ensures { λ r. ⌜ after (r .«passed_over») (now (cells2 .exit)) (now (posts2 .exit)) (now (frames2 .exit)) ≡ run (now (sheet .entry)) (asked (runnerOf lazy2) false (now (start .entry)) calls depth) (lent (now (cells2 .entry)) (now (posts2 .entry)) (now (frames2 .entry))) ⌝ }
     ensures { λ r. ⌜ (length (now (cells .entry)) ≡ length (now (cells2 .entry)) → length (now (posts .entry)) ≡ length (now (posts2 .entry)) → Agreement (now (sheet .entry)) (now (start .entry)) (r .verdict) (after (r .«in_force») (now (cells .exit)) (now (posts .exit)) (now (frames .exit))) (after (r .«passed_over») (now (cells2 .exit)) (now (posts2 .exit)) (now (frames2 .exit)))) ⌝ }
 {
-    let verdict = typing::typecheck(sheet);
+    let verdict = checker::typecheck(sheet);
     let first = run_either(lazy, sheet, start, calls, depth, true, cells, posts, frames);
     let second = run_either(
         lazy2,

@@ -20,7 +20,7 @@ pub extern "C" fn sovzedal_decode(sheet: &[u8], answer: &mut [u32]) -> u32
     if answer.len() < 8 {
         return 3;
     }
-    put(of_decoded(program::decode(sheet)), answer)
+    put(of_decoded(decoder::decode(sheet)), answer)
 }
 
 // The type checker's verdict on a sheet.
@@ -31,7 +31,7 @@ pub extern "C" fn sovzedal_typecheck(sheet: &[u8], answer: &mut [u32]) -> u32
     if answer.len() < 8 {
         return 3;
     }
-    put(of_verdict(typing::typecheck(sheet)), answer)
+    put(of_verdict(checker::typecheck(sheet)), answer)
 }
 
 // A run that holds the granted set.

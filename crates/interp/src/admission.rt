@@ -61,7 +61,7 @@ pub fn admit(
 ) -> Admission
     ensures { λ r. ⌜ Admits (now (s .entry)) (now (start .entry)) cells posts frames calls depth r ⌝ }
 {
-    let d = program::decode(s);
+    let d = decoder::decode(s);
     match d {
         Decoded::Refused(f) => Admission::Refused(Refusal::Unreadable(f)),
         Decoded::Readable(c) => admit_readable(s, c, start, cells, posts, frames, calls, depth),

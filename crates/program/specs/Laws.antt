@@ -1,5 +1,7 @@
 -- What is proved of the definitions, for the crates above. Nothing here has to be believed.
 pub mod Screening
+pub mod Search
+pub mod Order
 pub mod Readable
 pub mod Types
 pub mod Trees

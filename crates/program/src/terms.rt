@@ -1,7 +1,5 @@
 // The term records: refusal 6, and the children that a record names.
 ghost use mathlib.Core.Path.{_≡_};
-ghost use mathlib.Core.Bool.{cond, not};
-ghost use Prim.Native.Nat.{_<_};
 ghost use Rattle.program.specs.Layout.{terms};
 ghost use Rattle.program.specs.Screening.{lowest};
 ghost use Rattle.program.specs.Decoding.{termOk};

@@ -1,10 +1,10 @@
 // The type table: refusal 5.
 ghost use mathlib.Core.Path.{_≡_};
 ghost use mathlib.Core.Bool.{_&&_};
-ghost use Prim.Native.Nat.{_+_, _*_, _<_, _≤_, max};
+ghost use Prim.Native.Nat.{_+_, _<_, _≤_, max};
 ghost use lib.Dec.{eqb, ltb};
 ghost use lib.ListN.{length};
-ghost use Rattle.program.specs.Layout.{types, typeAt};
+ghost use Rattle.program.specs.Layout.{types};
 ghost use Rattle.program.specs.Screening.{lowest};
 ghost use Rattle.program.specs.Decoding.{sameBytes, fresh, typeOk};
 ghost use Rattle.program.specs.Internal.{Laid, TableAt, Depths, DepthIs, foundOf};

@@ -23,7 +23,7 @@ use Rattle.typing.specs.declared.answer.Judged.{Judged}
 use Rattle.typing.specs.declared.answer.Judged.the-variants.{Typed, Faulty}
 use Rattle.typing.specs.declared.bindings.Found.{Found}
 use Rattle.typing.specs.declared.bindings.Found.the-variants.{At, Nothing}
-use Rattle.typing.proofs.SubtypeLaws.{function-is, TypeParts, type-parts}
+use Rattle.typing.specs.Laws.Records.{function-is, TypeParts, type-parts}
 
 -- what is not typed is a fault, and ends the judgement
 pub stop : (k : ℕ → ℕ → Judgement) (j : Judged) → tagOf the-type j ≡ 1 → judged j ≡ (judged j next k)

@@ -12,10 +12,10 @@ use Rattle.program.specs.Layout.{Types, typesOf}
 use Rattle.program.specs.Records.{typeRecord}
 use Rattle.program.specs.declared.records.Counts.{Counts}
 use Rattle.program.specs.declared.records.TypeRecord.{TypeRecord}
-use Rattle.program.specs.Laws.Types.{Lower, lower-types, function-type}
-use Rattle.program.specs.Laws.Records.{type-is}
+use Rattle.program.specs.Laws.Types.{Lower, lower-types}
 use Rattle.typing.specs.Subtyping.{subtypeIn, subtype}
 use Rattle.typing.specs.Judging.{Sheet}
+use Rattle.typing.specs.Laws.Records.{TypeParts, function-is, type-parts}
 
 -- ---- is_function
 pub function-low : (t n : ℕ) → t < 2 → false ≡ (leb 2 t && ltb t n)
@@ -56,23 +56,6 @@ module _ (T : Types) (L : Lower T) where
       (subtypeIn T (a + b) (T .arg b) (T .arg a)) (subtypeIn T (a + b) (T .res a) (T .res b)) (subtype T (T .arg b) (T .arg a)) (subtype T (T .res a) (T .res b)) λ p q.
       let x = L .arg-lower a p in let y = L .arg-lower b q in let z = L .res-lower a p in let w = L .res-lower b q in
       (steps-enough (a + b) (T .arg b) (T .arg a) (omega arith), steps-enough (a + b) (T .res a) (T .res b) (omega arith))
-
--- ---- what is_function and type_record tell of a sheet's type
-
--- the record of a function type has the parts that the definitions name
-pub record TypeParts (s : List ℕ) (t : ℕ) (f : TypeRecord) : Type 0 where
-  pub arg-is : f .arg ≡ typesOf s .arg t
-  pub res-is : f .res ≡ typesOf s .res t
-  pub latent-is : f .latent ≡ typesOf s .latent t
-
-module _ {s : List ℕ} {c : Counts} (S : Sheet s c) (t : ℕ) where
-  pub function-is : {b : Bool} → b ≡ (leb 2 t && ltb t (c .types)) → b ≡ typesOf s .isFun t
-  function-is h = h ∙ ap (λ (n : ℕ). leb 2 t && ltb t n) (S .counts .types-are)
-
-  pub type-parts : {f : TypeRecord} → typesOf s .isFun t ≡ true → f ≡ typeRecord s c t → TypeParts s t f
-  type-parts h p =
-      let q = p ∙ type-is s (S .well-formed) c (S .counts) t (function-type s (S .well-formed) t h .inside) in
-      record { arg-is = ap (λ (f : TypeRecord). f .arg) q; res-is = ap (λ (f : TypeRecord). f .res) q; latent-is = ap (λ (f : TypeRecord). f .latent) q }
 
 -- ---- the ways that comparing two types ends
 also-false : (a : Bool) → (also a λ _. false) ≡ false

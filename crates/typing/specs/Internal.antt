@@ -7,14 +7,12 @@ use Prim.Native.Nat.{ℕ, zero, suc, _+_}
 use lib.Dec.{eqb}
 use Rattle.privileges.specs.Sets.{has, union, insert, remove, subset}
 use Rattle.program.specs.Layout.{Types}
-use Rattle.program.specs.Records.{termRecord}
-use Rattle.program.specs.declared.records.Counts.{Counts}
 use Rattle.program.specs.declared.records.TermRecord.{TermRecord}
 use Rattle.program.specs.declared.records.TypeRecord.{TypeRecord}
 use Rattle.typing.specs.Subtyping.{subtype}
 use Rattle.typing.specs.Rules.{bound}
 use Rattle.typing.specs.Checking.{Judgement, typed, _next_, require, variableType}
-use Rattle.typing.specs.Judging.{context, Ready}
+use Rattle.typing.specs.Judging.{context}
 use Rattle.typing.specs.declared.bindings.Bindings.{Bindings}
 use Rattle.typing.specs.declared.bindings.Found.{Found}
 use Rattle.typing.specs.declared.bindings.Found.the-variants.{At, Nothing}
@@ -27,11 +25,6 @@ pub record Pushed (b : Bindings) (ty : ℕ) (r : Bindings) : Type 0 where
 abbrev pub foundOf : Found → Option ℕ
 foundOf (At ty) = some ty
 foundOf Nothing = none
-
--- ---- a term whose record has been read
-pub record ReadyAt (s : List ℕ) (c : Counts) (t : ℕ) (b : Bindings) (n : ℕ) (x : TermRecord) : Type 0 where
-  pub ready : Ready s c t b n
-  pub record-is : x ≡ termRecord s c t
 
 -- ---- a term's judgement from that of its last child, the earlier ones being typed
 abbrev pub leafBy : (kind : ℕ) → Judgement → Judgement

@@ -1,4 +1,4 @@
--- What the contract of `judge::infer` says: the judgement of one term of a sheet, under given bindings and a given principal.
+-- What the contract of `checker::judge::infer` says: the judgement of one term of a sheet, under given bindings and a given principal.
 use mathlib.Core.List.{List, [], _∷_}
 use Prim.Native.Nat.{ℕ, zero, suc, _+_, _<_, _≤_, max}
 use lib.ListN.{getD}

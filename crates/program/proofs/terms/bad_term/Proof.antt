@@ -6,7 +6,7 @@ use Rattle.program.specs.Layout.{terms}
 use Rattle.program.specs.Screening.{lowest}
 use Rattle.program.specs.Decoding.{termOk}
 use Rattle.program.specs.Laws.Readable.{fields-ok}
-use Rattle.program.proofs.SearchLaws.{lowest-here, lowest-more, lowest-past, lowest-starts}
+use Rattle.program.specs.Laws.Search.{lowest-here, lowest-more, lowest-past, lowest-starts}
 use Rattle.program.proofs.TermLaws.{wrong-is, wrong-bad, right-good}
 use Rattle.program.proofs.terms.bad_term.Statement.{statement}
 use Rattle.program.proofs.terms.bad_term.Tie as tie

@@ -8,7 +8,7 @@ use Rattle.program.specs.Screening.{lowest}
 use Rattle.program.specs.Decoding.{typeOk}
 use Rattle.program.specs.Internal.{Depths, DepthIs}
 use Rattle.program.specs.Laws.Readable.{fields-ok}
-use Rattle.program.proofs.SearchLaws.{lowest-here, lowest-more, lowest-past, lowest-starts}
+use Rattle.program.specs.Laws.Search.{lowest-here, lowest-more, lowest-past, lowest-starts}
 use Rattle.program.proofs.TypeLaws.{depths-none, depths-more}
 use Rattle.program.proofs.types.bad_type.Statement.{statement}
 use Rattle.program.proofs.types.bad_type.Tie as tie

@@ -1,0 +1,73 @@
+-- The verdict on a sheet from the reader's answer and the root's judgement. Assumes nothing.
+use mathlib.Core.List.{List, []}
+use mathlib.Core.Path.{_≡_, refl, sym, ap, _∙_, subst}
+use Prim.Native.Nat.{ℕ, _-_, _<_, _≤_}
+use native.Mathlib.Omega.{arith}
+use borrow.Author.Tests.{lt-ltb, le-ltb}
+use Rattle.program.specs.Layout.{terms, root}
+use Rattle.program.specs.Screening.{Screening, clear}
+use Rattle.program.specs.Decoding.{decoding}
+use Rattle.program.specs.Answers.{causeOf as refusalCause, placeOf as refusalPlace, told as toldDecoded, Counted}
+use Rattle.program.specs.declared.answer.Refusal.{Refusal}
+use Rattle.program.specs.declared.answer.Decoded.{Decoded}
+use Rattle.program.specs.declared.answer.Decoded.the-variants.{Readable, Refused}
+use Rattle.program.specs.declared.records.Counts.{Counts}
+use Rattle.program.specs.Laws.Readable.{well-formed}
+use Rattle.typing.specs.Checking.{Judgement}
+use Rattle.typing.specs.Verdicts.{Verdict, accepted, refused, concluded, ifReadable, judgement, verdict}
+use Rattle.typing.specs.Answers.{causeOf, placeOf}
+use Rattle.typing.specs.Judging.{judged, Sheet, termJudgement, Ready}
+use Rattle.typing.specs.Laws.Room.{root-room}
+use Rattle.typing.specs.declared.answer.Fault.{Fault}
+use Rattle.typing.specs.declared.answer.Judged.{Judged}
+use Rattle.typing.specs.declared.answer.Judged.the-variants.{Typed, Faulty}
+use Rattle.typing.specs.declared.bindings.Bindings.{Bindings}
+
+-- ---- the root's judgement
+pub conclude-fault : (n r : ℕ) {j : Judged} {f : Fault} → j ≡ Faulty f → refused (causeOf f) (placeOf f) ≡ concluded n r (judged j)
+conclude-fault n r e = ap (λ (j : Judged). concluded n r (judged j)) (sym e)
+
+module _ (n r : ℕ) {j : Judged} {τ N : ℕ} (e : j ≡ Typed τ N) where
+  pub conclude-base : τ < 2 → accepted n τ N ≡ concluded n r (judged j)
+  conclude-base h = rw (e, lt-ltb τ 2 h) refl
+
+  pub conclude-function : 2 ≤ τ → refused 13 r ≡ concluded n r (judged j)
+  conclude-function h = rw (e, le-ltb τ 2 h) refl
+
+-- ---- a readable sheet
+module _ {s : List ℕ} {c : Counts} (S : Sheet s c) where
+  pub some-terms : 1 ≤ c .terms
+  some-terms = omega (arith, S .counts .terms-are, S .well-formed .terms-least)
+
+  root-is : c .terms - 1 ≡ root s
+  root-is = ap (λ (n : ℕ). n - 1) (S .counts .terms-are)
+
+  pub root-ready : (b : Bindings) → b .len ≡ 0 → Ready s c (c .terms - 1) b 0
+  root-ready b e = record {
+    sheet = S;
+    inside = omega (arith, S .counts .terms-are, some-terms);
+    principal = omega (arith, S .well-formed .principals-least);
+    fits = rw root-is (omega (arith, e, root-room s (S .well-formed)));
+  }
+
+  pub program-is : {j : Judgement} {r : Verdict} → j ≡ termJudgement s [] 0 (c .terms - 1) → r ≡ concluded (c .terms) (c .terms - 1) j
+      → r ≡ concluded (terms s) (root s) (judgement s)
+  unfolding termJudgement
+  program-is p q = q ∙ (λ i. concluded (S .counts .terms-are i) (root-is i) ((p ∙ ap (termJudgement s [] 0) root-is) i))
+
+-- ---- the reader's answer
+module _ (s : List ℕ) {d : Decoded} (p : toldDecoded d ≡ decoding s) where
+  pub unreadable-is : {f : Refusal} → d ≡ Refused f → refused (refusalCause f) (refusalPlace f) ≡ verdict s
+  unfolding verdict
+  unreadable-is e = ap (λ (x : Screening). ifReadable x λ _. concluded (terms s) (root s) (judgement s)) (sym (ap toldDecoded e) ∙ p)
+
+  module _ {c : Counts} (e : d ≡ Readable c) where
+    readable : decoding s ≡ clear
+    readable = sym p ∙ ap toldDecoded e
+
+    pub readable-sheet : Counted s d → Sheet s c
+    readable-sheet k = record { well-formed = well-formed s readable; counts = subst (Counted s) e k }
+
+    pub readable-is : {r : Verdict} → r ≡ concluded (terms s) (root s) (judgement s) → r ≡ verdict s
+    unfolding verdict
+    readable-is q = q ∙ ap (λ (x : Screening). ifReadable x λ _. concluded (terms s) (root s) (judgement s)) (sym readable)

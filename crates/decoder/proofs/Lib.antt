@@ -1,0 +1,4 @@
+pub mod FieldLaws
+pub mod PlaceLaws
+pub mod NestingLaws
+pub mod DecodeLaws

@@ -1,0 +1,27 @@
+use Rattle.decoder.proofs.DecodeLaws.{told-header, header-laid, told-tables}
+use borrow.Author.Needs.{needs}
+use Rattle.decoder.proofs.decode.Statement.{statement}
+use Rattle.decoder.proofs.decode.Tie as tie
+
+read-header-requires : tie.Need-read-header-requires
+read-header-requires c κs = search needs
+
+enum-known-f : tie.Need-enum-known-f
+enum-known-f c = search needs
+
+enum-known-c : tie.Need-enum-known-c
+enum-known-c c = search needs
+
+tables-requires : tie.Need-tables-requires
+tables-requires c κs = header-laid (c .before .before .before .before .before .args .sheet .now) (c .before .c .given .1) (c .before .before .before .read-header .ensures)
+
+returns : tie.Need-returns
+returns c = (told-header (c .before .before .before .before .before .args .sheet .now) (c .before .f .given .1) (c .before .before .before .read-header .ensures), tt)
+
+returns-2 : tie.Need-returns-2
+returns-2 c = (told-tables (c .before .before .before .before .before .before .args .sheet .now) (header-laid (c .before .before .before .before .before .before .args .sheet .now) (c .before .before .c .given .1) (c .before .before .before .before .read-header .ensures)) (c .tables .result) (c .tables .ensures .0), c .tables .ensures .1)
+
+pub decode-spec : {M : Type 1} → statement M
+decode-spec =
+    tie.close
+    (tie.spec read-header-requires enum-known-f enum-known-c tables-requires returns returns-2)

@@ -1,0 +1,89 @@
+use mathlib.Core.Path.{_≡_}
+use Prim.Native.Nat.{_<_, _-_}
+use native.Mathlib.Omega.{arith}
+use lib.ListN.{length, length-set, replicate}
+use Rattle.decoder.specs.Internal.{Nested}
+use Rattle.decoder.proofs.NestingLaws.{nested-root, nested-more, one-more, held}
+use Rattle.decoder.proofs.nesting.nestings.Statement.{statement}
+use Rattle.decoder.proofs.nesting.nestings.Tie as tie
+
+abbrev Inv-loop : tie.InvT-loop
+Inv-loop parents n deep₀ t₀ deep t = (t < n) × ((length deep ≡ 1024) × Nested parents deep n t)
+
+abbrev μ-loop : tie.MeasureT-loop
+μ-loop parents n deep₀ t₀ deep t = t
+
+sub-t : tie.Need-sub-t Inv-loop μ-loop
+sub-t c = omega (arith, c .pre .0)
+
+cast-t : tie.Need-cast-t Inv-loop μ-loop
+cast-t c = omega (arith, c .pre .0)
+
+array-write-deep : tie.Need-array-write-deep Inv-loop μ-loop
+array-write-deep c = omega (arith, c .pre .0)
+
+loop-holds : tie.Need-loop-holds Inv-loop μ-loop
+loop-holds c = (omega (arith, c .pre .0), (length-set (replicate 1024 0) (c .args .n - 1) 1, nested-root (c .args .parents .now) (replicate 1024 0) (c .args .n) (c .pre .0 .0) (c .pre .0 .1)))
+
+sub-t-2 : tie.Need-sub-t-2 Inv-loop μ-loop
+sub-t-2 c = omega arith
+
+mul-p : tie.Need-mul-p Inv-loop μ-loop
+mul-p c = omega (arith, c .before .before .pre .0)
+
+element-copy-out-p : tie.Need-element-copy-out-p Inv-loop μ-loop
+element-copy-out-p c = omega (arith, c .before .before .pre .0)
+
+cast-p : tie.Need-cast-p Inv-loop μ-loop
+cast-p c = omega (arith, c .before .before .before .pre .0, (c .before .before .before .pre .1 .inside (c .before .before .loop .t - 1) (omega arith)))
+
+array-read-d : tie.Need-array-read-d Inv-loop μ-loop
+array-read-d c = omega (arith, c .before .before .before .pre .0, (c .before .before .before .pre .1 .inside (c .before .before .loop .t - 1) (omega arith)))
+
+add-deep : tie.Need-add-deep Inv-loop μ-loop
+add-deep c = omega arith
+
+array-write-deep-2 : tie.Need-array-write-deep-2 Inv-loop μ-loop
+array-write-deep-2 c = omega (arith, c .before .before .before .before .pre .0)
+
+loop-less : tie.Need-loop-less Inv-loop μ-loop
+loop-less c = omega arith
+
+loop-again : tie.Need-loop-again Inv-loop μ-loop
+loop-again c = (omega arith, (simp length-set (c .before .before .before .loop .inv .1 .0), nested-more (c .before .before .before .before .args .parents .now) (c .before .before .before .loop .deep) (c .before .before .before .before .args .n) (c .before .before .before .loop .t) _ (c .before .before .before .loop .inv .1 .1) (c .before .before .before .before .pre .1) (omega (arith, c .before .before .before .loop .inv .1 .0, c .before .before .before .before .pre .0)) (c .before .before .loop-test .taken) (c .before .before .before .loop .inv .0) (λ k h. one-more _ k) (omega arith)))
+
+array-write-deep-3 : tie.Need-array-write-deep-3 Inv-loop μ-loop
+array-write-deep-3 c = omega (arith, c .before .before .before .before .pre .0)
+
+loop-less-2 : tie.Need-loop-less-2 Inv-loop μ-loop
+loop-less-2 c = omega arith
+
+loop-again-2 : tie.Need-loop-again-2 Inv-loop μ-loop
+loop-again-2 c = (omega arith, (simp length-set (c .before .before .before .loop .inv .1 .0), nested-more (c .before .before .before .before .args .parents .now) (c .before .before .before .loop .deep) (c .before .before .before .before .args .n) (c .before .before .before .loop .t) 33 (c .before .before .before .loop .inv .1 .1) (c .before .before .before .before .pre .1) (omega (arith, c .before .before .before .loop .inv .1 .0, c .before .before .before .before .pre .0)) (c .before .before .loop-test .taken) (c .before .before .before .loop .inv .0) (λ k h. held _ k (c .if1 .left) h) (omega arith)))
+
+returns : tie.Need-returns Inv-loop μ-loop
+returns c = record { each = λ x h q k m. c .before .loop .inv .1 .1 .each x (omega (arith, c .loop-test .left)) q k m }
+
+pub nestings-spec : {M : Type 1} → statement M
+nestings-spec =
+    tie.close
+    (tie.spec
+    Inv-loop
+    μ-loop
+    sub-t
+    cast-t
+    array-write-deep
+    loop-holds
+    sub-t-2
+    mul-p
+    element-copy-out-p
+    cast-p
+    array-read-d
+    add-deep
+    array-write-deep-2
+    loop-less
+    loop-again
+    array-write-deep-3
+    loop-less-2
+    loop-again-2
+    returns)

@@ -1,0 +1,54 @@
+use mathlib.Core.Path.{_≡_, sym, _∙_}
+use Prim.Native.Nat.{_≤_, _-_}
+use native.Mathlib.Omega.{arith}
+use borrow.Author.Tests.{le-leb, lt-leb}
+use Rattle.program.specs.Screening.{lowest}
+use Rattle.decoder.specs.Internal.{shallowEnough}
+use Rattle.program.specs.Laws.Search.{lowest-here, lowest-more, lowest-past, lowest-starts}
+use Rattle.decoder.proofs.nesting.too_deep.Statement.{statement}
+use Rattle.decoder.proofs.nesting.too_deep.Tie as tie
+
+abbrev Inv-loop : tie.InvT-loop
+Inv-loop deep n t₀ t = (t ≤ n) × (lowest (shallowEnough deep) 0 n ≡ lowest (shallowEnough deep) t (n - t))
+
+abbrev μ-loop : tie.MeasureT-loop
+μ-loop deep n t₀ t = n - t
+
+loop-holds : tie.Need-loop-holds Inv-loop μ-loop
+loop-holds c = (omega arith, lowest-starts (shallowEnough (c .args .deep .now)) (c .args .n))
+
+cast-i : tie.Need-cast-i Inv-loop μ-loop
+cast-i c = omega (arith, c .before .before .pre)
+
+element-copy-out-d : tie.Need-element-copy-out-d Inv-loop μ-loop
+element-copy-out-d c = omega (arith, c .before .before .pre)
+
+returns : tie.Need-returns Inv-loop μ-loop
+returns c = lowest-here (shallowEnough (c .before .before .before .before .args .deep .now)) _ _ (c .before .before .loop-test .taken) (lt-leb _ 32 (c .if1 .taken)) ∙ sym (c .before .before .before .loop .inv .1)
+
+add-t : tie.Need-add-t Inv-loop μ-loop
+add-t c = omega (arith, c .before .before .before .before .pre)
+
+loop-less : tie.Need-loop-less Inv-loop μ-loop
+loop-less c = omega (arith, c .before .before .before .before .pre)
+
+loop-again : tie.Need-loop-again Inv-loop μ-loop
+loop-again c = (omega arith, c .before .before .before .loop .inv .1 ∙ lowest-more (shallowEnough (c .before .before .before .before .args .deep .now)) _ _ (c .before .before .loop-test .taken) (le-leb _ 32 (c .if1 .left)))
+
+returns-2 : tie.Need-returns-2 Inv-loop μ-loop
+returns-2 c = lowest-past (shallowEnough (c .before .before .args .deep .now)) _ _ (c .loop-test .left) ∙ sym (c .before .loop .inv .1)
+
+pub too-deep-spec : {M : Type 1} → statement M
+too-deep-spec =
+    tie.close
+    (tie.spec
+    Inv-loop
+    μ-loop
+    loop-holds
+    cast-i
+    element-copy-out-d
+    returns
+    add-t
+    loop-less
+    loop-again
+    returns-2)

@@ -1,0 +1,38 @@
+use Rattle.program.specs.Laws.Order.{told-7}
+use Rattle.decoder.proofs.DecodeLaws.{found-at, found-none}
+use borrow.Author.Needs.{needs}
+use Rattle.decoder.proofs.placed.Statement.{statement}
+use Rattle.decoder.proofs.placed.Tie as tie
+
+parents-of-requires : tie.Need-parents-of-requires
+parents-of-requires c κs = search needs
+
+bad-place-requires : tie.Need-bad-place-requires
+bad-place-requires c κs = search needs
+
+enum-known-t : tie.Need-enum-known-t
+enum-known-t c = search needs
+
+enum-told : tie.Need-enum-told
+enum-told c = search needs
+
+nested-requires : tie.Need-nested-requires
+nested-requires c κs = (c .before .before .before .before .before .before .before .pre .0, (c .before .before .before .before .before .before .before .pre .1 .0, (c .before .before .before .before .before .before .before .pre .1 .1, record { none-found = found-none (c .before .enum-told .given .1) (c .before .before .before .bad-place .ensures); links = c .before .before .before .before .before .parents-of .ensures })))
+
+returns : tie.Need-returns
+returns c = (told-7 (c .before .before .before .before .before .before .before .args .s .now) (c .before .before .before .before .before .before .before .pre .1 .0 .none-found) (c .before .before .before .before .before .before .before .pre .1 .1 .none-found) (found-at (c .before .t .given .1) (c .before .before .before .bad-place .ensures)), tt)
+
+returns-2 : tie.Need-returns-2
+returns-2 c = search needs
+
+pub placed-spec : {M : Type 1} → statement M
+placed-spec =
+    tie.close
+    (tie.spec
+    parents-of-requires
+    bad-place-requires
+    enum-known-t
+    enum-told
+    nested-requires
+    returns
+    returns-2)

@@ -1,0 +1,52 @@
+use borrow.Author.Tests.{not-true, not-false}
+use mathlib.Core.Path.{_≡_, sym, ap, _∙_}
+use Prim.Native.Nat.{_≤_, _-_}
+use native.Mathlib.Omega.{arith}
+use Rattle.program.specs.Layout.{terms}
+use Rattle.program.specs.Screening.{lowest}
+use Rattle.program.specs.Decoding.{placedOk}
+use Rattle.program.specs.Laws.Readable.{fields-ok}
+use Rattle.program.specs.Laws.Search.{lowest-here, lowest-more, lowest-past, lowest-starts}
+use Rattle.decoder.proofs.places.bad_place.Statement.{statement}
+use Rattle.decoder.proofs.places.bad_place.Tie as tie
+
+abbrev Inv-loop : tie.InvT-loop
+Inv-loop s c parents n t₀ t = (t ≤ n) × ((n ≡ terms s) × (lowest (placedOk s) 0 n ≡ lowest (placedOk s) t (n - t)))
+
+abbrev μ-loop : tie.MeasureT-loop
+μ-loop s c parents n t₀ t = n - t
+
+loop-holds : tie.Need-loop-holds Inv-loop μ-loop
+loop-holds c = (omega arith, (c .before .pre .0 .counts-are .terms-are, lowest-starts (placedOk (c .before .args .s .now)) (c .before .args .c .terms)))
+
+place-ok-requires : tie.Need-place-ok-requires Inv-loop μ-loop
+place-ok-requires c κs = (c .before .before .before .pre .0, (c .before .before .before .pre .1 .0, (omega (arith, c .before .loop .inv .1 .0), c .before .before .before .pre .1 .1)))
+
+returns : tie.Need-returns Inv-loop μ-loop
+returns c = lowest-here (placedOk (c .before .before .before .before .before .args .s .now)) _ _ (c .before .before .loop-test .taken) (sym (c .before .place-ok .ensures) ∙ not-true _ (c .if1 .taken)) ∙ sym (c .before .before .before .loop .inv .1 .1) ∙ (ap (lowest (placedOk (c .before .before .before .before .before .args .s .now)) 0) (c .before .before .before .loop .inv .1 .0))
+
+add-t : tie.Need-add-t Inv-loop μ-loop
+add-t c = omega (arith, fields-ok (c .before .before .before .before .before .args .s .now) (c .before .before .before .before .before .pre .0 .none-found) .terms-high, c .before .before .before .loop .inv .1 .0)
+
+loop-less : tie.Need-loop-less Inv-loop μ-loop
+loop-less c = omega arith
+
+loop-again : tie.Need-loop-again Inv-loop μ-loop
+loop-again c = (omega arith, (c .before .before .before .loop .inv .1 .0, c .before .before .before .loop .inv .1 .1 ∙ lowest-more (placedOk (c .before .before .before .before .before .args .s .now)) _ _ (c .before .before .loop-test .taken) (sym (c .before .place-ok .ensures) ∙ not-false _ (c .if1 .left))))
+
+returns-2 : tie.Need-returns-2 Inv-loop μ-loop
+returns-2 c = lowest-past (placedOk (c .before .before .before .args .s .now)) _ _ (c .loop-test .left) ∙ sym (c .before .loop .inv .1 .1) ∙ (ap (lowest (placedOk (c .before .before .before .args .s .now)) 0) (c .before .loop .inv .1 .0))
+
+pub bad-place-spec : {M : Type 1} → statement M
+bad-place-spec =
+    tie.close
+    (tie.spec
+    Inv-loop
+    μ-loop
+    loop-holds
+    place-ok-requires
+    returns
+    add-t
+    loop-less
+    loop-again
+    returns-2)

@@ -1,0 +1,43 @@
+use native.Mathlib.Omega.{arith}
+use Rattle.program.specs.Laws.Readable.{fields-ok}
+use Rattle.decoder.proofs.PlaceLaws.{place-is}
+use borrow.Author.Needs.{needs}
+use Rattle.decoder.proofs.places.place_ok.Statement.{statement}
+use Rattle.decoder.proofs.places.place_ok.Tie as tie
+
+add-root : tie.Need-add-root
+add-root c = omega (arith, c .before .pre .1 .1 .0, fields-ok (c .before .args .s .now) (c .before .pre .0 .none-found) .terms-high)
+
+mul-p : tie.Need-mul-p
+mul-p c = search needs
+
+element-copy-out-p : tie.Need-element-copy-out-p
+element-copy-out-p c = omega (arith, c .before .before .pre .1 .1 .0, fields-ok (c .before .before .args .s .now) (c .before .before .pre .0 .none-found) .terms-high)
+
+shape-at-requires : tie.Need-shape-at-requires
+shape-at-requires c κs = search needs
+
+parents-ok-requires : tie.Need-parents-ok-requires
+parents-ok-requires c κs = search needs
+
+body-signed-requires : tie.Need-body-signed-requires
+body-signed-requires c κs = search needs
+
+is-sign-requires : tie.Need-is-sign-requires
+is-sign-requires c κs = search needs
+
+returns : tie.Need-returns
+returns c = place-is (c .before .before .before .before .before .before .before .args .s .now) (c .before .before .before .before .before .before .before .args .c) (c .before .before .before .before .before .before .before .pre .0) (c .before .before .before .before .before .before .before .pre .1 .0) (c .before .before .before .before .before .before .before .args .t) (c .before .before .before .before .before .before .before .pre .1 .1 .0) (c .before .before .before .before .before .before .before .args .parents .now) (c .before .before .before .before .before .before .before .pre .1 .1 .1) (c .before .before .parents-ok .ensures) (c .before .before .before .shape-at .ensures) (c .before .body-signed .ensures) (c .is-sign .ensures)
+
+pub place-ok-spec : {M : Type 1} → statement M
+place-ok-spec =
+    tie.close
+    (tie.spec
+    add-root
+    mul-p
+    element-copy-out-p
+    shape-at-requires
+    parents-ok-requires
+    body-signed-requires
+    is-sign-requires
+    returns)

@@ -1,0 +1,50 @@
+use Rattle.program.specs.Laws.Order.{told-5, told-6}
+use Rattle.decoder.proofs.DecodeLaws.{found-at, found-none}
+use borrow.Author.Needs.{needs}
+use Rattle.decoder.proofs.tables.Statement.{statement}
+use Rattle.decoder.proofs.tables.Tie as tie
+
+bad-type-requires : tie.Need-bad-type-requires
+bad-type-requires c κs = search needs
+
+enum-known-t : tie.Need-enum-known-t
+enum-known-t c = search needs
+
+enum-told : tie.Need-enum-told
+enum-told c = search needs
+
+bad-term-requires : tie.Need-bad-term-requires
+bad-term-requires c κs = search needs
+
+enum-known-t-2 : tie.Need-enum-known-t-2
+enum-known-t-2 c = search needs
+
+enum-told-2 : tie.Need-enum-told-2
+enum-told-2 c = search needs
+
+placed-requires : tie.Need-placed-requires
+placed-requires c κs = (c .before .before .before .before .before .before .before .pre, ((record { none-found = found-none (c .before .before .before .enum-told .given .1) (c .before .before .before .before .before .bad-type .ensures) }), record { none-found = found-none (c .enum-told2 .given .1) (c .before .before .bad-term .ensures) }))
+
+returns : tie.Need-returns
+returns c = (told-5 (c .before .before .before .before .before .args .s .now) (found-at (c .before .t .given .1) (c .before .before .before .bad-type .ensures)), tt)
+
+returns-2 : tie.Need-returns-2
+returns-2 c = (told-6 (c .before .before .before .before .before .before .before .before .args .s .now) (found-none (c .before .before .before .before .enum-told .given .1) (c .before .before .before .before .before .before .bad-type .ensures)) (found-at (c .before .t2 .given .1) (c .before .before .before .bad-term .ensures)), tt)
+
+returns-3 : tie.Need-returns-3
+returns-3 c = search needs
+
+pub tables-spec : {M : Type 1} → statement M
+tables-spec =
+    tie.close
+    (tie.spec
+    bad-type-requires
+    enum-known-t
+    enum-told
+    bad-term-requires
+    enum-known-t-2
+    enum-told-2
+    placed-requires
+    returns
+    returns-2
+    returns-3)

@@ -1,0 +1,123 @@
+-- What the contracts of the decoder's own functions say. No reader of the public promise needs this file.
+use mathlib.Core.Bool.{Bool, true, false, cond}
+use mathlib.Core.List.{List}
+use mathlib.Core.Option.{none}
+use mathlib.Core.Path.{_≡_}
+use Prim.Native.Nat.{ℕ, zero, suc, _+_, _*_, _-_, _/_, _<_, _≤_}
+use lib.Dec.{leb, eqb}
+use lib.ListN.{length, getD}
+use Rattle.program.specs.Bytes.{word16}
+use Rattle.program.specs.Layout.{types, terms}
+use Rattle.program.specs.Tests.{orElse}
+use Rattle.program.specs.Screening.{First, None, lowest}
+use Rattle.program.specs.Decoding.{holds, field, fieldConditions, typeOk, termOk, timesBelow, isSign, placedOk, parent}
+use Rattle.program.specs.Answers.{causeOf, placeOf}
+use Rattle.program.specs.Internal.{Laid}
+use Rattle.program.specs.declared.terms.Shape.{Shape}
+use Rattle.program.specs.declared.terms.Shape.the-variants.{Leaf, One, Two, Three, Function as FunctionShape, Letrec as LetrecShape, Wrong}
+use Rattle.decoder.specs.declared.header.Field.{Field}
+use Rattle.decoder.specs.declared.header.Field.the-variants.{Records, Fault as FieldFault}
+use Rattle.decoder.specs.declared.header.Header.{Header}
+use Rattle.decoder.specs.declared.header.Header.the-variants.{Laid as HeaderLaid, Fault as HeaderFault}
+
+-- ---- the fields
+pub record FieldHolds (s : List ℕ) (at tag size least most n : ℕ) : Type 0 where
+  pub count : n ≡ word16 s (at + 1) / size
+  pub least-are : least ≤ n
+  pub most-are : n ≤ most
+  pub inside : at + 3 + n * size ≤ length s
+  pub none-found : None (field s at tag (holds size least most))
+
+abbrev pub FieldIs : List ℕ → (at tag size least most : ℕ) → Field → Type 0
+FieldIs s at tag size least most (Records n) = FieldHolds s at tag size least most n
+FieldIs s at tag size least most (FieldFault f) = First (causeOf f) (placeOf f) (field s at tag (holds size least most))
+
+abbrev pub HeaderIs : List ℕ → Header → Type 0
+HeaderIs s (HeaderLaid c) = Laid s c
+HeaderIs s (HeaderFault f) = First (causeOf f) (placeOf f) (fieldConditions s)
+
+-- ---- what has been sought and not found
+pub record TypesOk (s : List ℕ) : Type 0 where
+  pub none-found : lowest (typeOk s) 0 (types s) ≡ none
+
+pub record TermsOk (s : List ℕ) : Type 0 where
+  pub none-found : lowest (termOk s) 0 (terms s) ≡ none
+
+-- ---- parents
+-- one more parent is noted for x, and the other entries are as they were
+abbrev pub linkStep : (old t : ℕ) → ℕ
+linkStep old t = cond (eqb old 0) t 65535
+
+abbrev pub Linked : (old new : List ℕ) (x t : ℕ) → Type 0
+Linked old new x t = (y : ℕ) → y < length old → getD new y 0 ≡ cond (eqb x y) (linkStep (getD old y 0) t) (getD old y 0)
+
+-- so many parents are noted
+abbrev pub linkTimes : (count old t : ℕ) → ℕ
+linkTimes zero v t = v
+linkTimes (suc k) v t = linkTimes k (linkStep v t) t
+
+abbrev pub one : (x y : ℕ) → ℕ
+one x y = cond (eqb x y) 1 0
+
+-- how often y is among the children
+abbrev pub among : (y : ℕ) → Shape → ℕ
+among y Leaf = 0
+among y (One a) = one a y
+among y (Two a b) = one a y + one b y
+among y (Three a b d) = one a y + one b y + one d y
+among y (FunctionShape b) = one b y
+among y (LetrecShape b d) = one b y + one d y
+among y Wrong = 0
+
+abbrev pub LinkedAll : (old new : List ℕ) → Shape → (t : ℕ) → Type 0
+LinkedAll old new x t = (y : ℕ) → y < length old → getD new y 0 ≡ linkTimes (among y x) (getD old y 0) t
+
+abbrev pub ChildrenBelow : Shape → (n : ℕ) → Type 0
+ChildrenBelow Leaf n = Unit {0}
+ChildrenBelow (One a) n = a < n
+ChildrenBelow (Two a b) n = (a < n) × (b < n)
+ChildrenBelow (Three a b d) n = (a < n) × (b < n) × (d < n)
+ChildrenBelow (FunctionShape b) n = b < n
+ChildrenBelow (LetrecShape b d) n = (b < n) × (d < n)
+ChildrenBelow Wrong n = Unit {0}
+
+-- what is noted for a term that stands so often as a child, p being its parent
+abbrev pub linkOf : (times p : ℕ) → ℕ
+linkOf zero p = 0
+linkOf (suc zero) p = p
+linkOf (suc (suc n)) p = 65535
+
+-- the list has what the first so many terms note
+pub record Links (s l : List ℕ) (t : ℕ) : Type 0 where
+  pub each : (x : ℕ) → x < 1024 → getD l x 0 ≡ linkOf (timesBelow s x t) (parent s x t)
+
+abbrev pub bodySigned : List ℕ → Shape → Bool
+bodySigned s Leaf = true
+bodySigned s (One a) = true
+bodySigned s (Two a b) = true
+bodySigned s (Three a b d) = true
+bodySigned s (FunctionShape b) = isSign s b
+bodySigned s (LetrecShape b d) = isSign s b
+bodySigned s Wrong = true
+
+pub record PlacesOk (s l : List ℕ) : Type 0 where
+  pub none-found : lowest (placedOk s) 0 (terms s) ≡ none
+  pub links : Links s l (terms s)
+
+-- ---- nesting
+-- every term but the root has its parent above it
+pub record Rising (l : List ℕ) (n : ℕ) : Type 0 where
+  pub above : (x : ℕ) → suc x < n → x < getD l x 0
+  pub inside : (x : ℕ) → suc x < n → getD l x 0 < n
+
+-- `nestedIn`, by a list of parents
+abbrev pub nestedBy : (l : List ℕ) (n deep t : ℕ) → Bool
+nestedBy l n zero t = false
+nestedBy l n (suc k) t = orElse (eqb t (n - 1)) λ _. nestedBy l n k (getD l t 0)
+
+-- from t on, d has the nesting, held at 33
+pub record Nested (l d : List ℕ) (n t : ℕ) : Type 0 where
+  pub each : (x : ℕ) → t ≤ x → x < n → (k : ℕ) → k ≤ 32 → nestedBy l n k x ≡ leb (getD d x 0) k
+
+abbrev pub shallowEnough : List ℕ → ℕ → Bool
+shallowEnough d x = leb (getD d x 0) 32

@@ -1,0 +1,72 @@
+// The decoder: what any bytes are as a sheet.
+ghost use mathlib.Core.Path.{_≡_};
+ghost use Rattle.program.specs.Screening.{screen};
+ghost use Rattle.program.specs.Decoding.{tableConditions, decoding};
+ghost use Rattle.program.specs.Answers.{told, Counted};
+ghost use Rattle.program.specs.Internal.{Laid};
+ghost use Rattle.decoder.specs.Internal.{TypesOk, TermsOk, PlacesOk};
+
+pub mod header;
+pub mod nesting;
+pub mod places;
+
+use header::Header;
+use program::answer::Decoded;
+use program::answer::Found;
+use program::answer::Refusal;
+use program::records::Counts;
+
+// The nesting of a sheet whose records and places are right.
+fn nested(s: &[u8], c: Counts, parents: &[u16; 1024]) -> Decoded
+    requires { ⌜ Laid (now s) c ⌝ }
+    requires { ⌜ TypesOk (now s) ⌝ }
+    requires { ⌜ TermsOk (now s) ⌝ }
+    requires { ⌜ PlacesOk (now s) (now parents) ⌝ }
+    ensures { λ r. ⌜ (told r ≡ screen (tableConditions (now (s .entry)))) × Counted (now (s .entry)) r ⌝ }
+{
+    let n = c.terms;
+    let deep = nesting::nestings(parents, n);
+    match nesting::too_deep(&deep, n) {
+        Found::At(t) => Decoded::Refused(Refusal::TooDeep(t)),
+        Found::Nothing => Decoded::Readable(c),
+    }
+}
+
+// The places of a sheet whose records are right.
+fn placed(s: &[u8], c: Counts) -> Decoded
+    requires { ⌜ Laid (now s) c ⌝ }
+    requires { ⌜ TypesOk (now s) ⌝ }
+    requires { ⌜ TermsOk (now s) ⌝ }
+    ensures { λ r. ⌜ (told r ≡ screen (tableConditions (now (s .entry)))) × Counted (now (s .entry)) r ⌝ }
+{
+    let parents = places::parents_of(s, c);
+    match places::bad_place(s, c, &parents) {
+        Found::At(t) => Decoded::Refused(Refusal::BadPlace(t)),
+        Found::Nothing => nested(s, c, &parents),
+    }
+}
+
+// The two tables of a sheet whose fields are right.
+fn tables(s: &[u8], c: Counts) -> Decoded
+    requires { ⌜ Laid (now s) c ⌝ }
+    ensures { λ r. ⌜ (told r ≡ screen (tableConditions (now (s .entry)))) × Counted (now (s .entry)) r ⌝ }
+{
+    match program::types::bad_type(s, c) {
+        Found::At(t) => Decoded::Refused(Refusal::BadType(t)),
+        Found::Nothing => match program::terms::bad_term(s, c) {
+            Found::At(t) => Decoded::Refused(Refusal::BadTerm(t)),
+            Found::Nothing => placed(s, c),
+        },
+    }
+}
+
+// What any bytes are as a sheet: 01's reader.
+pub fn decode(sheet: &[u8]) -> Decoded
+    ensures { λ r. ⌜ told r ≡ decoding (now (sheet .entry)) ⌝ }
+    ensures { λ r. ⌜ Counted (now (sheet .entry)) r ⌝ }
+{
+    match header::read_header(sheet) {
+        Header::Fault(f) => Decoded::Refused(f),
+        Header::Laid(c) => tables(sheet, c),
+    }
+}

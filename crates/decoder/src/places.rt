@@ -1,0 +1,140 @@
+// Parents, signed bodies and the signed root: refusal 7.
+ghost use mathlib.Core.Path.{_≡_};
+ghost use mathlib.Core.Bool.{cond, not, _&&_};
+ghost use Prim.Native.Nat.{_<_};
+ghost use lib.Dec.{eqb};
+ghost use lib.ListN.{length};
+ghost use Rattle.program.specs.Layout.{terms};
+ghost use Rattle.program.specs.Screening.{lowest};
+ghost use Rattle.program.specs.Decoding.{isSign, placedOk};
+ghost use Rattle.program.specs.Internal.{Laid, foundOf};
+ghost use Rattle.decoder.specs.Internal.{TermsOk, Linked, ChildrenBelow, LinkedAll, Links, bodySigned};
+use program::answer::Found;
+use program::records::Counts;
+use program::records::term;
+use program::terms::Shape;
+use program::terms::shape_at;
+
+// Notes t as the parent of x. A parent has a higher number than its child, so that 0 stands for none, and 65535 for more than one.
+fn link(parents: &mut [u16], x: u16, t: u16)
+    requires { ⌜ x < length (now parents) ⌝ }
+    ensures { λ _. ⌜ Linked (now (parents .entry)) (now (parents .exit)) x t ⌝ }
+{
+    let i = x as usize;
+    if parents[i] == 0 {
+        parents[i] = t;
+    } else {
+        parents[i] = 65535;
+    }
+}
+
+// Notes t as the parent of its children.
+fn link_all(parents: &mut [u16], x: Shape, t: u16)
+    requires { ⌜ ChildrenBelow x (length (now parents)) ⌝ }
+    ensures { λ _. ⌜ LinkedAll (now (parents .entry)) (now (parents .exit)) x t ⌝ }
+{
+    match x {
+        Shape::Leaf => {}
+        Shape::One(a) => link(parents, a, t),
+        Shape::Two(a, b) => {
+            link(parents, a, t);
+            link(parents, b, t);
+        }
+        Shape::Three(a, b, d) => {
+            link(parents, a, t);
+            link(parents, b, t);
+            link(parents, d, t);
+        }
+        Shape::Function(b) => link(parents, b, t),
+        Shape::Letrec(b, d) => {
+            link(parents, b, t);
+            link(parents, d, t);
+        }
+        Shape::Wrong => {}
+    }
+}
+
+// Each term's parent, 0 where there is none and 65535 where there are several.
+pub fn parents_of(s: &[u8], c: Counts) -> [u16; 1024]
+    requires { ⌜ Laid (now s) c ⌝ }
+    requires { ⌜ TermsOk (now s) ⌝ }
+    ensures { λ r. ⌜ Links (now (s .entry)) r (terms (now (s .entry))) ⌝ }
+{
+    let mut parents = [0u16; 1024];
+    let n = c.terms;
+    let mut t = 0;
+    while t < n {
+        let x = shape_at(s, c, t);
+        link_all(&mut parents, x, t);
+        t += 1;
+    }
+    parents
+}
+
+fn is_sign(s: &[u8], c: Counts, t: u16) -> bool
+    requires { ⌜ Laid (now s) c ⌝ }
+    ensures { λ r. ⌜ r ≡ isSign (now (s .entry)) t ⌝ }
+{
+    let r = term(s, c, t);
+    r.kind == 9
+}
+
+// Whether the body, where there is one, is signed.
+fn body_signed(s: &[u8], c: Counts, x: Shape) -> bool
+    requires { ⌜ Laid (now s) c ⌝ }
+    ensures { λ r. ⌜ r ≡ bodySigned (now (s .entry)) x ⌝ }
+{
+    match x {
+        Shape::Leaf => true,
+        Shape::One(_) => true,
+        Shape::Two(_, _) => true,
+        Shape::Three(_, _, _) => true,
+        Shape::Function(b) => is_sign(s, c, b),
+        Shape::Letrec(b, _) => is_sign(s, c, b),
+        Shape::Wrong => true,
+    }
+}
+
+// Whether the parents noted for a term are those that are due: none for the root, and one for any other.
+fn parents_ok(p: u16, root: bool) -> bool
+    ensures { λ r. ⌜ r ≡ cond root (eqb p 0) (not (eqb p 0) && not (eqb p 65535)) ⌝ }
+{
+    if root {
+        p == 0
+    } else {
+        (p != 0) & (p != 65535)
+    }
+}
+
+// Whether term t has its parents and its signs.
+fn place_ok(s: &[u8], c: Counts, parents: &[u16; 1024], t: u16) -> bool
+    requires { ⌜ Laid (now s) c ⌝ }
+    requires { ⌜ TermsOk (now s) ⌝ }
+    requires { ⌜ t < terms (now s) ⌝ }
+    requires { ⌜ Links (now s) (now parents) (terms (now s)) ⌝ }
+    ensures { λ r. ⌜ r ≡ placedOk (now (s .entry)) t ⌝ }
+{
+    let root = t + 1 == c.terms;
+    let i = t as usize;
+    let p = parents[i];
+    let x = shape_at(s, c, t);
+    parents_ok(p, root) & body_signed(s, c, x) & (!root | is_sign(s, c, t))
+}
+
+// The lowest term with a wrong number of parents, whose body is unsigned, or which is the root and unsigned.
+pub fn bad_place(s: &[u8], c: Counts, parents: &[u16; 1024]) -> Found
+    requires { ⌜ Laid (now s) c ⌝ }
+    requires { ⌜ TermsOk (now s) ⌝ }
+    requires { ⌜ Links (now s) (now parents) (terms (now s)) ⌝ }
+    ensures { λ r. ⌜ foundOf r ≡ lowest (placedOk (now (s .entry))) 0 (terms (now (s .entry))) ⌝ }
+{
+    let n = c.terms;
+    let mut t = 0;
+    while t < n {
+        if !place_ok(s, c, parents, t) {
+            return Found::At(t);
+        }
+        t += 1;
+    }
+    Found::Nothing
+}
