@@ -26,7 +26,7 @@ use Rattle.machine.specs.declared.state.Value.the-variants.{Bool as VBoo
 use Rattle.machine.specs.declared.state.Stop.the-variants.{Check, Stuck, OpenCalls, Calls, Cells, Posts}
 use Rattle.machine.specs.declared.state.Out.{Out}
 use Rattle.machine.specs.declared.state.Out.the-variants.{Val, Stop as Stopped}
-use Rattle.machine.specs.Store.{pick, cellSet, leafOf, operateOf, Store, Done, nextOf, andThen, atOut, stopped, Runs, Applier, Shape, shapeOf, childless, letrec, call, if, check, enable, sign, test, binary, post, callS, binaryS, ifS, branchS, letrecS, checkS, testS, signS, signAccess, signFrames, enableS, enableAccess, enableFrames, restoreFrames, restored, withFrames, grantedOf, allowedOf, postS, postDone, postRan, postList, postedTally, ran, doneOf, byShape, step, below, begin, boundTally, calledTally, storeOf, hasRoom, applyAt, evalAt}
+use Rattle.machine.specs.Store.{pick, cellSet, leafOf, operateOf, Store, Done, nextOf, andThen, atOut, stopped, Runs, Applier, Shape, shapeOf, childless, letrec, call, if, check, enable, sign, test, binary, post, callS, binaryS, ifS, branchS, letrecS, checkS, testS, signS, signAccess, signFrames, firstEnabled, enableS, enableAccess, enableFrames, restoreFrames, restored, withFrames, grantedOf, allowedOf, postS, postDone, postRan, postList, postedTally, ran, doneOf, byShape, step, below, begin, boundTally, calledTally, storeOf, hasRoom, applyAt, evalAt}
 use Rattle.machine.specs.Ready.{Ready, ReadyAt}
 use Rattle.machine.proofs.RecordLaws.{record-kind, record-first, record-second, record-third, record-privilege}
 
@@ -161,7 +161,7 @@ module _ {s : List ℕ} {c : Counts} {t frames depth : ℕ} {cells : List ℕ} {
         rw (q, r) at g
         ∙ sym (top k env acc st sign (rw e refl) ∙ ap (λ (f : Runs). signS s c f (x .small) env acc st) (child k (x .first) (first-below 9 e refl)))
 
-    pub enable-is : {d : Done} {acc2 : Access} {f2 f3 : List ℕ} {old : ℕ} → x .kind ≡ 8 → old ≡ getD (st .frames) (acc .depth * 2 - 1) 0 →
+    pub enable-is : {d : Done} {acc2 : Access} {f2 f3 : List ℕ} {old : ℕ} → x .kind ≡ 8 → old ≡ getD (st .frames) (firstEnabled (acc .depth)) 0 →
         acc2 ≡ enableAccess s acc (x .small) → f2 ≡ enableFrames acc (st .frames) (x .small) →
         d ≡ evalAt s c k (x .first) env acc2 (withFrames f2 st) → f3 ≡ restoreFrames acc (d .store .frames) old →
         record { out = d .out; store = withFrames f3 (d .store) } ≡ evalAt s c k t env acc st
