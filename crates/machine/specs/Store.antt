@@ -21,6 +21,8 @@ use Rattle.machine.specs.declared.state.Ran.{Ran}
 use Rattle.machine.specs.declared.state.Access.{Access}
 use Rattle.machine.specs.declared.state.Found.{Found}
 use Rattle.machine.specs.declared.state.Found.the-variants.{Is, Unbound}
+use Rattle.machine.specs.declared.state.Begun.{Begun}
+use Rattle.machine.specs.declared.state.Begun.the-variants.{Body, Stop as Halted}
 
 abbrev pub pick : {A : Type 0} → Bool → A → A → A
 pick true a b = a
@@ -161,6 +163,15 @@ unfoldable pub postList : Value → Tally → List ℕ → List ℕ
 postList (VBool b) n l = l
 postList (Fun b e) n l = l
 postList (Num x) n l = set l (n .posts) x
+
+-- a call: 19, then 20, then 21, or its own cell and one call less; and the cells after it
+unfoldable pub begunOf : (t depth : ℕ) → Tally → (len : ℕ) → Begun
+begunOf t k n len =
+    pick (eqb k 0) (Halted (OpenCalls t)) (pick (eqb (n .calls) 0) (Halted (Calls t))
+    (pick (ltb (n .cells) (len / 8)) (Body (n .cells + 1) (calledTally (boundTally n))) (Halted (Cells t))))
+
+unfoldable pub begunCells : (depth : ℕ) → Value → (env : ℕ) → Tally → List ℕ → List ℕ
+begunCells k v env n l = pick (eqb k 0) l (pick (eqb (n .calls) 0) l (pick (ltb (n .cells) (length l / 8)) (cellSet l (n .cells) v env) l))
 
 -- ---- access control
 unfoldable pub framesGrant : (sheet frames : List ℕ) (depth p : ℕ) → Bool

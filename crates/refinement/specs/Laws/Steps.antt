@@ -25,7 +25,7 @@ use Rattle.machine.specs.declared.state.Access.{Access as Mode}
 use Rattle.machine.specs.declared.state.Found.{Found}
 use Rattle.machine.specs.declared.state.Found.the-variants.{Is, Unbound}
 use Rattle.machine.specs.Store.{pick, behindOf, walkOf, valueOf, lookOf, cellSet, Store as State, Done, stopped, atOut, Runs, Applier, foundOut, resultOf, operateOf, boundTally, calledTally, postedTally, bound, ran, postRan, postList, grantedOf, allowedOf, signAccess, signFrames, firstEnabled, enableAccess, enableFrames, restoreFrames, withFrames, hasRoom, callS, binaryS, branchS, ifS, letrecS, postDone, postS, checkS, testS, signS, restored, enableS, begin}
-use Rattle.refinement.specs.Claims.{causeOf, placeOf}
+use Rattle.machine.specs.Stops.{causeOf, placeOf}
 use Rattle.refinement.specs.Laws.Cells.{agree-cell, cell-holds, cell-behind, length-cell}
 use Rattle.refinement.specs.Laws.Relation.{length-written, Balance, Balances, balance, Kept, kept-refl, Later, later-refl, kindNumber, Body, Rep, rep-bool, rep-num, rep-fun, rep-rec, RepEnv, env-none, env-some, rep-later, env-later, Meets, valued, halted, meets-later, meets-then}
 
