@@ -22,7 +22,7 @@ use Rattle.semantics.specs.Theorems.{course-clear, course-found, run-course}
 use Rattle.machine.specs.declared.state.Out.{Out}
 use Rattle.machine.specs.declared.state.Ran.{Ran}
 use Rattle.machine.specs.Store.{Done, doneOf, evalAt, zerosLike}
-use Rattle.machine.specs.Ready.{Ready}
+use Rattle.evaluator.specs.Ready.{Ready}
 use Rattle.refinement.specs.Claims.{outcomeOf, countsOf, laidOut, startOf, eagerStart, lazyStart, Refined}
 use Rattle.refinement.specs.Theorems.{eager-refined, lazy-refined}
 use Rattle.interp.specs.Answers.{causeOf, placeOf, outcomeTold, asked, lent, after}

@@ -5,7 +5,7 @@ use Prim.Native.Nat.{ℕ}
 use Rattle.program.specs.Answers.{causeOf as readerCause, placeOf as readerPlace}
 use Rattle.semantics.specs.Runs as runs
 use Rattle.semantics.specs.Runs.{Runner, Request, Buffers, Ground, ground-bool, ground-num, ended, stopped, Counts, Answer, refused, ran, After}
-use Rattle.refinement.specs.Claims.{causeOf as stopCause, placeOf as stopPlace}
+use Rattle.machine.specs.Stops.{causeOf as stopCause, placeOf as stopPlace}
 use Rattle.interp.specs.declared.answer.Refusal.{Refusal}
 use Rattle.interp.specs.declared.answer.Refusal.the-variants.{Unreadable, Start, Buffers as LentBuffers, Allowance}
 use Rattle.interp.specs.declared.answer.Value.{Value}

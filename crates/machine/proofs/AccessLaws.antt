@@ -1,13 +1,13 @@
--- The walk over the frames, frame by frame. Assumes nothing.
+-- The walk over the frames, frame by frame, and where the first one's enabled set stands. Assumes nothing.
 use mathlib.Core.Bool.{Bool, true, false}
 use mathlib.Core.List.{List}
 use mathlib.Core.Path.{_≡_, refl, sym, _∙_}
-use Prim.Native.Nat.{ℕ, zero, suc, _+_, _-_, _*_, _<_, _≤_}
+use Prim.Native.Nat.{ℕ, zero, suc, _+_, _-_, _*_, _%_, _<_, _≤_}
 use native.Mathlib.Omega.{arith}
 use lib.ListN.{getD}
 use Rattle.privileges.specs.Sets.{has}
 use Rattle.program.specs.Records.{authorityRecord}
-use Rattle.machine.specs.Store.{pick, framesGrant}
+use Rattle.machine.specs.Store.{pick, framesGrant, firstEnabled}
 
 module _ (s f : List ℕ) (d p : ℕ) (h : 0 < d) where
   grant-step : framesGrant s f d p ≡
@@ -39,3 +39,9 @@ pub grant-none : (s f : List ℕ) (d p : ℕ) → d ≤ 0 → false ≡ framesGr
 unfolding framesGrant
 grant-none s f zero p h = refl
 grant-none s f (suc k) p h = absurd (omega arith)
+
+-- one less than twice the frames, modulo 2^64
+pub first-enabled : (d r : ℕ) → r < 18446744073709551616 → d ≤ 16777216 → (r + 1) % 18446744073709551616 ≡ d * 2 → r ≡ firstEnabled d
+unfolding firstEnabled
+first-enabled zero r h g e = omega arith
+first-enabled (suc d) r h g e = omega arith

@@ -1,5 +1,3 @@
-pub mod CellLaws
 pub mod AccessLaws
+pub mod CellLaws
 pub mod StepLaws
-pub mod RecordLaws
-pub mod CycleLaws

@@ -1,25 +1,26 @@
--- What the operations, a post and a term without children give, a law for each way that they end. Assumes nothing.
+-- What the operations, a post, a call that begins and a term without children give, a law for each way that they end. Assumes nothing.
 use mathlib.Core.List.{List}
 use mathlib.Core.Logic.{_⊎_, inl, inr}
 use mathlib.Core.Path.{_≡_, refl, sym, ap}
-use Prim.Native.Nat.{ℕ, _+_, _-_, _<_, _≤_}
+use Prim.Native.Nat.{ℕ, _+_, _-_, _/_, _<_, _≤_}
 use native.Mathlib.Nat.{min-eq-left, min-eq-right}
 use native.Mathlib.Omega.{arith}
 use lib.Dec.{ltb}
 use lib.ListN.{length, set}
 use lib.Seq.{set-out}
-use borrow.Author.Tests.{eq-eqb, ne-eqb, le-leb, lt-leb}
+use borrow.Author.Tests.{eq-eqb, ne-eqb, le-leb, lt-leb, lt-ltb, le-ltb}
 use denote.Enum.Declared.{tagOf as tagged}
 use Rattle.program.specs.declared.records.TermRecord.{TermRecord}
 use Rattle.machine.proofs.state.Value.{the-type as valueType}
 use Rattle.machine.specs.declared.state.Value.{Value}
 use Rattle.machine.specs.declared.state.Value.the-variants.{Bool as VBool, Num, Fun}
-use Rattle.machine.specs.declared.state.Stop.the-variants.{Stuck, Posts}
+use Rattle.machine.specs.declared.state.Stop.the-variants.{Stuck, OpenCalls, Calls, Cells, Posts}
 use Rattle.machine.specs.declared.state.Out.the-variants.{Val, Stop as Stopped}
 use Rattle.machine.specs.declared.state.Tally.{Tally}
 use Rattle.machine.specs.declared.state.Found.{Found}
 use Rattle.machine.specs.declared.state.Found.the-variants.{Is, Unbound}
-use Rattle.machine.specs.Store.{lookOf, resultOf, operateOf, ran, postedTally, postRan, postList, leafOf, foundOut}
+use Rattle.machine.specs.declared.state.Begun.the-variants.{Body, Stop as Halted}
+use Rattle.machine.specs.Store.{lookOf, cellSet, resultOf, operateOf, ran, boundTally, calledTally, postedTally, postRan, postList, begunOf, begunCells, leafOf, foundOut}
 
 -- an operand that is no number
 pub operate-left : (k t : ℕ) (a b : Value) → (tagged valueType a ≡ 0) ⊎ (tagged valueType a ≡ 2) → operateOf k t a b ≡ Stopped (Stuck t)
@@ -79,6 +80,29 @@ pub post-done : (t x : ℕ) {v : Value} (n : Tally) (l : List ℕ) → v ≡ Num
     (ran (Val (Num x)) (postedTally n) ≡ postRan t v n (length l)) × (set l (n .posts) x ≡ postList v n l)
 unfolding postRan postList
 post-done t x n l p h = (rw p (simp (lt-leb (length l) (n .posts) h)), rw p refl)
+
+-- a call
+module _ (t k : ℕ) (v : Value) (env : ℕ) (n : Tally) (l : List ℕ) where
+  pub begun-deep : k ≡ 0 → (Halted (OpenCalls t) ≡ begunOf t k n (length l)) × (l ≡ begunCells k v env n l)
+  unfolding begunOf begunCells
+  begun-deep e = (simp (eq-eqb k 0 e), simp (eq-eqb k 0 e))
+
+  module _ (opens : k ≡ 0 → ⊥) where
+    pub begun-spent : n .calls ≡ 0 → (Halted (Calls t) ≡ begunOf t k n (length l)) × (l ≡ begunCells k v env n l)
+    unfolding begunOf begunCells
+    begun-spent e = (simp (ne-eqb k 0 opens, eq-eqb (n .calls) 0 e), simp (ne-eqb k 0 opens, eq-eqb (n .calls) 0 e))
+
+    module _ (calls : n .calls ≡ 0 → ⊥) where
+      pub begun-full : length l / 8 ≤ n .cells → (Halted (Cells t) ≡ begunOf t k n (length l)) × (l ≡ begunCells k v env n l)
+      unfolding begunOf begunCells
+      begun-full h =
+          (simp (ne-eqb k 0 opens, ne-eqb (n .calls) 0 calls, le-ltb (n .cells) (length l / 8) h), simp (ne-eqb k 0 opens, ne-eqb (n .calls) 0 calls, le-ltb (n .cells) (length l / 8) h))
+
+      pub begun-body : {m : Tally} {l2 : List ℕ} → n .cells < length l / 8 → m ≡ boundTally n → l2 ≡ cellSet l (n .cells) v env →
+          (Body (n .cells + 1) (calledTally m) ≡ begunOf t k n (length l)) × (l2 ≡ begunCells k v env n l)
+      unfolding begunOf begunCells
+      begun-body h p q =
+          (rw p (simp (ne-eqb k 0 opens, ne-eqb (n .calls) 0 calls, lt-ltb (n .cells) (length l / 8) h)), rw q (simp (ne-eqb k 0 opens, ne-eqb (n .calls) 0 calls, lt-ltb (n .cells) (length l / 8) h)))
 
 -- a term without children
 module _ (cells : List ℕ) (t : ℕ) (x : TermRecord) (env : ℕ) where

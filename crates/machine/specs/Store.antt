@@ -21,6 +21,8 @@ use Rattle.machine.specs.declared.state.Ran.{Ran}
 use Rattle.machine.specs.declared.state.Access.{Access}
 use Rattle.machine.specs.declared.state.Found.{Found}
 use Rattle.machine.specs.declared.state.Found.the-variants.{Is, Unbound}
+use Rattle.machine.specs.declared.state.Begun.{Begun}
+use Rattle.machine.specs.declared.state.Begun.the-variants.{Body, Stop as Halted}
 
 abbrev pub pick : {A : Type 0} → Bool → A → A → A
 pick true a b = a
@@ -162,6 +164,15 @@ postList (VBool b) n l = l
 postList (Fun b e) n l = l
 postList (Num x) n l = set l (n .posts) x
 
+-- a call: 19, then 20, then 21, or its own cell and one call less; and the cells after it
+unfoldable pub begunOf : (t depth : ℕ) → Tally → (len : ℕ) → Begun
+begunOf t k n len =
+    pick (eqb k 0) (Halted (OpenCalls t)) (pick (eqb (n .calls) 0) (Halted (Calls t))
+    (pick (ltb (n .cells) (len / 8)) (Body (n .cells + 1) (calledTally (boundTally n))) (Halted (Cells t))))
+
+unfoldable pub begunCells : (depth : ℕ) → Value → (env : ℕ) → Tally → List ℕ → List ℕ
+begunCells k v env n l = pick (eqb k 0) l (pick (eqb (n .calls) 0) l (pick (ltb (n .cells) (length l / 8)) (cellSet l (n .cells) v env) l))
+
 -- ---- access control
 unfoldable pub framesGrant : (sheet frames : List ℕ) (depth p : ℕ) → Bool
 framesGrant s f zero p = false
@@ -182,6 +193,11 @@ signAccess s acc who =
 unfoldable pub signFrames : Access → (frames : List ℕ) (who : ℕ) → List ℕ
 signFrames acc f who = pick (acc .lazy) (set (set f (acc .depth * 2) who) (acc .depth * 2 + 1) 0) f
 
+-- where the first frame's enabled set stands, of so many frames: with none, at an index that is past every store
+unfoldable pub firstEnabled : (depth : ℕ) → ℕ
+firstEnabled zero = 18446744073709551615
+firstEnabled (suc d) = d * 2 + 1
+
 unfoldable pub enableAccess : (sheet : List ℕ) → Access → (p : ℕ) → Access
 enableAccess s acc p =
     pick (acc .lazy) acc
@@ -189,10 +205,10 @@ enableAccess s acc p =
     (record { enforce = acc .enforce; lazy = false; signer = acc .signer; granted = insert p (acc .granted); depth = acc .depth }) acc)
 
 unfoldable pub enableFrames : Access → (frames : List ℕ) (p : ℕ) → List ℕ
-enableFrames acc f p = pick (acc .lazy) (pick (ltb 0 (acc .depth)) (set f (acc .depth * 2 - 1) (insert p (getD f (acc .depth * 2 - 1) 0))) f) f
+enableFrames acc f p = pick (acc .lazy) (set f (firstEnabled (acc .depth)) (insert p (getD f (firstEnabled (acc .depth)) 0))) f
 
 unfoldable pub restoreFrames : Access → (frames : List ℕ) (old : ℕ) → List ℕ
-restoreFrames acc f old = pick (acc .lazy) (pick (ltb 0 (acc .depth)) (set f (acc .depth * 2 - 1) old) f) f
+restoreFrames acc f old = pick (acc .lazy) (set f (firstEnabled (acc .depth)) old) f
 
 abbrev pub withFrames : List ℕ → Store → Store
 withFrames f st = record { n = st .n; cells = st .cells; posts = st .posts; frames = f }
@@ -249,7 +265,7 @@ module _ (s : List ℕ) (c : Counts) where
 
   unfoldable pub enableS : Runs → (p : ℕ) → Runs
   enableS r p env acc st =
-      restored acc (getD (st .frames) (acc .depth * 2 - 1) 0) (r env (enableAccess s acc p) (withFrames (enableFrames acc (st .frames) p) st))
+      restored acc (getD (st .frames) (firstEnabled (acc .depth)) 0) (r env (enableAccess s acc p) (withFrames (enableFrames acc (st .frames) p) st))
 
   abbrev pub byShape : Shape → (ℕ → Runs) → Applier → (t : ℕ) → TermRecord → Runs
   byShape childless ev ap t x env acc st = atOut (leafOf (st .cells) t x env) st

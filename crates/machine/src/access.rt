@@ -1,8 +1,8 @@
 // Access control: what 01 says of each runner. An eager run holds the granted set, a lazy one walks the frames of its store.
 ghost use mathlib.Core.Path.{_≡_};
-ghost use Prim.Native.Nat.{_-_, _*_, _<_, _≤_};
+ghost use Prim.Native.Nat.{_<_, _≤_};
 ghost use lib.ListN.{getD, set};
-ghost use Rattle.machine.specs.Store.{framesGrant, grantedOf, allowedOf, signAccess, signFrames, enableAccess, enableFrames, restoreFrames, zerosLike};
+ghost use Rattle.machine.specs.Store.{framesGrant, grantedOf, allowedOf, signAccess, signFrames, firstEnabled, enableAccess, enableFrames, restoreFrames, zerosLike};
 use crate::state::Access;
 
 fn word(f: &[u32], i: usize) -> u32
@@ -85,17 +85,23 @@ pub fn sign(s: &[u8], frames: &mut [u32], acc: Access, who: u32) -> Access
     }
 }
 
+// Where the first frame's enabled set stands. With no frame it wraps to the largest index, which is past every store: 0 is read and nothing written.
+fn first_enabled(acc: Access) -> usize
+    requires { ⌜ acc .depth ≤ 16777216 ⌝ }
+    ensures { λ r. ⌜ r ≡ firstEnabled (acc .depth) ⌝ }
+{
+    std::num::wrapping_sub_usize(acc.depth * 2, 1)
+}
+
 // What an enable makes of the access and of the frames.
 pub fn enable(s: &[u8], frames: &mut [u32], acc: Access, p: u8) -> Access
     requires { ⌜ (acc .depth ≤ 16777216) × (p < 32) ⌝ }
     ensures { λ r. ⌜ (r ≡ enableAccess (now (s .entry)) acc p) × (now (frames .exit) ≡ enableFrames acc (now (frames .entry)) p) ⌝ }
 {
     if acc.lazy {
-        if 0 < acc.depth {
-            let at = acc.depth * 2 - 1;
-            let old = word(frames, at);
-            put_word(frames, at, privileges::insert(p, old));
-        }
+        let at = first_enabled(acc);
+        let old = word(frames, at);
+        put_word(frames, at, privileges::insert(p, old));
         return acc;
     }
     if privileges::contains(p, program::records::authority(s, acc.signer)) {
@@ -113,12 +119,9 @@ pub fn enable(s: &[u8], frames: &mut [u32], acc: Access, p: u8) -> Access
 // The enabled set of the first frame, to be restored when an enable ends.
 pub fn enabled_now(frames: &[u32], acc: Access) -> u32
     requires { ⌜ acc .depth ≤ 16777216 ⌝ }
-    ensures { λ r. ⌜ r ≡ getD (now (frames .entry)) (acc .depth * 2 - 1) 0 ⌝ }
+    ensures { λ r. ⌜ r ≡ getD (now (frames .entry)) (firstEnabled (acc .depth)) 0 ⌝ }
 {
-    if acc.depth == 0 {
-        return word(frames, 0);
-    }
-    word(frames, acc.depth * 2 - 1)
+    word(frames, first_enabled(acc))
 }
 
 // Restores the first frame's enabled set.
@@ -127,9 +130,7 @@ pub fn restore(frames: &mut [u32], acc: Access, old: u32)
     ensures { λ _. ⌜ now (frames .exit) ≡ restoreFrames acc (now (frames .entry)) old ⌝ }
 {
     if acc.lazy {
-        if 0 < acc.depth {
-            put_word(frames, acc.depth * 2 - 1, old);
-        }
+        put_word(frames, first_enabled(acc), old);
     }
 }
 

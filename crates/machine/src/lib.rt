@@ -1,6 +1,6 @@
-// The evaluator of both runners over the bytes of a readable sheet, its cells in lent bytes and a lazy run's frames in lent numbers. Its contracts
-// speak of the store-level interpreter in specs/Store.antt; the crate `refinement` takes that to the meaning.
+// What a run holds and its steps: cells in lent bytes, a lazy run's frames in lent numbers, access control, and what evaluates no other term. The
+// contracts speak of the store-level interpreter in specs/Store.antt.
 pub mod access;
 pub mod cells;
-pub mod eval;
 pub mod state;
+pub mod steps;

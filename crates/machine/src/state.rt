@@ -48,3 +48,9 @@ pub enum Found {
     Is(Value),
     Unbound,
 }
+
+// How a call begins: its own cell and what is left for its body, or a stop.
+pub enum Begun {
+    Body { own: u16, rest: Tally },
+    Stop(Stop),
+}

@@ -2,7 +2,7 @@
 ghost use mathlib.Core.Path.{_≡_};
 ghost use Rattle.program.specs.Answers.{causeOf as readerCause, placeOf as readerPlace};
 ghost use Rattle.typing.specs.Answers.{causeOf as faultCause, placeOf as faultPlace};
-ghost use Rattle.refinement.specs.Claims.{causeOf as stopCause, placeOf as stopPlace};
+ghost use Rattle.machine.specs.Stops.{causeOf as stopCause, placeOf as stopPlace};
 ghost use Rattle.interp.specs.Answers.{causeOf as refusalCause, placeOf as refusalPlace};
 use machine::state::Stop;
 use typing::answer::Fault;

@@ -8,30 +8,12 @@ use Rattle.semantics.specs.Values.{Result}
 use Rattle.semantics.specs.Access.{Frame}
 use Rattle.semantics.specs.Runs.{Request, Buffers, Sizes, sizes, ground-bool, ground-num, Outcome, ended, stopped, Counts, outcome, left, counts, inOrder}
 use Rattle.machine.specs.declared.state.Value.the-variants.{Bool as VBool, Num, Fun}
-use Rattle.machine.specs.declared.state.Stop.{Stop}
-use Rattle.machine.specs.declared.state.Stop.the-variants.{Check, Stuck, OpenCalls, Calls, Cells, Posts}
 use Rattle.machine.specs.declared.state.Out.{Out}
 use Rattle.machine.specs.declared.state.Out.the-variants.{Val, Stop as Stopped}
 use Rattle.machine.specs.declared.state.Tally.{Tally}
 use Rattle.machine.specs.declared.state.Access.{Access}
+use Rattle.machine.specs.Stops.{causeOf, placeOf}
 use Rattle.machine.specs.Store.{Store, Done, storeOf}
-
--- a stop's cause, as 01 numbers it, and the term that stops
-abbrev pub causeOf : Stop → ℕ
-causeOf (Check t) = 17
-causeOf (Stuck t) = 18
-causeOf (OpenCalls t) = 19
-causeOf (Calls t) = 20
-causeOf (Cells t) = 21
-causeOf (Posts t) = 22
-
-abbrev pub placeOf : Stop → ℕ
-placeOf (Check t) = t
-placeOf (Stuck t) = t
-placeOf (OpenCalls t) = t
-placeOf (Calls t) = t
-placeOf (Cells t) = t
-placeOf (Posts t) = t
 
 -- 18 also for "a root that gives a function"
 abbrev pub outcomeOf : (root : ℕ) → Out → Outcome

@@ -2,14 +2,12 @@
 use mathlib.Core.Bool.{Bool, true, false, cond, _&&_, _||_}
 use mathlib.Core.Path.{_≡_, refl, sym, _∙_, subst}
 use mathlib.Core.List.{List, [], _∷_}
-use Prim.Native.Nat.{ℕ, suc, _+_, _*_, _-_, _<_, _≤_}
+use Prim.Native.Nat.{ℕ, zero, suc, _+_, _*_, _<_, _≤_}
 use native.Mathlib.Omega.{arith}
 use native.Mathlib.Decide.{ℕ-discrete}
 use native.Mathlib.Numerals.{add-one}
-use lib.Dec.{ltb}
 use lib.ListN.{getD, length, set, length-set}
 use lib.Seq.{getD-set-same, getD-set-other}
-use borrow.Author.Tests.{lt-ltb, ltb-true}
 use Rattle.privileges.specs.Sets.{has, meet, insert}
 use Rattle.program.specs.Layout.{principals, authority}
 use Rattle.program.specs.Records.{authorityRecord}
@@ -17,7 +15,7 @@ use Rattle.program.specs.Laws.Readable.{WellFormed}
 use Rattle.program.specs.Laws.Records.{authority-is}
 use Rattle.semantics.specs.Access.{Frame, frame, chk, enableFirst, lazyControl, Rights, rights, addAuthorised, eagerControl}
 use Rattle.machine.specs.declared.state.Access.{Access as Mode}
-use Rattle.machine.specs.Store.{pick, framesGrant, grantedOf, signAccess, signFrames, enableAccess, enableFrames, restoreFrames}
+use Rattle.machine.specs.Store.{pick, framesGrant, grantedOf, signAccess, signFrames, firstEnabled, enableAccess, enableFrames, restoreFrames}
 use Rattle.refinement.specs.Laws.Relation.{Kept}
 use Rattle.refinement.specs.Laws.Steps.{Models}
 
@@ -37,13 +35,15 @@ sign-kept d f g n k = record {
   same = λ i h. k .same i (omega arith) ∙ getD-set-other (set f (d * 2) n) (d * 2 + 1) i 0 0 (λ e. omega arith) ∙ getD-set-other f (d * 2) i n 0 (λ e. omega arith);
 }
 
-enable-kept : (d : ℕ) (f g : List ℕ) (v : ℕ) → 0 < d → d * 2 ≤ length f → Kept d (set f (d * 2 - 1) v) g → Kept d f (set g (d * 2 - 1) (getD f (d * 2 - 1) 0))
-enable-kept d f g v p l k = record {
-  long = length-set g (d * 2 - 1) (getD f (d * 2 - 1) 0) ∙ k .long ∙ length-set f (d * 2 - 1) v;
-  same = λ i h. elim (ℕ-discrete i (d * 2 - 1)) [
-    | yes e ↦ subst (λ z. getD (set g (d * 2 - 1) (getD f (d * 2 - 1) 0)) z 0 ≡ getD f z 0) (sym e)
-        (getD-set-same g (d * 2 - 1) (getD f (d * 2 - 1) 0) 0 (omega (arith, k .long, length-set f (d * 2 - 1) v)))
-    | no x ↦ getD-set-other g (d * 2 - 1) i (getD f (d * 2 - 1) 0) 0 x ∙ k .same i h ∙ getD-set-other f (d * 2 - 1) i v 0 x
+enable-kept : (d : ℕ) (f g : List ℕ) (v : ℕ) → d * 2 ≤ length f → Kept d (set f (firstEnabled d) v) g → Kept d f (set g (firstEnabled d) (getD f (firstEnabled d) 0))
+unfolding firstEnabled
+enable-kept zero f g v l k = record { long = simp length-set (k .long ∙ simp length-set); same = λ i h. absurd (omega arith) }
+enable-kept (suc d) f g v l k = record {
+  long = length-set g (d * 2 + 1) (getD f (d * 2 + 1) 0) ∙ k .long ∙ length-set f (d * 2 + 1) v;
+  same = λ i h. elim (ℕ-discrete i (d * 2 + 1)) [
+    | yes e ↦ subst (λ z. getD (set g (d * 2 + 1) (getD f (d * 2 + 1) 0)) z 0 ≡ getD f z 0) (sym e)
+        (getD-set-same g (d * 2 + 1) (getD f (d * 2 + 1) 0) 0 (omega (arith, k .long, length-set f (d * 2 + 1) v)))
+    | no x ↦ getD-set-other g (d * 2 + 1) i (getD f (d * 2 + 1) 0) 0 x ∙ k .same i h ∙ getD-set-other f (d * 2 + 1) i v 0 x
   ];
 }
 
@@ -111,11 +111,12 @@ module _ (s : List ℕ) (w : WellFormed s) (enforce : Bool) where
   eager-grants a m f p h = (λ i. pick (h .style i) (framesGrant s f (m .depth) p) (has p (m .granted))) ∙ (λ i. has p (h .granting i))
 
   eager-undone : (a : Rights) (m : Mode) (f g : List ℕ) (p : ℕ) → EagerMode s enforce a m → Kept (m .depth) (enableFrames m f p) g
-      → Kept (m .depth) f (restoreFrames m g (getD f (m .depth * 2 - 1) 0))
+      → Kept (m .depth) f (restoreFrames m g (getD f (firstEnabled (m .depth)) 0))
   unfolding enableFrames restoreFrames
   eager-undone a m f g p h k =
-      subst (λ b. Kept (m .depth) f (pick b (pick (ltb 0 (m .depth)) (set g (m .depth * 2 - 1) (getD f (m .depth * 2 - 1) 0)) g) g)) (sym (h .style))
-      (subst (λ b. Kept (m .depth) (pick b (pick (ltb 0 (m .depth)) (set f (m .depth * 2 - 1) (insert p (getD f (m .depth * 2 - 1) 0))) f) f) g) (h .style) k)
+      let at : ℕ = firstEnabled (m .depth) in
+      subst (λ b. Kept (m .depth) f (pick b (set g at (getD f at 0)) g)) (sym (h .style))
+      (subst (λ b. Kept (m .depth) (pick b (set f at (insert p (getD f at 0))) f) g) (h .style) k)
 
   pub eager-models : Models s (eagerControl (authority s)) enforce (λ a m f. EagerMode s enforce a m)
   eager-models = record {
@@ -158,14 +159,12 @@ module _ (count : ℕ) (f : List ℕ) where
       (frames-same _ h (λ i k. getD-set-other f (d * 2 + 1) i (insert p (getD f (d * 2 + 1) 0)) 0 (λ e. omega arith)))
 
   abbrev enabledFrames : (d p : ℕ) → List ℕ
-  enabledFrames d p = pick (ltb 0 d) (set f (d * 2 - 1) (insert p (getD f (d * 2 - 1) 0))) f
+  enabledFrames d p = set f (firstEnabled d) (insert p (getD f (firstEnabled d) 0))
 
   frames-enable : (p : ℕ) {d : ℕ} {xs : List Frame} → Frames count f d xs → d * 2 ≤ length f → Frames count (enabledFrames d p) d (enableFirst p xs)
+  unfolding firstEnabled
   frames-enable p no-frames l = no-frames
-  frames-enable p (a-frame {d = d} {x = x} {xs = xs} z e g h) l =
-      let after : List Frame = frame (x .principal) (insert p (x .enabled)) ∷ xs in
-      subst (λ b. Frames count (pick b (set f (suc d * 2 - 1) (insert p (getD f (suc d * 2 - 1) 0))) f) (suc d) after) (sym (lt-ltb 0 (suc d) (omega arith)))
-      (subst (λ k. Frames count (set f k (insert p (getD f k 0))) (suc d) after) {x = d * 2 + 1} {y = suc d * 2 - 1} (omega arith) (frames-first p d x xs (omega arith) z e g h))
+  frames-enable p (a-frame {d = d} {x = x} {xs = xs} z e g h) l = frames-first p d x xs (omega arith) z e g h
 
 granted-step : (a b c : Bool) → pick a (pick b true c) false ≡ (a && (b || c))
 granted-step true true c = refl
@@ -199,10 +198,6 @@ module _ (s : List ℕ) (w : WellFormed s) (enforce : Bool) where
         frames = frames-sign (principals s) f n (m .depth) a z (omega (arith, h .long)) (h .frames);
       }
 
-  enabled-long : (b : Bool) (f : List ℕ) (i v : ℕ) → length (pick b (set f i v) f) ≡ length f
-  enabled-long true f i v = length-set f i v
-  enabled-long false f i v = refl
-
   lazy-enabled : (a : List Frame) (m : Mode) (f : List ℕ) (p : ℕ) → LazyMode s enforce a m f → m .depth ≤ 3248 → LazyMode s enforce (enableFirst p a) (enableAccess s m p) (enableFrames m f p)
   unfolding enableAccess enableFrames
   lazy-enabled a m f p h l =
@@ -211,7 +206,7 @@ module _ (s : List ℕ) (w : WellFormed s) (enforce : Bool) where
       record {
         style = h .style;
         enforcing = h .enforcing;
-        long = enabled-long (ltb 0 (m .depth)) f (m .depth * 2 - 1) (insert p (getD f (m .depth * 2 - 1) 0)) ∙ h .long;
+        long = length-set f (firstEnabled (m .depth)) (insert p (getD f (firstEnabled (m .depth)) 0)) ∙ h .long;
         frames = frames-enable (principals s) f p (h .frames) (omega (arith, h .long));
       }
 
@@ -219,17 +214,13 @@ module _ (s : List ℕ) (w : WellFormed s) (enforce : Bool) where
   unfolding grantedOf
   lazy-grants a m f p h = (λ i. pick (h .style i) (framesGrant s f (m .depth) p) (has p (m .granted))) ∙ frames-grant s w f p (h .frames)
 
-  undone-go : (b : Bool) (d : ℕ) (f g : List ℕ) (v : ℕ) → ltb 0 d ≡ b → d * 2 ≤ length f → Kept d (pick b (set f (d * 2 - 1) v) f) g
-      → Kept d f (pick b (set g (d * 2 - 1) (getD f (d * 2 - 1) 0)) g)
-  undone-go true d f g v e l k = enable-kept d f g v (ltb-true 0 d e) l k
-  undone-go false d f g v e l k = k
-
   lazy-undone : (a : List Frame) (m : Mode) (f g : List ℕ) (p : ℕ) → LazyMode s enforce a m f → m .depth ≤ 3248 → Kept (m .depth) (enableFrames m f p) g
-      → Kept (m .depth) f (restoreFrames m g (getD f (m .depth * 2 - 1) 0))
+      → Kept (m .depth) f (restoreFrames m g (getD f (firstEnabled (m .depth)) 0))
   unfolding enableFrames restoreFrames
   lazy-undone a m f g p h l k =
-      subst (λ b. Kept (m .depth) f (pick b (pick (ltb 0 (m .depth)) (set g (m .depth * 2 - 1) (getD f (m .depth * 2 - 1) 0)) g) g)) (sym (h .style))
-      (undone-go (ltb 0 (m .depth)) (m .depth) f g (insert p (getD f (m .depth * 2 - 1) 0)) refl (omega (arith, h .long))
+      let at : ℕ = firstEnabled (m .depth) in
+      subst (λ b. Kept (m .depth) f (pick b (set g at (getD f at 0)) g)) (sym (h .style))
+      (enable-kept (m .depth) f g (insert p (getD f at 0)) (omega (arith, h .long))
       (subst (λ b. Kept (m .depth) (pick b (enabledFrames (principals s) f (m .depth) p) f) g) (h .style) k))
 
   pub lazy-models : Models s (lazyControl (authority s)) enforce (λ a m f. LazyMode s enforce a m f)

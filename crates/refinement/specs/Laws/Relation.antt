@@ -16,7 +16,7 @@ use Rattle.machine.specs.declared.state.Value.the-variants.{Bool as VBool, Num,
 use Rattle.machine.specs.declared.state.Stop.{Stop}
 use Rattle.machine.specs.declared.state.Out.the-variants.{Val, Stop as Stopped}
 use Rattle.machine.specs.Store.{valueOf, behindOf, Store as State, Done, andThen}
-use Rattle.refinement.specs.Claims.{causeOf, placeOf}
+use Rattle.machine.specs.Stops.{causeOf, placeOf}
 use Rattle.refinement.specs.Laws.Cells.{Agree, agree-value, agree-behind}
 
 -- the posts, the latest first, written over the front of a list

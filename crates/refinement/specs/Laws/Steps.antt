@@ -24,8 +24,8 @@ use Rattle.machine.specs.declared.state.Ran.{Ran}
 use Rattle.machine.specs.declared.state.Access.{Access as Mode}
 use Rattle.machine.specs.declared.state.Found.{Found}
 use Rattle.machine.specs.declared.state.Found.the-variants.{Is, Unbound}
-use Rattle.machine.specs.Store.{pick, behindOf, walkOf, valueOf, lookOf, cellSet, Store as State, Done, stopped, atOut, Runs, Applier, foundOut, resultOf, operateOf, boundTally, calledTally, postedTally, bound, ran, postRan, postList, grantedOf, allowedOf, signAccess, signFrames, enableAccess, enableFrames, restoreFrames, withFrames, hasRoom, callS, binaryS, branchS, ifS, letrecS, postDone, postS, checkS, testS, signS, restored, enableS, begin}
-use Rattle.refinement.specs.Claims.{causeOf, placeOf}
+use Rattle.machine.specs.Store.{pick, behindOf, walkOf, valueOf, lookOf, cellSet, Store as State, Done, stopped, atOut, Runs, Applier, foundOut, resultOf, operateOf, boundTally, calledTally, postedTally, bound, ran, postRan, postList, grantedOf, allowedOf, signAccess, signFrames, firstEnabled, enableAccess, enableFrames, restoreFrames, withFrames, hasRoom, callS, binaryS, branchS, ifS, letrecS, postDone, postS, checkS, testS, signS, restored, enableS, begin}
+use Rattle.machine.specs.Stops.{causeOf, placeOf}
 use Rattle.refinement.specs.Laws.Cells.{agree-cell, cell-holds, cell-behind, length-cell}
 use Rattle.refinement.specs.Laws.Relation.{length-written, Balance, Balances, balance, Kept, kept-refl, Later, later-refl, kindNumber, Body, Rep, rep-bool, rep-num, rep-fun, rep-rec, RepEnv, env-none, env-some, rep-later, env-later, Meets, valued, halted, meets-later, meets-then}
 
@@ -91,7 +91,7 @@ pub record Models (s : List ℕ) (X : Control) (enforce : Bool) (R : X .State �
   pub level : (m : Mode) (p : ℕ) → enableAccess s m p .depth ≡ m .depth
   pub unsigned : (m : Mode) (f g : List ℕ) (n : ℕ) → Kept (signAccess s m n .depth) (signFrames m f n) g → Kept (m .depth) f g
   pub undone : (a : X .State) (m : Mode) (f g : List ℕ) (p : ℕ) → R a m f → m .depth ≤ 3248 → Kept (m .depth) (enableFrames m f p) g
-      → Kept (m .depth) f (restoreFrames m g (getD f (m .depth * 2 - 1) 0))
+      → Kept (m .depth) f (restoreFrames m g (getD f (firstEnabled (m .depth)) 0))
 
 module _ (s : List ℕ) (posts : List ℕ) (X : Control) (R : X .State → Mode → List ℕ → Type 0) where
   -- a run that does as the meaning's, where h more frames have room
@@ -316,12 +316,12 @@ module _ (s : List ℕ) (c : Counts) (posts : List ℕ) (X : Control) (enforce :
 
   enable-back : {a : X .State} {st : State} {d : Done} {o : Result} (m : Mode) (p : ℕ) → R a m (st .frames) → m .depth ≤ 3248
       → Meets s posts (m .depth) (withFrames (enableFrames m (st .frames) p) st) d o
-      → Meets s posts (m .depth) st (restored s c m (getD (st .frames) (m .depth * 2 - 1) 0) d) o
+      → Meets s posts (m .depth) st (restored s c m (getD (st .frames) (firstEnabled (m .depth)) 0) d) o
   enable-back {a} {st} m p r w (valued {st = st′} v t l) =
-      valued {st = withFrames (restoreFrames m (st′ .frames) (getD (st .frames) (m .depth * 2 - 1) 0)) st′} v (tallies-frames s posts _ t)
+      valued {st = withFrames (restoreFrames m (st′ .frames) (getD (st .frames) (firstEnabled (m .depth)) 0)) st′} v (tallies-frames s posts _ t)
       record { more = l .more; size = l .size; old = record { same = l .old .same }; frames = ctl .undone a m (st .frames) (st′ .frames) p r w (l .frames) }
   enable-back {a} {st} m p r w (halted {st = st′} t l) =
-      halted {st = withFrames (restoreFrames m (st′ .frames) (getD (st .frames) (m .depth * 2 - 1) 0)) st′} (tallies-frames s posts _ t)
+      halted {st = withFrames (restoreFrames m (st′ .frames) (getD (st .frames) (firstEnabled (m .depth)) 0)) st′} (tallies-frames s posts _ t)
       record { more = l .more; size = l .size; old = record { same = l .old .same }; frames = ctl .undone a m (st .frames) (st′ .frames) p r w (l .frames) }
 
   pub sim-enable : (h p : ℕ) (q : Runs) (Q : Evaluation X) → Does h q Q → Does h (enableS s c q p) (λ a E o. Q (X .enables p a) E o)

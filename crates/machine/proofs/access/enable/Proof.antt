@@ -1,15 +1,11 @@
-use borrow.Author.Tests.{lt-ltb, le-ltb}
 use mathlib.Core.Path.{refl}
 use Rattle.machine.specs.Store.{enableAccess, enableFrames}
 use borrow.Author.Needs.{needs}
 use Rattle.machine.proofs.access.enable.Statement.{statement}
 use Rattle.machine.proofs.access.enable.Tie as tie
 
-mul-at : tie.Need-mul-at
-mul-at c = search needs
-
-sub-at : tie.Need-sub-at
-sub-at c = search needs
+first-enabled-requires : tie.Need-first-enabled-requires
+first-enabled-requires c κs = search needs
 
 word-requires : tie.Need-word-requires
 word-requires c κs = search needs
@@ -25,11 +21,7 @@ same-length c = search needs
 
 returns : tie.Need-returns
 unfolding enableAccess enableFrames
-returns c = (simp (c .before .before .before .before .before .before .before .before .before .before .if1 .taken), simp (c .before .before .before .before .before .before .before .before .before .before .if1 .taken, lt-ltb 0 _ (c .before .before .before .before .before .before .before .before .if2 .taken)) (rw (c .before .before .before .insert .ensures, c .before .before .before .before .before .word .ensures) at (c .before .before .put-word .ensures)))
-
-returns-2 : tie.Need-returns-2
-unfolding enableAccess enableFrames
-returns-2 c = (simp (c .before .before .if1 .taken), simp (c .before .before .if1 .taken, le-ltb 0 _ (c .if2 .left)))
+returns c = (simp (c .before .before .before .before .before .before .before .before .if1 .taken), simp (c .before .before .before .before .before .before .before .before .if1 .taken) (rw (c .before .before .before .insert .ensures, c .before .before .before .before .before .word .ensures, c .before .before .before .before .before .before .before .first-enabled .ensures) at (c .before .before .put-word .ensures)))
 
 authority-requires : tie.Need-authority-requires
 authority-requires c κs = search needs
@@ -40,28 +32,26 @@ contains-requires c κs = search needs
 insert-requires-2 : tie.Need-insert-requires-2
 insert-requires-2 c κs = search needs
 
+returns-2 : tie.Need-returns-2
+unfolding enableAccess enableFrames
+returns-2 c = (simp (c .before .before .before .before .if1 .left) (rw (← c .before .before .before .authority .ensures, ← c .before .before .contains .ensures, c .before .if2 .taken, c .insert2 .ensures) refl), simp (c .before .before .before .before .if1 .left))
+
 returns-3 : tie.Need-returns-3
 unfolding enableAccess enableFrames
-returns-3 c = (simp (c .before .before .before .before .if1 .left) (rw (← c .before .before .before .authority .ensures, ← c .before .before .contains .ensures, c .before .if3 .taken, c .insert2 .ensures) refl), simp (c .before .before .before .before .if1 .left))
-
-returns-4 : tie.Need-returns-4
-unfolding enableAccess enableFrames
-returns-4 c = (simp (c .before .before .before .if1 .left) (rw (← c .before .before .authority .ensures, ← c .before .contains .ensures, c .if3 .left) refl), simp (c .before .before .before .if1 .left))
+returns-3 c = (simp (c .before .before .before .if1 .left) (rw (← c .before .before .authority .ensures, ← c .before .contains .ensures, c .if2 .left) refl), simp (c .before .before .before .if1 .left))
 
 pub enable-spec : {M : Type 1} → statement M
 enable-spec =
     tie.close
     (tie.spec
-    mul-at
-    sub-at
+    first-enabled-requires
     word-requires
     insert-requires
     put-word-requires
     same-length
     returns
-    returns-2
     authority-requires
     contains-requires
     insert-requires-2
-    returns-3
-    returns-4)
+    returns-2
+    returns-3)

@@ -3,58 +3,59 @@ use borrow.Author.Needs.{needs}
 use Prim.Native.Nat.{_+_, _*_, ℕ, _<_}
 use native.Mathlib.Omega.{arith}
 use native.Mathlib.Nat.{pos-of-ne-zero}
 use Rattle.machine.specs.declared.state.Tally.{Tally}
-use Rattle.machine.proofs.CycleLaws.{past-ten, kind-most, first-below, second-below, third-below, small-below, left-below, right-below, frames-few, ready-child, eval-leaf, call-1, call-2, call-3, binary-1, binary-2, binary-3, if-1, if-2, if-yes, if-no, letrec-full, letrec-runs, check-no, check-yes, test-yes, test-no, sign-is, sign-depth, enable-is, enable-depth, post-1, post-2, post-calls, apply-other, apply-depth, apply-calls, apply-room, apply-runs}
+use Rattle.evaluator.proofs.CycleLaws.{past-ten, kind-most, first-below, second-below, third-below, small-below, left-below, right-below, frames-few, ready-child, eval-leaf, call-1, call-2, call-3, binary-1, binary-2, binary-3, if-1, if-2, if-yes, if-no, letrec-full, letrec-runs, check-no, check-yes, test-yes, test-no, sign-is, sign-depth, enable-is, enable-depth, post-1, post-2, post-calls, apply-other, apply-stops, apply-runs, begun-less}
 use borrow.Fn.Kinds.{In}
 use borrow.Fn.PlainCycle.{Measures, is, falls, and}
-use Rattle.machine.proofs.eval.apply.Reads as apply
-use Rattle.machine.proofs.eval.apply.Kinds as apply-kinds
-use Rattle.machine.proofs.eval.+apply+eval+eval_binary+eval_call+eval_check+eval_enable+eval_if+eval_letrec+eval_post+eval_sign+eval_test.Lts-apply as apply-lts
-use Rattle.machine.proofs.eval.eval.Reads as eval
-use Rattle.machine.proofs.eval.eval.Kinds as eval-kinds
-use Rattle.machine.proofs.eval.+apply+eval+eval_binary+eval_call+eval_check+eval_enable+eval_if+eval_letrec+eval_post+eval_sign+eval_test.Lts-eval as eval-lts
-use Rattle.machine.proofs.eval.eval_binary.Reads as eval-binary
-use Rattle.machine.proofs.eval.eval_binary.Kinds as eval-binary-kinds
-use Rattle.machine.proofs.eval.+apply+eval+eval_binary+eval_call+eval_check+eval_enable+eval_if+eval_letrec+eval_post+eval_sign+eval_test.Lts-eval_binary as eval-binary-lts
-use Rattle.machine.proofs.eval.eval_call.Reads as eval-call
-use Rattle.machine.proofs.eval.eval_call.Kinds as eval-call-kinds
-use Rattle.machine.proofs.eval.+apply+eval+eval_binary+eval_call+eval_check+eval_enable+eval_if+eval_letrec+eval_post+eval_sign+eval_test.Lts-eval_call as eval-call-lts
-use Rattle.machine.proofs.eval.eval_check.Reads as eval-check
-use Rattle.machine.proofs.eval.eval_check.Kinds as eval-check-kinds
-use Rattle.machine.proofs.eval.+apply+eval+eval_binary+eval_call+eval_check+eval_enable+eval_if+eval_letrec+eval_post+eval_sign+eval_test.Lts-eval_check as eval-check-lts
-use Rattle.machine.proofs.eval.eval_enable.Reads as eval-enable
-use Rattle.machine.proofs.eval.eval_enable.Kinds as eval-enable-kinds
-use Rattle.machine.proofs.eval.+apply+eval+eval_binary+eval_call+eval_check+eval_enable+eval_if+eval_letrec+eval_post+eval_sign+eval_test.Lts-eval_enable as eval-enable-lts
-use Rattle.machine.proofs.eval.eval_if.Reads as eval-if
-use Rattle.machine.proofs.eval.eval_if.Kinds as eval-if-kinds
-use Rattle.machine.proofs.eval.+apply+eval+eval_binary+eval_call+eval_check+eval_enable+eval_if+eval_letrec+eval_post+eval_sign+eval_test.Lts-eval_if as eval-if-lts
-use Rattle.machine.proofs.eval.eval_letrec.Reads as eval-letrec
-use Rattle.machine.proofs.eval.eval_letrec.Kinds as eval-letrec-kinds
-use Rattle.machine.proofs.eval.+apply+eval+eval_binary+eval_call+eval_check+eval_enable+eval_if+eval_letrec+eval_post+eval_sign+eval_test.Lts-eval_letrec as eval-letrec-lts
-use Rattle.machine.proofs.eval.eval_post.Reads as eval-post
-use Rattle.machine.proofs.eval.eval_post.Kinds as eval-post-kinds
-use Rattle.machine.proofs.eval.+apply+eval+eval_binary+eval_call+eval_check+eval_enable+eval_if+eval_letrec+eval_post+eval_sign+eval_test.Lts-eval_post as eval-post-lts
-use Rattle.machine.proofs.eval.eval_sign.Reads as eval-sign
-use Rattle.machine.proofs.eval.eval_sign.Kinds as eval-sign-kinds
-use Rattle.machine.proofs.eval.+apply+eval+eval_binary+eval_call+eval_check+eval_enable+eval_if+eval_letrec+eval_post+eval_sign+eval_test.Lts-eval_sign as eval-sign-lts
-use Rattle.machine.proofs.eval.eval_test.Reads as eval-test
-use Rattle.machine.proofs.eval.eval_test.Kinds as eval-test-kinds
-use Rattle.machine.proofs.eval.+apply+eval+eval_binary+eval_call+eval_check+eval_enable+eval_if+eval_letrec+eval_post+eval_sign+eval_test.Lts-eval_test as eval-test-lts
+use Rattle.evaluator.proofs.apply.Reads as apply
+use Rattle.evaluator.proofs.apply.Kinds as apply-kinds
+use Rattle.evaluator.proofs.+apply+eval+eval_binary+eval_call+eval_check+eval_enable+eval_if+eval_letrec+eval_post+eval_sign+eval_test.Lts-apply as apply-lts
+use Rattle.evaluator.proofs.eval.Reads as eval
+use Rattle.evaluator.proofs.eval.Kinds as eval-kinds
+use Rattle.evaluator.proofs.+apply+eval+eval_binary+eval_call+eval_check+eval_enable+eval_if+eval_letrec+eval_post+eval_sign+eval_test.Lts-eval as eval-lts
+use Rattle.evaluator.proofs.eval_binary.Reads as eval-binary
+use Rattle.evaluator.proofs.eval_binary.Kinds as eval-binary-kinds
+use Rattle.evaluator.proofs.+apply+eval+eval_binary+eval_call+eval_check+eval_enable+eval_if+eval_letrec+eval_post+eval_sign+eval_test.Lts-eval_binary as eval-binary-lts
+use Rattle.evaluator.proofs.eval_call.Reads as eval-call
+use Rattle.evaluator.proofs.eval_call.Kinds as eval-call-kinds
+use Rattle.evaluator.proofs.+apply+eval+eval_binary+eval_call+eval_check+eval_enable+eval_if+eval_letrec+eval_post+eval_sign+eval_test.Lts-eval_call as eval-call-lts
+use Rattle.evaluator.proofs.eval_check.Reads as eval-check
+use Rattle.evaluator.proofs.eval_check.Kinds as eval-check-kinds
+use Rattle.evaluator.proofs.+apply+eval+eval_binary+eval_call+eval_check+eval_enable+eval_if+eval_letrec+eval_post+eval_sign+eval_test.Lts-eval_check as eval-check-lts
+use Rattle.evaluator.proofs.eval_enable.Reads as eval-enable
+use Rattle.evaluator.proofs.eval_enable.Kinds as eval-enable-kinds
+use Rattle.evaluator.proofs.+apply+eval+eval_binary+eval_call+eval_check+eval_enable+eval_if+eval_letrec+eval_post+eval_sign+eval_test.Lts-eval_enable as eval-enable-lts
+use Rattle.evaluator.proofs.eval_if.Reads as eval-if
+use Rattle.evaluator.proofs.eval_if.Kinds as eval-if-kinds
+use Rattle.evaluator.proofs.+apply+eval+eval_binary+eval_call+eval_check+eval_enable+eval_if+eval_letrec+eval_post+eval_sign+eval_test.Lts-eval_if as eval-if-lts
+use Rattle.evaluator.proofs.eval_letrec.Reads as eval-letrec
+use Rattle.evaluator.proofs.eval_letrec.Kinds as eval-letrec-kinds
+use Rattle.evaluator.proofs.+apply+eval+eval_binary+eval_call+eval_check+eval_enable+eval_if+eval_letrec+eval_post+eval_sign+eval_test.Lts-eval_letrec as eval-letrec-lts
+use Rattle.evaluator.proofs.eval_post.Reads as eval-post
+use Rattle.evaluator.proofs.eval_post.Kinds as eval-post-kinds
+use Rattle.evaluator.proofs.+apply+eval+eval_binary+eval_call+eval_check+eval_enable+eval_if+eval_letrec+eval_post+eval_sign+eval_test.Lts-eval_post as eval-post-lts
+use Rattle.evaluator.proofs.eval_sign.Reads as eval-sign
+use Rattle.evaluator.proofs.eval_sign.Kinds as eval-sign-kinds
+use Rattle.evaluator.proofs.+apply+eval+eval_binary+eval_call+eval_check+eval_enable+eval_if+eval_letrec+eval_post+eval_sign+eval_test.Lts-eval_sign as eval-sign-lts
+use Rattle.evaluator.proofs.eval_test.Reads as eval-test
+use Rattle.evaluator.proofs.eval_test.Kinds as eval-test-kinds
+use Rattle.evaluator.proofs.+apply+eval+eval_binary+eval_call+eval_check+eval_enable+eval_if+eval_letrec+eval_post+eval_sign+eval_test.Lts-eval_test as eval-test-lts
 use Rattle.machine.proofs.access.allowed.Reads as allowed-reads
 use Rattle.machine.proofs.access.enable.Reads as enable-reads
 use Rattle.machine.proofs.access.enabled_now.Reads as enabled-now-reads
 use Rattle.machine.proofs.access.granted.Reads as granted-reads
 use Rattle.machine.proofs.access.restore.Reads as restore-reads
 use Rattle.machine.proofs.access.sign.Reads as sign-reads
 use Rattle.machine.proofs.cells.bind.Reads as bind-reads
-use Rattle.machine.proofs.eval.append.Reads as append-reads
-use Rattle.machine.proofs.eval.leaf.Reads as leaf-reads
-use Rattle.machine.proofs.eval.operate.Reads as operate-reads
+use Rattle.machine.proofs.steps.append.Reads as append-reads
+use Rattle.machine.proofs.steps.begin_call.Reads as begin-call-reads
+use Rattle.machine.proofs.steps.leaf.Reads as leaf-reads
+use Rattle.machine.proofs.steps.operate.Reads as operate-reads
 use Rattle.program.proofs.records.term.Reads as term-reads
-use Rattle.machine.proofs.eval.+apply+eval+eval_binary+eval_call+eval_check+eval_enable+eval_if+eval_letrec+eval_post+eval_sign+eval_test.{
+use Rattle.evaluator.proofs.+apply+eval+eval_binary+eval_call+eval_check+eval_enable+eval_if+eval_letrec+eval_post+eval_sign+eval_test.{
   statement,
 }
-use Rattle.machine.proofs.eval.+apply+eval+eval_binary+eval_call+eval_check+eval_enable+eval_if+eval_letrec+eval_post+eval_sign+eval_test.Tie.{
+use Rattle.evaluator.proofs.+apply+eval+eval_binary+eval_call+eval_check+eval_enable+eval_if+eval_letrec+eval_post+eval_sign+eval_test.Tie.{
   close,
 }
 
@@ -170,7 +171,7 @@ eval-test-below t =
     and 4 eval-test-kinds.ps (falls 4 eval-test-kinds.ps _<_ μ-eval-test t) eval-test.Pre
 
 abbrev apply-claims : ℕ → apply-lts.Claims
-apply-claims t = (bind-reads.Asked, bind-reads.Learnt, eval-below t, eval.Post)
+apply-claims t = (begin-call-reads.Asked, begin-call-reads.Learnt, eval-below t, eval.Post)
 
 abbrev eval-claims : ℕ → eval-lts.Claims
 eval-claims t = (term-reads.Asked, term-reads.Learnt, eval-letrec-below t, eval-letrec.Post, eval-call-below t, eval-call.Post, eval-if-below t, eval-if.Post, eval-check-below t, eval-check.Post, eval-enable-below t, eval-enable.Post, eval-sign-below t, eval-sign.Post, eval-test-below t, eval-test.Post, leaf-reads.Asked, leaf-reads.Learnt, eval-binary-below t, eval-binary.Post, eval-post-below t, eval-post.Post)
@@ -208,44 +209,38 @@ apply-enum-known-f t c = search needs
 apply-returns : (t : ℕ) → apply-lts.Need-returns (apply-claims t) (apply-at t) apply.Post
 apply-returns t c = (apply-other _ _ _ _ _ _ _ _ (c .match .keys2), omega arith)
 
-apply-returns-2 : (t : ℕ) → apply-lts.Need-returns-2 (apply-claims t) (apply-at t) apply.Post
-apply-returns-2 t c = (apply-depth _ _ _ _ _ _ _ (c .before .before .f .given .1) (c .if1 .taken), omega arith)
+apply-begin-call-requires : (t : ℕ) → apply-lts.Need-begin-call-requires (apply-claims t) (apply-at t) apply.Post
+apply-begin-call-requires t c κs = c .before .before .before .before .before .before .before .before .pre .1 .cells-most
 
-apply-returns-3 : (t : ℕ) → apply-lts.Need-returns-3 (apply-claims t) (apply-at t) apply.Post
-apply-returns-3 t c = (apply-calls _ _ _ _ _ _ _ (c .before .before .before .before .f .given .1) (c .before .before .if1 .left) (c .if2 .taken), omega arith)
+apply-enum-known-b : (t : ℕ) → apply-lts.Need-enum-known-b (apply-claims t) (apply-at t) apply.Post
+apply-enum-known-b t c = search needs
 
-apply-returns-4 : (t : ℕ) → apply-lts.Need-returns-4 (apply-claims t) (apply-at t) apply.Post
-apply-returns-4 t c = (apply-room _ _ _ _ _ _ _ (c .before .before .before .before .before .before .f .given .1) (c .before .before .before .before .if1 .left) (c .before .before .if2 .left) (c .if3 .taken), omega arith)
-
-apply-bind-requires : (t : ℕ) → apply-lts.Need-bind-requires (apply-claims t) (apply-at t) apply.Post
-apply-bind-requires t c κs = (c .before .if3 .left, c .before .before .before .before .before .before .before .before .before .before .before .before .before .pre .1 .cells-most)
-
-apply-add-own : (t : ℕ) → apply-lts.Need-add-own (apply-claims t) (apply-at t) apply.Post
-apply-add-own t c = search needs
-
-apply-cast-own : (t : ℕ) → apply-lts.Need-cast-own (apply-claims t) (apply-at t) apply.Post
-apply-cast-own t c = search needs
-
-apply-sub-t25 : (t : ℕ) → apply-lts.Need-sub-t25 (apply-claims t) (apply-at t) apply.Post
-apply-sub-t25 t c = omega (arith, ap (λ (m : Tally). m .calls) (c .before .before .before .before .bind .ensures .0), pos-of-ne-zero (c .before .before .before .before .before .before .before .before .if2 .left))
+apply-enum-known-b-2 : (t : ℕ) → apply-lts.Need-enum-known-b-2 (apply-claims t) (apply-at t) apply.Post
+apply-enum-known-b-2 t c = search needs
 
 apply-sub-eval : (t : ℕ) → apply-lts.Need-sub-eval (apply-claims t) (apply-at t) apply.Post
-apply-sub-eval t c = search needs
+apply-sub-eval t c = begun-less _ _ _ _ (c .before .before .before .before .before .before .before .before .begin-call .ensures .0) (c .before .before .before .before .b2 .given .1) .0
 
 apply-eval-requires : (t : ℕ) → apply-lts.Need-eval-requires (apply-claims t) (apply-at t) apply.Post
-apply-eval-requires t c κs = let h = ap (λ (m : Tally). m .calls) (c .before .before .before .before .before .before .before .bind .ensures .0) in (omega (arith, c .before .before .before .before .before .before .before .before .before .before .before .before .before .before .before .before .before .before .before .before .before .pre, pos-of-ne-zero (c .before .before .before .before .before .before .before .before .before .before .before .if2 .left)), record { well-formed = c .before .before .before .before .before .before .before .before .before .before .before .before .before .before .before .before .before .before .before .before .before .pre .1 .well-formed; counts-are = c .before .before .before .before .before .before .before .before .before .before .before .before .before .before .before .before .before .before .before .before .before .pre .1 .counts-are; term-small = omega arith; cells-most = omega (arith, c .before .before .before .before .before .before .before .before .before .before .before .before .before .before .before .before .before .before .before .before .before .pre .1 .cells-most, c .before .before .before .before .before .before .before .bind .kept .0); shallow = omega (arith, c .before .before .before .before .before .before .before .before .before .before .before .before .before .before .before .before .before .before .before .before .before .pre .1 .shallow, pos-of-ne-zero (c .before .before .before .before .before .before .before .before .before .before .before .before .before .if1 .left)) })
+apply-eval-requires t c κs = let h = begun-less _ _ _ _ (c .before .before .before .before .before .before .before .before .begin-call .ensures .0) (c .before .before .before .before .b2 .given .1) in (omega (arith, c .before .before .before .before .before .before .before .before .before .before .before .before .before .before .before .before .before .pre, h .1), record { well-formed = c .before .before .before .before .before .before .before .before .before .before .before .before .before .before .before .before .before .pre .1 .well-formed; counts-are = c .before .before .before .before .before .before .before .before .before .before .before .before .before .before .before .before .before .pre .1 .counts-are; term-small = omega arith; cells-most = omega (arith, c .before .before .before .before .before .before .before .before .before .before .before .before .before .before .before .before .before .pre .1 .cells-most, c .before .before .before .before .before .before .before .before .begin-call .kept .0); shallow = omega (arith, c .before .before .before .before .before .before .before .before .before .before .before .before .before .before .before .before .before .pre .1 .shallow, h .0) })
 
 apply-same-length : (t : ℕ) → apply-lts.Need-same-length (apply-claims t) (apply-at t) apply.Post
-apply-same-length t c = c .before .before .before .before .before .before .eval .kept .1 .1 .0 ∙ c .before .before .before .before .before .before .before .before .before .before .before .before .before .before .bind .kept .0
+apply-same-length t c = c .before .before .before .before .before .begin-call .kept .0
+
+apply-returns-2 : (t : ℕ) → apply-lts.Need-returns-2 (apply-claims t) (apply-at t) apply.Post
+apply-returns-2 t c = (apply-stops _ _ _ _ _ _ _ (c .before .before .before .before .before .before .before .before .f .given .1) (c .before .before .before .before .before .begin-call .ensures .0) (c .before .before .before .before .before .begin-call .ensures .1) (c .before .b .given .1), omega arith)
 
 apply-same-length-2 : (t : ℕ) → apply-lts.Need-same-length-2 (apply-claims t) (apply-at t) apply.Post
-apply-same-length-2 t c = c .before .before .before .before .before .before .eval .kept .1 .1 .1 .0
+apply-same-length-2 t c = c .before .before .before .before .before .before .eval .kept .1 .1 .0 ∙ c .before .before .before .before .before .before .before .before .before .before .before .before .before .before .before .begin-call .kept .0
 
 apply-same-length-3 : (t : ℕ) → apply-lts.Need-same-length-3 (apply-claims t) (apply-at t) apply.Post
-apply-same-length-3 t c = c .before .before .before .before .before .before .eval .kept .1 .1 .1 .1 .0
+apply-same-length-3 t c = c .before .before .before .before .before .before .eval .kept .1 .1 .1 .0
 
-apply-returns-5 : (t : ℕ) → apply-lts.Need-returns-5 (apply-claims t) (apply-at t) apply.Post
-apply-returns-5 t c = (apply-runs _ _ _ _ _ _ _ (c .before .before .before .before .before .before .before .before .before .before .before .before .before .before .before .before .before .before .before .before .before .before .f .given .1) (c .before .before .before .before .before .before .before .before .before .before .before .before .before .before .before .before .before .before .before .before .if1 .left) (c .before .before .before .before .before .before .before .before .before .before .before .before .before .before .before .before .before .before .if2 .left) (c .before .before .before .before .before .before .before .before .before .before .before .before .before .before .before .before .if3 .left) (c .before .before .before .before .before .before .before .before .before .before .before .before .before .before .bind .ensures .0) (c .before .before .before .before .before .before .before .before .before .before .before .before .before .before .bind .ensures .1) (c .before .before .before .before .before .before .eval .ensures .0), omega (arith, c .before .before .before .before .before .before .eval .ensures .1, ap (λ (m : Tally). m .calls) (c .before .before .before .before .before .before .before .before .before .before .before .before .before .before .bind .ensures .0)))
+apply-same-length-4 : (t : ℕ) → apply-lts.Need-same-length-4 (apply-claims t) (apply-at t) apply.Post
+apply-same-length-4 t c = c .before .before .before .before .before .before .eval .kept .1 .1 .1 .1 .0
+
+apply-returns-3 : (t : ℕ) → apply-lts.Need-returns-3 (apply-claims t) (apply-at t) apply.Post
+apply-returns-3 t c = (apply-runs _ _ _ _ _ _ _ (c .before .before .before .before .before .before .before .before .before .before .before .before .before .before .before .before .before .before .f .given .1) (c .before .before .before .before .before .before .before .before .before .before .before .before .before .before .before .begin-call .ensures .0) (c .before .before .before .before .before .before .before .before .before .before .before .before .before .before .before .begin-call .ensures .1) (c .before .before .before .before .before .before .before .before .before .before .before .b2 .given .1) (c .before .before .before .before .before .before .eval .ensures .0), omega (arith, c .before .before .before .before .before .before .eval .ensures .1, begun-less _ _ _ _ (c .before .before .before .before .before .before .before .before .before .before .before .before .before .before .before .begin-call .ensures .0) (c .before .before .before .before .before .before .before .before .before .before .before .b2 .given .1) .1))
 
 eval-term-requires : (t : ℕ) → eval-lts.Need-term-requires (eval-claims t) (eval-at t) eval.Post
 eval-term-requires t c κs = search needs
@@ -786,19 +781,17 @@ pub +apply+eval+eval-binary+eval-call+eval-check+eval-enable+eval-if+eval-letrec
     apply.Post
     (apply-enum-known-f t)
     (apply-returns t)
-    (apply-returns-2 t)
-    (apply-returns-3 t)
-    (apply-returns-4 t)
-    (apply-bind-requires t)
-    (apply-add-own t)
-    (apply-cast-own t)
-    (apply-sub-t25 t)
+    (apply-begin-call-requires t)
+    (apply-enum-known-b t)
+    (apply-enum-known-b-2 t)
     (apply-sub-eval t)
     (apply-eval-requires t)
     (apply-same-length t)
+    (apply-returns-2 t)
     (apply-same-length-2 t)
     (apply-same-length-3 t)
-    (apply-returns-5 t))
+    (apply-same-length-4 t)
+    (apply-returns-3 t))
     (λ t. eval-lts.spec (eval-claims t) (eval-at t)
     eval.Post
     (eval-term-requires t)

@@ -2,8 +2,8 @@ use native.Mathlib.Omega.{arith}
 use Rattle.machine.proofs.StepLaws.{operate-is, sum-fits, sum-over, diff-fits, diff-none, less-is, operate-left, operate-right}
 use mathlib.Core.Path.{sym}
 use borrow.Author.Needs.{needs}
-use Rattle.machine.proofs.eval.operate.Statement.{statement}
-use Rattle.machine.proofs.eval.operate.Tie as tie
+use Rattle.machine.proofs.steps.operate.Statement.{statement}
+use Rattle.machine.proofs.steps.operate.Tie as tie
 
 enum-known-a : tie.Need-enum-known-a
 enum-known-a c = search needs

@@ -1,7 +1,7 @@
 use Rattle.machine.proofs.StepLaws.{post-other, post-full, post-done}
 use borrow.Author.Needs.{needs}
-use Rattle.machine.proofs.eval.append.Statement.{statement}
-use Rattle.machine.proofs.eval.append.Tie as tie
+use Rattle.machine.proofs.steps.append.Statement.{statement}
+use Rattle.machine.proofs.steps.append.Tie as tie
 
 enum-known-v : tie.Need-enum-known-v
 enum-known-v c = search needs

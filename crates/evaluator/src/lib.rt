@@ -1,102 +1,29 @@
-// Evaluating a term and applying a function call each other.
+// The evaluator of both runners over the bytes of a readable sheet: evaluating a term and applying a function call each other. Its contracts speak of
+// the store-level interpreter in machine/specs/Store.antt; the crate `refinement` takes that to the meaning.
 ghost use mathlib.Core.Path.{_≡_};
 ghost use Prim.Native.Nat.{_<_, _≤_};
-ghost use Rattle.machine.specs.Store.{storeOf, doneOf, leafOf, operateOf, postRan, postList, evalAt, applyAt};
-ghost use Rattle.machine.specs.Ready.{Ready, ReadyAt};
-ghost use lib.ListN.{length};
-use crate::access::allowed;
-use crate::access::enable;
-use crate::access::enabled_now;
-use crate::access::granted;
-use crate::access::restore;
-use crate::access::sign;
-use crate::cells::bind;
-use crate::cells::look;
-use crate::state::Access;
-use crate::state::Found;
-use crate::state::Out;
-use crate::state::Ran;
-use crate::state::Stop;
-use crate::state::Tally;
-use crate::state::Value;
+ghost use Rattle.machine.specs.Store.{storeOf, doneOf, evalAt, applyAt};
+ghost use Rattle.evaluator.specs.Ready.{Ready, ReadyAt};
+use machine::access::allowed;
+use machine::access::enable;
+use machine::access::enabled_now;
+use machine::access::granted;
+use machine::access::restore;
+use machine::access::sign;
+use machine::cells::bind;
+use machine::state::Access;
+use machine::state::Begun;
+use machine::state::Out;
+use machine::state::Ran;
+use machine::state::Stop;
+use machine::state::Tally;
+use machine::state::Value;
+use machine::steps::append;
+use machine::steps::begin_call;
+use machine::steps::leaf;
+use machine::steps::operate;
 use program::records::Counts;
 use program::records::TermRecord;
-
-// Sum, difference or less of two values.
-fn operate(kind: u8, t: u16, a: Value, b: Value) -> Out
-    ensures { λ r. ⌜ r ≡ operateOf kind t a b ⌝ }
-{
-    let Value::Num(x) = a else {
-        return Out::Stop(Stop::Stuck(t));
-    };
-    let Value::Num(y) = b else {
-        return Out::Stop(Stop::Stuck(t));
-    };
-    if kind == 11 {
-        if y <= 65535 - x {
-            return Out::Val(Value::Num(x + y));
-        }
-        return Out::Val(Value::Num(65535));
-    }
-    if kind == 12 {
-        if y <= x {
-            return Out::Val(Value::Num(x - y));
-        }
-        return Out::Val(Value::Num(0));
-    }
-    Out::Val(Value::Bool(x < y))
-}
-
-// Appends a number to the posts.
-fn append(posts: &mut [u16], t: u16, v: Value, n: Tally) -> Ran
-    ensures { λ r. ⌜ (r ≡ postRan t v n (length (now (posts .entry)))) × (now (posts .exit) ≡ postList v n (now (posts .entry))) ⌝ }
-{
-    let Value::Num(x) = v else {
-        return Ran {
-            out: Out::Stop(Stop::Stuck(t)),
-            n: n,
-        };
-    };
-    let at = n.posts;
-    if posts.len() <= at {
-        return Ran {
-            out: Out::Stop(Stop::Posts(t)),
-            n: n,
-        };
-    }
-    posts[at] = x;
-    Ran {
-        out: Out::Val(Value::Num(x)),
-        n: Tally {
-            calls: n.calls,
-            cells: n.cells,
-            posts: at + 1,
-        },
-    }
-}
-
-// A term without children.
-fn leaf(cells: &[u8], t: u16, x: TermRecord, env: u16) -> Out
-    requires { ⌜ x .kind < 4 ⌝ }
-    ensures { λ r. ⌜ r ≡ leafOf (now (cells .entry)) t x env ⌝ }
-{
-    let kind = x.kind;
-    match kind {
-        0 => Out::Val(Value::Bool(0 < x.small)),
-        1 => Out::Val(Value::Num(x.first)),
-        2 => {
-            let f = look(cells, env, x.first);
-            match f {
-                Found::Is(v) => Out::Val(v),
-                Found::Unbound => Out::Stop(Stop::Stuck(t)),
-            }
-        }
-        _ => Out::Val(Value::Fun {
-            body: x.second,
-            env: env,
-        }),
-    }
-}
 
 // Evaluates term t.
 pub fn eval(
@@ -404,7 +331,7 @@ fn eval_post(
     append(posts, t, v, n1)
 }
 
-// Applies f to v at the call t: one cell more, one call less, and the body, in the caller's access.
+// Applies f to v at the call t: its body runs in the caller's access.
 fn apply(
     s: &[u8],
     c: Counts,
@@ -428,30 +355,23 @@ fn apply(
             n: n,
         };
     };
-    if depth == 0 {
-        return Ran {
-            out: Out::Stop(Stop::OpenCalls(t)),
+    let b = begin_call(cells, t, v, env, depth, n);
+    match b {
+        Begun::Stop(x) => Ran {
+            out: Out::Stop(x),
             n: n,
-        };
+        },
+        Begun::Body { own, rest } => eval(
+            s,
+            c,
+            cells,
+            posts,
+            frames,
+            body,
+            own,
+            acc,
+            depth - 1,
+            rest,
+        ),
     }
-    if n.calls == 0 {
-        return Ran {
-            out: Out::Stop(Stop::Calls(t)),
-            n: n,
-        };
-    }
-    if cells.len() / 8 <= n.cells {
-        return Ran {
-            out: Out::Stop(Stop::Cells(t)),
-            n: n,
-        };
-    }
-    let m = bind(cells, v, env, n);
-    let own = (n.cells + 1) as u16;
-    let rest = Tally {
-        calls: m.calls - 1,
-        cells: m.cells,
-        posts: m.posts,
-    };
-    eval(s, c, cells, posts, frames, body, own, acc, depth - 1, rest)
 }

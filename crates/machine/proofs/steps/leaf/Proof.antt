@@ -1,7 +1,7 @@
 use Rattle.machine.proofs.StepLaws.{leaf-boolean, leaf-number, leaf-found, leaf-unbound, leaf-function}
 use borrow.Author.Needs.{needs}
-use Rattle.machine.proofs.eval.leaf.Statement.{statement}
-use Rattle.machine.proofs.eval.leaf.Tie as tie
+use Rattle.machine.proofs.steps.leaf.Statement.{statement}
+use Rattle.machine.proofs.steps.leaf.Tie as tie
 
 look-requires : tie.Need-look-requires
 look-requires c κs = search needs

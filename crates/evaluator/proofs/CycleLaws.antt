@@ -4,31 +4,35 @@ use mathlib.Core.List.{List}
 use mathlib.Core.Logic.{_⊎_, inl, inr, ⊎-elim}
 use mathlib.Core.Path.{_≡_, refl, sym, ap, ap₂, _∙_, fun-ext}
 use Prim.Native.Nat.{ℕ, zero, suc, _+_, _-_, _*_, _/_, _<_, _≤_}
-use native.Mathlib.Nat.{eq-or-lt-of-le}
+use native.Mathlib.Decide.{ℕ-discrete}
+use native.Mathlib.Nat.{eq-or-lt-of-le, pos-of-ne-zero}
 use native.Mathlib.Numerals.{sub-one}
 use native.Mathlib.Omega.{arith}
-use lib.Dec.{leb}
+use lib.Dec.{leb, ltb, eqb}
 use lib.ListN.{length, getD}
-use borrow.Author.Tests.{eq-eqb, ne-eqb, le-leb, lt-ltb, le-ltb}
+use borrow.Author.Tests.{eqb-false, eq-eqb, ne-eqb, le-leb, lt-ltb, le-ltb}
 use denote.Enum.Declared.{tagOf as tagged}
 use Rattle.privileges.specs.Sets.{has, meet, insert}
 use Rattle.program.specs.Formats.{privilege, isChild, kindOf, format}
 use Rattle.program.specs.Records.{authorityRecord}
 use Rattle.program.specs.declared.records.Counts.{Counts}
 use Rattle.program.specs.declared.records.TermRecord.{TermRecord}
 use Rattle.machine.proofs.state.Value.{the-type as valueType}
 use Rattle.machine.proofs.state.Out.{the-type as outType}
 use Rattle.machine.specs.declared.state.Access.{Access}
 use Rattle.machine.specs.declared.state.Tally.{Tally}
 use Rattle.machine.specs.declared.state.Ran.{Ran}
 use Rattle.machine.specs.declared.state.Value.{Value}
 use Rattle.machine.specs.declared.state.Value.the-variants.{Bool as VBool, Num, Fun}
+use Rattle.machine.specs.declared.state.Begun.{Begun}
+use Rattle.machine.specs.declared.state.Begun.the-variants.{Body, Stop as Halted}
+use Rattle.machine.specs.declared.state.Stop.{Stop}
 use Rattle.machine.specs.declared.state.Stop.the-variants.{Check, Stuck, OpenCalls, Calls, Cells, Posts}
 use Rattle.machine.specs.declared.state.Out.{Out}
 use Rattle.machine.specs.declared.state.Out.the-variants.{Val, Stop as Stopped}
-use Rattle.machine.specs.Store.{pick, cellSet, leafOf, operateOf, Store, Done, nextOf, andThen, atOut, stopped, Runs, Applier, Shape, shapeOf, childless, letrec, call, if, check, enable, sign, test, binary, post, callS, binaryS, ifS, branchS, letrecS, checkS, testS, signS, signAccess, signFrames, enableS, enableAccess, enableFrames, restoreFrames, restored, withFrames, grantedOf, allowedOf, postS, postDone, postRan, postList, postedTally, ran, doneOf, byShape, step, below, begin, boundTally, calledTally, storeOf, hasRoom, applyAt, evalAt}
-use Rattle.machine.specs.Ready.{Ready, ReadyAt}
-use Rattle.machine.proofs.RecordLaws.{record-kind, record-first, record-second, record-third, record-privilege}
+use Rattle.machine.specs.Store.{pick, cellSet, leafOf, operateOf, Store, Done, nextOf, andThen, atOut, stopped, Runs, Applier, Shape, shapeOf, childless, letrec, call, if, check, enable, sign, test, binary, post, callS, binaryS, ifS, branchS, letrecS, checkS, testS, signS, signAccess, signFrames, firstEnabled, enableS, enableAccess, enableFrames, restoreFrames, restored, withFrames, grantedOf, allowedOf, postS, postDone, postRan, postList, postedTally, begunOf, begunCells, ran, doneOf, byShape, step, below, begin, boundTally, calledTally, storeOf, hasRoom, applyAt, evalAt}
+use Rattle.evaluator.specs.Ready.{Ready, ReadyAt}
+use Rattle.evaluator.proofs.RecordLaws.{record-kind, record-first, record-second, record-third, record-privilege}
 
 -- a stop stays; a value goes on
 then-stop : {d e : Done} (k : Value → Store → Done) → d ≡ e → tagged outType (d .out) ≡ 1 → d ≡ andThen e k
@@ -161,7 +165,7 @@ module _ {s : List ℕ} {c : Counts} {t frames depth : ℕ} {cells : List ℕ} {
         rw (q, r) at g
         ∙ sym (top k env acc st sign (rw e refl) ∙ ap (λ (f : Runs). signS s c f (x .small) env acc st) (child k (x .first) (first-below 9 e refl)))
 
-    pub enable-is : {d : Done} {acc2 : Access} {f2 f3 : List ℕ} {old : ℕ} → x .kind ≡ 8 → old ≡ getD (st .frames) (acc .depth * 2 - 1) 0 →
+    pub enable-is : {d : Done} {acc2 : Access} {f2 f3 : List ℕ} {old : ℕ} → x .kind ≡ 8 → old ≡ getD (st .frames) (firstEnabled (acc .depth)) 0 →
         acc2 ≡ enableAccess s acc (x .small) → f2 ≡ enableFrames acc (st .frames) (x .small) →
         d ≡ evalAt s c k (x .first) env acc2 (withFrames f2 st) → f3 ≡ restoreFrames acc (d .store .frames) old →
         record { out = d .out; store = withFrames f3 (d .store) } ≡ evalAt s c k t env acc st
@@ -322,9 +326,9 @@ module _ (s : List ℕ) (c : Counts) (k t : ℕ) (a : Value) (acc : Access) (st 
       go (suc k) (Fun b e) (inr h) = absurd (omega (arith, h))
 
   module _ {f : Value} {body env : ℕ} (q : f ≡ Fun body env) where
-    pub apply-depth : k ≡ 0 → record { out = Stopped (OpenCalls t); store = st } ≡ applyAt s c k t f a acc st
+    apply-deep : k ≡ 0 → record { out = Stopped (OpenCalls t); store = st } ≡ applyAt s c k t f a acc st
     unfolding applyAt stopped
-    apply-depth e = rw (q, e) refl
+    apply-deep e = rw (q, e) refl
 
     apply-begin : (k ≡ 0 → ⊥) → applyAt s c k t f a acc st ≡ begin s c (evalAt s c (k - 1)) t body env a acc st
     unfolding applyAt evalAt
@@ -334,17 +338,46 @@ module _ (s : List ℕ) (c : Counts) (k t : ℕ) (a : Value) (acc : Access) (st 
         go zero ne = absurd (ne refl)
         go (suc k) ne = rw sub-one refl
 
-    module _ (opens : k ≡ 0 → ⊥) where
-      pub apply-calls : st .n .calls ≡ 0 → record { out = Stopped (Calls t); store = st } ≡ applyAt s c k t f a acc st
-      unfolding begin stopped
-      apply-calls e = sym (apply-begin opens ∙ simp (eq-eqb (st .n .calls) 0 e))
+    -- what follows a call that has begun, or has not
+    abbrev after : Begun → List ℕ → Done
+    after (Body own rest) l = evalAt s c (k - 1) body own acc (storeOf rest l (st .posts) (st .frames))
+    after (Halted x) l = record { out = Stopped x; store = storeOf (st .n) l (st .posts) (st .frames) }
 
-      module _ (calls : st .n .calls ≡ 0 → ⊥) where
-        pub apply-room : length (st .cells) / 8 ≤ st .n .cells → record { out = Stopped (Cells t); store = st } ≡ applyAt s c k t f a acc st
-        unfolding begin stopped hasRoom
-        apply-room h = sym (apply-begin opens ∙ simp (ne-eqb (st .n .calls) 0 calls, le-ltb (st .n .cells) (length (st .cells) / 8) h))
+    apply-is : applyAt s c k t f a acc st ≡ after (begunOf t k (st .n) (length (st .cells))) (begunCells k a env (st .n) (st .cells))
+    unfolding begunOf begunCells begin stopped hasRoom
+    apply-is = go (ℕ-discrete k 0)
+      where
+        by : (spent room : Bool) →
+            pick spent (stopped (Calls t) st)
+            (pick room (evalAt s c (k - 1) body (st .n .cells + 1) acc (storeOf (calledTally (boundTally (st .n))) (cellSet (st .cells) (st .n .cells) a env) (st .posts) (st .frames))) (stopped (Cells t) st))
+            ≡ after (pick spent (Halted (Calls t)) (pick room (Body (st .n .cells + 1) (calledTally (boundTally (st .n)))) (Halted (Cells t))))
+            (pick spent (st .cells) (pick room (cellSet (st .cells) (st .n .cells) a env) (st .cells)))
+        by true room = refl
+        by false true = refl
+        by false false = refl
 
-        pub apply-runs : {d : Done} {m : Tally} {l : List ℕ} → st .n .cells < length (st .cells) / 8 → m ≡ boundTally (st .n) → l ≡ cellSet (st .cells) (st .n .cells) a env →
-            d ≡ evalAt s c (k - 1) body (st .n .cells + 1) acc (storeOf (calledTally m) l (st .posts) (st .frames)) → d ≡ applyAt s c k t f a acc st
-        unfolding begin hasRoom
-        apply-runs h r1 r2 q = rw (r1, r2) at q ∙ sym (apply-begin opens ∙ simp (ne-eqb (st .n .calls) 0 calls, lt-ltb (st .n .cells) (length (st .cells) / 8) h))
+        go : Dec (k ≡ 0) → applyAt s c k t f a acc st ≡ after (begunOf t k (st .n) (length (st .cells))) (begunCells k a env (st .n) (st .cells))
+        go (yes e) = sym (apply-deep e) ∙ rw (eq-eqb k 0 e) refl
+        go (no ne) = apply-begin ne ∙ rw (ne-eqb k 0 ne) (by (eqb (st .n .calls) 0) (ltb (st .n .cells) (length (st .cells) / 8)))
+
+    module _ {b : Begun} {l : List ℕ} (p : b ≡ begunOf t k (st .n) (length (st .cells))) (r : l ≡ begunCells k a env (st .n) (st .cells)) where
+      pub apply-stops : {x : Stop} → b ≡ Halted x → record { out = Stopped x; store = storeOf (st .n) l (st .posts) (st .frames) } ≡ applyAt s c k t f a acc st
+      apply-stops e = ap (λ (z : Begun). after z l) (sym e) ∙ ap₂ (λ (z : Begun) (m : List ℕ). after z m) p r ∙ sym apply-is
+
+      pub apply-runs : {own : ℕ} {rest : Tally} {d : Done} → b ≡ Body own rest → d ≡ evalAt s c (k - 1) body own acc (storeOf rest l (st .posts) (st .frames)) → d ≡ applyAt s c k t f a acc st
+      apply-runs e h = h ∙ ap (λ (z : Begun). after z l) (sym e) ∙ ap₂ (λ (z : Begun) (m : List ℕ). after z m) p r ∙ sym apply-is
+
+-- a call that begins was allowed, and is counted
+pub begun-less : (t k : ℕ) (n : Tally) (len : ℕ) {b : Begun} {own : ℕ} {rest : Tally} → b ≡ begunOf t k n len → b ≡ Body own rest → (0 < k) × (rest .calls < n .calls)
+unfolding begunOf
+begun-less t k n len {b} {own} {rest} p e = go (eqb k 0) (eqb (n .calls) 0) (ltb (n .cells) (len / 8)) refl refl (sym p ∙ e)
+  where
+    go : (deep spent room : Bool) → eqb k 0 ≡ deep → eqb (n .calls) 0 ≡ spent
+        → pick deep (Halted (OpenCalls t)) (pick spent (Halted (Calls t)) (pick room (Body (n .cells + 1) (calledTally (boundTally n))) (Halted (Cells t)))) ≡ Body own rest
+        → (0 < k) × (rest .calls < n .calls)
+    go true spent room p q e = let z : _≡_ {A = ℕ} 0 1 = cc in absurd (omega arith)
+    go false true room p q e = let z : _≡_ {A = ℕ} 0 1 = cc in absurd (omega arith)
+    go false false false p q e = let z : _≡_ {A = ℕ} 0 1 = cc in absurd (omega arith)
+    go false false true p q e =
+        let h : calledTally (boundTally n) ≡ rest = cc in
+        (pos-of-ne-zero (eqb-false k 0 p), omega (arith, ap (λ (m : Tally). m .calls) h, pos-of-ne-zero (eqb-false (n .calls) 0 q)))
