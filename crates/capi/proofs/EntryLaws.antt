@@ -1,12 +1,10 @@
 -- What an entry for C leaves, from the promises of the functions that it calls.
-use mathlib.Core.Bool.{Bool, true, false, cond}
+use mathlib.Core.Bool.{cond}
 use mathlib.Core.List.{List, [], _∷_, _++_}
-use mathlib.Core.Path.{_≡_, refl, sym, ap, _∙_}
+use mathlib.Core.Path.{_≡_, sym, ap, _∙_}
 use Prim.Native.Nat.{ℕ, _<_, _≤_}
-use lib.Dec.{ltb}
 use lib.ListN.{length, drop}
 use borrow.Author.Tests.{lt-ltb, le-ltb}
-use Rattle.program.specs.Layout.{principals, types, terms}
 use Rattle.program.specs.Decoding.{decoding}
 use Rattle.program.specs.Answers.{told as toldDecoded, Counted}
 use Rattle.program.specs.declared.answer.Decoded.{Decoded}
@@ -17,7 +15,7 @@ use Rattle.interp.specs.Answers.{told, outcomeTold, countsTold}
 use Rattle.interp.specs.declared.answer.Run.{Run}
 use Rattle.interp.specs.declared.answer.Run.the-variants.{Refused, Ran}
 use Rattle.capi.specs.Replies as replies
-use Rattle.capi.specs.Replies.{refusal, screened, decodeReply, runReply, written, turnedAway, replied, Called, called, left, leftAll}
+use Rattle.capi.specs.Replies.{screened, decodeReply, runReply, written, turnedAway, replied, Called, called, left, leftAll}
 use Rattle.capi.specs.Internal.{replyOf, ofDecoded, Small}
 use Rattle.capi.specs.declared.reply.Reply.{Reply}
 

@@ -1,15 +1,9 @@
-use native.Mathlib.Omega.{arith}
 use Rattle.capi.specs.Replies.{decodeReply}
 use Rattle.capi.proofs.EntryLaws.{away, given, decoded-as}
 use mathlib.Core.Path.{_∙_}
 use borrow.Author.Needs.{needs}
 use Rattle.capi.proofs.sovzedal_decode.Statement.{statement}
 use Rattle.capi.proofs.sovzedal_decode.Tie as tie
-use Rattle.capi.proofs.sovzedal_decode.Reads as reads
-use Rattle.capi.proofs.sovzedal_decode.Lts as lts
-use Rattle.capi.proofs.reply.of_decoded.Reads as of-decoded-reads
-use Rattle.capi.proofs.reply.put.Reads as put-reads
-use Rattle.program.proofs.decode.Reads as decode-reads
 
 returns : tie.Need-returns
 returns c = away (c .before .before .before .args .answer .now) (c .if1 .taken) (decodeReply (c .before .before .before .args .sheet .now))

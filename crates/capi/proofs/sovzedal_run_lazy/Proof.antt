@@ -6,11 +6,6 @@ use Rattle.capi.proofs.EntryLaws.{run-away, run-given, small}
 use borrow.Author.Needs.{needs}
 use Rattle.capi.proofs.sovzedal_run_lazy.Statement.{statement}
 use Rattle.capi.proofs.sovzedal_run_lazy.Tie as tie
-use Rattle.capi.proofs.sovzedal_run_lazy.Reads as reads
-use Rattle.capi.proofs.sovzedal_run_lazy.Lts as lts
-use Rattle.capi.proofs.reply.of_run.Reads as of-run-reads
-use Rattle.capi.proofs.reply.put.Reads as put-reads
-use Rattle.interp.proofs.run_lazy.Reads as run-lazy-reads
 
 returns : tie.Need-returns
 returns c = run-away (c .before .before .before .before .before .before .before .args .answer .now) (c .if1 .taken) (lent (c .before .before .before .before .before .before .before .args .cells .now) (c .before .before .before .before .before .before .before .args .posts .now) (c .before .before .before .before .before .before .before .args .frames .now)) (run (c .before .before .before .before .before .before .before .args .sheet .now) (asked lazy (inForce (c .before .before .before .before .before .before .before .args .enforce)) (c .before .before .before .before .before .before .before .args .start .now) (c .before .before .before .before .before .before .before .args .calls) (c .before .before .before .before .before .before .before .args .depth)) (lent (c .before .before .before .before .before .before .before .args .cells .now) (c .before .before .before .before .before .before .before .args .posts .now) (c .before .before .before .before .before .before .before .args .frames .now)))

@@ -4,11 +4,6 @@ use mathlib.Core.Path.{_∙_, ap}
 use borrow.Author.Needs.{needs}
 use Rattle.capi.proofs.sovzedal_typecheck.Statement.{statement}
 use Rattle.capi.proofs.sovzedal_typecheck.Tie as tie
-use Rattle.capi.proofs.sovzedal_typecheck.Reads as reads
-use Rattle.capi.proofs.sovzedal_typecheck.Lts as lts
-use Rattle.capi.proofs.reply.of_verdict.Reads as of-verdict-reads
-use Rattle.capi.proofs.reply.put.Reads as put-reads
-use Rattle.typing.proofs.typecheck.Reads as typecheck-reads
 
 returns : tie.Need-returns
 returns c = away (c .before .before .before .args .answer .now) (c .if1 .taken) (typecheckReply (c .before .before .before .args .sheet .now))

@@ -1,14 +1,9 @@
-use Rattle.program.specs.Answers.{causeOf, placeOf}
 use Rattle.capi.specs.Internal.{ofDecoded}
 use Rattle.capi.proofs.ReplyLaws.{by, refused-as}
 use mathlib.Core.Path.{refl}
 use borrow.Author.Needs.{needs}
 use Rattle.capi.proofs.reply.of_decoded.Statement.{statement}
 use Rattle.capi.proofs.reply.of_decoded.Tie as tie
-use Rattle.capi.proofs.reply.of_decoded.Reads as reads
-use Rattle.capi.proofs.reply.of_decoded.Lts as lts
-use Rattle.capi.proofs.reply.refused.Reads as refused-reads
-use Rattle.numbers.proofs.of_reader.Reads as of-reader-reads
 
 enum-known-d : tie.Need-enum-known-d
 enum-known-d c = search needs

@@ -8,10 +8,6 @@ use Rattle.capi.proofs.ReplyLaws.{by, stopped-as, ended-bool}
 use borrow.Author.Needs.{needs}
 use Rattle.capi.proofs.reply.of_outcome.Statement.{statement}
 use Rattle.capi.proofs.reply.of_outcome.Tie as tie
-use Rattle.capi.proofs.reply.of_outcome.Reads as reads
-use Rattle.capi.proofs.reply.of_outcome.Lts as lts
-use Rattle.capi.proofs.reply.counted.Reads as counted-reads
-use Rattle.numbers.proofs.of_stop.Reads as of-stop-reads
 
 enum-known-o : tie.Need-enum-known-o
 enum-known-o c = search needs

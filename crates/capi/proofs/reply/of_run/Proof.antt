@@ -7,11 +7,6 @@ use Rattle.capi.proofs.ReplyLaws.{by, refused-as}
 use borrow.Author.Needs.{needs}
 use Rattle.capi.proofs.reply.of_run.Statement.{statement}
 use Rattle.capi.proofs.reply.of_run.Tie as tie
-use Rattle.capi.proofs.reply.of_run.Reads as reads
-use Rattle.capi.proofs.reply.of_run.Lts as lts
-use Rattle.capi.proofs.reply.of_outcome.Reads as of-outcome-reads
-use Rattle.capi.proofs.reply.refused.Reads as refused-reads
-use Rattle.numbers.proofs.of_refusal.Reads as of-refusal-reads
 
 enum-known-x : tie.Need-enum-known-x
 enum-known-x c = search needs

@@ -6,11 +6,6 @@ use Rattle.capi.proofs.ReplyLaws.{by, refused-as}
 use borrow.Author.Needs.{needs}
 use Rattle.capi.proofs.reply.of_verdict.Statement.{statement}
 use Rattle.capi.proofs.reply.of_verdict.Tie as tie
-use Rattle.capi.proofs.reply.of_verdict.Reads as reads
-use Rattle.capi.proofs.reply.of_verdict.Lts as lts
-use Rattle.capi.proofs.reply.refused.Reads as refused-reads
-use Rattle.numbers.proofs.of_fault.Reads as of-fault-reads
-use Rattle.numbers.proofs.of_reader.Reads as of-reader-reads
 
 enum-known-v : tie.Need-enum-known-v
 enum-known-v c = search needs

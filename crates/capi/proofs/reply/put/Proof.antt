@@ -1,13 +1,11 @@
 use mathlib.Core.List.{_++_}
-use mathlib.Core.Path.{_≡_, refl, sym, ap, _∙_}
-use Prim.Native.Nat.{ℕ, _+_, _≤_, _-_}
+use mathlib.Core.Path.{_≡_, refl}
+use Prim.Native.Nat.{_+_, _≤_, _-_}
 use native.Mathlib.Omega.{arith}
-use lib.ListN.{length, take, drop}
+use lib.ListN.{take, drop}
 use Rattle.capi.proofs.ReplyLaws.{sized, written-length, written-more, written-all}
 use Rattle.capi.proofs.reply.put.Statement.{statement}
 use Rattle.capi.proofs.reply.put.Tie as tie
-use Rattle.capi.proofs.reply.put.Reads as reads
-use Rattle.capi.proofs.reply.put.Lts as lts
 
 abbrev Inv-loop : tie.InvT-loop
 Inv-loop reply answer₀ numbers i₀ answer i = (i ≤ 8) × (answer ≡ take i numbers ++ drop i answer₀)

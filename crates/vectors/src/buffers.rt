@@ -1,0 +1,111 @@
+// What the lent buffers hold before a run, and a sum of what they hold after it.
+ghost use mathlib.Core.Path.{_≡_};
+ghost use lib.ListN.{length};
+use std::num::wrapping_add_u8;
+use std::num::wrapping_add_u16;
+use std::num::wrapping_add_u32;
+use std::num::wrapping_sub_u32;
+
+// Room for the largest of each, and one more: what is too long must be refused.
+pub fn most_start() -> [u32; 40]
+    ensures { λ r. ⌜ 40 ≡ length r ⌝ }
+{
+    [0; 40]
+}
+
+pub fn most_sheet() -> [u8; 10895]
+    ensures { λ r. ⌜ 10895 ≡ length r ⌝ }
+{
+    [0; 10895]
+}
+
+pub fn most_cells() -> [u8; 65537]
+    ensures { λ r. ⌜ 65537 ≡ length r ⌝ }
+{
+    [0; 65537]
+}
+
+pub fn most_posts() -> [u16; 257]
+    ensures { λ r. ⌜ 257 ≡ length r ⌝ }
+{
+    [0; 257]
+}
+
+pub fn most_frames() -> [u32; 6497]
+    ensures { λ r. ⌜ 6497 ≡ length r ⌝ }
+{
+    [0; 6497]
+}
+
+pub fn fill_cells(a: &mut [u8]) {
+    let mut v = 1;
+    let mut i = 0;
+    while i < a.len() {
+        a[i] = v;
+        v = wrapping_add_u8(v, 7);
+        i += 1;
+    }
+}
+
+pub fn fill_posts(a: &mut [u16]) {
+    let mut v = 2;
+    let mut i = 0;
+    while i < a.len() {
+        a[i] = v;
+        v = wrapping_add_u16(v, 3);
+        i += 1;
+    }
+}
+
+pub fn fill_frames(a: &mut [u32]) {
+    let mut v = 5;
+    let mut i = 0;
+    while i < a.len() {
+        a[i] = v;
+        v = wrapping_add_u32(v, 1);
+        i += 1;
+    }
+}
+
+// 31 times the sum, and x.
+fn mixed(h: u32, x: u32) -> u32 {
+    wrapping_add_u32(wrapping_sub_u32(h << 5, h), x)
+}
+
+fn wide8(x: u8) -> u32 {
+    x as u32
+}
+
+fn wide16(x: u16) -> u32 {
+    x as u32
+}
+
+pub fn mix_cells(h: u32, a: &[u8]) -> u32 {
+    let mut sum = h;
+    let mut i = 0;
+    while i < a.len() {
+        sum = mixed(sum, wide8(a[i]));
+        i += 1;
+    }
+    sum
+}
+
+pub fn mix_posts(h: u32, a: &[u16]) -> u32 {
+    let mut sum = h;
+    let mut i = 0;
+    while i < a.len() {
+        sum = mixed(sum, wide16(a[i]));
+        i += 1;
+    }
+    sum
+}
+
+pub fn mix_frames(h: u32, a: &[u32]) -> u32 {
+    let mut sum = h;
+    let mut i = 0;
+    while i < a.len() {
+        sum = mixed(sum, a[i]);
+        i += 1;
+    }
+    sum
+}

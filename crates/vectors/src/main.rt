@@ -1,0 +1,193 @@
+// Runs the recorded sheets of its standard input through the entries for C and prints every answer in numbers. reference/record writes that input, and
+// the expected output beside it from an implementation of its own.
+mod buffers;
+mod input;
+mod output;
+
+use buffers::fill_cells;
+use buffers::fill_frames;
+use buffers::fill_posts;
+use buffers::mix_cells;
+use buffers::mix_frames;
+use buffers::mix_posts;
+use buffers::most_cells;
+use buffers::most_frames;
+use buffers::most_posts;
+use buffers::most_sheet;
+use buffers::most_start;
+use input::Vector;
+use input::read_start;
+use input::read_vector;
+use output::line;
+use output::run_line;
+
+// The reader's and the type checker's answers.
+fn judge(sheet: &[u8]) {
+    let mut answer = [0u32; 8];
+    let r = capi::sovzedal_decode(sheet, &mut answer);
+    line(b"decode", r, &answer);
+    let r2 = capi::sovzedal_typecheck(sheet, &mut answer);
+    line(b"typecheck", r2, &answer);
+}
+
+// An eager run on filled buffers of the lengths asked for.
+fn eager(
+    name: &[u8],
+    sheet: &[u8],
+    start: &[u32],
+    calls: u32,
+    depth: u32,
+    enforce: u32,
+    cells: &mut [u8],
+    posts: &mut [u16],
+) {
+    fill_cells(cells);
+    fill_posts(posts);
+    let mut answer = [0u32; 8];
+    let r = capi::sovzedal_run_eager(
+        sheet,
+        start,
+        calls,
+        depth,
+        enforce,
+        cells,
+        posts,
+        &mut answer,
+    );
+    let h = mix_posts(mix_cells(0, cells), posts);
+    run_line(name, r, &answer, h);
+}
+
+// A lazy one.
+fn lazy(
+    name: &[u8],
+    sheet: &[u8],
+    start: &[u32],
+    calls: u32,
+    depth: u32,
+    enforce: u32,
+    cells: &mut [u8],
+    posts: &mut [u16],
+    frames: &mut [u32],
+) {
+    fill_cells(cells);
+    fill_posts(posts);
+    fill_frames(frames);
+    let mut answer = [0u32; 8];
+    let r = capi::sovzedal_run_lazy(
+        sheet,
+        start,
+        calls,
+        depth,
+        enforce,
+        cells,
+        posts,
+        frames,
+        &mut answer,
+    );
+    let h = mix_frames(mix_posts(mix_cells(0, cells), posts), frames);
+    run_line(name, r, &answer, h);
+}
+
+// Both ways to treat checks: in force, then passed over.
+fn eagers(
+    sheet: &[u8],
+    start: &[u32],
+    calls: u32,
+    depth: u32,
+    cells: &mut [u8],
+    posts: &mut [u16],
+) {
+    eager(b"eager", sheet, start, calls, depth, 1, cells, posts);
+    eager(b"eager-skip", sheet, start, calls, depth, 0, cells, posts);
+}
+
+fn lazies(
+    sheet: &[u8],
+    start: &[u32],
+    calls: u32,
+    depth: u32,
+    cells: &mut [u8],
+    posts: &mut [u16],
+    frames: &mut [u32],
+) {
+    lazy(b"lazy", sheet, start, calls, depth, 1, cells, posts, frames);
+    lazy(
+        b"lazy-skip",
+        sheet,
+        start,
+        calls,
+        depth,
+        0,
+        cells,
+        posts,
+        frames,
+    );
+}
+
+// One vector, on buffers of the lengths that it asks for.
+fn vector(
+    v: Vector,
+    start: &mut [u32],
+    sheet: &mut [u8],
+    cells: &mut [u8],
+    posts: &mut [u16],
+    frames: &mut [u32],
+) {
+    read_start(start);
+    io::read_full(0, sheet);
+    judge(sheet);
+    eagers(sheet, start, v.calls, v.depth, cells, posts);
+    lazies(sheet, start, v.calls, v.depth, cells, posts, frames);
+}
+
+// The next vector, on parts of the largest buffers; false at the end of the input.
+fn next(
+    start: &mut [u32],
+    sheet: &mut [u8],
+    cells: &mut [u8],
+    posts: &mut [u16],
+    frames: &mut [u32],
+) -> bool {
+    let v = read_vector(
+        start.len(),
+        sheet.len(),
+        cells.len(),
+        posts.len(),
+        frames.len(),
+    );
+    if !v.whole {
+        return false;
+    }
+    let numbers = v.start;
+    let bytes = v.sheet;
+    let cell_bytes = v.cells;
+    let post_places = v.posts;
+    let frame_numbers = v.frames;
+    vector(
+        v,
+        &mut start[..numbers],
+        &mut sheet[..bytes],
+        &mut cells[..cell_bytes],
+        &mut posts[..post_places],
+        &mut frames[..frame_numbers],
+    );
+    true
+}
+
+fn one() -> bool {
+    let mut start = most_start();
+    let mut sheet = most_sheet();
+    let mut cells = most_cells();
+    let mut posts = most_posts();
+    let mut frames = most_frames();
+    next(&mut start, &mut sheet, &mut cells, &mut posts, &mut frames)
+}
+
+// The loop counts its turns down, since nothing says that the input ends.
+fn main() {
+    let mut turns = 65536u64;
+    while 0 < turns && one() {
+        turns -= 1;
+    }
+}
