@@ -1,14 +1,14 @@
 -- The type table: what each way out of the code has found of a record.
 use mathlib.Core.Bool.{Bool, true, false, not, cond, _&&_, false≢true}
 use mathlib.Core.List.{List}
-use mathlib.Core.Path.{_≡_, refl, sym, ap, _∙_}
+use mathlib.Core.Path.{_≡_, refl, sym, ap, _∙_, subst}
 use Prim.Native.Nat.{ℕ, zero, suc, _+_, _*_, _-_, _<_, _≤_, max}
 use native.Mathlib.Decide.{ℕ-discrete}
 use native.Mathlib.Omega.{arith}
 use lib.Dec.{leb, ltb, eqb}
 use lib.ListN.{getD, length, set}
 use lib.Seq.{getD-set-same, getD-set-other}
-use borrow.Author.Tests.{ltb-true, leb-true, leb-false, lt-ltb, le-ltb, le-leb, lt-leb, eq-eqb, ne-eqb}
+use borrow.Author.Tests.{ltb-true, leb-true, leb-false, lt-ltb, le-ltb, le-leb, lt-leb, eq-eqb, ne-eqb, eqb-true}
 use Rattle.privileges.specs.Booleans.{and-left, and-right}
 use Rattle.program.specs.Tests.{also, orElse}
 use Rattle.program.specs.Bytes.{byte}
@@ -36,6 +36,24 @@ module _ (s : List ℕ) (i j k : ℕ) (h : 0 < k) where
 pub same-end : (s : List ℕ) (i j k : ℕ) → k ≤ 0 → true ≡ sameBytes s i j k
 same-end s i j zero h = refl
 same-end s i j (suc k) h = absurd (omega arith)
+
+-- ---- records that differ in a byte
+byte-same : (s : List ℕ) (i j n k : ℕ) → sameBytes s i j n ≡ true → k < n → byte s (i + k) ≡ byte s (j + k)
+byte-same s i j zero k e h = absurd (omega arith)
+byte-same s i j (suc n) k e h = decide (leb n k) refl (byte-same s i j n k (and-right (eqb (byte s (i + n)) (byte s (j + n))) _ e))
+  where
+    decide : (b : Bool) → leb n k ≡ b → (k < n → byte s (i + k) ≡ byte s (j + k)) → byte s (i + k) ≡ byte s (j + k)
+    decide true q earlier =
+        let m : n ≡ k = omega (arith, leb-true n k q) in
+        subst (λ (x : ℕ). byte s (i + x) ≡ byte s (j + x)) m (eqb-true (byte s (i + n)) (byte s (j + n)) (and-left _ (sameBytes s i j n) e))
+    decide false q earlier = earlier (leb-false n k q)
+
+pub byte-differs : (s : List ℕ) (i j k : ℕ) → k < 10 → (byte s (i + k) ≡ byte s (j + k) → ⊥) → false ≡ sameBytes s i j 10
+byte-differs s i j k h n = decide (sameBytes s i j 10) refl
+  where
+    decide : (b : Bool) → sameBytes s i j 10 ≡ b → false ≡ sameBytes s i j 10
+    decide false e = sym e
+    decide true e = absurd (n (byte-same s i j 10 k e h))
 
 -- ---- no equal record before
 fresh-step : (s : List ℕ) (t j : ℕ) → 0 < j → fresh s t j ≡ (not (sameBytes s (typeAt s (j - 1)) (typeAt s t) 10) && fresh s t (j - 1))
