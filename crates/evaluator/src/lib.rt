@@ -361,17 +361,8 @@ fn apply(
             out: Out::Stop(x),
             n: n,
         },
-        Begun::Body { own, rest } => eval(
-            s,
-            c,
-            cells,
-            posts,
-            frames,
-            body,
-            own,
-            acc,
-            depth - 1,
-            rest,
-        ),
+        Begun::Body { own, rest } => {
+            eval(s, c, cells, posts, frames, body, own, acc, depth - 1, rest)
+        }
     }
 }

@@ -60,20 +60,31 @@ pub fn allowed(s: &[u8], frames: &[u32], acc: Access, p: u8) -> bool
     true
 }
 
+// Where the first of so many frames has its enabled set. With no frame it wraps to the largest index, which is past every store: 0 is read there and
+// nothing written.
+fn first_enabled(frames: usize) -> usize
+    requires { ⌜ frames ≤ 16777217 ⌝ }
+    ensures { λ r. ⌜ r ≡ firstEnabled frames ⌝ }
+{
+    std::num::wrapping_sub_usize(frames * 2, 1)
+}
+
 // What a sign makes of the access and of the frames.
 pub fn sign(s: &[u8], frames: &mut [u32], acc: Access, who: u32) -> Access
     requires { ⌜ acc .depth ≤ 16777216 ⌝ }
     ensures { λ r. ⌜ (r ≡ signAccess (now (s .entry)) acc who) × (now (frames .exit) ≡ signFrames acc (now (frames .entry)) who) ⌝ }
 {
     if acc.lazy {
-        put_word(frames, acc.depth * 2, who);
-        put_word(frames, acc.depth * 2 + 1, 0);
+        let outer = acc.depth;
+        let inner = outer + 1;
+        put_word(frames, outer * 2, who);
+        put_word(frames, first_enabled(inner), 0);
         return Access {
             enforce: acc.enforce,
             lazy: true,
             signer: who,
             granted: acc.granted,
-            depth: acc.depth + 1,
+            depth: inner,
         };
     }
     Access {
@@ -85,21 +96,13 @@ pub fn sign(s: &[u8], frames: &mut [u32], acc: Access, who: u32) -> Access
     }
 }
 
-// Where the first frame's enabled set stands. With no frame it wraps to the largest index, which is past every store: 0 is read and nothing written.
-fn first_enabled(acc: Access) -> usize
-    requires { ⌜ acc .depth ≤ 16777216 ⌝ }
-    ensures { λ r. ⌜ r ≡ firstEnabled (acc .depth) ⌝ }
-{
-    std::num::wrapping_sub_usize(acc.depth * 2, 1)
-}
-
 // What an enable makes of the access and of the frames.
 pub fn enable(s: &[u8], frames: &mut [u32], acc: Access, p: u8) -> Access
     requires { ⌜ (acc .depth ≤ 16777216) × (p < 32) ⌝ }
     ensures { λ r. ⌜ (r ≡ enableAccess (now (s .entry)) acc p) × (now (frames .exit) ≡ enableFrames acc (now (frames .entry)) p) ⌝ }
 {
     if acc.lazy {
-        let at = first_enabled(acc);
+        let at = first_enabled(acc.depth);
         let old = word(frames, at);
         put_word(frames, at, privileges::insert(p, old));
         return acc;
@@ -121,7 +124,7 @@ pub fn enabled_now(frames: &[u32], acc: Access) -> u32
     requires { ⌜ acc .depth ≤ 16777216 ⌝ }
     ensures { λ r. ⌜ r ≡ getD (now (frames .entry)) (firstEnabled (acc .depth)) 0 ⌝ }
 {
-    word(frames, first_enabled(acc))
+    word(frames, first_enabled(acc.depth))
 }
 
 // Restores the first frame's enabled set.
@@ -130,7 +133,7 @@ pub fn restore(frames: &mut [u32], acc: Access, old: u32)
     ensures { λ _. ⌜ now (frames .exit) ≡ restoreFrames acc (now (frames .entry)) old ⌝ }
 {
     if acc.lazy {
-        put_word(frames, first_enabled(acc), old);
+        put_word(frames, first_enabled(acc.depth), old);
     }
 }
 

@@ -715,7 +715,7 @@ eval-sign-sign-requires : (t : ℕ) → eval-sign-lts.Need-sign-requires (eval-s
 eval-sign-sign-requires t c κs = frames-few (c .before .before .before .before .before .before .pre .1 .0)
 
 eval-sign-eval-requires : (t : ℕ) → eval-sign-lts.Need-eval-requires (eval-sign-claims t) (eval-sign-at t) eval-sign.Post
-eval-sign-eval-requires t c κs = let h = first-below (c .before .before .before .before .before .before .before .before .before .before .before .before .pre .1 .0) 9 (c .before .before .before .before .before .before .before .before .before .before .before .before .pre .1 .1) refl in (omega (arith, c .before .before .before .before .before .before .before .before .before .before .before .before .pre .0), ready-child (c .before .before .before .before .before .before .before .before .before .before .before .before .pre .1 .0) _ _ h refl (sign-depth _ _ _ (c .before .before .before .before .before .sign .ensures .0)))
+eval-sign-eval-requires t c κs = let h = first-below (c .before .before .before .before .before .before .before .before .before .before .before .before .pre .1 .0) 9 (c .before .before .before .before .before .before .before .before .before .before .before .before .pre .1 .1) refl in (omega (arith, c .before .before .before .before .before .before .before .before .before .before .before .before .pre .0), ready-child (c .before .before .before .before .before .before .before .before .before .before .before .before .pre .1 .0) _ _ h refl (omega (arith, sign-depth _ _ _ (c .before .before .before .before .before .sign .ensures .0))))
 
 eval-sign-same-length : (t : ℕ) → eval-sign-lts.Need-same-length (eval-sign-claims t) (eval-sign-at t) eval-sign.Post
 eval-sign-same-length t c = c .before .before .before .before .before .before .eval .kept .1 .1 .0

@@ -1,5 +1,5 @@
-use mathlib.Core.Path.{refl}
 use Rattle.machine.specs.Store.{enableAccess, enableFrames}
+use Rattle.machine.proofs.AccessLaws.{enable-yes, enable-no}
 use borrow.Author.Needs.{needs}
 use Rattle.machine.proofs.access.enable.Statement.{statement}
 use Rattle.machine.proofs.access.enable.Tie as tie
@@ -33,12 +33,12 @@ insert-requires-2 : tie.Need-insert-requires-2
 insert-requires-2 c κs = search needs
 
 returns-2 : tie.Need-returns-2
-unfolding enableAccess enableFrames
-returns-2 c = (simp (c .before .before .before .before .if1 .left) (rw (← c .before .before .before .authority .ensures, ← c .before .before .contains .ensures, c .before .if2 .taken, c .insert2 .ensures) refl), simp (c .before .before .before .before .if1 .left))
+unfolding enableFrames
+returns-2 c = (enable-yes _ _ _ (c .before .before .before .before .if1 .left) (c .before .before .before .authority .ensures) (c .before .before .contains .ensures) (c .before .if2 .taken) (c .insert2 .ensures), simp (c .before .before .before .before .if1 .left))
 
 returns-3 : tie.Need-returns-3
-unfolding enableAccess enableFrames
-returns-3 c = (simp (c .before .before .before .if1 .left) (rw (← c .before .before .authority .ensures, ← c .before .contains .ensures, c .if2 .left) refl), simp (c .before .before .before .if1 .left))
+unfolding enableFrames
+returns-3 c = (enable-no _ _ _ (c .before .before .before .if1 .left) (c .before .before .authority .ensures) (c .before .contains .ensures) (c .if2 .left), simp (c .before .before .before .if1 .left))
 
 pub enable-spec : {M : Type 1} → statement M
 enable-spec =

@@ -11,7 +11,7 @@ wrapping-sub-usize-requires : tie.Need-wrapping-sub-usize-requires
 wrapping-sub-usize-requires c κs = search needs
 
 returns : tie.Need-returns
-returns c = first-enabled _ _ (omega arith) (c .before .before .pre) (c .wrapping-sub-usize .ensures)
+returns c = first-enabled _ _ (omega arith) (c .before .pre) (c .wrapping-sub-usize .ensures)
 
 pub first-enabled-spec : {M : Type 1} → statement M
 first-enabled-spec =
