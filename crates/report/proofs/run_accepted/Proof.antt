@@ -1,0 +1,67 @@
+use Rattle.report.proofs.ReportLaws.{refused-told, ran-told}
+use borrow.Author.Needs.{needs}
+use Rattle.report.proofs.run_accepted.Statement.{statement}
+use Rattle.report.proofs.run_accepted.Tie as tie
+use Rattle.report.proofs.run_accepted.Reads as reads
+use Rattle.report.proofs.run_accepted.Lts as lts
+use Rattle.interp.proofs.run_eager.Reads as run-eager-reads
+use Rattle.report.proofs.causes.of_run.Reads as of-run-reads
+use Rattle.report.proofs.lines.accepted.Reads as accepted-reads
+use Rattle.report.proofs.lines.refusal.Reads as refusal-reads
+
+slice-aggregate-run-eager : tie.Need-slice-aggregate-run-eager
+slice-aggregate-run-eager c = search needs
+
+run-eager-requires : tie.Need-run-eager-requires
+run-eager-requires c κs = search needs
+
+enum-known-r : tie.Need-enum-known-r
+enum-known-r c = search needs
+
+of-run-requires : tie.Need-of-run-requires
+of-run-requires c κs = search needs
+
+refusal-requires : tie.Need-refusal-requires
+refusal-requires c κs = search needs
+
+enum-known-r-2 : tie.Need-enum-known-r-2
+enum-known-r-2 c = search needs
+
+accepted-requires : tie.Need-accepted-requires
+accepted-requires c κs = search needs
+
+same-length : tie.Need-same-length
+same-length c = search needs
+
+same-length-2 : tie.Need-same-length-2
+same-length-2 c = search needs
+
+returns : tie.Need-returns
+returns c = refused-told (c .before .before .before .before .before .before .before .before .before .before .before .before .before .before .before .before .args .sheet .now) (c .before .before .before .before .before .before .before .before .before .before .before .before .before .before .before .before .args .terms) (c .before .before .before .before .before .before .before .before .before .before .before .before .before .before .before .before .args .ty) (c .before .before .before .before .before .before .before .before .before .before .before .before .before .before .before .before .args .needs) _ _ _ (c .before .before .before .before .before .before .before .before .before .run-eager .ensures) (c .before .before .before .r .given .1) (c .before .of-run .ensures) (c .refusal .ensures)
+
+same-length-3 : tie.Need-same-length-3
+same-length-3 c = search needs
+
+same-length-4 : tie.Need-same-length-4
+same-length-4 c = search needs
+
+returns-2 : tie.Need-returns-2
+returns-2 c = ran-told (c .before .before .before .before .before .before .before .before .before .before .before .before .before .before .before .args .sheet .now) (c .before .before .before .before .before .before .before .before .before .before .before .before .before .before .before .args .terms) (c .before .before .before .before .before .before .before .before .before .before .before .before .before .before .before .args .ty) (c .before .before .before .before .before .before .before .before .before .before .before .before .before .before .before .args .needs) _ _ _ (c .before .before .before .before .before .before .before .before .run-eager .ensures) (c .before .before .r2 .given .1) (c .accepted .ensures)
+
+pub run-accepted-spec : {M : Type 1} → statement M
+run-accepted-spec =
+    tie.close
+    (tie.spec
+    slice-aggregate-run-eager
+    run-eager-requires
+    enum-known-r
+    of-run-requires
+    refusal-requires
+    enum-known-r-2
+    accepted-requires
+    same-length
+    same-length-2
+    returns
+    same-length-3
+    same-length-4
+    returns-2)
