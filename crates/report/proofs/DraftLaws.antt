@@ -1,17 +1,13 @@
--- A draft that grows piece by piece, and how many digits numbers have.
-use mathlib.Core.Bool.{Bool, true, false, cond}
-use mathlib.Core.List.{List, [], _∷_, _++_, append-nil, append-assoc}
+-- A draft that grows piece by piece.
+use mathlib.Core.List.{List, [], _∷_, _++_, map, append-nil, append-assoc}
 use mathlib.Core.Path.{_≡_, refl, sym, ap, _∙_, subst}
-use Prim.Native.Nat.{ℕ, zero, suc, _+_, _-_, _*_, _/_, _%_, _^_, _<_, _≤_, zero-le}
-use native.Mathlib.Nat.{pow-succ', div-lt-iff-lt-mul}
+use Prim.Native.Nat.{ℕ, zero, suc, _+_, _-_, _/_, _%_, _^_, _<_, _≤_}
 use native.Mathlib.Numerals.{add-one}
 use native.Mathlib.Omega.{arith}
-use lib.Dec.{ltb, lit<}
 use lib.ListN.{length, take, getD, set, length-append, length-map}
 use lib.Seq.{take-suc, take-all, take-suc-set}
-use borrow.Author.Tests.{lt-ltb, le-ltb}
-use mathlib.Core.List.{map}
-use Rattle.report.specs.Text.{digit, decimalIn, decimal, hexadecimal}
+use Rattle.report.specs.Text.{digit, decimal, hexadecimal}
+use Rattle.report.specs.Theorems.{decimal-most, one-digit, tenth}
 use Rattle.report.specs.Internal.{held, Appended, Holds, Blank}
 use Rattle.report.specs.declared.draft.Draft.{Draft}
 
@@ -53,40 +49,6 @@ whole {d = d} {r = r} s i h g p = record {
   held-is = p .held-is ∙ ap (λ (xs : List ℕ). held d ++ xs) (take-all i s g);
   len-most = omega (arith, p .len-most);
 }
-
--- ---- digits
-pub sixteenth : (k n : ℕ) → hexadecimal (suc k) n ≡ hexadecimal k (n / 16) ++ (digit (n % 16) ∷ [])
-unfolding hexadecimal
-sixteenth k n = refl
-
-length-last : (b : Bool) (xs : List ℕ) (x k : ℕ) → length xs ≤ k → length (cond b [] xs ++ (x ∷ [])) ≤ suc k
-length-last true xs x k h = omega arith
-length-last false xs x k h = omega (arith, length-append xs (x ∷ []))
-
-digits-most : (k n : ℕ) → length (decimalIn k n) ≤ k
-unfolding decimalIn
-digits-most zero n = zero-le
-digits-most (suc k) n = length-last (ltb n 10) (decimalIn k (n / 10)) (digit (n % 10)) k (digits-most k (n / 10))
-
-pub decimal-most : (n : ℕ) → length (decimal n) ≤ 20
-unfolding decimal
-decimal-most n = digits-most 20 n
-
--- a number below 10 ^ k has no more than k digits
-enough : (k n : ℕ) → n < 10 ^ suc k → decimalIn (suc k) n ≡ decimalIn (suc (suc k)) n
-unfolding decimalIn
-enough zero n h = ap (λ (b : Bool). cond b [] [] ++ (digit (n % 10) ∷ [])) (lt-ltb n 10 h) ∙ sym (ap (λ (b : Bool). cond b [] (decimalIn 1 (n / 10)) ++ (digit (n % 10) ∷ [])) (lt-ltb n 10 h))
-enough (suc k) n h = ap (λ (xs : List ℕ). cond (ltb n 10) [] xs ++ (digit (n % 10) ∷ []))
-    (enough k (n / 10) (div-lt-iff-lt-mul {k = 10} {x = n} {y = 10 ^ suc k} (lit< tt) .1 (omega (arith, h, pow-succ' 10 (suc k)))))
-
-pub one-digit : (n : ℕ) → n < 10 → decimal n ≡ digit (n % 10) ∷ []
-unfolding decimal decimalIn
-one-digit n h = ap (λ (b : Bool). cond b [] (decimalIn 19 (n / 10)) ++ (digit (n % 10) ∷ [])) (lt-ltb n 10 h)
-
-pub tenth : (n : ℕ) → 10 ≤ n → n < 2 ^ 64 → decimal n ≡ decimal (n / 10) ++ (digit (n % 10) ∷ [])
-unfolding decimal decimalIn
-tenth n g h = ap (λ (b : Bool). cond b [] (decimalIn 19 (n / 10)) ++ (digit (n % 10) ∷ [])) (le-ltb n 10 g)
-    ∙ ap (λ (xs : List ℕ). xs ++ (digit (n % 10) ∷ [])) (enough 18 (n / 10) (omega (arith, h)))
 
 -- ---- drafts of digits
 pub no-digits : (d : Draft) (k n : ℕ) → k ≡ 0 → Appended d (hexadecimal k n) k d

@@ -2,13 +2,12 @@
 use mathlib.Core.Bool.{Bool, true, false, cond}
 use mathlib.Core.List.{List, _++_}
 use mathlib.Core.Path.{_≡_, sym, ap, _∙_}
-use Prim.Native.Nat.{ℕ, _+_, _≤_}
+use Prim.Native.Nat.{ℕ, _≤_}
 use native.Mathlib.Omega.{arith}
-use lib.Dec.{eqb}
 use borrow.Author.Tests.{eq-eqb, ne-eqb}
 use Rattle.refinement.specs.Claims.{causeOf, placeOf}
 use Rattle.machine.specs.declared.state.Stop.{Stop}
-use Rattle.interp.specs.Answers.{groundOf, outcomeTold}
+use Rattle.interp.specs.Answers.{outcomeTold}
 use Rattle.interp.specs.declared.answer.Value.{Value}
 use Rattle.interp.specs.declared.answer.Value.the-variants.{Bool as VBool, Num}
 use Rattle.interp.specs.declared.answer.Outcome.{Outcome}

@@ -1,7 +1,7 @@
 -- The report from its steps.
-use mathlib.Core.Bool.{Bool, true, false, _&&_, cond}
-use mathlib.Core.List.{List, [], _∷_, _++_}
-use mathlib.Core.Path.{_≡_, refl, sym, ap, _∙_, subst}
+use mathlib.Core.Bool.{Bool, true, _&&_, cond}
+use mathlib.Core.List.{List, [], _++_}
+use mathlib.Core.Path.{_≡_, sym, ap, _∙_}
 use Prim.Native.Nat.{ℕ, suc, _+_, _<_, _≤_}
 use native.Mathlib.Numerals.{add-one}
 use native.Mathlib.Omega.{arith}
@@ -11,7 +11,7 @@ use lib.Seq.{length-take-le, take-suc, drop-cons, set-at, append-snoc}
 use borrow.Author.Tests.{le-leb, lt-leb, eq-eqb, ne-eqb}
 use Rattle.program.specs.Layout.{root}
 use Rattle.typing.specs.Verdicts.{Verdict, accepted, refused as rejected, verdict}
-use Rattle.semantics.specs.Runs.{Buffers, Sizes, sizes, course, Answer, answerOf, After, run}
+use Rattle.semantics.specs.Runs.{Buffers, Sizes, sizes, course, answerOf, After, run}
 use Rattle.interp.specs.Answers.{causeOf, placeOf, outcomeTold, countsTold, told as toldRun, lent, after}
 use Rattle.interp.specs.declared.answer.Refusal.{Refusal}
 use Rattle.interp.specs.declared.answer.Outcome.{Outcome}

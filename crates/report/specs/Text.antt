@@ -31,7 +31,7 @@ unfoldable pub decimalIn : (k : ℕ) → ℕ → List ℕ
 decimalIn zero n = []
 decimalIn (suc k) n = cond (ltb n 10) [] (decimalIn k (n / 10)) ++ digit (n % 10) ∷ []
 
--- no number of 64 bits has more than 20
+-- no number of 64 bits has more than 20 (Theorems: one-digit, tenth)
 unfoldable pub decimal : ℕ → List ℕ
 decimal n = decimalIn 20 n
 
@@ -84,6 +84,7 @@ largest = record { cells = 65536; posts = 256; frames = 0 }
 abbrev pub answer : List ℕ → Answer
 answer s = answerOf (root s) request largest (course s request largest)
 
+-- The run of an accepted sheet is never turned back (Theorems: accepted-runs).
 abbrev pub ofRun : (judged : List ℕ) → Answer → List ℕ
 ofRun xs (ran o k) = xs ++ line (outcomeText o ++ countsText k)
 ofRun xs (refused c p) = refusal c p

@@ -1,10 +1,12 @@
-// The paper's number of each refusal and stop, and its place: specs of the crates that answer them have the same table.
+// The paper's number and place of each refusal and stop.
 ghost use Rattle.program.specs.Answers.{causeOf as readerCause, placeOf as readerPlace};
 ghost use Rattle.typing.specs.Answers.{causeOf as ruleCause, placeOf as rulePlace};
 ghost use Rattle.refinement.specs.Claims.{causeOf as stopCause, placeOf as stopPlace};
 ghost use Rattle.interp.specs.Answers.{causeOf as runCause, placeOf as runPlace};
 ghost use Rattle.report.specs.Internal.{Numbers};
+use interp::answer::Refusal as RunRefusal;
 use machine::state::Stop;
+use program::answer::Refusal;
 use typing::answer::Fault;
 
 pub struct Numbered {
@@ -22,18 +24,18 @@ fn number(cause: u16, place: u16) -> Numbered
 }
 
 // 1 to 8
-pub fn of_reader(f: program::answer::Refusal) -> Numbered
+pub fn of_reader(f: Refusal) -> Numbered
     ensures { λ r. ⌜ Numbers (readerCause f) (readerPlace f) r ⌝ }
 {
     match f {
-        program::answer::Refusal::CutShort => number(1, 0),
-        program::answer::Refusal::Tag => number(2, 0),
-        program::answer::Refusal::Version => number(3, 0),
-        program::answer::Refusal::Length => number(4, 0),
-        program::answer::Refusal::BadType(t) => number(5, t),
-        program::answer::Refusal::BadTerm(t) => number(6, t),
-        program::answer::Refusal::BadPlace(t) => number(7, t),
-        program::answer::Refusal::TooDeep(t) => number(8, t),
+        Refusal::CutShort => number(1, 0),
+        Refusal::Tag => number(2, 0),
+        Refusal::Version => number(3, 0),
+        Refusal::Length => number(4, 0),
+        Refusal::BadType(t) => number(5, t),
+        Refusal::BadTerm(t) => number(6, t),
+        Refusal::BadPlace(t) => number(7, t),
+        Refusal::TooDeep(t) => number(8, t),
     }
 }
 
@@ -51,14 +53,14 @@ pub fn of_rules(f: Fault) -> Numbered
 }
 
 // 1 to 8 and 14 to 16
-pub fn of_run(f: interp::answer::Refusal) -> Numbered
+pub fn of_run(f: RunRefusal) -> Numbered
     ensures { λ r. ⌜ Numbers (runCause f) (runPlace f) r ⌝ }
 {
     match f {
-        interp::answer::Refusal::Unreadable(g) => of_reader(g),
-        interp::answer::Refusal::Start => number(14, 0),
-        interp::answer::Refusal::Buffers => number(15, 0),
-        interp::answer::Refusal::Allowance => number(16, 0),
+        RunRefusal::Unreadable(g) => of_reader(g),
+        RunRefusal::Start => number(14, 0),
+        RunRefusal::Buffers => number(15, 0),
+        RunRefusal::Allowance => number(16, 0),
     }
 }
 

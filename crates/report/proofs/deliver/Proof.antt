@@ -3,13 +3,10 @@ use mathlib.Core.Path.{_≡_, refl}
 use Prim.Native.Nat.{_-_, _≤_}
 use native.Mathlib.Omega.{arith}
 use lib.ListN.{length, take, drop, length-set}
-use borrow.Author.Needs.{needs}
 use Rattle.report.proofs.DraftLaws.{sized}
 use Rattle.report.proofs.ReportLaws.{copy-more, too-short, fitting}
 use Rattle.report.proofs.deliver.Statement.{statement}
 use Rattle.report.proofs.deliver.Tie as tie
-use Rattle.report.proofs.deliver.Reads as reads
-use Rattle.report.proofs.deliver.Lts as lts
 
 abbrev Inv-loop : tie.InvT-loop
 Inv-loop text₀ d n i₀ text i = (i ≤ n) × ((length text ≡ length text₀) × (text ≡ take i (d .bytes) ++ drop i text₀))

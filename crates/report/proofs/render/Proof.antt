@@ -4,13 +4,6 @@ use Rattle.report.proofs.ReportLaws.{rejected-told, accepted-told, lent
 use borrow.Author.Needs.{needs}
 use Rattle.report.proofs.render.Statement.{statement}
 use Rattle.report.proofs.render.Tie as tie
-use Rattle.report.proofs.render.Reads as reads
-use Rattle.report.proofs.render.Lts as lts
-use Rattle.report.proofs.causes.of_reader.Reads as of-reader-reads
-use Rattle.report.proofs.causes.of_rules.Reads as of-rules-reads
-use Rattle.report.proofs.lines.refusal.Reads as refusal-reads
-use Rattle.report.proofs.run_accepted.Reads as run-accepted-reads
-use Rattle.typing.proofs.typecheck.Reads as typecheck-reads
 
 typecheck-requires : tie.Need-typecheck-requires
 typecheck-requires c κs = search needs

@@ -2,10 +2,6 @@ use Rattle.report.proofs.ReportLaws.{few-cells, few-posts, all-told}
 use borrow.Author.Needs.{needs}
 use Rattle.report.proofs.report.Statement.{statement}
 use Rattle.report.proofs.report.Tie as tie
-use Rattle.report.proofs.report.Reads as reads
-use Rattle.report.proofs.report.Lts as lts
-use Rattle.report.proofs.deliver.Reads as deliver-reads
-use Rattle.report.proofs.render.Reads as render-reads
 
 returns : tie.Need-returns
 returns c = few-cells (c .before .before .before .before .before .args .sheet .now) (c .before .before .before .before .before .args .cells .now) (c .before .before .before .before .before .args .posts .now) (c .before .before .before .before .before .args .text .now) (c .if1 .taken)

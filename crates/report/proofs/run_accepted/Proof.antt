@@ -2,12 +2,6 @@ use Rattle.report.proofs.ReportLaws.{refused-told, ran-told}
 use borrow.Author.Needs.{needs}
 use Rattle.report.proofs.run_accepted.Statement.{statement}
 use Rattle.report.proofs.run_accepted.Tie as tie
-use Rattle.report.proofs.run_accepted.Reads as reads
-use Rattle.report.proofs.run_accepted.Lts as lts
-use Rattle.interp.proofs.run_eager.Reads as run-eager-reads
-use Rattle.report.proofs.causes.of_run.Reads as of-run-reads
-use Rattle.report.proofs.lines.accepted.Reads as accepted-reads
-use Rattle.report.proofs.lines.refusal.Reads as refusal-reads
 
 slice-aggregate-run-eager : tie.Need-slice-aggregate-run-eager
 slice-aggregate-run-eager c = search needs

@@ -1,12 +1,7 @@
-use lib.Dec.{ltb}
-use mathlib.Core.Bool.{cond}
-use mathlib.Core.Path.{sym, ap}
 use borrow.Author.Tests.{lt-ltb, le-ltb}
 use borrow.Author.Needs.{needs}
 use Rattle.report.proofs.draft.digit.Statement.{statement}
 use Rattle.report.proofs.draft.digit.Tie as tie
-use Rattle.report.proofs.draft.digit.Reads as reads
-use Rattle.report.proofs.draft.digit.Lts as lts
 
 add-result : tie.Need-add-result
 add-result c = search needs

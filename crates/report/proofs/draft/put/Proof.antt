@@ -3,8 +3,6 @@ use Rattle.report.proofs.DraftLaws.{put-held, sized}
 use borrow.Author.Needs.{needs}
 use Rattle.report.proofs.draft.put.Statement.{statement}
 use Rattle.report.proofs.draft.put.Tie as tie
-use Rattle.report.proofs.draft.put.Reads as reads
-use Rattle.report.proofs.draft.put.Lts as lts
 
 element-write-r : tie.Need-element-write-r
 element-write-r c = search needs

@@ -6,9 +6,6 @@ use Rattle.report.specs.Internal.{Appended}
 use Rattle.report.proofs.DraftLaws.{none-more, chained, more, whole}
 use Rattle.report.proofs.draft.word.Statement.{statement}
 use Rattle.report.proofs.draft.word.Tie as tie
-use Rattle.report.proofs.draft.word.Reads as reads
-use Rattle.report.proofs.draft.word.Lts as lts
-use Rattle.report.proofs.draft.put.Reads as put-reads
 
 abbrev Inv-loop : tie.InvT-loop
 Inv-loop s r₀ i₀ r i = (i ≤ length s) × Appended r₀ (take i s) i r

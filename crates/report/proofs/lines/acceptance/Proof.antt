@@ -3,12 +3,6 @@ use Rattle.report.proofs.DraftLaws.{from-blank, then-held}
 use borrow.Author.Needs.{needs}
 use Rattle.report.proofs.lines.acceptance.Statement.{statement}
 use Rattle.report.proofs.lines.acceptance.Tie as tie
-use Rattle.report.proofs.lines.acceptance.Reads as reads
-use Rattle.report.proofs.lines.acceptance.Lts as lts
-use Rattle.report.proofs.draft.blank.Reads as blank-reads
-use Rattle.report.proofs.lines.needs_line.Reads as needs-line-reads
-use Rattle.report.proofs.lines.terms_line.Reads as terms-line-reads
-use Rattle.report.proofs.lines.type_line.Reads as type-line-reads
 
 blank-requires : tie.Need-blank-requires
 blank-requires c κs = search needs

@@ -3,12 +3,6 @@ use Rattle.report.proofs.DraftLaws.{chained, then-held}
 use borrow.Author.Needs.{needs}
 use Rattle.report.proofs.lines.accepted.Statement.{statement}
 use Rattle.report.proofs.lines.accepted.Tie as tie
-use Rattle.report.proofs.lines.accepted.Reads as reads
-use Rattle.report.proofs.lines.accepted.Lts as lts
-use Rattle.report.proofs.draft.word.Reads as word-reads
-use Rattle.report.proofs.lines.acceptance.Reads as acceptance-reads
-use Rattle.report.proofs.lines.counts.Reads as counts-reads
-use Rattle.report.proofs.lines.outcome.Reads as outcome-reads
 
 acceptance-requires : tie.Need-acceptance-requires
 acceptance-requires c κs = search needs

@@ -3,9 +3,6 @@ use Rattle.report.proofs.DraftLaws.{chained}
 use borrow.Author.Needs.{needs}
 use Rattle.report.proofs.lines.counts.Statement.{statement}
 use Rattle.report.proofs.lines.counts.Tie as tie
-use Rattle.report.proofs.lines.counts.Reads as reads
-use Rattle.report.proofs.lines.counts.Lts as lts
-use Rattle.report.proofs.lines.labelled.Reads as labelled-reads
 
 slice-aggregate-labelled : tie.Need-slice-aggregate-labelled
 slice-aggregate-labelled c = search needs

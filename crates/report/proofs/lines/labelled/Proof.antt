@@ -1,12 +1,9 @@
 use native.Mathlib.Omega.{arith}
-use Rattle.report.proofs.DraftLaws.{chained, decimal-most}
+use Rattle.report.proofs.DraftLaws.{chained}
+use Rattle.report.specs.Theorems.{decimal-most}
 use borrow.Author.Needs.{needs}
 use Rattle.report.proofs.lines.labelled.Statement.{statement}
 use Rattle.report.proofs.lines.labelled.Tie as tie
-use Rattle.report.proofs.lines.labelled.Reads as reads
-use Rattle.report.proofs.lines.labelled.Lts as lts
-use Rattle.report.proofs.draft.decimal.Reads as decimal-reads
-use Rattle.report.proofs.draft.word.Reads as word-reads
 
 word-requires : tie.Need-word-requires
 word-requires c κs = search needs

@@ -3,10 +3,6 @@ use Rattle.report.proofs.DraftLaws.{chained}
 use borrow.Author.Needs.{needs}
 use Rattle.report.proofs.lines.needs_line.Statement.{statement}
 use Rattle.report.proofs.lines.needs_line.Tie as tie
-use Rattle.report.proofs.lines.needs_line.Reads as reads
-use Rattle.report.proofs.lines.needs_line.Lts as lts
-use Rattle.report.proofs.draft.hexadecimal.Reads as hexadecimal-reads
-use Rattle.report.proofs.draft.word.Reads as word-reads
 
 slice-aggregate-word : tie.Need-slice-aggregate-word
 slice-aggregate-word c = search needs

@@ -2,12 +2,6 @@ use Rattle.report.proofs.LineLaws.{stop-told, number-told, true-told, f
 use borrow.Author.Needs.{needs}
 use Rattle.report.proofs.lines.outcome.Statement.{statement}
 use Rattle.report.proofs.lines.outcome.Tie as tie
-use Rattle.report.proofs.lines.outcome.Reads as reads
-use Rattle.report.proofs.lines.outcome.Lts as lts
-use Rattle.report.proofs.causes.of_stop.Reads as of-stop-reads
-use Rattle.report.proofs.draft.word.Reads as word-reads
-use Rattle.report.proofs.lines.labelled.Reads as labelled-reads
-use Rattle.report.proofs.lines.placed.Reads as placed-reads
 
 enum-known-o : tie.Need-enum-known-o
 enum-known-o c = search needs

@@ -3,9 +3,6 @@ use Rattle.report.proofs.DraftLaws.{chained}
 use borrow.Author.Needs.{needs}
 use Rattle.report.proofs.lines.placed.Statement.{statement}
 use Rattle.report.proofs.lines.placed.Tie as tie
-use Rattle.report.proofs.lines.placed.Reads as reads
-use Rattle.report.proofs.lines.placed.Lts as lts
-use Rattle.report.proofs.lines.labelled.Reads as labelled-reads
 
 cast-labelled : tie.Need-cast-labelled
 cast-labelled c = search needs

@@ -3,11 +3,6 @@ use Rattle.report.proofs.DraftLaws.{chained, from-blank}
 use borrow.Author.Needs.{needs}
 use Rattle.report.proofs.lines.refusal.Statement.{statement}
 use Rattle.report.proofs.lines.refusal.Tie as tie
-use Rattle.report.proofs.lines.refusal.Reads as reads
-use Rattle.report.proofs.lines.refusal.Lts as lts
-use Rattle.report.proofs.draft.blank.Reads as blank-reads
-use Rattle.report.proofs.draft.word.Reads as word-reads
-use Rattle.report.proofs.lines.placed.Reads as placed-reads
 
 blank-requires : tie.Need-blank-requires
 blank-requires c κs = search needs

@@ -3,10 +3,6 @@ use Rattle.report.proofs.DraftLaws.{chained}
 use borrow.Author.Needs.{needs}
 use Rattle.report.proofs.lines.terms_line.Statement.{statement}
 use Rattle.report.proofs.lines.terms_line.Tie as tie
-use Rattle.report.proofs.lines.terms_line.Reads as reads
-use Rattle.report.proofs.lines.terms_line.Lts as lts
-use Rattle.report.proofs.draft.word.Reads as word-reads
-use Rattle.report.proofs.lines.labelled.Reads as labelled-reads
 
 slice-aggregate-labelled : tie.Need-slice-aggregate-labelled
 slice-aggregate-labelled c = search needs

@@ -2,9 +2,6 @@ use Rattle.report.proofs.LineLaws.{boolean-line, number-line}
 use borrow.Author.Needs.{needs}
 use Rattle.report.proofs.lines.type_line.Statement.{statement}
 use Rattle.report.proofs.lines.type_line.Tie as tie
-use Rattle.report.proofs.lines.type_line.Reads as reads
-use Rattle.report.proofs.lines.type_line.Lts as lts
-use Rattle.report.proofs.draft.word.Reads as word-reads
 
 slice-aggregate-word : tie.Need-slice-aggregate-word
 slice-aggregate-word c = search needs
