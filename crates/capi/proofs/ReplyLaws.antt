@@ -10,6 +10,8 @@ use mir.Val.{boolByte}
 use Rattle.semantics.specs.Runs.{ground-bool, ended, stopped}
 use Rattle.interp.specs.Answers.{countsTold}
 use Rattle.interp.specs.declared.answer.Made.{Made}
+use Rattle.numbers.specs.Telling.{Tells}
+use Rattle.numbers.specs.declared.Told.{Told}
 use Rattle.capi.specs.Replies.{Reply, refusal, finished}
 use Rattle.capi.specs.Internal.{withCounts}
 
@@ -17,8 +19,8 @@ use Rattle.capi.specs.Internal.{withCounts}
 pub by : {A : Type 0} (f : A → Reply) {x y : A} {r : Reply} → x ≡ y → r ≡ f y → r ≡ f x
 by f e h = h ∙ sym (ap f e)
 
-pub refused-as : {r : Reply} {c p : ℕ} (cause place : ℕ) → r ≡ refusal c p → (c ≡ cause) × (p ≡ place) → r ≡ refusal cause place
-refused-as cause place h e = h ∙ (λ i. refusal (e .0 i) (e .1 i))
+pub refused-as : {r : Reply} {x : Told} (cause place : ℕ) → r ≡ refusal (x .cause) (x .place) → Tells cause place x → r ≡ refusal cause place
+refused-as cause place h e = h ∙ (λ i. refusal (e .cause-is i) (e .place-is i))
 
 -- ---- writing the eight numbers
 pub copied : (xs ys : List ℕ) (i : ℕ) → i < length xs → i < length ys → set (take i xs ++ drop i ys) i (getD xs i 0) ≡ take (suc i) xs ++ drop (suc i) ys
@@ -34,8 +36,8 @@ take-whole (x ∷ xs) zero h = absurd (omega (arith, h))
 take-whole (x ∷ xs) (suc n) h = ap (λ (l : List ℕ). x ∷ l) (take-whole xs n (omega arith))
 
 -- ---- a stop
-pub stopped-as : (m : Made) {r : Reply} {c p : ℕ} (cause term : ℕ) → r ≡ withCounts 1 c p 0 0 m → (c ≡ cause) × (p ≡ term) → r ≡ finished (stopped cause term) (countsTold m)
-stopped-as m cause term h e = h ∙ (λ i. withCounts 1 (e .0 i) (e .1 i) 0 0 m)
+pub stopped-as : (m : Made) {r : Reply} {x : Told} (cause term : ℕ) → r ≡ withCounts 1 (x .cause) (x .place) 0 0 m → Tells cause term x → r ≡ finished (stopped cause term) (countsTold m)
+stopped-as m cause term h e = h ∙ (λ i. withCounts 1 (e .cause-is i) (e .place-is i) 0 0 m)
 
 pub ended-bool : (m : Made) {r : Reply} (b : Bool) → r ≡ withCounts 0 0 0 0 (boolByte b) m → r ≡ finished (ended (ground-bool b)) (countsTold m)
 ended-bool m true h = h

@@ -1,9 +1,9 @@
 // 01's number and place of each refusal and stop, for whoever tells them as numbers.
-ghost use mathlib.Core.Path.{_≡_};
 ghost use Rattle.program.specs.Answers.{causeOf as readerCause, placeOf as readerPlace};
 ghost use Rattle.typing.specs.Answers.{causeOf as faultCause, placeOf as faultPlace};
 ghost use Rattle.machine.specs.Stops.{causeOf as stopCause, placeOf as stopPlace};
 ghost use Rattle.interp.specs.Answers.{causeOf as refusalCause, placeOf as refusalPlace};
+ghost use Rattle.numbers.specs.Telling.{Tells};
 use machine::state::Stop;
 use typing::answer::Fault;
 
@@ -14,7 +14,7 @@ pub struct Told {
 
 // 1 to 8.
 pub fn of_reader(f: program::answer::Refusal) -> Told
-    ensures { λ r. ⌜ (r .cause ≡ readerCause f) × (r .place ≡ readerPlace f) ⌝ }
+    ensures { λ r. ⌜ Tells (readerCause f) (readerPlace f) r ⌝ }
 {
     match f {
         program::answer::Refusal::CutShort => Told { cause: 1, place: 0 },
@@ -30,7 +30,7 @@ pub fn of_reader(f: program::answer::Refusal) -> Told
 
 // 9 to 13.
 pub fn of_fault(f: Fault) -> Told
-    ensures { λ r. ⌜ (r .cause ≡ faultCause f) × (r .place ≡ faultPlace f) ⌝ }
+    ensures { λ r. ⌜ Tells (faultCause f) (faultPlace f) r ⌝ }
 {
     match f {
         Fault::Variable(t) => Told { cause: 9, place: t },
@@ -55,7 +55,7 @@ pub fn of_fault(f: Fault) -> Told
 
 // 1 to 8, and 14 to 16.
 pub fn of_refusal(f: interp::answer::Refusal) -> Told
-    ensures { λ r. ⌜ (r .cause ≡ refusalCause f) × (r .place ≡ refusalPlace f) ⌝ }
+    ensures { λ r. ⌜ Tells (refusalCause f) (refusalPlace f) r ⌝ }
 {
     match f {
         interp::answer::Refusal::Unreadable(x) => of_reader(x),
@@ -76,7 +76,7 @@ pub fn of_refusal(f: interp::answer::Refusal) -> Told
 
 // 17 to 22.
 pub fn of_stop(x: Stop) -> Told
-    ensures { λ r. ⌜ (r .cause ≡ stopCause x) × (r .place ≡ stopPlace x) ⌝ }
+    ensures { λ r. ⌜ Tells (stopCause x) (stopPlace x) r ⌝ }
 {
     match x {
         Stop::Check(t) => Told {

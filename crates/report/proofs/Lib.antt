@@ -1,0 +1,3 @@
+pub mod DraftLaws
+pub mod LineLaws
+pub mod ReportLaws

@@ -1,0 +1,17 @@
+use native.Mathlib.Omega.{arith}
+use Rattle.report.proofs.DraftLaws.{put-held, sized}
+use borrow.Author.Needs.{needs}
+use Rattle.report.proofs.draft.put.Statement.{statement}
+use Rattle.report.proofs.draft.put.Tie as tie
+
+element-write-r : tie.Need-element-write-r
+element-write-r c = search needs
+
+add-r : tie.Need-add-r
+add-r c = search needs
+
+returns : tie.Need-returns
+returns c = record { held-is = put-held (c .args .d .bytes) (c .args .d .len) (c .args .b) (omega (arith, sized (c .args .d .bytes) 192 (c .good .0 .1 .1 .0 .1 .0 .1), c .pre)); len-most = omega arith }
+
+pub put-spec : {M : Type 1} → statement M
+put-spec = tie.close (tie.spec element-write-r add-r returns)

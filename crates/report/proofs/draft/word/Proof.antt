@@ -1,0 +1,49 @@
+use Prim.Native.Nat.{_-_, _≤_}
+use borrow.Author.Needs.{needs}
+use native.Mathlib.Omega.{arith}
+use lib.ListN.{length, take}
+use Rattle.report.specs.Internal.{Appended}
+use Rattle.report.proofs.DraftLaws.{none-more, chained, more, whole}
+use Rattle.report.proofs.draft.word.Statement.{statement}
+use Rattle.report.proofs.draft.word.Tie as tie
+
+abbrev Inv-loop : tie.InvT-loop
+Inv-loop s r₀ i₀ r i = (i ≤ length s) × Appended r₀ (take i s) i r
+
+abbrev μ-loop : tie.MeasureT-loop
+μ-loop s r₀ i₀ r i = length s - i
+
+loop-holds : tie.Need-loop-holds Inv-loop μ-loop
+loop-holds c = (omega arith, none-more _)
+
+shared-slice-read-put : tie.Need-shared-slice-read-put Inv-loop μ-loop
+shared-slice-read-put c = search needs
+
+put-requires : tie.Need-put-requires Inv-loop μ-loop
+put-requires c κs = omega (arith, c .before .before .loop .inv .1 .len-most)
+
+add-i : tie.Need-add-i Inv-loop μ-loop
+add-i c = search needs
+
+loop-less : tie.Need-loop-less Inv-loop μ-loop
+loop-less c = search needs
+
+loop-again : tie.Need-loop-again Inv-loop μ-loop
+loop-again c = (omega arith, more (c .before .before .before .before .before .args .s .now) (c .before .before .before .loop .i) (c .before .before .loop-test .taken) (chained _ (omega arith) (c .before .before .before .loop .inv .1) (c .put .ensures)))
+
+returns : tie.Need-returns Inv-loop μ-loop
+returns c = whole (c .before .before .before .args .s .now) (c .before .loop .i) (c .before .loop .inv .0) (c .loop-test .left) (c .before .loop .inv .1)
+
+pub word-spec : {M : Type 1} → statement M
+word-spec =
+    tie.close
+    (tie.spec
+    Inv-loop
+    μ-loop
+    loop-holds
+    shared-slice-read-put
+    put-requires
+    add-i
+    loop-less
+    loop-again
+    returns)

@@ -1,0 +1,34 @@
+use native.Mathlib.Omega.{arith}
+use Rattle.report.proofs.DraftLaws.{chained, then-held}
+use borrow.Author.Needs.{needs}
+use Rattle.report.proofs.lines.accepted.Statement.{statement}
+use Rattle.report.proofs.lines.accepted.Tie as tie
+
+acceptance-requires : tie.Need-acceptance-requires
+acceptance-requires c κs = search needs
+
+outcome-requires : tie.Need-outcome-requires
+outcome-requires c κs = search needs
+
+counts-requires : tie.Need-counts-requires
+counts-requires c κs = search needs
+
+slice-aggregate-word : tie.Need-slice-aggregate-word
+slice-aggregate-word c = search needs
+
+word-requires : tie.Need-word-requires
+word-requires c κs = search needs
+
+returns : tie.Need-returns
+returns c = then-held 183 (omega arith) (c .before .before .before .before .acceptance .ensures) (chained 131 (omega arith) (chained 130 (omega arith) (c .before .before .before .outcome .ensures) (c .before .before .counts .ensures)) (c .word .ensures))
+
+pub accepted-spec : {M : Type 1} → statement M
+accepted-spec =
+    tie.close
+    (tie.spec
+    acceptance-requires
+    outcome-requires
+    counts-requires
+    slice-aggregate-word
+    word-requires
+    returns)

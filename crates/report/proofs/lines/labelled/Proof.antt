@@ -1,0 +1,18 @@
+use native.Mathlib.Omega.{arith}
+use Rattle.report.proofs.DraftLaws.{chained}
+use Rattle.report.specs.Theorems.{decimal-most}
+use borrow.Author.Needs.{needs}
+use Rattle.report.proofs.lines.labelled.Statement.{statement}
+use Rattle.report.proofs.lines.labelled.Tie as tie
+
+word-requires : tie.Need-word-requires
+word-requires c κs = search needs
+
+decimal-requires : tie.Need-decimal-requires
+decimal-requires c κs = search needs
+
+returns : tie.Need-returns
+returns c = chained _ (omega (arith, decimal-most (c .before .before .before .args .n))) (c .before .word .ensures) (c .decimal .ensures)
+
+pub labelled-spec : {M : Type 1} → statement M
+labelled-spec = tie.close (tie.spec word-requires decimal-requires returns)

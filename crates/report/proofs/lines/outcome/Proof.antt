@@ -1,0 +1,81 @@
+use Rattle.report.proofs.LineLaws.{stop-told, number-told, true-told, false-told}
+use borrow.Author.Needs.{needs}
+use Rattle.report.proofs.lines.outcome.Statement.{statement}
+use Rattle.report.proofs.lines.outcome.Tie as tie
+
+enum-known-o : tie.Need-enum-known-o
+enum-known-o c = search needs
+
+slice-aggregate-placed : tie.Need-slice-aggregate-placed
+slice-aggregate-placed c = search needs
+
+of-stop-requires : tie.Need-of-stop-requires
+of-stop-requires c κs = search needs
+
+placed-requires : tie.Need-placed-requires
+placed-requires c κs = search needs
+
+enum-known-o-2 : tie.Need-enum-known-o-2
+enum-known-o-2 c = search needs
+
+enum-known-v : tie.Need-enum-known-v
+enum-known-v c = search needs
+
+slice-aggregate-labelled : tie.Need-slice-aggregate-labelled
+slice-aggregate-labelled c = search needs
+
+cast-labelled : tie.Need-cast-labelled
+cast-labelled c = search needs
+
+labelled-requires : tie.Need-labelled-requires
+labelled-requires c κs = search needs
+
+enum-known-v-2 : tie.Need-enum-known-v-2
+enum-known-v-2 c = search needs
+
+slice-aggregate-word : tie.Need-slice-aggregate-word
+slice-aggregate-word c = search needs
+
+word-requires : tie.Need-word-requires
+word-requires c κs = search needs
+
+returns : tie.Need-returns
+returns c = true-told (c .before .before .before .before .before .before .before .o2 .given .1) (c .before .before .before .before .v2 .given .1) (c .before .before .if1 .taken) (c .word .ensures)
+
+slice-aggregate-word-2 : tie.Need-slice-aggregate-word-2
+slice-aggregate-word-2 c = search needs
+
+word-requires-2 : tie.Need-word-requires-2
+word-requires-2 c κs = search needs
+
+returns-2 : tie.Need-returns-2
+returns-2 c = stop-told (c .before .before .before .before .o .given .1) (c .before .of-stop .ensures) (c .placed .ensures)
+
+returns-3 : tie.Need-returns-3
+returns-3 c = number-told (c .before .before .before .before .before .before .o2 .given .1) (c .before .before .before .v .given .1) (c .labelled .ensures)
+
+returns-4 : tie.Need-returns-4
+returns-4 c = false-told (c .before .before .before .before .before .before .before .o2 .given .1) (c .before .before .before .before .v2 .given .1) (c .before .before .if1 .left) (c .word2 .ensures)
+
+pub outcome-spec : {M : Type 1} → statement M
+outcome-spec =
+    tie.close
+    (tie.spec
+    enum-known-o
+    slice-aggregate-placed
+    of-stop-requires
+    placed-requires
+    enum-known-o-2
+    enum-known-v
+    slice-aggregate-labelled
+    cast-labelled
+    labelled-requires
+    enum-known-v-2
+    slice-aggregate-word
+    word-requires
+    returns
+    slice-aggregate-word-2
+    word-requires-2
+    returns-2
+    returns-3
+    returns-4)

@@ -1,0 +1,34 @@
+use native.Mathlib.Omega.{arith}
+use Rattle.report.proofs.DraftLaws.{chained, from-blank}
+use borrow.Author.Needs.{needs}
+use Rattle.report.proofs.lines.refusal.Statement.{statement}
+use Rattle.report.proofs.lines.refusal.Tie as tie
+
+blank-requires : tie.Need-blank-requires
+blank-requires c κs = search needs
+
+slice-aggregate-placed : tie.Need-slice-aggregate-placed
+slice-aggregate-placed c = search needs
+
+placed-requires : tie.Need-placed-requires
+placed-requires c κs = search needs
+
+slice-aggregate-word : tie.Need-slice-aggregate-word
+slice-aggregate-word c = search needs
+
+word-requires : tie.Need-word-requires
+word-requires c κs = search needs
+
+returns : tie.Need-returns
+returns c = from-blank (c .before .before .before .before .blank .ensures) (chained 53 (omega arith) (c .before .before .placed .ensures) (c .word .ensures))
+
+pub refusal-spec : {M : Type 1} → statement M
+refusal-spec =
+    tie.close
+    (tie.spec
+    blank-requires
+    slice-aggregate-placed
+    placed-requires
+    slice-aggregate-word
+    word-requires
+    returns)

@@ -1,0 +1,47 @@
+-- What the contracts of the report's own functions say. No reader of the public promise needs this file.
+use mathlib.Core.List.{List, [], _++_}
+use mathlib.Core.Path.{_≡_}
+use Prim.Native.Nat.{ℕ, _+_, _≤_}
+use lib.Dec.{leb}
+use lib.ListN.{length, take}
+use Rattle.typing.specs.Verdicts.{verdict}
+use Rattle.semantics.specs.Runs.{Buffers, run}
+use Rattle.interp.specs.Answers.{lent}
+use Rattle.report.specs.Text.{acceptance, request, ofRun, printed}
+use Rattle.report.specs.Reports.{leaving, delivered, used}
+use Rattle.report.specs.declared.answer.Reported.{Reported}
+use Rattle.report.specs.declared.draft.Draft.{Draft}
+
+-- ---- drafts
+abbrev pub held : Draft → List ℕ
+held d = take (d .len) (d .bytes)
+
+-- nothing yet
+pub record Blank (r : Draft) : Type 0 where
+  pub len-is : r .len ≡ 0
+
+-- a piece more, of at most so many bytes
+pub record Appended (d : Draft) (piece : List ℕ) (most : ℕ) (r : Draft) : Type 0 where
+  pub held-is : held r ≡ held d ++ piece
+  pub len-most : r .len ≤ d .len + most
+
+-- the text alone, of at most so many bytes
+pub record Holds (text : List ℕ) (most : ℕ) (r : Draft) : Type 0 where
+  pub held-is : held r ≡ text
+  pub len-most : r .len ≤ most
+
+-- ---- the report's steps
+-- the text of an accepted sheet and its run, which leaves the buffers so
+pub record RunTold (s : List ℕ) (terms type needs : ℕ) (b b′ : Buffers) (r : Draft) : Type 0 where
+  pub held-is : held r ≡ ofRun (acceptance terms type needs) (run s request b .answer)
+  pub len-most : r .len ≤ 192
+  pub buffers-are : b′ ≡ run s request b .buffers
+
+pub record Rendered (s : List ℕ) (b b′ : Buffers) (r : Draft) : Type 0 where
+  pub held-is : held r ≡ printed s
+  pub len-most : r .len ≤ 192
+  pub buffers-are : b′ ≡ used (verdict s) s b
+
+-- whatever the other buffers hold
+pub record Delivered (p text : List ℕ) (r : Reported) (text′ : List ℕ) : Type 0 where
+  pub leaves : (cells posts : List ℕ) → leaving r cells posts text′ ≡ delivered (leb (length p) (length text)) p text (lent cells posts [])

@@ -1,0 +1,5 @@
+pub mod Text
+pub mod Reports
+pub mod Theorems
+pub mod Cases
+pub mod Internal

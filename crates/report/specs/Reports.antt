@@ -1,0 +1,50 @@
+-- What a report answers and leaves in the buffers that it was lent.
+use mathlib.Core.Bool.{Bool, true, false, _&&_, cond}
+use mathlib.Core.List.{List, [], _++_}
+use Prim.Native.Nat.{ℕ}
+use lib.Dec.{leb, eqb}
+use lib.ListN.{length, drop}
+use Rattle.typing.specs.Verdicts.{Verdict, accepted, refused, verdict}
+use Rattle.semantics.specs.Runs.{Buffers, run}
+use Rattle.interp.specs.Answers.{lent}
+use Rattle.report.specs.Text.{request, printed}
+use Rattle.report.specs.declared.answer.Reported.{Reported}
+use Rattle.report.specs.declared.answer.Reported.the-variants.{Written, TooShort, Unfit}
+
+-- the text, so long, was written; it found no place; nothing was done, since the buffers are not the largest
+pub data Fate : Type 0 where
+  written tooShort : (length : ℕ) → Fate
+  unfit : Fate
+
+abbrev pub told : Reported → Fate
+told (Written n) = written n
+told (TooShort n) = tooShort n
+told Unfit = unfit
+
+-- the answer, with the cell store, the list of posts and the place for the text as they are left
+pub record Report : Type 0 where
+  pub fate : Fate
+  pub buffers : Buffers
+  pub text : List ℕ
+
+abbrev pub leaving : Reported → (cells posts text : List ℕ) → Report
+leaving r cells posts text = record { fate = told r; buffers = lent cells posts []; text = text }
+
+-- a text stands at the front of the place for it, whose rest is untouched; where it does not fit, all of it is
+abbrev pub delivered : (fits : Bool) (p text : List ℕ) → Buffers → Report
+delivered true p text b = record { fate = written (length p); buffers = b; text = p ++ drop (length p) text }
+delivered false p text b = record { fate = tooShort (length p); buffers = b; text = text }
+
+-- the buffers after a sheet with this verdict: a refused one is not run
+abbrev pub used : Verdict → List ℕ → Buffers → Buffers
+used (accepted n τ N) s b = run s request b .buffers
+used (refused c p) s b = b
+
+-- "with the largest … buffers": 65,536 bytes of cells and 256 posts
+abbrev pub areLargest : Buffers → Bool
+areLargest b = eqb (length (b .cells)) 65536 && eqb (length (b .posts)) 256
+
+unfoldable pub reported : (s : List ℕ) → Buffers → (text : List ℕ) → Report
+reported s b text =
+    cond (areLargest b) (delivered (leb (length (printed s)) (length text)) (printed s) text (used (verdict s) s b))
+    (record { fate = unfit; buffers = b; text = text })

@@ -1,0 +1,98 @@
+-- What is printed of a sheet: 01, "The program and its print".
+use mathlib.Core.Bool.{true, cond}
+use mathlib.Core.List.{List, [], _∷_, _++_}
+use Prim.Native.Char.{code}
+use Prim.Native.Nat.{ℕ, zero, suc, _+_, _/_, _%_}
+use Prim.Native.String.{String, [] as ended-text, _∷_ as _then_}
+use lib.Dec.{ltb, eqb}
+use Rattle.program.specs.Layout.{root}
+use Rattle.typing.specs.Verdicts.{Verdict, accepted, refused as rejected, verdict}
+use Rattle.semantics.specs.Runs.{eager, Request, Sizes, course, ground-bool, ground-num, Outcome, ended, stopped, Counts, Answer, refused, ran, answerOf}
+use Rattle.interp.specs.Answers.{asked}
+
+-- ---- characters and numbers
+
+-- a quoted text as bytes; every text here is ASCII
+abbrev pub ascii : String → List ℕ
+ascii ended-text = []
+ascii (c then s) = code c ∷ ascii s
+
+-- the character of a digit: 0 to 9, then capital A to F
+abbrev pub digit : ℕ → ℕ
+digit d = cond (ltb d 10) (48 + d) (55 + d)
+
+-- the last k hexadecimal digits of a number: those of its sixteenth, then the last
+unfoldable pub hexadecimal : (k : ℕ) → ℕ → List ℕ
+hexadecimal zero n = []
+hexadecimal (suc k) n = hexadecimal k (n / 16) ++ digit (n % 16) ∷ []
+
+-- a number's decimal digits, at most k: those of its tenth, if that is not 0, then the last
+unfoldable pub decimalIn : (k : ℕ) → ℕ → List ℕ
+decimalIn zero n = []
+decimalIn (suc k) n = cond (ltb n 10) [] (decimalIn k (n / 10)) ++ digit (n % 10) ∷ []
+
+-- no number of 64 bits has more than 20 (Theorems: one-digit, tenth)
+unfoldable pub decimal : ℕ → List ℕ
+decimal n = decimalIn 20 n
+
+-- ---- the lines
+abbrev pub line : List ℕ → List ℕ
+line xs = xs ++ ascii "\n"
+
+abbrev pub labelled : String → ℕ → List ℕ
+labelled label n = ascii label ++ decimal n
+
+abbrev pub termsLine : ℕ → List ℕ
+termsLine n = line (labelled "terms " n)
+
+-- "Needs are eight capital hexadecimal digits, other numbers decimal"
+abbrev pub needsLine : ℕ → List ℕ
+needsLine N = line (ascii "needs " ++ hexadecimal 8 N)
+
+-- "the type is `num` or `bool`": type 0 is the boolean and type 1 the number
+abbrev pub typeLine : ℕ → List ℕ
+typeLine τ = line (ascii "type " ++ cond (eqb τ 0) (ascii "bool") (ascii "num"))
+
+abbrev pub acceptance : (terms type needs : ℕ) → List ℕ
+acceptance n τ N = termsLine n ++ needsLine N ++ typeLine τ
+
+abbrev pub at : ℕ → List ℕ
+at t = labelled " at " t
+
+-- "a boolean prints `bool 0` or `bool 1`, a stop `stop C at T` in place of `end num 7`, with the counts after it"
+abbrev pub outcomeText : Outcome → List ℕ
+outcomeText (ended (ground-bool b)) = ascii "end bool " ++ cond b (ascii "1") (ascii "0")
+outcomeText (ended (ground-num n)) = labelled "end num " n
+outcomeText (stopped c t) = labelled "stop " c ++ at t
+
+abbrev pub countsText : Counts → List ℕ
+countsText k = labelled " calls " (k .calls) ++ labelled " cells " (k .cells) ++ labelled " posts " (k .posts)
+
+-- "A refusal prints one line, `refused C at T`."
+abbrev pub refusal : (cause place : ℕ) → List ℕ
+refusal c t = line (labelled "refused " c ++ at t)
+
+-- ---- the text
+
+-- "judges it and runs it eagerly, checks in force, on an empty stack with the largest allowances and buffers"; an eager run has no frame store
+abbrev pub request : Request
+request = asked eager true [] 4096 100
+
+abbrev pub largest : Sizes
+largest = record { cells = 65536; posts = 256; frames = 0 }
+
+abbrev pub answer : List ℕ → Answer
+answer s = answerOf (root s) request largest (course s request largest)
+
+-- The run of an accepted sheet is never turned back (Theorems: accepted-runs).
+abbrev pub ofRun : (judged : List ℕ) → Answer → List ℕ
+ofRun xs (ran o k) = xs ++ line (outcomeText o ++ countsText k)
+ofRun xs (refused c p) = refusal c p
+
+-- A sheet that is refused is not run.
+abbrev pub ofVerdict : Verdict → (Unit {0} → Answer) → List ℕ
+ofVerdict (accepted n τ N) run = ofRun (acceptance n τ N) (run tt)
+ofVerdict (rejected c p) run = refusal c p
+
+unfoldable pub printed : List ℕ → List ℕ
+printed s = ofVerdict (verdict s) λ _. answer s

@@ -1,0 +1,176 @@
+-- What a reader may count on: 20 decimal digits are enough, the run of an accepted sheet starts, no text is longer than 183 bytes, and what was
+-- written is the text.
+use mathlib.Core.Bool.{Bool, true, false, cond}
+use mathlib.Core.List.{List, [], _∷_, _++_}
+use mathlib.Core.Path.{_≡_, refl, sym, ap, _∙_}
+use Prim.Native.Nat.{ℕ, zero, suc, _/_, _%_, _^_, _<_, _≤_, zero-le}
+use native.Mathlib.Nat.{pow-succ', div-lt-iff-lt-mul}
+use native.Mathlib.Omega.{arith}
+use lib.Dec.{ltb, leb, eqb, lit<}
+use lib.ListN.{length, take, drop, length-append}
+use lib.Seq.{take-at}
+use borrow.Author.Tests.{lt-ltb, le-ltb, le-leb}
+use Rattle.program.specs.Layout.{root}
+use Rattle.program.specs.Screening.{clear, tell, screen, unless}
+use Rattle.program.specs.Decoding.{decodingConditions, decoding, Readable}
+use Rattle.program.specs.Laws.Screening.{screen-clear}
+use Rattle.typing.specs.Verdicts.{Verdict, accepted, refused as rejected, verdict}
+use Rattle.typing.specs.Theorems.{acceptance as acceptance-theorem}
+use Rattle.semantics.specs.Runs.{eager, Buffers, startOk, buffersOk, limitsOk, runConditions, evaluation, settled, course, ground-bool, ground-num, Outcome, ended, stopped, Counts, Answer, refused, ran, answerOf}
+use Rattle.report.specs.Text.{ascii, digit, hexadecimal, decimalIn, decimal, line, labelled, typeLine, acceptance, at, outcomeText, countsText, refusal, request, largest, answer, ofRun, ofVerdict, printed}
+use Rattle.report.specs.Reports.{written, tooShort, unfit, Report, leaving, delivered, used, areLargest, reported}
+use Rattle.report.specs.declared.answer.Reported.{Reported}
+use Rattle.report.specs.declared.answer.Reported.the-variants.{Written}
+
+-- ---- the decimal digits of a number of 64 bits, however long
+-- a number below 10 ^ k has no more than k digits
+enough : (k n : ℕ) → n < 10 ^ suc k → decimalIn (suc k) n ≡ decimalIn (suc (suc k)) n
+unfolding decimalIn
+enough zero n h = ap (λ (b : Bool). cond b [] [] ++ (digit (n % 10) ∷ [])) (lt-ltb n 10 h) ∙ sym (ap (λ (b : Bool). cond b [] (decimalIn 1 (n / 10)) ++ (digit (n % 10) ∷ [])) (lt-ltb n 10 h))
+enough (suc k) n h = ap (λ (xs : List ℕ). cond (ltb n 10) [] xs ++ (digit (n % 10) ∷ []))
+    (enough k (n / 10) (div-lt-iff-lt-mul {k = 10} {x = n} {y = 10 ^ suc k} (lit< tt) .1 (omega (arith, h, pow-succ' 10 (suc k)))))
+
+pub one-digit : (n : ℕ) → n < 10 → decimal n ≡ digit (n % 10) ∷ []
+unfolding decimal decimalIn
+one-digit n h = ap (λ (b : Bool). cond b [] (decimalIn 19 (n / 10)) ++ (digit (n % 10) ∷ [])) (lt-ltb n 10 h)
+
+pub tenth : (n : ℕ) → 10 ≤ n → n < 2 ^ 64 → decimal n ≡ decimal (n / 10) ++ (digit (n % 10) ∷ [])
+unfolding decimal decimalIn
+tenth n g h = ap (λ (b : Bool). cond b [] (decimalIn 19 (n / 10)) ++ (digit (n % 10) ∷ [])) (le-ltb n 10 g)
+    ∙ ap (λ (xs : List ℕ). xs ++ (digit (n % 10) ∷ [])) (enough 18 (n / 10) (omega (arith, h)))
+
+-- ---- an accepted sheet is run: its run is never turned back
+starts : (s : List ℕ) → Readable s → screen (runConditions s request largest) ≡ clear
+unfolding decoding screen tell
+starts s r = screen-clear (decodingConditions s) (unless 14 (startOk s request) ∷ unless 15 (buffersOk eager largest) ∷ unless 16 (limitsOk request) ∷ []) r
+
+pub accepted-runs : (s : List ℕ) (n τ N : ℕ) → verdict s ≡ accepted n τ N → (o : Outcome) × (k : Counts) × (answer s ≡ ran o k)
+unfolding course
+accepted-runs s n τ N e = (
+  _,
+  _,
+  λ i. answerOf (root s) request largest (settled (starts s (acceptance-theorem s n τ N e .readable) i) (λ _. evaluation eager s request largest)),
+)
+
+-- ---- how long a text is
+length-last : (b : Bool) (xs : List ℕ) (x k : ℕ) → length xs ≤ k → length (cond b [] xs ++ (x ∷ [])) ≤ suc k
+length-last true xs x k h = omega arith
+length-last false xs x k h = omega (arith, length-append xs (x ∷ []))
+
+digits-most : (k n : ℕ) → length (decimalIn k n) ≤ k
+unfolding decimalIn
+digits-most zero n = zero-le
+digits-most (suc k) n = length-last (ltb n 10) (decimalIn k (n / 10)) (digit (n % 10)) k (digits-most k (n / 10))
+
+pub decimal-most : (n : ℕ) → length (decimal n) ≤ 20
+unfolding decimal
+decimal-most n = digits-most 20 n
+
+hexadecimal-length : (k n : ℕ) → length (hexadecimal k n) ≡ k
+unfolding hexadecimal
+hexadecimal-length zero n = refl
+hexadecimal-length (suc k) n = length-append (hexadecimal k (n / 16)) (digit (n % 16) ∷ []) ∙ omega (arith, hexadecimal-length k (n / 16))
+
+type-most : (b : Bool) → length (line (ascii "type " ++ cond b (ascii "bool") (ascii "num"))) ≤ 10
+type-most true = omega arith
+type-most false = omega arith
+
+outcome-most : (o : Outcome) → length (outcomeText o) ≤ 49
+outcome-most (ended (ground-bool true)) = omega arith
+outcome-most (ended (ground-bool false)) = omega arith
+outcome-most (ended (ground-num n)) = omega (arith, decimal-most n)
+outcome-most (stopped c t) = omega (arith, decimal-most c, decimal-most t, length-append (decimal c) (at t))
+
+counts-most : (k : Counts) → length (countsText k) ≤ 81
+counts-most k =
+    omega (
+      arith,
+      decimal-most (k .calls),
+      decimal-most (k .cells),
+      decimal-most (k .posts),
+      length-append (decimal (k .calls)) (labelled " cells " (k .cells)),
+      length-append (decimal (k .calls) ++ labelled " cells " (k .cells)) (labelled " posts " (k .posts)),
+    )
+
+refusal-most : (c t : ℕ) → length (refusal c t) ≤ 183
+refusal-most c t =
+    omega (
+      arith,
+      decimal-most c,
+      decimal-most t,
+      length-append (decimal c) (at t),
+      length-append (decimal c ++ at t) (ascii "\n"),
+    )
+
+acceptance-most : (n τ N : ℕ) → length (acceptance n τ N) ≤ 52
+acceptance-most n τ N =
+    omega (
+      arith,
+      decimal-most n,
+      hexadecimal-length 8 N,
+      type-most (eqb τ 0),
+      length-append (decimal n) (ascii "\n"),
+      length-append (hexadecimal 8 N) (ascii "\n"),
+      length-append (decimal n ++ ascii "\n") (line (ascii "needs " ++ hexadecimal 8 N)),
+      length-append (decimal n ++ ascii "\n" ++ line (ascii "needs " ++ hexadecimal 8 N)) (typeLine τ),
+    )
+
+run-most : (xs : List ℕ) (a : Answer) → length xs ≤ 52 → length (ofRun xs a) ≤ 183
+run-most xs (refused c p) h = refusal-most c p
+run-most xs (ran o k) h =
+    omega (
+      arith,
+      outcome-most o,
+      counts-most k,
+      length-append (outcomeText o) (countsText k),
+      length-append (outcomeText o ++ countsText k) (ascii "\n"),
+      length-append xs (line (outcomeText o ++ countsText k)),
+    )
+
+verdict-most : (v : Verdict) (a : Answer) → length (ofVerdict v (λ _. a)) ≤ 183
+verdict-most (accepted n τ N) a = run-most (acceptance n τ N) a (acceptance-most n τ N)
+verdict-most (rejected c p) a = refusal-most c p
+
+pub text-most : (s : List ℕ) → length (printed s) ≤ 183
+unfolding printed
+text-most s = verdict-most (verdict s) (answer s)
+
+-- a report by its two tests
+abbrev by : (s text : List ℕ) (after before : Buffers) (large fits : Bool) → Report
+by s text u b large fits = cond large (delivered fits (printed s) text u) (record { fate = unfit; buffers = b; text = text })
+
+-- so 183 bytes of place are enough for every sheet
+pub always-written : (s : List ℕ) (b : Buffers) (text : List ℕ) → areLargest b ≡ true → 183 ≤ length text → reported s b text .fate ≡ written (length (printed s))
+unfolding reported
+always-written s b text e h = λ i. by s text (used (verdict s) s b) b (e i) (le-leb (length (printed s)) (length text) (omega (arith, text-most s)) i) .fate
+
+-- ---- what is written is the text, at the front of the place for it
+pub record TextWritten (s : List ℕ) (n : ℕ) (text : List ℕ) : Type 0 where
+  pub length-is : n ≡ length (printed s)
+  pub fits : n ≤ length text
+  pub front-is : take n text ≡ printed s
+
+written-front : (s text text′ : List ℕ) {n : ℕ} → n ≡ length (printed s) → text′ ≡ printed s ++ drop (length (printed s)) text → TextWritten s n text′
+written-front s text text′ {n = n} l e = record {
+  length-is = l;
+  fits = omega (arith, ap length e, length-append (printed s) (drop (length (printed s)) text));
+  front-is = ap (take n) e ∙ take-at (printed s) (drop (length (printed s)) text) n (sym l);
+}
+
+by-cases : (s : List ℕ) (u b : Buffers) (text cells posts text′ : List ℕ) {n : ℕ} (large fits : Bool)
+    → leaving (Written n) cells posts text′ ≡ by s text u b large fits → TextWritten s n text′
+by-cases s u b text cells posts text′ {n = n} true true e =
+    let f : written n ≡ written (length (printed s)) = ap (λ (r : Report). r .fate) e in
+    written-front s text text′ (cc) (ap (λ (r : Report). r .text) e)
+by-cases s u b text cells posts text′ {n = n} true false e =
+    let f : written n ≡ tooShort (length (printed s)) = ap (λ (r : Report). r .fate) e in
+    absurd (let z : _≡_ {A = ℕ} 0 1 = cc in omega arith)
+by-cases s u b text cells posts text′ {n = n} false fits e =
+    let f : written n ≡ unfit = ap (λ (r : Report). r .fate) e in
+    absurd (let z : _≡_ {A = ℕ} 0 1 = cc in omega arith)
+
+pub text-written : (s : List ℕ) (b : Buffers) (text cells posts text′ : List ℕ) {r : Reported} {n : ℕ} → r ≡ Written n → leaving r cells posts text′ ≡ reported s b text → TextWritten s n text′
+unfolding reported
+text-written s b text cells posts text′ e h =
+    by-cases s (used (verdict s) s b) b text cells posts text′ (areLargest b) (leb (length (printed s)) (length text))
+    (sym (ap (λ (z : Reported). leaving z cells posts text′) e) ∙ h)

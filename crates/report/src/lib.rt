@@ -1,0 +1,91 @@
+// The print of a sheet: it is judged and, if accepted, run, and both are told in lines of text.
+pub mod answer;
+mod draft;
+mod lines;
+
+use crate::answer::Reported;
+use crate::draft::Draft;
+use checker::typecheck;
+use interp::answer::Run;
+use interp::run_eager;
+use numbers::of_fault;
+use numbers::of_reader;
+use numbers::of_refusal;
+use typing::answer::Verdict;
+ghost use mathlib.Core.List.{[]};
+ghost use mathlib.Core.Path.{_≡_};
+ghost use Prim.Native.Nat.{_≤_};
+ghost use lib.ListN.{length};
+ghost use Rattle.interp.specs.Answers.{lent};
+ghost use Rattle.report.specs.Reports.{leaving, reported};
+ghost use Rattle.report.specs.Internal.{held, RunTold, Rendered, Delivered};
+
+// Judges the sheet and, if it is accepted, runs it eagerly, checks in force, on an empty stack with the largest allowances, in the lent cell store
+// and list of posts, which must be the largest. The text goes to the front of `text`, if it fits there.
+pub fn report(sheet: &[u8], cells: &mut [u8], posts: &mut [u16], text: &mut [u8]) -> Reported
+    ensures { λ r. ⌜ leaving r (now (cells .exit)) (now (posts .exit)) (now (text .exit)) ≡ reported (now (sheet .entry)) (lent (now (cells .entry)) (now (posts .entry)) []) (now (text .entry)) ⌝ }
+{
+    if cells.len() != 65536 {
+        return Reported::Unfit;
+    }
+    if posts.len() != 256 {
+        return Reported::Unfit;
+    }
+    let d = render(sheet, cells, posts);
+    deliver(d, text)
+}
+
+// The whole text, and the run behind it.
+fn render(sheet: &[u8], cells: &mut [u8], posts: &mut [u16]) -> Draft
+    requires { ⌜ (length (now cells) ≡ 65536) × (length (now posts) ≡ 256) ⌝ }
+    ensures { λ r. ⌜ Rendered (now (sheet .entry)) (lent (now (cells .entry)) (now (posts .entry)) []) (lent (now (cells .exit)) (now (posts .exit)) []) r ⌝ }
+{
+    let v = typecheck(sheet);
+    match v {
+        Verdict::Unreadable(f) => lines::refusal(of_reader(f)),
+        Verdict::Refused(f) => lines::refusal(of_fault(f)),
+        Verdict::Accepted { terms, ty, needs } => run_accepted(
+            sheet,
+            cells,
+            posts,
+            terms,
+            ty,
+            needs,
+        ),
+    }
+}
+
+// The run of an accepted sheet, and its text.
+fn run_accepted(
+    sheet: &[u8],
+    cells: &mut [u8],
+    posts: &mut [u16],
+    terms: u16,
+    ty: u16,
+    needs: u32,
+) -> Draft
+    ensures { λ r. ⌜ RunTold (now (sheet .entry)) terms ty needs (lent (now (cells .entry)) (now (posts .entry)) []) (lent (now (cells .exit)) (now (posts .exit)) []) r ⌝ }
+{
+    let r = run_eager(sheet, &[], 4096, 100, true, cells, posts);
+    match r {
+        Run::Refused(f) => lines::refusal(of_refusal(f)),
+        Run::Ran { outcome, made } => lines::accepted(terms, ty, needs, outcome, made),
+    }
+}
+
+// Copies the text to its place, if it fits there.
+fn deliver(d: Draft, text: &mut [u8]) -> Reported
+    requires { ⌜ d .len ≤ 192 ⌝ }
+    ensures { λ r. ⌜ Delivered (held d) (now (text .entry)) r (now (text .exit)) ⌝ }
+{
+    let n = d.len;
+    if text.len() < n {
+        return Reported::TooShort(n);
+    }
+    let mut i = 0;
+    while i < n {
+        text[i] = d.bytes[i];
+        i += 1;
+    }
+    Reported::Written(n)
+}

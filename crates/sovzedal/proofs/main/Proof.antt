@@ -1,0 +1,67 @@
+use mathlib.Core.Path.{sym}
+use lib.Seq.{length-take-le}
+use Rattle.report.specs.Theorems.{text-written}
+use borrow.Author.Needs.{needs}
+use Rattle.sovzedal.proofs.main.Statement.{statement}
+use Rattle.sovzedal.proofs.main.Tie as tie
+
+slice-aggregate-read-full : tie.Need-slice-aggregate-read-full
+slice-aggregate-read-full c = search needs
+
+read-full-requires : tie.Need-read-full-requires
+read-full-requires c κs = search needs
+
+array-share-prefix-sheet : tie.Need-array-share-prefix-sheet
+array-share-prefix-sheet c = search needs
+
+slice-aggregate-report : tie.Need-slice-aggregate-report
+slice-aggregate-report c = search needs
+
+slice-aggregate-report-2 : tie.Need-slice-aggregate-report-2
+slice-aggregate-report-2 c = search needs
+
+slice-aggregate-report-3 : tie.Need-slice-aggregate-report-3
+slice-aggregate-report-3 c = search needs
+
+slice-aggregate-report-4 : tie.Need-slice-aggregate-report-4
+slice-aggregate-report-4 c = search needs
+
+report-requires : tie.Need-report-requires
+report-requires c κs = search needs
+
+enum-known-told : tie.Need-enum-known-told
+enum-known-told c = search needs
+
+returns : tie.Need-returns
+returns c = search needs
+
+array-share-prefix-text : tie.Need-array-share-prefix-text
+array-share-prefix-text c = text-written _ _ _ _ _ _ (c .before .told .given .1) (c .before .before .before .before .before .before .report .ensures) .fits
+
+slice-aggregate-write-all : tie.Need-slice-aggregate-write-all
+slice-aggregate-write-all c = sym (length-take-le _ _ (text-written _ _ _ _ _ _ (c .before .before .told .given .1) (c .before .before .before .before .before .before .before .report .ensures) .fits))
+
+write-all-requires : tie.Need-write-all-requires
+write-all-requires c κs = search needs
+
+returns-2 : tie.Need-returns-2
+returns-2 c = search needs
+
+pub main-spec : {M : Type 1} → statement M
+main-spec =
+    tie.close
+    (tie.spec
+    slice-aggregate-read-full
+    read-full-requires
+    array-share-prefix-sheet
+    slice-aggregate-report
+    slice-aggregate-report-2
+    slice-aggregate-report-3
+    slice-aggregate-report-4
+    report-requires
+    enum-known-told
+    returns
+    array-share-prefix-text
+    slice-aggregate-write-all
+    write-all-requires
+    returns-2)
