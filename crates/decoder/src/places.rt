@@ -1,6 +1,6 @@
 // Parents, signed bodies and the signed root: refusal 7.
 ghost use mathlib.Core.Path.{_≡_};
-ghost use mathlib.Core.Bool.{cond, not, _&&_};
+ghost use mathlib.Core.Bool.{cond, not, _&&_, _||_};
 ghost use Prim.Native.Nat.{_<_};
 ghost use lib.Dec.{eqb};
 ghost use lib.ListN.{length};
@@ -106,6 +106,17 @@ fn parents_ok(p: u16, root: bool) -> bool
     }
 }
 
+// Whether term t is signed if it is the root.
+fn root_signed(s: &[u8], c: Counts, t: u16, root: bool) -> bool
+    requires { ⌜ Laid (now s) c ⌝ }
+    ensures { λ r. ⌜ r ≡ (not root || isSign (now (s .entry)) t) ⌝ }
+{
+    if root {
+        return is_sign(s, c, t);
+    }
+    true
+}
+
 // Whether term t has its parents and its signs.
 fn place_ok(s: &[u8], c: Counts, parents: &[u16; 1024], t: u16) -> bool
     requires { ⌜ Laid (now s) c ⌝ }
@@ -118,7 +129,7 @@ fn place_ok(s: &[u8], c: Counts, parents: &[u16; 1024], t: u16) -> bool
     let i = t as usize;
     let p = parents[i];
     let x = shape_at(s, c, t);
-    parents_ok(p, root) & body_signed(s, c, x) & (!root | is_sign(s, c, t))
+    parents_ok(p, root) & body_signed(s, c, x) & root_signed(s, c, t, root)
 }
 
 // The lowest term with a wrong number of parents, whose body is unsigned, or which is the root and unsigned.

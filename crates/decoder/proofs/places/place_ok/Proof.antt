@@ -1,3 +1,5 @@
+use mathlib.Core.Bool.{Bool, _&&_}
+use mathlib.Core.Path.{refl, ap, _∙_}
 use native.Mathlib.Omega.{arith}
 use Rattle.program.specs.Laws.Readable.{fields-ok}
 use Rattle.decoder.proofs.PlaceLaws.{place-is}
@@ -23,11 +25,11 @@ parents-ok-requires c κs = search needs
 body-signed-requires : tie.Need-body-signed-requires
 body-signed-requires c κs = search needs
 
-is-sign-requires : tie.Need-is-sign-requires
-is-sign-requires c κs = search needs
+root-signed-requires : tie.Need-root-signed-requires
+root-signed-requires c κs = search needs
 
 returns : tie.Need-returns
-returns c = place-is (c .before .before .before .before .before .before .before .args .s .now) (c .before .before .before .before .before .before .before .args .c) (c .before .before .before .before .before .before .before .pre .0) (c .before .before .before .before .before .before .before .pre .1 .0) (c .before .before .before .before .before .before .before .args .t) (c .before .before .before .before .before .before .before .pre .1 .1 .0) (c .before .before .before .before .before .before .before .args .parents .now) (c .before .before .before .before .before .before .before .pre .1 .1 .1) (c .before .before .parents-ok .ensures) (c .before .before .before .shape-at .ensures) (c .before .body-signed .ensures) (c .is-sign .ensures)
+returns c = ap (λ (signed : Bool). c .before .before .parents-ok .result && c .before .body-signed .result && signed) (c .root-signed .ensures) ∙ place-is (c .before .before .before .before .before .before .before .args .s .now) (c .before .before .before .before .before .before .before .args .c) (c .before .before .before .before .before .before .before .pre .0) (c .before .before .before .before .before .before .before .pre .1 .0) (c .before .before .before .before .before .before .before .args .t) (c .before .before .before .before .before .before .before .pre .1 .1 .0) (c .before .before .before .before .before .before .before .args .parents .now) (c .before .before .before .before .before .before .before .pre .1 .1 .1) (c .before .before .parents-ok .ensures) (c .before .before .before .shape-at .ensures) (c .before .body-signed .ensures) refl
 
 pub place-ok-spec : {M : Type 1} → statement M
 place-ok-spec =
@@ -39,5 +41,5 @@ place-ok-spec =
     shape-at-requires
     parents-ok-requires
     body-signed-requires
-    is-sign-requires
+    root-signed-requires
     returns)
