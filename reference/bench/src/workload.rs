@@ -1,0 +1,44 @@
+//! What is timed.
+
+use sheets::extremes::{deepest, widest};
+use sheets::load::{frame_sheet, FRAMES, LINES, PLANTS};
+
+pub struct Workload {
+    pub name: String,
+    pub sheets: Vec<Vec<u8>>,
+    /// How often a round goes through all sheets.
+    pub repeats: usize,
+}
+
+pub fn all() -> [Workload; 3] {
+    [
+        clients_load(),
+        one("deepest sheet: nesting 32, 100 open calls", deepest()),
+        one("widest sheet: 256 types, 1,024 terms", widest()),
+    ]
+}
+
+/// Every so many frames one, over all plants and lines.
+fn clients_load() -> Workload {
+    const STRIDE: usize = 100;
+    let frames = PLANTS * LINES * FRAMES;
+    let sheets: Vec<Vec<u8>> = (0..frames).step_by(STRIDE).map(frame_sheet).collect();
+    Workload {
+        name: format!(
+            "client's load: {PLANTS} plants x {LINES} lines x {FRAMES} frames of 40 to 300 members, \
+             every {STRIDE}th frame timed ({})",
+            sheets.len()
+        ),
+        sheets,
+        repeats: 1,
+    }
+}
+
+fn one(name: &str, sheet: Vec<u8>) -> Workload {
+    const REPEATS: usize = 300;
+    Workload {
+        name: format!("{name}, {REPEATS} times"),
+        sheets: vec![sheet],
+        repeats: REPEATS,
+    }
+}

@@ -1,0 +1,118 @@
+//! Questions about a sheet, and the reference's answers.
+
+use sheets::request::Request;
+use sovzedal_reference::{
+    run_eager, run_lazy, typecheck, Checks, Refusal, Request as Allowed, Run, Verdict,
+};
+
+/// A sheet and what is asked about it.
+pub struct Entry {
+    pub sheet: Vec<u8>,
+    pub rows: Vec<Row>,
+}
+
+pub enum Row {
+    Judging(Result<Verdict, Refusal>),
+    Running(Box<Running>),
+}
+
+/// A run, with the contents of the buffers before and after it.
+pub struct Running {
+    pub asked: Asked,
+    pub before: Buffers,
+    pub answer: Result<Run, Refusal>,
+    pub after: Buffers,
+}
+
+#[derive(Clone, Copy, Debug, PartialEq, Eq)]
+pub enum Runner {
+    Eager,
+    Lazy,
+}
+
+/// How a run is asked for.
+#[derive(Clone, Debug)]
+pub struct Asked {
+    pub runner: Runner,
+    pub checks: Checks,
+    pub request: Request,
+}
+
+#[derive(Clone, Debug)]
+pub struct Buffers {
+    pub cells: Vec<u8>,
+    pub posts: Vec<u16>,
+    pub frames: Vec<u32>,
+}
+
+impl Entry {
+    /// The sheet's verdict and these runs of it.
+    pub fn answered(sheet: Vec<u8>, asked: impl IntoIterator<Item = Asked>) -> Self {
+        let mut rows = vec![Row::Judging(typecheck(&sheet))];
+        for asked in asked {
+            let run = Running::answered(&sheet, asked);
+            rows.push(Row::Running(Box::new(run)));
+        }
+        Self { sheet, rows }
+    }
+
+    /// Each row by itself.
+    pub fn split(self) -> impl Iterator<Item = Self> {
+        let sheet = self.sheet;
+        self.rows.into_iter().map(move |row| Self {
+            sheet: sheet.clone(),
+            rows: vec![row],
+        })
+    }
+}
+
+impl Running {
+    pub fn answered(sheet: &[u8], asked: Asked) -> Self {
+        let before = Buffers::filled(&asked);
+        let mut after = before.clone();
+        let answer = asked.run(sheet, &mut after);
+        Self {
+            asked,
+            before,
+            answer,
+            after,
+        }
+    }
+}
+
+impl Asked {
+    fn run(&self, sheet: &[u8], buffers: &mut Buffers) -> Result<Run, Refusal> {
+        let allowed = Allowed {
+            start: &self.request.start,
+            calls: self.request.calls,
+            open_calls: self.request.open_calls,
+            checks: self.checks,
+        };
+        let Buffers {
+            cells,
+            posts,
+            frames,
+        } = buffers;
+        match self.runner {
+            Runner::Eager => run_eager(sheet, &allowed, cells, posts),
+            Runner::Lazy => run_lazy(sheet, &allowed, cells, posts, frames),
+        }
+    }
+}
+
+impl Buffers {
+    /// Buffers of the lengths that are asked, each with a number of its own
+    /// in every entry. An eager run has no frame store; a short list stands
+    /// for what it leaves alone.
+    fn filled(asked: &Asked) -> Self {
+        let frame_numbers = match asked.runner {
+            Runner::Eager => 1,
+            Runner::Lazy => asked.request.frame_numbers,
+        };
+        Self {
+            cells: vec![7; asked.request.cell_bytes],
+            posts: vec![8; asked.request.posts],
+            frames: vec![9; frame_numbers],
+        }
+    }
+}

@@ -1,0 +1,13 @@
+//! The proved library and the reference behind one interface, and what is
+//! needed to ask both the same and to compare all that they leave behind.
+
+mod asked;
+mod implementation;
+mod library;
+mod reference;
+pub mod settings;
+
+pub use asked::{Asked, Buffers, Entry};
+pub use implementation::{Implementation, RunArguments, ANSWER_NUMBERS};
+pub use library::Library;
+pub use reference::Reference;

@@ -1,0 +1,141 @@
+//! The proved library.
+
+use crate::implementation::{Implementation, RunArguments};
+
+/// `include/sovzedal.h`.
+mod c {
+    extern "C" {
+        pub fn sovzedal_decode(
+            sheet: *const u8,
+            sheet_len: usize,
+            answer: *mut u32,
+            answer_len: usize,
+        ) -> u32;
+
+        pub fn sovzedal_typecheck(
+            sheet: *const u8,
+            sheet_len: usize,
+            answer: *mut u32,
+            answer_len: usize,
+        ) -> u32;
+
+        pub fn sovzedal_run_eager(
+            sheet: *const u8,
+            sheet_len: usize,
+            start: *const u32,
+            start_len: usize,
+            calls: u32,
+            depth: u32,
+            enforce: u32,
+            cells: *mut u8,
+            cells_len: usize,
+            posts: *mut u16,
+            posts_len: usize,
+            answer: *mut u32,
+            answer_len: usize,
+        ) -> u32;
+
+        pub fn sovzedal_run_lazy(
+            sheet: *const u8,
+            sheet_len: usize,
+            start: *const u32,
+            start_len: usize,
+            calls: u32,
+            depth: u32,
+            enforce: u32,
+            cells: *mut u8,
+            cells_len: usize,
+            posts: *mut u16,
+            posts_len: usize,
+            frames: *mut u32,
+            frames_len: usize,
+            answer: *mut u32,
+            answer_len: usize,
+        ) -> u32;
+    }
+}
+
+pub struct Library;
+
+// Each call hands over slices, whose pointers are valid for their lengths, of
+// which those written to are not shared.
+impl Implementation for Library {
+    const NAME: &'static str = "library";
+
+    fn decode(sheet: &[u8], answer: &mut [u32]) -> u32 {
+        unsafe {
+            c::sovzedal_decode(
+                sheet.as_ptr(),
+                sheet.len(),
+                answer.as_mut_ptr(),
+                answer.len(),
+            )
+        }
+    }
+
+    fn typecheck(sheet: &[u8], answer: &mut [u32]) -> u32 {
+        unsafe {
+            c::sovzedal_typecheck(
+                sheet.as_ptr(),
+                sheet.len(),
+                answer.as_mut_ptr(),
+                answer.len(),
+            )
+        }
+    }
+
+    fn run_eager(
+        sheet: &[u8],
+        arguments: RunArguments,
+        cells: &mut [u8],
+        posts: &mut [u16],
+        answer: &mut [u32],
+    ) -> u32 {
+        unsafe {
+            c::sovzedal_run_eager(
+                sheet.as_ptr(),
+                sheet.len(),
+                arguments.start.as_ptr(),
+                arguments.start.len(),
+                arguments.calls,
+                arguments.open_calls,
+                arguments.enforce,
+                cells.as_mut_ptr(),
+                cells.len(),
+                posts.as_mut_ptr(),
+                posts.len(),
+                answer.as_mut_ptr(),
+                answer.len(),
+            )
+        }
+    }
+
+    fn run_lazy(
+        sheet: &[u8],
+        arguments: RunArguments,
+        cells: &mut [u8],
+        posts: &mut [u16],
+        frames: &mut [u32],
+        answer: &mut [u32],
+    ) -> u32 {
+        unsafe {
+            c::sovzedal_run_lazy(
+                sheet.as_ptr(),
+                sheet.len(),
+                arguments.start.as_ptr(),
+                arguments.start.len(),
+                arguments.calls,
+                arguments.open_calls,
+                arguments.enforce,
+                cells.as_mut_ptr(),
+                cells.len(),
+                posts.as_mut_ptr(),
+                posts.len(),
+                frames.as_mut_ptr(),
+                frames.len(),
+                answer.as_mut_ptr(),
+                answer.len(),
+            )
+        }
+    }
+}

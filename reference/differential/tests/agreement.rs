@@ -1,0 +1,128 @@
+//! Every generated sheet, asked of the library and of the reference: they
+//! return the same, and every number in and around every buffer is the same.
+
+use differential::{settings, Asked, Buffers, Entry, Library, Reference, ANSWER_NUMBERS};
+use sheets::generate::sample;
+use sheets::hex;
+use sheets::request::Request;
+use sheets::rng::Rng;
+use sheets::tally::Tally;
+use std::process::ExitCode;
+use std::time::Instant;
+
+const SHEETS: u64 = 120_000;
+
+fn main() -> ExitCode {
+    let begun = Instant::now();
+    let mut tally = Tally::default();
+    let mut sheets = 0;
+    for batch in settings::batches(SHEETS) {
+        let items = batch.items.end - batch.items.start;
+        println!("seed {}, {items} sheets", batch.seed);
+        sheets += items;
+        for index in batch.items {
+            if let Err(difference) = compare(batch.seed, index, &mut tally) {
+                println!("{difference}");
+                println!("again with {}", settings::again(batch.seed, index));
+                return ExitCode::FAILURE;
+            }
+        }
+    }
+    let seconds = begun.elapsed().as_secs_f64();
+    println!("{tally}");
+    println!(
+        "{sheets} sheets in {seconds:.1} s, {:.0} per second",
+        sheets as f64 / seconds
+    );
+    if settings::are_whole() {
+        reached_everything(&tally)
+    } else {
+        ExitCode::SUCCESS
+    }
+}
+
+fn reached_everything(tally: &Tally) -> ExitCode {
+    let (causes, kinds) = (tally.missing_causes(), tally.missing_kinds());
+    if causes.is_empty() && kinds.is_empty() {
+        return ExitCode::SUCCESS;
+    }
+    println!("never reached: causes {causes:?}, kinds {kinds:?}");
+    ExitCode::FAILURE
+}
+
+/// Puts all questions about one sheet to both implementations.
+fn compare(seed: u64, index: u64, tally: &mut Tally) -> Result<(), String> {
+    let rng = &mut Rng::for_item(seed, index);
+    let sample = sample(rng);
+    let questions = [
+        (Entry::Decode, 0),
+        (Entry::Typecheck, 0),
+        (Entry::RunEager, enforcing(rng)),
+        (Entry::RunEager, 0),
+        (Entry::RunLazy, enforcing(rng)),
+        (Entry::RunLazy, 0),
+    ];
+    for (entry, enforce) in questions {
+        let request = Request::random(rng, &sample.world);
+        let asked = Asked {
+            entry,
+            sheet: &sample.bytes,
+            request: &request,
+            enforce,
+        };
+        let answer = random_answer_length(rng);
+        let buffers = Buffers::random(rng, entry, &request, answer);
+        let buffers = ask_both(&asked, buffers)?;
+        if let Some(answer) = buffers.answer() {
+            match entry {
+                Entry::Decode => {}
+                Entry::Typecheck => tally.count_judged(&sample.bytes, answer),
+                Entry::RunEager | Entry::RunLazy => tally.count_run(answer),
+            }
+        }
+    }
+    Ok(())
+}
+
+/// Any number but 0 has the checks in force.
+fn enforcing(rng: &mut Rng) -> u32 {
+    rng.pick(&[1, 1, 1, 2, 256, 65_536, u32::MAX])
+}
+
+/// Mostly just enough; sometimes too short, sometimes with a rest to keep.
+fn random_answer_length(rng: &mut Rng) -> usize {
+    match rng.below(20) {
+        0 => rng.below(ANSWER_NUMBERS),
+        1 | 2 => rng.between(ANSWER_NUMBERS + 1, 2 * ANSWER_NUMBERS),
+        _ => ANSWER_NUMBERS,
+    }
+}
+
+/// Gives what both left in the buffers, or tells how they differ.
+fn ask_both(asked: &Asked, buffers: Buffers) -> Result<Buffers, String> {
+    let (mut library, mut reference) = (buffers.clone(), buffers);
+    let library_status = asked.of::<Library>(&mut library);
+    let reference_status = asked.of::<Reference>(&mut reference);
+    if library_status == reference_status && library == reference {
+        return Ok(library);
+    }
+    Err(format!(
+        "the implementations differ\n\
+         {:?}, enforce {}\n\
+         sheet {}\n\
+         {:?}\n\
+         library   returns {library_status}, answer {:?}\n\
+         reference returns {reference_status}, answer {:?}\n\
+         first difference: cells {:?}, posts {:?}, frames {:?}, answer {:?}",
+        asked.entry,
+        asked.enforce,
+        hex(asked.sheet),
+        asked.request,
+        library.answer.contents(),
+        reference.answer.contents(),
+        library.cells.first_difference(&reference.cells),
+        library.posts.first_difference(&reference.posts),
+        library.frames.first_difference(&reference.frames),
+        library.answer.first_difference(&reference.answer),
+    ))
+}

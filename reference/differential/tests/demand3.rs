@@ -1,0 +1,141 @@
+//! Demand 3 on the library's own answers: an accepted sheet, on a stack that
+//! grants its needs, runs the same with its checks in force and passed over.
+
+use differential::{settings, Asked, Buffers, Entry, Implementation, Library, ANSWER_NUMBERS};
+use sheets::generate::{nearly_accepted, Sample};
+use sheets::hex;
+use sheets::request::{random_frame, Request};
+use sheets::rng::Rng;
+use sovzedal_reference::{granted_by, start_frames, Set};
+use std::process::ExitCode;
+
+const SHEETS: u64 = 40_000;
+const ENOUGH: usize = 10_000;
+
+const ENDED: u32 = 0;
+const STOPPED: u32 = 1;
+
+/// How the runs that were compared came out.
+#[derive(Default)]
+struct Counts {
+    ended: usize,
+    stopped: usize,
+    with_needs: usize,
+}
+
+fn main() -> ExitCode {
+    let mut counts = Counts::default();
+    for batch in settings::batches(SHEETS) {
+        println!(
+            "seed {}, {} sheets",
+            batch.seed,
+            batch.items.end - batch.items.start
+        );
+        for index in batch.items {
+            if let Err(broken) = try_sheet(batch.seed, index, &mut counts) {
+                println!("demand 3 is broken: {broken}");
+                println!("again with {}", settings::again(batch.seed, index));
+                return ExitCode::FAILURE;
+            }
+        }
+    }
+    let compared = counts.ended + counts.stopped;
+    println!(
+        "two runs compared for {compared} sheets, {} of them with needs: {} ended, {} stopped",
+        counts.with_needs, counts.ended, counts.stopped
+    );
+    if settings::are_whole() && compared < ENOUGH {
+        println!("too few, {ENOUGH} are asked");
+        return ExitCode::FAILURE;
+    }
+    ExitCode::SUCCESS
+}
+
+fn try_sheet(seed: u64, index: u64, counts: &mut Counts) -> Result<(), String> {
+    // Not the sheets that the other test has had from this seed.
+    let rng = &mut Rng::for_item(!seed, index);
+    let sample = nearly_accepted(rng);
+    let mut verdict = [0; ANSWER_NUMBERS];
+    if Library::typecheck(&sample.bytes, &mut verdict) != ENDED {
+        return Ok(());
+    }
+    let [.., needs] = verdict;
+    let start = granting_stack(rng, &sample, needs)?;
+    let request = Request::random_admissible(rng, start);
+    let (status, in_force) = run(rng, &sample, &request, 1);
+    let (other_status, passed_over) = run(rng, &sample, &request, 0);
+
+    let is_same = status == other_status
+        && in_force.answer() == passed_over.answer()
+        && posts_made(&in_force) == posts_made(&passed_over);
+    if !is_same {
+        return Err(format!(
+            "sheet {}\n{request:?}\n\
+             in force    {status} {:?}, posts {:?}\n\
+             passed over {other_status} {:?}, posts {:?}",
+            hex(&sample.bytes),
+            in_force.answer(),
+            posts_made(&in_force),
+            passed_over.answer(),
+            posts_made(&passed_over),
+        ));
+    }
+    let answer = in_force.answer().expect("the answer has room");
+    match (status, answer) {
+        (ENDED, [_, _, ty, ..]) if *ty == verdict[2] => counts.ended += 1,
+        (STOPPED, [19..=22, ..]) => counts.stopped += 1,
+        _ => {
+            let sheet = hex(&sample.bytes);
+            return Err(format!(
+                "sheet {sheet}\n{request:?}\nboth gave {status} {answer:?}"
+            ));
+        }
+    }
+    counts.with_needs += usize::from(needs != 0);
+    Ok(())
+}
+
+/// A start stack that grants `needs`: a frame that enables them, of a
+/// principal that may use them, and others of such principals before it.
+/// What is behind doesn't matter.
+fn granting_stack(rng: &mut Rng, sample: &Sample, needs: u32) -> Result<Vec<u32>, String> {
+    let principals = &sample.world.principals;
+    let able: Vec<u32> = (0..principals.len() as u32)
+        .filter(|&principal| needs & !principals[principal as usize] == 0)
+        .collect();
+    let Some(enabler) = rng.pick_any(&able) else {
+        return Err("no principal may use what the root, a sign, needs".to_string());
+    };
+    let mut start = Vec::new();
+    for _ in 0..rng.below(4) {
+        start.extend([rng.pick(&able), sample.world.random_set(rng, 50)]);
+    }
+    if needs != 0 || rng.percent(50) {
+        start.extend([enabler, needs | sample.world.random_set(rng, 30)]);
+    }
+    for _ in 0..rng.below(4) {
+        start.extend(random_frame(rng, &sample.world));
+    }
+    let sets: Vec<Set> = principals.iter().map(|&set| Set::from_bits(set)).collect();
+    let frames = start_frames(&start, sets.len()).expect("the stack is well made");
+    assert!(Set::from_bits(needs).is_within(granted_by(&sets, &frames)));
+    Ok(start)
+}
+
+/// A run of either runner, in buffers of its own.
+fn run(rng: &mut Rng, sample: &Sample, request: &Request, enforce: u32) -> (u32, Buffers) {
+    let entry = rng.pick(&[Entry::RunEager, Entry::RunLazy]);
+    let mut buffers = Buffers::random(rng, entry, request, ANSWER_NUMBERS);
+    let asked = Asked {
+        entry,
+        sheet: &sample.bytes,
+        request,
+        enforce,
+    };
+    (asked.of::<Library>(&mut buffers), buffers)
+}
+
+fn posts_made(buffers: &Buffers) -> Option<&[u16]> {
+    let posts = buffers.answer()?[6] as usize;
+    buffers.posts.contents().get(..posts)
+}

@@ -1,0 +1,323 @@
+//! Trees that the rules accept, grown from the type and the needs that they
+//! may have.
+
+use crate::records::{BOOL, NUMBER};
+use crate::rng::Rng;
+use crate::tree::*;
+use crate::world::World;
+
+const MAX_NESTING: usize = 32;
+
+/// A signed tree of about `size` terms that gives a boolean or a number.
+pub fn accepted(rng: &mut Rng, world: &World, size: usize) -> Tree {
+    let ty = rng.pick(&[BOOL, NUMBER]);
+    of_type(rng, world, size, ty)
+}
+
+/// A signed tree of about `size` terms without faults but, if `ty` is a
+/// function's, that of the root.
+pub fn of_type(rng: &mut Rng, world: &World, size: usize, ty: u16) -> Tree {
+    let mut grower = Grower {
+        rng,
+        world,
+        bindings: Vec::new(),
+    };
+    let everywhere = Site {
+        signer: 0,
+        allowed: u32::MAX,
+        levels: MAX_NESTING,
+        size,
+    };
+    grower.signed(ty, everywhere)
+}
+
+struct Grower<'a> {
+    rng: &'a mut Rng,
+    world: &'a World,
+    /// The types of the variables in scope, the nearest last.
+    bindings: Vec<u16>,
+}
+
+/// Where a term is to grow.
+#[derive(Clone, Copy)]
+struct Site {
+    /// What the signing principal may use.
+    signer: u32,
+    /// What the term may need.
+    allowed: u32,
+    /// How many levels of nesting are left, the term's own included.
+    levels: usize,
+    /// How many terms to spend, roughly.
+    size: usize,
+}
+
+impl Site {
+    /// A level further down, with `size` terms to spend.
+    fn below(self, size: usize) -> Self {
+        Self {
+            levels: self.levels.saturating_sub(1),
+            size,
+            ..self
+        }
+    }
+
+    fn allowing(self, allowed: u32) -> Self {
+        Self { allowed, ..self }
+    }
+}
+
+impl Grower<'_> {
+    fn grow(&mut self, ty: u16, site: Site) -> Tree {
+        let has_room = site.levels > self.world.least_height(ty);
+        if site.size > 1 && has_room {
+            for _ in 0..4 {
+                if let Some(tree) = self.compound(ty, site) {
+                    return tree;
+                }
+            }
+        }
+        self.leaf(ty, site)
+    }
+
+    fn compound(&mut self, ty: u16, site: Site) -> Option<Tree> {
+        match self.rng.below(16) {
+            0 => Some(self.conditional(ty, site)),
+            1 => Some(self.test(ty, site)),
+            2 | 3 => self.check(ty, site),
+            4 | 5 => Some(self.enable(ty, site)),
+            6 => Some(self.signed(ty, site)),
+            7..=9 => self.call(ty, site),
+            10 => self.letrec(ty, site),
+            11 => self.countdown(ty, site),
+            _ => Some(self.of_own_kind(ty, site)),
+        }
+    }
+
+    /// A variable if there is one, else the shortest term of this type.
+    fn leaf(&mut self, ty: u16, site: Site) -> Tree {
+        if self.rng.percent(70) {
+            if let Some(variable) = self.variable(ty) {
+                return variable;
+            }
+        }
+        match ty {
+            BOOL => boolean(self.rng.percent(50)),
+            NUMBER => number(self.value()),
+            _ => self.function(ty, site),
+        }
+    }
+
+    fn value(&mut self) -> u16 {
+        match self.rng.below(10) {
+            0 => self.rng.bits() as u16,
+            1 => self.rng.pick(&[65_535, 65_534, 32_768, 256, 255]),
+            _ => self.rng.below(6) as u16,
+        }
+    }
+
+    fn variable(&mut self, ty: u16) -> Option<Tree> {
+        let indices: Vec<u16> = (0..)
+            .zip(self.bindings.iter().rev())
+            .filter(|&(_, &bound)| bound == ty)
+            .map(|(index, _)| index)
+            .collect();
+        self.rng.pick_any(&indices).map(variable)
+    }
+
+    /// A term that only this type has.
+    fn of_own_kind(&mut self, ty: u16, site: Site) -> Tree {
+        match ty {
+            BOOL => self.of_two_numbers(less, site),
+            NUMBER => match self.rng.below(3) {
+                0 => self.of_two_numbers(sum, site),
+                1 => self.of_two_numbers(difference, site),
+                _ => post(self.grow(NUMBER, site.below(site.size - 1))),
+            },
+            _ => self.function(ty, site),
+        }
+    }
+
+    fn of_two_numbers(&mut self, make: fn(Tree, Tree) -> Tree, site: Site) -> Tree {
+        let [left, right] = self.split(site);
+        make(self.grow(NUMBER, left), self.grow(NUMBER, right))
+    }
+
+    fn conditional(&mut self, ty: u16, site: Site) -> Tree {
+        let [condition, branches] = self.split(site);
+        let branch = site.below(branches.size / 2);
+        when(
+            self.grow(BOOL, condition),
+            self.grow(ty, branch),
+            self.grow(ty, branch),
+        )
+    }
+
+    fn test(&mut self, ty: u16, site: Site) -> Tree {
+        let privilege = self.world.random_privilege(self.rng);
+        let [yes, no] = self.split(site);
+        test(privilege, self.grow(ty, yes), self.grow(ty, no))
+    }
+
+    fn check(&mut self, ty: u16, site: Site) -> Option<Tree> {
+        let privilege = self.world.random_privilege(self.rng);
+        let allowed = site.allowed >> privilege & 1 == 1;
+        allowed.then(|| check(privilege, self.grow(ty, site.below(site.size - 1))))
+    }
+
+    fn enable(&mut self, ty: u16, site: Site) -> Tree {
+        let privilege = self.world.random_privilege(self.rng);
+        let enabled = 1 << privilege & site.signer;
+        let inner = site.below(site.size - 1).allowing(site.allowed | enabled);
+        enable(privilege, self.grow(ty, inner))
+    }
+
+    fn signed(&mut self, ty: u16, site: Site) -> Tree {
+        let principal = self.world.random_principal(self.rng);
+        let signer = self.world.authorised(principal);
+        let inner = Site {
+            signer,
+            allowed: site.allowed & signer,
+            ..site.below(site.size.saturating_sub(1))
+        };
+        sign(principal, self.grow(ty, inner))
+    }
+
+    fn function(&mut self, ty: u16, site: Site) -> Tree {
+        let record = self.world.ty(ty);
+        let body = site
+            .below(site.size.saturating_sub(1))
+            .allowing(record.latent);
+        function(
+            ty,
+            self.under(&[record.argument], |grower| {
+                grower.signed(record.result, body)
+            }),
+        )
+    }
+
+    /// Any function that gives `ty`, on any argument that fits.
+    fn call(&mut self, ty: u16, site: Site) -> Option<Tree> {
+        let callee = self.callee(ty, site)?;
+        let given = self.argument(self.world.ty(callee).argument, site)?;
+        let [function, argument] = self.split(site);
+        Some(call(
+            self.grow(callee, function),
+            self.grow(given, argument),
+        ))
+    }
+
+    /// A type that fits the one asked, by preference another one.
+    fn argument(&mut self, asked: u16, site: Site) -> Option<u16> {
+        let fitting: Vec<u16> = (0..self.world.types.len() as u16)
+            .filter(|&given| given != asked && self.world.fits(given, asked))
+            .filter(|&given| self.has_height(given, site))
+            .collect();
+        if let (true, Some(given)) = (self.rng.percent(70), self.rng.pick_any(&fitting)) {
+            return Some(given);
+        }
+        self.has_height(asked, site).then_some(asked)
+    }
+
+    /// A function type whose calls give `ty` and need no more than allowed,
+    /// by preference one that a variable has.
+    fn callee(&mut self, ty: u16, site: Site) -> Option<u16> {
+        let world = self.world;
+        let callable = |callee: &u16| {
+            let record = world.ty(*callee);
+            record.is_function() && record.result == ty && record.latent & !site.allowed == 0
+        };
+        let bound: Vec<u16> = self.bindings.iter().copied().filter(callable).collect();
+        if let (true, Some(callee)) = (self.rng.percent(60), self.rng.pick_any(&bound)) {
+            return Some(callee);
+        }
+        let known: Vec<u16> = world
+            .function_types()
+            .filter(|callee| callable(callee) && self.has_height(*callee, site))
+            .collect();
+        self.rng.pick_any(&known)
+    }
+
+    fn letrec(&mut self, ty: u16, site: Site) -> Option<Tree> {
+        let bound = self.bindable(site, |_| true)?;
+        let record = self.world.ty(bound);
+        let [body, rest] = self.split(site);
+        let body = self.under(&[bound, record.argument], |grower| {
+            grower.signed(record.result, body.allowing(record.latent))
+        });
+        let rest = self.under(&[bound], |grower| grower.grow(ty, rest));
+        Some(letrec(bound, body, rest))
+    }
+
+    /// A function that calls itself on ever lower numbers, and its call.
+    fn countdown(&mut self, ty: u16, site: Site) -> Option<Tree> {
+        const OWN_LEVELS: usize = 6;
+        if site.levels < OWN_LEVELS + self.world.least_height(ty) {
+            return None;
+        }
+        let world = self.world;
+        let bound = self.bindable(site, |bound| {
+            let record = world.ty(bound);
+            record.argument == NUMBER && record.result == ty
+        })?;
+        let latent = world.ty(bound).latent;
+        let signers: Vec<u8> = (0..world.principals.len() as u8)
+            .filter(|&principal| latent & !world.authorised(principal) == 0)
+            .collect();
+        let signer = self.rng.pick_any(&signers)?;
+        let inner = Site {
+            signer: world.authorised(signer),
+            allowed: latent,
+            levels: site.levels - OWN_LEVELS,
+            size: site.size / 2,
+        };
+        let body = self.under(&[bound, NUMBER], |grower| grower.countdown_body(ty, inner));
+        let rounds = self.rng.pick(&[0, 1, 2, 3, 5, 9, 40, 99, 100]);
+        Some(letrec(
+            bound,
+            sign(signer, body),
+            call(variable(0), number(rounds)),
+        ))
+    }
+
+    fn countdown_body(&mut self, ty: u16, site: Site) -> Tree {
+        let again = || call(variable(1), difference(variable(0), number(1)));
+        let base = self.grow(ty, site.below(1));
+        let step = match ty {
+            NUMBER if self.rng.percent(40) => sum(again(), again()),
+            NUMBER => sum(self.grow(NUMBER, site), again()),
+            _ => when(self.grow(BOOL, site), again(), self.grow(ty, site.below(1))),
+        };
+        when(less(variable(0), number(1)), base, step)
+    }
+
+    /// A function type that a binder may have here.
+    fn bindable(&mut self, site: Site, wanted: impl Fn(u16) -> bool) -> Option<u16> {
+        let known: Vec<u16> = self
+            .world
+            .function_types()
+            .filter(|&bound| self.world.ty(bound).latent & !site.allowed == 0)
+            .filter(|&bound| self.has_height(bound, site) && wanted(bound))
+            .collect();
+        self.rng.pick_any(&known)
+    }
+
+    /// Whether a child here may have this type without nesting too deep.
+    fn has_height(&self, ty: u16, site: Site) -> bool {
+        self.world.least_height(ty) < site.levels
+    }
+
+    fn under<T>(&mut self, bindings: &[u16], grow: impl FnOnce(&mut Self) -> T) -> T {
+        let outside = self.bindings.len();
+        self.bindings.extend_from_slice(bindings);
+        let grown = grow(self);
+        self.bindings.truncate(outside);
+        grown
+    }
+
+    /// The sites of two children.
+    fn split(&mut self, site: Site) -> [Site; 2] {
+        let rest = site.size.saturating_sub(1);
+        let left = self.rng.between(0, rest);
+        [site.below(left), site.below(rest - left)]
+    }
+}

@@ -1,0 +1,29 @@
+//! Sheets to test with.
+//!
+//! [`tree`] and [`records`] assemble sheets. [`cases`], [`smallest`],
+//! [`extremes`] and [`load`] hold the ones made by hand, [`generate`] draws
+//! others at random and [`request`] draws what to ask of their runs, from a
+//! [`seed`]. Nothing here knows how a sheet is judged or run, except [`grow`],
+//! which builds sheets that the rules accept.
+
+pub mod cases;
+pub mod damage;
+pub mod extremes;
+pub mod generate;
+pub mod grow;
+pub mod load;
+pub mod records;
+pub mod request;
+pub mod rng;
+pub mod seed;
+pub mod smallest;
+pub mod spoil;
+pub mod tally;
+pub mod tree;
+pub mod wild;
+pub mod world;
+
+/// Two capital digits a byte.
+pub fn hex(bytes: &[u8]) -> String {
+    bytes.iter().map(|byte| format!("{byte:02X}")).collect()
+}

@@ -1,0 +1,90 @@
+//! Results in the numbers of the C interface.
+
+use crate::judge::Verdict;
+use crate::refusal::Refusal;
+use crate::run::{Outcome, Plain, Run, Stop};
+use crate::sheet::Sheet;
+
+/// What a C function returns and the eight numbers that it writes.
+#[derive(Clone, Copy, Debug, PartialEq, Eq)]
+pub struct Reply {
+    pub status: u32,
+    pub answer: [u32; 8],
+}
+
+const DONE: u32 = 0;
+const STOPPED: u32 = 1;
+const REFUSED: u32 = 2;
+
+impl From<Refusal> for Reply {
+    fn from(refusal: Refusal) -> Self {
+        let mut answer = [0; 8];
+        answer[0] = refusal.cause.number();
+        answer[1] = refusal.place;
+        Reply {
+            status: REFUSED,
+            answer,
+        }
+    }
+}
+
+impl From<Sheet> for Reply {
+    fn from(sheet: Sheet) -> Self {
+        let mut answer = [0; 8];
+        answer[3] = sheet.terms.len() as u32;
+        answer[4] = sheet.principals.len() as u32;
+        answer[5] = sheet.types.len() as u32;
+        Reply {
+            status: DONE,
+            answer,
+        }
+    }
+}
+
+impl From<Verdict> for Reply {
+    fn from(verdict: Verdict) -> Self {
+        let mut answer = [0; 8];
+        answer[2] = u32::from(verdict.ty);
+        answer[3] = verdict.terms as u32;
+        answer[7] = verdict.needs.bits();
+        Reply {
+            status: DONE,
+            answer,
+        }
+    }
+}
+
+impl From<Run> for Reply {
+    fn from(run: Run) -> Self {
+        let mut answer = [0; 8];
+        answer[4] = run.calls;
+        answer[5] = run.cells;
+        answer[6] = run.posts;
+        let status = match run.outcome {
+            Outcome::End(Plain::Bool(value)) => {
+                answer[3] = u32::from(value);
+                DONE
+            }
+            Outcome::End(Plain::Number(value)) => {
+                answer[2] = 1;
+                answer[3] = u32::from(value);
+                DONE
+            }
+            Outcome::Stop(Stop { cause, term }) => {
+                answer[0] = cause.number();
+                answer[1] = u32::from(term);
+                STOPPED
+            }
+        };
+        Reply { status, answer }
+    }
+}
+
+impl<T: Into<Reply>> From<Result<T, Refusal>> for Reply {
+    fn from(result: Result<T, Refusal>) -> Self {
+        match result {
+            Ok(value) => value.into(),
+            Err(refusal) => refusal.into(),
+        }
+    }
+}

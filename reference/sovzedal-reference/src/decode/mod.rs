@@ -1,0 +1,40 @@
+//! From bytes to a [`Sheet`]: causes 1 to 8.
+//!
+//! Each step looks at the whole of its table before the next begins, so the
+//! order of the calls below is the order in which faults are told.
+
+mod fields;
+mod shape;
+mod terms;
+mod types;
+
+use crate::refusal::Refusal;
+use crate::set::Set;
+use crate::sheet::Sheet;
+
+pub fn decode(bytes: &[u8]) -> Result<Sheet, Refusal> {
+    let fields = fields::split(bytes)?;
+    let principals = principals(fields.principals);
+    let types = types::decode(fields.types)?;
+    let terms = terms::decode(fields.terms, &principals, &types)?;
+    let sheet = Sheet {
+        principals,
+        types,
+        terms,
+    };
+    shape::check_parents_and_signs(&sheet)?;
+    shape::check_nesting(&sheet)?;
+    Ok(sheet)
+}
+
+/// Any four bytes are a set, so principals cannot be at fault.
+fn principals(content: &[u8]) -> Vec<Set> {
+    content
+        .chunks_exact(fields::PRINCIPAL_BYTES)
+        .map(|record| {
+            Set::from_bits(u32::from_be_bytes([
+                record[0], record[1], record[2], record[3],
+            ]))
+        })
+        .collect()
+}

@@ -1,0 +1,258 @@
+//! The rules: causes 9 to 13.
+//!
+//! Needs are always the smallest that the rules allow. A derivation may widen
+//! them, but every condition bounds needs from above, so widening never helps.
+
+use crate::decode::decode;
+use crate::refusal::{Cause, Refusal};
+use crate::set::Set;
+use crate::sheet::{FunctionType, Sheet, Term, TermId, Type, TypeId};
+
+/// What an accepted sheet is told.
+#[derive(Clone, Copy, Debug, PartialEq, Eq)]
+pub struct Verdict {
+    pub terms: usize,
+    /// The root's type: [`Type::BOOL`] or [`Type::NUMBER`].
+    pub ty: TypeId,
+    pub needs: Set,
+}
+
+/// Reads a sheet and judges it by the rules.
+pub fn typecheck(bytes: &[u8]) -> Result<Verdict, Refusal> {
+    let sheet = decode(bytes)?;
+    let mut judge = Judge {
+        sheet: &sheet,
+        bindings: Vec::new(),
+    };
+    let root = sheet.root();
+    // The root is a sign, so the signer given here is never asked.
+    let Judgement { ty, needs } = judge.judge(root, Set::EMPTY)?;
+    if ty != Type::BOOL && ty != Type::NUMBER {
+        return Err(Cause::RootType.at(root));
+    }
+    Ok(Verdict {
+        terms: sheet.terms.len(),
+        ty,
+        needs,
+    })
+}
+
+/// A term's type and needs.
+#[derive(Clone, Copy)]
+struct Judgement {
+    ty: TypeId,
+    needs: Set,
+}
+
+impl Judgement {
+    fn needing_nothing(ty: TypeId) -> Self {
+        Self {
+            ty,
+            needs: Set::EMPTY,
+        }
+    }
+}
+
+struct Judge<'a> {
+    sheet: &'a Sheet,
+    /// The types of the variables in scope, the nearest last.
+    bindings: Vec<TypeId>,
+}
+
+impl Judge<'_> {
+    /// Judges the children in order and then the term itself. `signer` is
+    /// what the signing principal may use.
+    fn judge(&mut self, id: TermId, signer: Set) -> Result<Judgement, Refusal> {
+        match self.sheet.term(id) {
+            Term::Bool(_) => Ok(Judgement::needing_nothing(Type::BOOL)),
+            Term::Number(_) => Ok(Judgement::needing_nothing(Type::NUMBER)),
+            Term::Variable(index) => self.variable(id, index),
+            Term::Function { ty, body } => self.function(id, ty, body, signer),
+            Term::Letrec { ty, body, rest } => self.letrec(id, ty, body, rest, signer),
+            Term::Call { function, argument } => self.call(id, function, argument, signer),
+            Term::If { condition, yes, no } => {
+                let condition = self.judge(condition, signer)?;
+                let branches = self.branches(id, yes, no, signer)?;
+                require_type(id, condition.ty == Type::BOOL)?;
+                Ok(Judgement {
+                    needs: branches.needs.union(condition.needs),
+                    ..branches
+                })
+            }
+            Term::Test { yes, no, .. } => self.branches(id, yes, no, signer),
+            Term::Check { privilege, inner } => {
+                let inner = self.judge(inner, signer)?;
+                Ok(Judgement {
+                    needs: inner.needs.with(privilege),
+                    ..inner
+                })
+            }
+            Term::Enable { privilege, inner } => {
+                let inner = self.judge(inner, signer)?;
+                if !signer.contains(privilege) {
+                    return Ok(inner);
+                }
+                Ok(Judgement {
+                    needs: inner.needs.without(privilege),
+                    ..inner
+                })
+            }
+            Term::Sign { principal, inner } => {
+                let signer = self.sheet.authorised(principal);
+                let inner = self.judge(inner, signer)?;
+                require(inner.needs.is_within(signer), Cause::SignNeeds, id)?;
+                Ok(inner)
+            }
+            Term::Sum(left, right) | Term::Difference(left, right) => {
+                self.of_numbers(id, &[left, right], Type::NUMBER, signer)
+            }
+            Term::Less(left, right) => self.of_numbers(id, &[left, right], Type::BOOL, signer),
+            Term::Post(inner) => self.of_numbers(id, &[inner], Type::NUMBER, signer),
+        }
+    }
+
+    fn variable(&self, id: TermId, index: u16) -> Result<Judgement, Refusal> {
+        let mut nearest_first = self.bindings.iter().rev();
+        match nearest_first.nth(usize::from(index)) {
+            Some(&ty) => Ok(Judgement::needing_nothing(ty)),
+            None => Err(Cause::UnboundVariable.at(id)),
+        }
+    }
+
+    fn function(
+        &mut self,
+        id: TermId,
+        ty: TypeId,
+        body: TermId,
+        signer: Set,
+    ) -> Result<Judgement, Refusal> {
+        let function = self.expect_function(ty);
+        let body = self.judge_under(&[function.argument], body, signer)?;
+        require_body(id, body, function)?;
+        Ok(Judgement::needing_nothing(ty))
+    }
+
+    fn letrec(
+        &mut self,
+        id: TermId,
+        ty: TypeId,
+        body: TermId,
+        rest: TermId,
+        signer: Set,
+    ) -> Result<Judgement, Refusal> {
+        let function = self.expect_function(ty);
+        let body = self.judge_under(&[ty, function.argument], body, signer)?;
+        let rest = self.judge_under(&[ty], rest, signer)?;
+        require_body(id, body, function)?;
+        Ok(Judgement {
+            needs: function.latent.union(rest.needs),
+            ..rest
+        })
+    }
+
+    fn call(
+        &mut self,
+        id: TermId,
+        function: TermId,
+        argument: TermId,
+        signer: Set,
+    ) -> Result<Judgement, Refusal> {
+        let callee = self.judge(function, signer)?;
+        let argument = self.judge(argument, signer)?;
+        let Some(function) = self.sheet.function_type(callee.ty) else {
+            return Err(Cause::TypeMismatch.at(id));
+        };
+        require_type(id, fits(self.sheet, argument.ty, function.argument))?;
+        Ok(Judgement {
+            ty: function.result,
+            needs: function.latent.union(callee.needs).union(argument.needs),
+        })
+    }
+
+    /// Two branches of the same type.
+    fn branches(
+        &mut self,
+        id: TermId,
+        yes: TermId,
+        no: TermId,
+        signer: Set,
+    ) -> Result<Judgement, Refusal> {
+        let yes = self.judge(yes, signer)?;
+        let no = self.judge(no, signer)?;
+        require_type(id, yes.ty == no.ty)?;
+        Ok(Judgement {
+            needs: yes.needs.union(no.needs),
+            ..yes
+        })
+    }
+
+    /// A term that takes numbers and gives a `result`.
+    fn of_numbers(
+        &mut self,
+        id: TermId,
+        operands: &[TermId],
+        result: TypeId,
+        signer: Set,
+    ) -> Result<Judgement, Refusal> {
+        let mut all_numbers = true;
+        let mut needs = Set::EMPTY;
+        for &operand in operands {
+            let operand = self.judge(operand, signer)?;
+            all_numbers &= operand.ty == Type::NUMBER;
+            needs = needs.union(operand.needs);
+        }
+        require_type(id, all_numbers)?;
+        Ok(Judgement { ty: result, needs })
+    }
+
+    /// Judges a term with more variables in scope, the nearest last.
+    fn judge_under(
+        &mut self,
+        bindings: &[TypeId],
+        id: TermId,
+        signer: Set,
+    ) -> Result<Judgement, Refusal> {
+        let outside = self.bindings.len();
+        self.bindings.extend_from_slice(bindings);
+        let judgement = self.judge(id, signer);
+        self.bindings.truncate(outside);
+        judgement
+    }
+
+    fn expect_function(&self, ty: TypeId) -> FunctionType {
+        self.sheet
+            .function_type(ty)
+            .expect("a decoded function or binder has a function type")
+    }
+}
+
+/// Whether a value of type `a` may be given where `b` is asked.
+fn fits(sheet: &Sheet, a: TypeId, b: TypeId) -> bool {
+    if a == b {
+        return true;
+    }
+    let (Some(a), Some(b)) = (sheet.function_type(a), sheet.function_type(b)) else {
+        return false;
+    };
+    fits(sheet, b.argument, a.argument)
+        && a.latent.is_within(b.latent)
+        && fits(sheet, a.result, b.result)
+}
+
+/// The conditions on a body; its type is asked before its needs.
+fn require_body(id: TermId, body: Judgement, function: FunctionType) -> Result<(), Refusal> {
+    require_type(id, body.ty == function.result)?;
+    require(body.needs.is_within(function.latent), Cause::BodyNeeds, id)
+}
+
+fn require_type(id: TermId, holds: bool) -> Result<(), Refusal> {
+    require(holds, Cause::TypeMismatch, id)
+}
+
+fn require(holds: bool, cause: Cause, id: TermId) -> Result<(), Refusal> {
+    if holds {
+        Ok(())
+    } else {
+        Err(cause.at(id))
+    }
+}

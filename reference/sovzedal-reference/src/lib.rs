@@ -1,0 +1,27 @@
+//! Rule sheets, implemented a second time.
+//!
+//! This crate follows the contract's words and nothing else, so that it can be
+//! compared with the proved library. It reads a sheet into a tree
+//! ([`decode`]), judges it ([`typecheck`]) and interprets it ([`run_eager`],
+//! [`run_lazy`]). Where the words leave a choice, `READINGS.md` names it.
+
+mod answer;
+mod decode;
+mod judge;
+mod refusal;
+mod report;
+mod run;
+mod set;
+mod sheet;
+
+pub use answer::Reply;
+pub use decode::decode;
+pub use judge::{typecheck, Verdict};
+pub use refusal::{Cause, Refusal};
+pub use report::report;
+pub use run::{
+    granted_by, run_eager, run_lazy, start_frames, Checks, Frame, Outcome, Plain, Request, Run,
+    Stop, FRAME_NUMBERS, MAX_CALLS, MAX_CELL_BYTES, MAX_OPEN_CALLS, MAX_POSTS,
+};
+pub use set::{Privilege, Set};
+pub use sheet::{FunctionType, PrincipalId, Sheet, Term, TermId, Type, TypeId};

@@ -1,0 +1,55 @@
+//! What can be told instead of a result, by the contract's numbers.
+
+/// Every cause of a refusal (1 to 16) or a stop (17 to 22).
+#[derive(Clone, Copy, Debug, PartialEq, Eq)]
+#[repr(u32)]
+pub enum Cause {
+    CutShort = 1,
+    WrongTag = 2,
+    WrongVersion = 3,
+    WrongLength = 4,
+    TypeRecord = 5,
+    TermRecord = 6,
+    Shape = 7,
+    Nesting = 8,
+    UnboundVariable = 9,
+    TypeMismatch = 10,
+    SignNeeds = 11,
+    BodyNeeds = 12,
+    RootType = 13,
+    StartStack = 14,
+    Buffers = 15,
+    Allowance = 16,
+    RefusedCheck = 17,
+    Stuck = 18,
+    TooManyOpenCalls = 19,
+    CallsSpent = 20,
+    NoCell = 21,
+    NoPost = 22,
+}
+
+impl Cause {
+    pub fn number(self) -> u32 {
+        self as u32
+    }
+
+    /// A refusal for this cause at a type or a term.
+    pub(crate) fn at(self, place: impl Into<u32>) -> Refusal {
+        Refusal {
+            cause: self,
+            place: place.into(),
+        }
+    }
+
+    /// A refusal for a cause that names no place.
+    pub(crate) fn anywhere(self) -> Refusal {
+        self.at(0u32)
+    }
+}
+
+/// A sheet or a request was turned back.
+#[derive(Clone, Copy, Debug, PartialEq, Eq)]
+pub struct Refusal {
+    pub cause: Cause,
+    pub place: u32,
+}

@@ -1,0 +1,240 @@
+//! Evaluation: causes 17 to 22.
+
+use super::authority::Authority;
+use super::request::{Checks, Request};
+use super::{Outcome, Run, Stop};
+use crate::refusal::Cause;
+use crate::sheet::{Sheet, Term, TermId};
+
+const CELL_BYTES: usize = 8;
+
+#[derive(Clone, Copy)]
+pub enum Value {
+    Bool(bool),
+    Number(u16),
+    Function(Closure),
+}
+
+#[derive(Clone, Copy)]
+pub struct Closure {
+    body: TermId,
+    bindings: Bindings,
+}
+
+/// The nearest binding in scope, if any; each leads to the one outside it.
+type Bindings = Option<CellId>;
+type CellId = u16;
+
+/// A binding. Cells are never freed within a run, so that closures may keep
+/// hold of them.
+struct Cell {
+    value: Value,
+    outside: Bindings,
+}
+
+pub struct Machine<'a, A> {
+    sheet: &'a Sheet,
+    request: &'a Request<'a>,
+    authority: A,
+    cells: Vec<Cell>,
+    max_cells: usize,
+    posts: &'a mut [u16],
+    posts_made: usize,
+    calls_made: u32,
+    open_calls: u32,
+}
+
+impl<'a, A: Authority> Machine<'a, A> {
+    pub fn new(
+        sheet: &'a Sheet,
+        request: &'a Request,
+        authority: A,
+        cell_bytes: usize,
+        posts: &'a mut [u16],
+    ) -> Self {
+        Self {
+            sheet,
+            request,
+            authority,
+            cells: Vec::new(),
+            max_cells: cell_bytes / CELL_BYTES,
+            posts,
+            posts_made: 0,
+            calls_made: 0,
+            open_calls: 0,
+        }
+    }
+
+    pub fn run(&mut self) -> Result<Value, Stop> {
+        self.eval(self.sheet.root(), None)
+    }
+
+    /// The whole answer of a run that came to `outcome`.
+    pub fn tell(&self, outcome: Outcome) -> Run {
+        Run {
+            outcome,
+            calls: self.calls_made,
+            cells: self.cells.len() as u32,
+            posts: self.posts_made as u32,
+        }
+    }
+
+    fn eval(&mut self, id: TermId, bindings: Bindings) -> Result<Value, Stop> {
+        match self.sheet.term(id) {
+            Term::Bool(value) => Ok(Value::Bool(value)),
+            Term::Number(value) => Ok(Value::Number(value)),
+            Term::Variable(index) => self.variable(id, index, bindings),
+            Term::Function { body, .. } => Ok(Value::Function(Closure { body, bindings })),
+            Term::Letrec { body, rest, .. } => {
+                let function = self.bind_recursive(id, body, bindings)?;
+                self.eval(rest, function)
+            }
+            Term::Call { function, argument } => {
+                let function = self.eval(function, bindings)?;
+                let argument = self.eval(argument, bindings)?;
+                self.call(id, function, argument)
+            }
+            Term::If { condition, yes, no } => match self.eval(condition, bindings)? {
+                Value::Bool(true) => self.eval(yes, bindings),
+                Value::Bool(false) => self.eval(no, bindings),
+                Value::Number(_) | Value::Function(_) => stop(Cause::Stuck, id),
+            },
+            Term::Check { privilege, inner } => {
+                let in_force = self.request.checks == Checks::InForce;
+                if in_force && !self.authority.grants(privilege) {
+                    return stop(Cause::RefusedCheck, id);
+                }
+                self.eval(inner, bindings)
+            }
+            Term::Enable { privilege, inner } => {
+                let before = self.authority.enable(privilege);
+                self.eval_then_restore(inner, bindings, before)
+            }
+            Term::Sign { principal, inner } => {
+                let before = self.authority.sign(principal);
+                self.eval_then_restore(inner, bindings, before)
+            }
+            Term::Test { privilege, yes, no } => {
+                let chosen = if self.authority.grants(privilege) {
+                    yes
+                } else {
+                    no
+                };
+                self.eval(chosen, bindings)
+            }
+            Term::Sum(left, right) => {
+                let (left, right) = self.numbers(id, left, right, bindings)?;
+                Ok(Value::Number(left.saturating_add(right)))
+            }
+            Term::Difference(left, right) => {
+                let (left, right) = self.numbers(id, left, right, bindings)?;
+                Ok(Value::Number(left.saturating_sub(right)))
+            }
+            Term::Less(left, right) => {
+                let (left, right) = self.numbers(id, left, right, bindings)?;
+                Ok(Value::Bool(left < right))
+            }
+            Term::Post(inner) => match self.eval(inner, bindings)? {
+                Value::Number(number) => self.post(id, number),
+                Value::Bool(_) | Value::Function(_) => stop(Cause::Stuck, id),
+            },
+        }
+    }
+
+    fn eval_then_restore(
+        &mut self,
+        inner: TermId,
+        bindings: Bindings,
+        before: A::Before,
+    ) -> Result<Value, Stop> {
+        let value = self.eval(inner, bindings)?;
+        self.authority.restore(before);
+        Ok(value)
+    }
+
+    fn variable(&self, id: TermId, index: u16, mut bindings: Bindings) -> Result<Value, Stop> {
+        let mut index = index;
+        while let Some(cell) = bindings {
+            let cell = &self.cells[usize::from(cell)];
+            if index == 0 {
+                return Ok(cell.value);
+            }
+            index -= 1;
+            bindings = cell.outside;
+        }
+        stop(Cause::Stuck, id)
+    }
+
+    /// Runs the body in the caller's authority: only the bindings are those
+    /// of the place where the function was made.
+    fn call(&mut self, id: TermId, function: Value, argument: Value) -> Result<Value, Stop> {
+        let Value::Function(closure) = function else {
+            return stop(Cause::Stuck, id);
+        };
+        if self.open_calls >= self.request.open_calls {
+            return stop(Cause::TooManyOpenCalls, id);
+        }
+        if self.calls_made >= self.request.calls {
+            return stop(Cause::CallsSpent, id);
+        }
+        let bindings = self.bind(id, argument, closure.bindings)?;
+        self.calls_made += 1;
+        self.open_calls += 1;
+        let value = self.eval(closure.body, bindings)?;
+        self.open_calls -= 1;
+        Ok(value)
+    }
+
+    /// Binds a function whose own bindings begin with itself.
+    fn bind_recursive(
+        &mut self,
+        id: TermId,
+        body: TermId,
+        outside: Bindings,
+    ) -> Result<Bindings, Stop> {
+        let itself = Some(self.cells.len() as CellId);
+        let closure = Closure {
+            body,
+            bindings: itself,
+        };
+        self.bind(id, Value::Function(closure), outside)
+    }
+
+    fn bind(&mut self, id: TermId, value: Value, outside: Bindings) -> Result<Bindings, Stop> {
+        if self.cells.len() >= self.max_cells {
+            return stop(Cause::NoCell, id);
+        }
+        let cell = self.cells.len() as CellId;
+        self.cells.push(Cell { value, outside });
+        Ok(Some(cell))
+    }
+
+    /// Evaluates two operands, which must then both be numbers.
+    fn numbers(
+        &mut self,
+        id: TermId,
+        left: TermId,
+        right: TermId,
+        bindings: Bindings,
+    ) -> Result<(u16, u16), Stop> {
+        let left = self.eval(left, bindings)?;
+        let right = self.eval(right, bindings)?;
+        match (left, right) {
+            (Value::Number(left), Value::Number(right)) => Ok((left, right)),
+            _ => stop(Cause::Stuck, id),
+        }
+    }
+
+    fn post(&mut self, id: TermId, number: u16) -> Result<Value, Stop> {
+        let Some(place) = self.posts.get_mut(self.posts_made) else {
+            return stop(Cause::NoPost, id);
+        };
+        *place = number;
+        self.posts_made += 1;
+        Ok(Value::Number(number))
+    }
+}
+
+fn stop<T>(cause: Cause, term: TermId) -> Result<T, Stop> {
+    Err(Stop { cause, term })
+}

@@ -1,0 +1,124 @@
+//! Runs of a sheet: causes 14 to 22.
+//!
+//! One machine evaluates terms; the eager and the lazy runner differ only in
+//! the [`Authority`](authority::Authority) that tells it what is granted.
+
+mod authority;
+mod eager;
+mod frame;
+mod lazy;
+mod machine;
+mod request;
+
+pub use frame::{granted_by, start_frames, Frame};
+pub use request::{
+    Checks, Request, FRAME_NUMBERS, MAX_CALLS, MAX_CELL_BYTES, MAX_OPEN_CALLS, MAX_POSTS,
+};
+
+use crate::decode::decode;
+use crate::refusal::{Cause, Refusal};
+use crate::sheet::{Sheet, TermId};
+use authority::Authority;
+use machine::{Machine, Value};
+use request::Lent;
+
+/// A run that was started, and how it went.
+#[derive(Clone, Copy, Debug, PartialEq, Eq)]
+pub struct Run {
+    pub outcome: Outcome,
+    pub calls: u32,
+    pub cells: u32,
+    pub posts: u32,
+}
+
+#[derive(Clone, Copy, Debug, PartialEq, Eq)]
+pub enum Outcome {
+    End(Plain),
+    Stop(Stop),
+}
+
+/// A value that a run can end with.
+#[derive(Clone, Copy, Debug, PartialEq, Eq)]
+pub enum Plain {
+    Bool(bool),
+    Number(u16),
+}
+
+#[derive(Clone, Copy, Debug, PartialEq, Eq)]
+pub struct Stop {
+    pub cause: Cause,
+    pub term: TermId,
+}
+
+/// Runs a sheet, holding the granted set. After a refusal `cells` and `posts`
+/// are untouched; otherwise `cells` is all zero and `posts` begins with the
+/// posts made.
+pub fn run_eager(
+    bytes: &[u8],
+    request: &Request,
+    cells: &mut [u8],
+    posts: &mut [u16],
+) -> Result<Run, Refusal> {
+    let sheet = decode(bytes)?;
+    let lent = Lent {
+        cell_bytes: cells.len(),
+        posts: posts.len(),
+        frame_numbers: None,
+    };
+    let start = request.admit(&sheet, lent)?;
+    let authority = eager::Granted::new(&sheet, &start);
+    Ok(run(&sheet, request, authority, cells, posts))
+}
+
+/// Runs a sheet, walking frames. As [`run_eager`], and `frames` is treated as
+/// `cells` is.
+pub fn run_lazy(
+    bytes: &[u8],
+    request: &Request,
+    cells: &mut [u8],
+    posts: &mut [u16],
+    frames: &mut [u32],
+) -> Result<Run, Refusal> {
+    let sheet = decode(bytes)?;
+    let lent = Lent {
+        cell_bytes: cells.len(),
+        posts: posts.len(),
+        frame_numbers: Some(frames.len()),
+    };
+    let start = request.admit(&sheet, lent)?;
+    let authority = lazy::Frames::new(&sheet, start);
+    let run = run(&sheet, request, authority, cells, posts);
+    frames.fill(0);
+    Ok(run)
+}
+
+/// Runs an admitted request. Cells and frames live in vectors here: of the
+/// lent stores only the length matters, and that they are left all zero.
+fn run(
+    sheet: &Sheet,
+    request: &Request,
+    authority: impl Authority,
+    cells: &mut [u8],
+    posts: &mut [u16],
+) -> Run {
+    let mut machine = Machine::new(sheet, request, authority, cells.len(), posts);
+    let outcome = match machine.run() {
+        Ok(value) => end(value, sheet.root()),
+        Err(stop) => Outcome::Stop(stop),
+    };
+    let run = machine.tell(outcome);
+    cells.fill(0);
+    run
+}
+
+/// A root that gives a function is stuck.
+fn end(value: Value, root: TermId) -> Outcome {
+    match value {
+        Value::Bool(value) => Outcome::End(Plain::Bool(value)),
+        Value::Number(value) => Outcome::End(Plain::Number(value)),
+        Value::Function(_) => Outcome::Stop(Stop {
+            cause: Cause::Stuck,
+            term: root,
+        }),
+    }
+}

@@ -1,0 +1,118 @@
+//! What the documents show is what this implementation gives: the prints of
+//! `examples/` and the sheets and prints of `docs/REFUSALS.md`. Where the
+//! repository is not around this workspace, there is nothing to compare.
+
+use sheets::smallest::{all, Smallest};
+use sovzedal_reference::{report, run_eager, Checks, Reply, Request};
+use std::path::{Path, PathBuf};
+use std::{env, fs};
+
+#[test]
+fn examples_print_what_is_shown() {
+    let directory = repository().join("examples");
+    if !directory.exists() {
+        return;
+    }
+    let shown = read(&directory.join("README.md"));
+    let sheets = hex_files(&directory);
+    assert!(!sheets.is_empty(), "no examples");
+    for path in sheets {
+        let print = read(&path.with_extension("out"));
+        let name = path.file_name().unwrap().to_str().unwrap();
+        assert_eq!(report(&bytes(&read(&path))), print, "print of {name}");
+        let block = format!("```text\n{print}```");
+        let section = section(&shown, name).expect("a section for each example");
+        assert!(section.contains(&block), "README.md shows {name}'s print");
+    }
+}
+
+#[test]
+fn refusals_are_those_of_the_smallest_sheets() {
+    let path = repository().join("docs/REFUSALS.md");
+    if !path.exists() {
+        return;
+    }
+    let shown = read(&path);
+    for case in all() {
+        let cause = case.cause;
+        let section = section(&shown, &cause.to_string()).expect("a section for each cause");
+        let sheet = block(section, "hex").expect("a sheet");
+        assert_eq!(bytes(sheet), case.sheet, "sheet for {cause}");
+        let print = block(section, "text").expect("a print");
+        assert_eq!(told(&case), print, "print for {cause}");
+    }
+}
+
+/// Asked when the test runs: a path compiled in would outlive a move.
+fn repository() -> PathBuf {
+    let package = env::var_os("CARGO_MANIFEST_DIR").expect("cargo sets it");
+    Path::new(&package).join("../..")
+}
+
+fn read(path: &Path) -> String {
+    fs::read_to_string(path).unwrap_or_else(|error| panic!("{}: {error}", path.display()))
+}
+
+fn hex_files(directory: &Path) -> Vec<PathBuf> {
+    fs::read_dir(directory)
+        .expect("the examples")
+        .map(|entry| entry.expect("an example").path())
+        .filter(|path| path.extension().is_some_and(|extension| extension == "hex"))
+        .collect()
+}
+
+/// The section whose heading begins with this word.
+fn section<'a>(text: &'a str, word: &str) -> Option<&'a str> {
+    text.split("\n## ")
+        .skip(1)
+        .find(|section| section.split_whitespace().next() == Some(word))
+}
+
+/// The first fenced block of this language, without its fences.
+fn block<'a>(section: &'a str, language: &str) -> Option<&'a str> {
+    let (_, rest) = section.split_once(&format!("```{language}\n"))?;
+    let (block, _) = rest.split_once("```")?;
+    Some(block)
+}
+
+/// The bytes of a .hex text: two digits a byte, blanks and comments skipped.
+fn bytes(text: &str) -> Vec<u8> {
+    let digits: Vec<u8> = text
+        .lines()
+        .flat_map(|line| line.chars().take_while(|&c| c != '#'))
+        .filter(|c| !c.is_whitespace())
+        .map(|c| c.to_digit(16).expect("a hexadecimal digit") as u8)
+        .collect();
+    assert!(digits.len().is_multiple_of(2), "half a byte");
+    digits
+        .chunks(2)
+        .map(|pair| pair[0] << 4 | pair[1])
+        .collect()
+}
+
+/// The program's print or, for a request that it never makes and a stop that
+/// no accepted sheet has, the run in the same words.
+fn told(case: &Smallest) -> String {
+    match case.cause {
+        14..=16 | 18 => run(case),
+        _ => report(&case.sheet),
+    }
+}
+
+fn run(case: &Smallest) -> String {
+    let asked = &case.request;
+    let request = Request {
+        start: &asked.start,
+        calls: asked.calls,
+        open_calls: asked.open_calls,
+        checks: Checks::InForce,
+    };
+    let (mut cells, mut posts) = (vec![0; asked.cell_bytes], vec![0; asked.posts]);
+    let reply = Reply::from(run_eager(&case.sheet, &request, &mut cells, &mut posts));
+    let [cause, place, _, _, calls, cells, posts, _] = reply.answer;
+    match reply.status {
+        1 => format!("stop {cause} at {place} calls {calls} cells {cells} posts {posts}\n"),
+        2 => format!("refused {cause} at {place}\n"),
+        _ => panic!("the run for {} ends", case.cause),
+    }
+}

@@ -1,0 +1,42 @@
+//! Holding the granted set and walking frames come to the same, on sheets
+//! drawn at random.
+
+use sheets::generate::sample;
+use sheets::request::Request as Asked;
+use sheets::rng::Rng;
+use sovzedal_reference::{run_eager, run_lazy, Checks, Request};
+
+const SHEETS: u64 = 5_000;
+const SEED: u64 = 1;
+
+#[test]
+fn eager_is_lazy() {
+    for index in 0..SHEETS {
+        let rng = &mut Rng::for_item(SEED, index);
+        let sample = sample(rng);
+        let asked = Asked::random(rng, &sample.world);
+        for checks in [Checks::InForce, Checks::PassedOver] {
+            let request = Request {
+                start: &asked.start,
+                calls: asked.calls,
+                open_calls: asked.open_calls,
+                checks,
+            };
+            let (mut cells, mut posts) = (vec![1; asked.cell_bytes], vec![1; asked.posts]);
+            let eager = run_eager(&sample.bytes, &request, &mut cells, &mut posts);
+
+            let (mut lazy_cells, mut lazy_posts) =
+                (vec![1; asked.cell_bytes], vec![1; asked.posts]);
+            let mut frames = vec![1; Asked::largest().frame_numbers];
+            let lazy = run_lazy(
+                &sample.bytes,
+                &request,
+                &mut lazy_cells,
+                &mut lazy_posts,
+                &mut frames,
+            );
+            assert_eq!(eager, lazy, "item {index}, {checks:?}");
+            assert_eq!((cells, posts), (lazy_cells, lazy_posts), "item {index}");
+        }
+    }
+}

@@ -1,0 +1,50 @@
+//! The sheets at the limits are where they should be.
+
+use sheets::extremes::{deepest, endless_through, widest};
+use sheets::load::frame_sheet;
+use sheets::tree::Kind;
+use sovzedal_reference::{decode, report, run_eager, typecheck, Cause, Outcome, Request, Stop};
+
+#[test]
+fn the_deepest_has_100_open_calls() {
+    assert!(report(&deepest()).ends_with("end num 0 calls 100 cells 101 posts 0\n"));
+}
+
+#[test]
+fn the_widest_has_everything_there_is_room_for() {
+    assert_eq!(widest().len(), 10_894);
+    let sheet = decode(&widest()).unwrap();
+    assert_eq!(
+        (sheet.principals.len(), sheet.types.len(), sheet.terms.len()),
+        (32, 256, 1_024)
+    );
+    assert!(typecheck(&widest()).is_ok());
+}
+
+#[test]
+fn frames_of_the_load_end() {
+    for index in 0..300 {
+        let text = report(&frame_sheet(index));
+        assert!(text.contains("needs 00000000"), "frame {index}: {text}");
+        assert!(text.contains("end num"), "frame {index}: {text}");
+    }
+}
+
+#[test]
+fn endless_calls_go_through_any_kind() {
+    for kind in Kind::ALL {
+        let request = Request {
+            start: &[0, 2],
+            ..Request::LARGEST
+        };
+        let run = run_eager(&endless_through(kind), &request, &mut [0; 65_536], &mut []).unwrap();
+        let Outcome::Stop(Stop { cause, .. }) = run.outcome else {
+            panic!("{kind:?} ended");
+        };
+        assert_eq!(
+            (cause, run.calls),
+            (Cause::TooManyOpenCalls, 100),
+            "{kind:?}"
+        );
+    }
+}
