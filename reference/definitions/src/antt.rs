@@ -5,10 +5,10 @@ use sovzedal_reference::{Checks, Outcome, Plain, Refusal, Run, Stop, Verdict, FR
 use std::fmt::Display;
 
 /// What the rows are, and what the definitions have to do with them.
-pub const TABLE: &str = include_str!("../templates/Table.antt");
+pub const TABLE: &str = include_str!("../templates/Table.template");
 
 /// Some rows, with the theorem that the definitions give them.
-const ROWS: &str = include_str!("../templates/Rows.antt");
+const ROWS: &str = include_str!("../templates/Rows.template");
 
 /// A file of rows and their theorem.
 pub fn theorem(entries: &[Entry]) -> String {
