@@ -1,11 +1,12 @@
 /* Sovzedal: rule sheets decoded, type-checked and run, with or without their checks.
  *
- * Link target/staticlib/libcapi.a, which `rt staticlib capi` writes. It needs nothing beside it: no heap, no system call, no global state, so that
- * calls on buffers of their own may be made from several threads.
+ * Link target/staticlib/libcapi.a, which `rt staticlib capi` writes. Of the C library it needs memcpy and memset alone: no heap, no system call, no
+ * global state, so that calls on buffers of their own may be made from several threads. A run recurses, and uses at most 1.7 MB of the caller's stack
+ * (measured on x86-64); decoding and type checking use far less.
  *
  * What the proof assumes of a C caller, for every function here:
- *   - each pointer is valid for as many elements as the length after it says, and is aligned for its type; with a length of 0 it may be anything but
- *     is best not null;
+ *   - each pointer is valid for as many elements as the length after it says, and is aligned for its type; with a length of 0 nothing is read or
+ *     written through it, and it may be null;
  *   - no buffer that a function writes (`answer`, `cells`, `posts`, `frames`) overlaps another argument, and nobody else writes to any of them or to
  *     `sheet` and `start` until the call returns;
  *   - no length exceeds PTRDIFF_MAX bytes.
