@@ -13,7 +13,7 @@ use Rattle.program.specs.Layout.{terms, root, kindByte, first, second, third}
 use Rattle.program.specs.Formats.{Part, isChild, Kind, Boolean, Number, Variable, Function, Letrec, Call, If, Check, Enable, Sign, Test, Sum, Difference, Less, Post, kindOf, format}
 use Rattle.program.specs.Decoding.{formatAt, termOk, counts, timesIn, timesBelow, isSign, signedBody, placedOk, parent}
 use Rattle.program.specs.Internal.{Laid, childrenOf, shapeIf, shapeAt}
-use Rattle.decoder.specs.Internal.{TermsOk, linkStep, Linked, linkTimes, one, among, LinkedAll, ChildrenBelow, linkOf, Links, bodySigned}
+use Rattle.decoder.specs.Internal.{TermsOk, linkStep, Linked, linkTimes, one, among, LinkedAll, ChildrenBelow, linkOf, Links}
 use Rattle.program.specs.Records.{termRecord}
 use Rattle.program.specs.Laws.Screening.{lowest-none}
 use Rattle.program.specs.Laws.Readable.{fields-ok}
@@ -107,9 +107,6 @@ module _ (l : List ℕ) (t : ℕ) where
 
 pub by-shape : (n : ℕ) {x y : Shape} → x ≡ y → ChildrenBelow x n → ChildrenBelow y n
 by-shape n e h = subst (λ (z : Shape). ChildrenBelow z n) e h
-
-pub body-shape : (s : List ℕ) {x y : Shape} → x ≡ y → bodySigned s y ≡ bodySigned s x
-body-shape s e = ap (bodySigned s) (sym e)
 
 -- ---- a record's children
 children-below : (k : Kind) (t a b d n : ℕ) → Below (format k) t a b d → t ≤ n → ChildrenBelow (childrenOf k a b d) n
@@ -259,22 +256,38 @@ parents-due (suc zero) p false hp hq =
 parents-due (suc (suc m)) p true hp hq = sym (ne-eqb (suc (suc m)) 0 (λ e. omega arith))
 parents-due (suc (suc m)) p false hp hq = sym (ne-eqb (suc (suc m)) 1 (λ e. omega arith))
 
-body-of : (s : List ℕ) (k : Kind) (a b d : ℕ) → bodySigned s (childrenOf k a b d) ≡ signedBody s (format k .second) b
-body-of s Boolean a b d = refl
-body-of s Number a b d = refl
-body-of s Variable a b d = refl
-body-of s Function a b d = refl
-body-of s Letrec a b d = refl
-body-of s Call a b d = refl
-body-of s If a b d = refl
-body-of s Check a b d = refl
-body-of s Enable a b d = refl
-body-of s Sign a b d = refl
-body-of s Test a b d = refl
-body-of s Sum a b d = refl
-body-of s Difference a b d = refl
-body-of s Less a b d = refl
-body-of s Post a b d = refl
+-- only functions and letrecs, kinds 3 and 4, have a body
+body-kind : (s : List ℕ) (k x : ℕ) → signedBody s (format (kindOf k) .second) x ≡ cond (eqb k 3 || eqb k 4) (isSign s x) true
+body-kind s zero x = refl
+body-kind s (suc zero) x = refl
+body-kind s (suc (suc zero)) x = refl
+body-kind s (suc (suc (suc zero))) x = refl
+body-kind s (suc (suc (suc (suc zero)))) x = refl
+body-kind s (suc (suc (suc (suc (suc zero))))) x = refl
+body-kind s (suc (suc (suc (suc (suc (suc zero)))))) x = refl
+body-kind s (suc (suc (suc (suc (suc (suc (suc zero))))))) x = refl
+body-kind s (suc (suc (suc (suc (suc (suc (suc (suc zero)))))))) x = refl
+body-kind s (suc (suc (suc (suc (suc (suc (suc (suc (suc zero))))))))) x = refl
+body-kind s (suc (suc (suc (suc (suc (suc (suc (suc (suc (suc zero)))))))))) x = refl
+body-kind s (suc (suc (suc (suc (suc (suc (suc (suc (suc (suc (suc zero))))))))))) x = refl
+body-kind s (suc (suc (suc (suc (suc (suc (suc (suc (suc (suc (suc (suc zero)))))))))))) x = refl
+body-kind s (suc (suc (suc (suc (suc (suc (suc (suc (suc (suc (suc (suc (suc zero))))))))))))) x = refl
+body-kind s (suc (suc (suc (suc (suc (suc (suc (suc (suc (suc (suc (suc (suc (suc zero)))))))))))))) x = refl
+body-kind s (suc (suc (suc (suc (suc (suc (suc (suc (suc (suc (suc (suc (suc (suc (suc n))))))))))))))) x =
+    let k = (suc (suc (suc (suc (suc (suc (suc (suc (suc (suc (suc (suc (suc (suc (suc n))))))))))))))) in
+    sym (λ i. cond (ne-eqb k 3 (λ e. omega arith) i || ne-eqb k 4 (λ e. omega arith) i) (isSign s x) true)
+
+module _ (s : List ℕ) (c : TableCounts) (t : ℕ) (L : Laid s c) {r : TermRecord} (e : r ≡ termRecord s c t) where
+  body-record : signedBody s (formatAt s t .second) (second s t) ≡ cond (eqb (r .kind) 3 || eqb (r .kind) 4) (isSign s (r .second)) true
+  body-record =
+      ap (λ (x : TermRecord). signedBody s (format (kindOf (x .kind)) .second) (x .second)) (sym (e ∙ term-laid s (fields-ok s (L .none-found) .ends) c (L .counts-are) t))
+      ∙ body-kind s (r .kind) (r .second)
+
+  pub body-is : {b : Bool} → (eqb (r .kind) 3 || eqb (r .kind) 4) ≡ true → b ≡ isSign s (r .second) → b ≡ signedBody s (formatAt s t .second) (second s t)
+  body-is h k = k ∙ sym (body-record ∙ (λ i. cond (h i) (isSign s (r .second)) true))
+
+  pub no-body : (eqb (r .kind) 3 || eqb (r .kind) 4) ≡ false → true ≡ signedBody s (formatAt s t .second) (second s t)
+  no-body h = sym (body-record ∙ (λ i. cond (h i) (isSign s (r .second)) true))
 
 root-is : (t n : ℕ) → 1 ≤ n → eqb (t + 1) n ≡ eqb t (n - 1)
 root-is t n h = elim (ℕ-discrete (t + 1) n) [
@@ -289,15 +302,13 @@ module _ (s : List ℕ) (c : TableCounts) (L : Laid s c) (T : TermsOk s) (t : �
   few : terms s ≤ 1024
   few = fields-ok s (L .none-found) .terms-high
 
-  pub place-is : {n : Bool} {x : Shape} {body sig : Bool} → n ≡ cond (eqb (t + 1) (c .terms)) (eqb (getD l t 0) 0) (not (eqb (getD l t 0) 0) && not (eqb (getD l t 0) 65535))
-      → x ≡ shapeAt s t → body ≡ bodySigned s x → sig ≡ isSign s t → (n && body && (not (eqb (t + 1) (c .terms)) || sig)) ≡ placedOk s t
-  place-is {n} {x} {body} {sig} en ex eb es =
+  pub place-is : {n body sig : Bool} → n ≡ cond (eqb (t + 1) (c .terms)) (eqb (getD l t 0) 0) (not (eqb (getD l t 0) 0) && not (eqb (getD l t 0) 65535))
+      → body ≡ signedBody s (formatAt s t .second) (second s t) → sig ≡ isSign s t → (n && body && (not (eqb (t + 1) (c .terms)) || sig)) ≡ placedOk s t
+  place-is {n} {body} {sig} en eb es =
       let some : 1 ≤ terms s = fields-ok s (L .none-found) .terms-low in
       let r : eqb (t + 1) (c .terms) ≡ eqb t (root s) = ap (eqb (t + 1)) (L .counts-are .terms-are) ∙ root-is t (terms s) some in
       let p : n ≡ eqb (timesBelow s t (terms s)) (cond (eqb t (root s)) 0 1) =
       en ∙ (λ i. cond (r i) (eqb (w .each t (omega (arith, few)) i) 0) (not (eqb (w .each t (omega (arith, few)) i) 0) && not (eqb (w .each t (omega (arith, few)) i) 65535)))
       ∙ parents-due (timesBelow s t (terms s)) (parent s t (terms s)) (eqb t (root s)) (λ g. omega (arith, parent-higher s T t (terms s) (omega arith) g .above))
       (λ g. omega (arith, few, parent-higher s T t (terms s) (omega arith) g .inside)) in
-      let q : body ≡ signedBody s (formatAt s t .second) (second s t) =
-      eb ∙ ap (bodySigned s) (ex ∙ right-shape s t (terms-ok s T t h)) ∙ body-of s (kindOf (kindByte s t)) (first s t) (second s t) (third s t) in
-      λ i. p i && q i && (not (r i) || es i)
+      λ i. p i && eb i && (not (r i) || es i)

@@ -1,5 +1,5 @@
 -- What the contracts of the decoder's own functions say. No reader of the public promise needs this file.
-use mathlib.Core.Bool.{Bool, true, false, cond}
+use mathlib.Core.Bool.{Bool, false, cond}
 use mathlib.Core.List.{List}
 use mathlib.Core.Option.{none}
 use mathlib.Core.Path.{_≡_}
@@ -10,7 +10,7 @@ use Rattle.program.specs.Bytes.{word16}
 use Rattle.program.specs.Layout.{types, terms}
 use Rattle.program.specs.Tests.{orElse}
 use Rattle.program.specs.Screening.{First, None, lowest}
-use Rattle.program.specs.Decoding.{holds, field, fieldConditions, typeOk, termOk, timesBelow, isSign, placedOk, parent}
+use Rattle.program.specs.Decoding.{holds, field, fieldConditions, typeOk, termOk, timesBelow, placedOk, parent}
 use Rattle.program.specs.Answers.{causeOf, placeOf}
 use Rattle.program.specs.Internal.{Laid}
 use Rattle.program.specs.declared.terms.Shape.{Shape}
@@ -90,15 +90,6 @@ linkOf (suc (suc n)) p = 65535
 -- the list has what the first so many terms note
 pub record Links (s l : List ℕ) (t : ℕ) : Type 0 where
   pub each : (x : ℕ) → x < 1024 → getD l x 0 ≡ linkOf (timesBelow s x t) (parent s x t)
-
-abbrev pub bodySigned : List ℕ → Shape → Bool
-bodySigned s Leaf = true
-bodySigned s (One a) = true
-bodySigned s (Two a b) = true
-bodySigned s (Three a b d) = true
-bodySigned s (FunctionShape b) = isSign s b
-bodySigned s (LetrecShape b d) = isSign s b
-bodySigned s Wrong = true
 
 pub record PlacesOk (s l : List ℕ) : Type 0 where
   pub none-found : lowest (placedOk s) 0 (terms s) ≡ none

@@ -4,11 +4,11 @@ ghost use mathlib.Core.Bool.{cond, not, _&&_, _||_};
 ghost use Prim.Native.Nat.{_<_};
 ghost use lib.Dec.{eqb};
 ghost use lib.ListN.{length};
-ghost use Rattle.program.specs.Layout.{terms};
+ghost use Rattle.program.specs.Layout.{second, terms};
 ghost use Rattle.program.specs.Screening.{lowest};
-ghost use Rattle.program.specs.Decoding.{isSign, placedOk};
+ghost use Rattle.program.specs.Decoding.{formatAt, isSign, signedBody, placedOk};
 ghost use Rattle.program.specs.Internal.{Laid, foundOf};
-ghost use Rattle.decoder.specs.Internal.{TermsOk, Linked, ChildrenBelow, LinkedAll, Links, bodySigned};
+ghost use Rattle.decoder.specs.Internal.{TermsOk, Linked, ChildrenBelow, LinkedAll, Links};
 use program::answer::Found;
 use program::records::Counts;
 use program::records::term;
@@ -79,20 +79,16 @@ fn is_sign(s: &[u8], c: Counts, t: u16) -> bool
     r.kind == 9
 }
 
-// Whether the body, where there is one, is signed.
-fn body_signed(s: &[u8], c: Counts, x: Shape) -> bool
+// Whether the body of term t, if it is a function or a letrec, is signed.
+fn body_signed(s: &[u8], c: Counts, t: u16) -> bool
     requires { ⌜ Laid (now s) c ⌝ }
-    ensures { λ r. ⌜ r ≡ bodySigned (now (s .entry)) x ⌝ }
+    ensures { λ r. ⌜ r ≡ signedBody (now (s .entry)) (formatAt (now (s .entry)) t .second) (second (now (s .entry)) t) ⌝ }
 {
-    match x {
-        Shape::Leaf => true,
-        Shape::One(_) => true,
-        Shape::Two(_, _) => true,
-        Shape::Three(_, _, _) => true,
-        Shape::Function(b) => is_sign(s, c, b),
-        Shape::Letrec(b, _) => is_sign(s, c, b),
-        Shape::Wrong => true,
+    let r = term(s, c, t);
+    if (r.kind == 3) | (r.kind == 4) {
+        return is_sign(s, c, r.second);
     }
+    true
 }
 
 // Whether the parents noted for a term are those that are due: none for the root, and one for any other.
@@ -128,8 +124,7 @@ fn place_ok(s: &[u8], c: Counts, parents: &[u16; 1024], t: u16) -> bool
     let root = t + 1 == c.terms;
     let i = t as usize;
     let p = parents[i];
-    let x = shape_at(s, c, t);
-    parents_ok(p, root) & body_signed(s, c, x) & root_signed(s, c, t, root)
+    parents_ok(p, root) & body_signed(s, c, t) & root_signed(s, c, t, root)
 }
 
 // The lowest term with a wrong number of parents, whose body is unsigned, or which is the root and unsigned.

@@ -8,16 +8,13 @@ use Rattle.decoder.proofs.places.place_ok.Statement.{statement}
 use Rattle.decoder.proofs.places.place_ok.Tie as tie
 
 add-root : tie.Need-add-root
-add-root c = omega (arith, c .before .pre .1 .1 .0, fields-ok (c .before .args .s .now) (c .before .pre .0 .none-found) .terms-high)
+add-root c = omega (arith, c .before .pre .1 .1 .0, (fields-ok (c .before .args .s .now) (c .before .pre .0 .none-found) .terms-high))
 
 mul-p : tie.Need-mul-p
 mul-p c = search needs
 
 element-copy-out-p : tie.Need-element-copy-out-p
-element-copy-out-p c = omega (arith, c .before .before .pre .1 .1 .0, fields-ok (c .before .before .args .s .now) (c .before .before .pre .0 .none-found) .terms-high)
-
-shape-at-requires : tie.Need-shape-at-requires
-shape-at-requires c κs = search needs
+element-copy-out-p c = omega (arith, c .before .before .pre .1 .1 .0, (fields-ok (c .before .before .args .s .now) (c .before .before .pre .0 .none-found) .terms-high))
 
 parents-ok-requires : tie.Need-parents-ok-requires
 parents-ok-requires c κs = search needs
@@ -29,7 +26,7 @@ root-signed-requires : tie.Need-root-signed-requires
 root-signed-requires c κs = search needs
 
 returns : tie.Need-returns
-returns c = ap (λ (signed : Bool). c .before .before .parents-ok .result && c .before .body-signed .result && signed) (c .root-signed .ensures) ∙ place-is (c .before .before .before .before .before .before .before .args .s .now) (c .before .before .before .before .before .before .before .args .c) (c .before .before .before .before .before .before .before .pre .0) (c .before .before .before .before .before .before .before .pre .1 .0) (c .before .before .before .before .before .before .before .args .t) (c .before .before .before .before .before .before .before .pre .1 .1 .0) (c .before .before .before .before .before .before .before .args .parents .now) (c .before .before .before .before .before .before .before .pre .1 .1 .1) (c .before .before .parents-ok .ensures) (c .before .before .before .shape-at .ensures) (c .before .body-signed .ensures) refl
+returns c = ap (λ (signed : Bool). c .before .before .parents-ok .result && c .before .body-signed .result && signed) (c .root-signed .ensures) ∙ place-is (c .before .before .before .before .before .before .args .s .now) (c .before .before .before .before .before .before .args .c) (c .before .before .before .before .before .before .pre .0) (c .before .before .before .before .before .before .pre .1 .0) (c .before .before .before .before .before .before .args .t) (c .before .before .before .before .before .before .pre .1 .1 .0) (c .before .before .before .before .before .before .args .parents .now) (c .before .before .before .before .before .before .pre .1 .1 .1) (c .before .before .parents-ok .ensures) (c .before .body-signed .ensures) refl
 
 pub place-ok-spec : {M : Type 1} → statement M
 place-ok-spec =
@@ -38,7 +35,6 @@ place-ok-spec =
     add-root
     mul-p
     element-copy-out-p
-    shape-at-requires
     parents-ok-requires
     body-signed-requires
     root-signed-requires
