@@ -1,8 +1,8 @@
 /* Sovzedal: rule sheets decoded, type-checked and run, with or without their checks.
  *
  * Link target/staticlib/libcapi.a, which `rt staticlib capi` writes. Of the C library it needs memcpy and memset alone: no heap, no system call, no
- * global state, so that calls on buffers of their own may be made from several threads. A run recurses, and uses at most 1.7 MB of the caller's stack
- * (measured on x86-64); decoding and type checking use far less.
+ * global state, so that calls on buffers of their own may be made from several threads. A run recurses, and uses at most 467 KB of the caller's stack
+ * (466,600 bytes, measured on x86-64); decoding and type checking use far less.
  *
  * What the proof assumes of a C caller, for every function here:
  *   - each pointer is valid for as many elements as the length after it says, and is aligned for its type; with a length of 0 nothing is read or

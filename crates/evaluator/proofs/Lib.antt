@@ -1,2 +1,2 @@
-pub mod RecordLaws
-pub mod CycleLaws
+pub mod ContractLaws
+pub mod ShapeLaws

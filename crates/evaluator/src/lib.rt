@@ -1,368 +1,239 @@
-// The evaluator of both runners over the bytes of a readable sheet: evaluating a term and applying a function call each other. Its contracts speak of
-// the store-level interpreter in machine/specs/Store.antt; the crate `refinement` takes that to the meaning.
-ghost use mathlib.Core.Path.{_≡_};
-ghost use Prim.Native.Nat.{_<_, _≤_};
-ghost use Rattle.machine.specs.Store.{storeOf, doneOf, evalAt, applyAt};
-ghost use Rattle.evaluator.specs.Ready.{Ready, ReadyAt};
-use machine::access::allowed;
-use machine::access::enable;
-use machine::access::enabled_now;
-use machine::access::granted;
-use machine::access::restore;
-use machine::access::sign;
+// The evaluator of both runners over the words of a readable sheet's terms: evaluating a term and applying a function call each other. Its contracts
+// speak of the store-level interpreter in machine/specs/Store.antt; the crate `refinement` takes that to the meaning. `n` holds the calls left, the
+// cells made, the posts made and the run's mode. The lent stores are handed on as references to the slices, so that no call copies one.
+ghost use Rattle.machine.specs.Store.{if, enable, post, evalAt, applyAt};
+ghost use Rattle.evaluator.specs.Contracts.{Table, Node, Tail, Pair, Evaluated};
+
+pub mod entry;
+
+use machine::access;
 use machine::cells::bind;
-use machine::state::Access;
-use machine::state::Begun;
-use machine::state::Out;
-use machine::state::Ran;
-use machine::state::Stop;
-use machine::state::Tally;
-use machine::state::Value;
+use machine::cells::look;
+use machine::cells::next_cell;
+use machine::enter::enter;
 use machine::steps::append;
-use machine::steps::begin_call;
-use machine::steps::leaf;
+use machine::steps::choose;
 use machine::steps::operate;
-use program::records::Counts;
-use program::records::TermRecord;
+use machine::table::first_of;
+use machine::table::kind_of;
+use machine::table::second_of;
+use machine::table::small_of;
+use machine::table::third_of;
+use machine::table::word_at;
+use machine::words;
 
 // Evaluates term t.
 pub fn eval(
-    s: &[u8],
-    c: Counts,
-    cells: &mut [u8],
-    posts: &mut [u16],
-    frames: &mut [u32],
+    terms: &[u64; 1024],
+    cells: &mut &mut [u8],
+    posts: &mut &mut [u16],
+    frames: &mut &mut [u32],
+    n: &mut [usize; 4],
     t: u16,
     env: u16,
-    acc: Access,
+    acc: u64,
     depth: usize,
-    n: Tally,
-) -> Ran
-    requires { ⌜ Ready (now s) c (now cells) (acc .depth) depth t ⌝ }
-    ensures { λ r. ⌜ doneOf r (now (cells .exit)) (now (posts .exit)) (now (frames .exit)) ≡ evalAt (now (s .entry)) c depth t env acc (storeOf n (now (cells .entry)) (now (posts .entry)) (now (frames .entry))) ⌝ }
-    ensures { λ r. ⌜ r .n .calls ≤ n .calls ⌝ }
+) -> u64
+    requires { ⌜ Table (now terms) ⌝ }
+    ensures { λ r. ⌜ Evaluated (evalAt (now (terms .entry)) depth t env acc) (now (n .entry)) (now (cells .entry)) (now (posts .entry)) (now (frames .entry)) r (now (n .exit)) (now (cells .exit)) (now (posts .exit)) (now (frames .exit)) ⌝ }
 {
-    let x = program::records::term(s, c, t);
-    let kind = x.kind;
+    let x = word_at(terms, t);
+    let kind = kind_of(x);
     match kind {
-        0..=3 => {
-            let o = leaf(cells, t, x, env);
-            Ran { out: o, n: n }
-        }
-        4 => eval_letrec(s, c, cells, posts, frames, t, x, env, acc, depth, n),
-        5 => eval_call(s, c, cells, posts, frames, t, x, env, acc, depth, n),
-        6 => eval_if(s, c, cells, posts, frames, t, x, env, acc, depth, n),
-        7 => eval_check(s, c, cells, posts, frames, t, x, env, acc, depth, n),
-        8 => eval_enable(s, c, cells, posts, frames, t, x, env, acc, depth, n),
-        9 => eval_sign(s, c, cells, posts, frames, t, x, env, acc, depth, n),
-        10 => eval_test(s, c, cells, posts, frames, t, x, env, acc, depth, n),
-        11..=13 => eval_binary(s, c, cells, posts, frames, t, x, env, acc, depth, n),
-        _ => eval_post(s, c, cells, posts, frames, t, x, env, acc, depth, n),
+        0 => words::boolean(0 < small_of(x)),
+        1 => words::number(first_of(x)),
+        2 => look(*cells, t, env, first_of(x)),
+        3 => words::function(second_of(x), env),
+        4 | 7 | 9 | 10 => eval_tail(terms, cells, posts, frames, n, t, x, env, acc, depth),
+        5 | 11..=13 => eval_pair(terms, cells, posts, frames, n, t, x, env, acc, depth),
+        6 => eval_if(terms, cells, posts, frames, n, t, x, env, acc, depth),
+        8 => eval_enable(terms, cells, posts, frames, n, t, x, env, acc, depth),
+        _ => eval_post(terms, cells, posts, frames, n, t, x, env, acc, depth),
     }
 }
 
-// A recursive binder: one cell that holds its own function, then the rest.
-fn eval_letrec(
-    s: &[u8],
-    c: Counts,
-    cells: &mut [u8],
-    posts: &mut [u16],
-    frames: &mut [u32],
+// A letrec, check, sign or test ends as one child, after a step of its own.
+fn eval_tail(
+    terms: &[u64; 1024],
+    cells: &mut &mut [u8],
+    posts: &mut &mut [u16],
+    frames: &mut &mut [u32],
+    n: &mut [usize; 4],
     t: u16,
-    x: TermRecord,
+    x: u64,
     env: u16,
-    acc: Access,
+    acc: u64,
     depth: usize,
-    n: Tally,
-) -> Ran
-    requires { ⌜ ReadyAt (now s) c t (now cells) (acc .depth) depth x ⌝ }
-    requires { ⌜ x .kind ≡ 4 ⌝ }
-    ensures { λ r. ⌜ doneOf r (now (cells .exit)) (now (posts .exit)) (now (frames .exit)) ≡ evalAt (now (s .entry)) c depth t env acc (storeOf n (now (cells .entry)) (now (posts .entry)) (now (frames .entry))) ⌝ }
-    ensures { λ r. ⌜ r .n .calls ≤ n .calls ⌝ }
+) -> u64
+    requires { ⌜ Tail (now terms) t x ⌝ }
+    ensures { λ r. ⌜ Evaluated (evalAt (now (terms .entry)) depth t env acc) (now (n .entry)) (now (cells .entry)) (now (posts .entry)) (now (frames .entry)) r (now (n .exit)) (now (cells .exit)) (now (posts .exit)) (now (frames .exit)) ⌝ }
 {
-    if cells.len() / 8 <= n.cells {
-        return Ran {
-            out: Out::Stop(Stop::Cells(t)),
-            n: n,
-        };
+    let e = enter(*cells, *frames, n, t, x, env, acc);
+    if words::is_stop(e.stop) {
+        return e.stop;
     }
-    let own = (n.cells + 1) as u16;
-    let f = Value::Fun {
-        body: x.second,
-        env: own,
-    };
-    let m = bind(cells, f, env, n);
-    eval(s, c, cells, posts, frames, x.third, own, acc, depth, m)
+    eval(terms, cells, posts, frames, n, e.next, e.env, e.acc, depth)
 }
 
-// Function, argument, body.
-fn eval_call(
-    s: &[u8],
-    c: Counts,
-    cells: &mut [u8],
-    posts: &mut [u16],
-    frames: &mut [u32],
+// Two operands, from left to right: function and argument of a call, or two numbers.
+fn eval_pair(
+    terms: &[u64; 1024],
+    cells: &mut &mut [u8],
+    posts: &mut &mut [u16],
+    frames: &mut &mut [u32],
+    n: &mut [usize; 4],
     t: u16,
-    x: TermRecord,
+    x: u64,
     env: u16,
-    acc: Access,
+    acc: u64,
     depth: usize,
-    n: Tally,
-) -> Ran
-    requires { ⌜ ReadyAt (now s) c t (now cells) (acc .depth) depth x ⌝ }
-    requires { ⌜ x .kind ≡ 5 ⌝ }
-    ensures { λ r. ⌜ doneOf r (now (cells .exit)) (now (posts .exit)) (now (frames .exit)) ≡ evalAt (now (s .entry)) c depth t env acc (storeOf n (now (cells .entry)) (now (posts .entry)) (now (frames .entry))) ⌝ }
-    ensures { λ r. ⌜ r .n .calls ≤ n .calls ⌝ }
+) -> u64
+    requires { ⌜ Pair (now terms) t x ⌝ }
+    ensures { λ r. ⌜ Evaluated (evalAt (now (terms .entry)) depth t env acc) (now (n .entry)) (now (cells .entry)) (now (posts .entry)) (now (frames .entry)) r (now (n .exit)) (now (cells .exit)) (now (posts .exit)) (now (frames .exit)) ⌝ }
 {
-    let a = eval(s, c, cells, posts, frames, x.first, env, acc, depth, n);
-    let a_out = a.out;
-    let Out::Val(f) = a_out else {
+    let a = eval(terms, cells, posts, frames, n, first_of(x), env, acc, depth);
+    if words::is_stop(a) {
         return a;
-    };
-    let n1 = a.n;
-    let b = eval(s, c, cells, posts, frames, x.second, env, acc, depth, n1);
-    let b_out = b.out;
-    let Out::Val(v) = b_out else {
+    }
+    let b = eval(
+        terms,
+        cells,
+        posts,
+        frames,
+        n,
+        second_of(x),
+        env,
+        acc,
+        depth,
+    );
+    if words::is_stop(b) {
         return b;
-    };
-    let n2 = b.n;
-    apply(s, c, cells, posts, frames, t, f, v, acc, depth, n2)
+    }
+    let kind = kind_of(x);
+    if kind == 5 {
+        return apply(terms, cells, posts, frames, n, t, a, b, acc, depth);
+    }
+    operate(kind, t, a, b)
 }
 
 // A condition and one of two branches.
 fn eval_if(
-    s: &[u8],
-    c: Counts,
-    cells: &mut [u8],
-    posts: &mut [u16],
-    frames: &mut [u32],
+    terms: &[u64; 1024],
+    cells: &mut &mut [u8],
+    posts: &mut &mut [u16],
+    frames: &mut &mut [u32],
+    n: &mut [usize; 4],
     t: u16,
-    x: TermRecord,
+    x: u64,
     env: u16,
-    acc: Access,
+    acc: u64,
     depth: usize,
-    n: Tally,
-) -> Ran
-    requires { ⌜ ReadyAt (now s) c t (now cells) (acc .depth) depth x ⌝ }
-    requires { ⌜ x .kind ≡ 6 ⌝ }
-    ensures { λ r. ⌜ doneOf r (now (cells .exit)) (now (posts .exit)) (now (frames .exit)) ≡ evalAt (now (s .entry)) c depth t env acc (storeOf n (now (cells .entry)) (now (posts .entry)) (now (frames .entry))) ⌝ }
-    ensures { λ r. ⌜ r .n .calls ≤ n .calls ⌝ }
+) -> u64
+    requires { ⌜ Node (now terms) t x if ⌝ }
+    ensures { λ r. ⌜ Evaluated (evalAt (now (terms .entry)) depth t env acc) (now (n .entry)) (now (cells .entry)) (now (posts .entry)) (now (frames .entry)) r (now (n .exit)) (now (cells .exit)) (now (posts .exit)) (now (frames .exit)) ⌝ }
 {
-    let a = eval(s, c, cells, posts, frames, x.first, env, acc, depth, n);
-    let a_out = a.out;
-    let Out::Val(v) = a_out else {
-        return a;
-    };
-    let n1 = a.n;
-    let Value::Bool(b) = v else {
-        return Ran {
-            out: Out::Stop(Stop::Stuck(t)),
-            n: n1,
-        };
-    };
-    if b {
-        return eval(s, c, cells, posts, frames, x.second, env, acc, depth, n1);
+    let b = eval(terms, cells, posts, frames, n, first_of(x), env, acc, depth);
+    if words::is_stop(b) {
+        return b;
     }
-    eval(s, c, cells, posts, frames, x.third, env, acc, depth, n1)
-}
-
-// Refuses before the inner term where the privilege is not granted.
-fn eval_check(
-    s: &[u8],
-    c: Counts,
-    cells: &mut [u8],
-    posts: &mut [u16],
-    frames: &mut [u32],
-    t: u16,
-    x: TermRecord,
-    env: u16,
-    acc: Access,
-    depth: usize,
-    n: Tally,
-) -> Ran
-    requires { ⌜ ReadyAt (now s) c t (now cells) (acc .depth) depth x ⌝ }
-    requires { ⌜ x .kind ≡ 7 ⌝ }
-    ensures { λ r. ⌜ doneOf r (now (cells .exit)) (now (posts .exit)) (now (frames .exit)) ≡ evalAt (now (s .entry)) c depth t env acc (storeOf n (now (cells .entry)) (now (posts .entry)) (now (frames .entry))) ⌝ }
-    ensures { λ r. ⌜ r .n .calls ≤ n .calls ⌝ }
-{
-    if allowed(s, frames, acc, x.small) {
-        return eval(s, c, cells, posts, frames, x.first, env, acc, depth, n);
+    if words::sort(b) != 0 {
+        return words::stop(18, t);
     }
-    Ran {
-        out: Out::Stop(Stop::Check(t)),
-        n: n,
-    }
+    let branch = choose(0 < words::payload(b), second_of(x), third_of(x));
+    eval(terms, cells, posts, frames, n, branch, env, acc, depth)
 }
 
 // Enables a privilege while the inner term runs.
 fn eval_enable(
-    s: &[u8],
-    c: Counts,
-    cells: &mut [u8],
-    posts: &mut [u16],
-    frames: &mut [u32],
+    terms: &[u64; 1024],
+    cells: &mut &mut [u8],
+    posts: &mut &mut [u16],
+    frames: &mut &mut [u32],
+    n: &mut [usize; 4],
     t: u16,
-    x: TermRecord,
+    x: u64,
     env: u16,
-    acc: Access,
+    acc: u64,
     depth: usize,
-    n: Tally,
-) -> Ran
-    requires { ⌜ ReadyAt (now s) c t (now cells) (acc .depth) depth x ⌝ }
-    requires { ⌜ x .kind ≡ 8 ⌝ }
-    ensures { λ r. ⌜ doneOf r (now (cells .exit)) (now (posts .exit)) (now (frames .exit)) ≡ evalAt (now (s .entry)) c depth t env acc (storeOf n (now (cells .entry)) (now (posts .entry)) (now (frames .entry))) ⌝ }
-    ensures { λ r. ⌜ r .n .calls ≤ n .calls ⌝ }
+) -> u64
+    requires { ⌜ Node (now terms) t x enable ⌝ }
+    ensures { λ r. ⌜ Evaluated (evalAt (now (terms .entry)) depth t env acc) (now (n .entry)) (now (cells .entry)) (now (posts .entry)) (now (frames .entry)) r (now (n .exit)) (now (cells .exit)) (now (posts .exit)) (now (frames .exit)) ⌝ }
 {
-    let old = enabled_now(frames, acc);
-    let inner = enable(s, frames, acc, x.small);
-    let a = eval(s, c, cells, posts, frames, x.first, env, inner, depth, n);
-    restore(frames, acc, old);
-    a
-}
-
-// Runs the inner term for a principal.
-fn eval_sign(
-    s: &[u8],
-    c: Counts,
-    cells: &mut [u8],
-    posts: &mut [u16],
-    frames: &mut [u32],
-    t: u16,
-    x: TermRecord,
-    env: u16,
-    acc: Access,
-    depth: usize,
-    n: Tally,
-) -> Ran
-    requires { ⌜ ReadyAt (now s) c t (now cells) (acc .depth) depth x ⌝ }
-    requires { ⌜ x .kind ≡ 9 ⌝ }
-    ensures { λ r. ⌜ doneOf r (now (cells .exit)) (now (posts .exit)) (now (frames .exit)) ≡ evalAt (now (s .entry)) c depth t env acc (storeOf n (now (cells .entry)) (now (posts .entry)) (now (frames .entry))) ⌝ }
-    ensures { λ r. ⌜ r .n .calls ≤ n .calls ⌝ }
-{
-    let inner = sign(s, frames, acc, x.small as u32);
-    eval(s, c, cells, posts, frames, x.first, env, inner, depth, n)
-}
-
-// One of two branches, by whether the privilege is granted.
-fn eval_test(
-    s: &[u8],
-    c: Counts,
-    cells: &mut [u8],
-    posts: &mut [u16],
-    frames: &mut [u32],
-    t: u16,
-    x: TermRecord,
-    env: u16,
-    acc: Access,
-    depth: usize,
-    n: Tally,
-) -> Ran
-    requires { ⌜ ReadyAt (now s) c t (now cells) (acc .depth) depth x ⌝ }
-    requires { ⌜ x .kind ≡ 10 ⌝ }
-    ensures { λ r. ⌜ doneOf r (now (cells .exit)) (now (posts .exit)) (now (frames .exit)) ≡ evalAt (now (s .entry)) c depth t env acc (storeOf n (now (cells .entry)) (now (posts .entry)) (now (frames .entry))) ⌝ }
-    ensures { λ r. ⌜ r .n .calls ≤ n .calls ⌝ }
-{
-    if granted(s, frames, acc, x.small) {
-        return eval(s, c, cells, posts, frames, x.first, env, acc, depth, n);
-    }
-    eval(s, c, cells, posts, frames, x.second, env, acc, depth, n)
-}
-
-// Sum, difference, less.
-fn eval_binary(
-    s: &[u8],
-    c: Counts,
-    cells: &mut [u8],
-    posts: &mut [u16],
-    frames: &mut [u32],
-    t: u16,
-    x: TermRecord,
-    env: u16,
-    acc: Access,
-    depth: usize,
-    n: Tally,
-) -> Ran
-    requires { ⌜ ReadyAt (now s) c t (now cells) (acc .depth) depth x ⌝ }
-    requires { ⌜ (11 ≤ x .kind) × (x .kind < 14) ⌝ }
-    ensures { λ r. ⌜ doneOf r (now (cells .exit)) (now (posts .exit)) (now (frames .exit)) ≡ evalAt (now (s .entry)) c depth t env acc (storeOf n (now (cells .entry)) (now (posts .entry)) (now (frames .entry))) ⌝ }
-    ensures { λ r. ⌜ r .n .calls ≤ n .calls ⌝ }
-{
-    let a = eval(s, c, cells, posts, frames, x.first, env, acc, depth, n);
-    let a_out = a.out;
-    let Out::Val(v) = a_out else {
-        return a;
-    };
-    let n1 = a.n;
-    let b = eval(s, c, cells, posts, frames, x.second, env, acc, depth, n1);
-    let b_out = b.out;
-    let Out::Val(w) = b_out else {
-        return b;
-    };
-    let n2 = b.n;
-    let o = operate(x.kind, t, v, w);
-    Ran { out: o, n: n2 }
+    let mode = n[3];
+    let old = access::enabled_now(*frames, mode, acc);
+    let inner = access::enable(*frames, mode, acc, small_of(x));
+    let w = eval(
+        terms,
+        cells,
+        posts,
+        frames,
+        n,
+        first_of(x),
+        env,
+        inner,
+        depth,
+    );
+    access::restore(*frames, mode, acc, old);
+    w
 }
 
 // Appends a number.
 fn eval_post(
-    s: &[u8],
-    c: Counts,
-    cells: &mut [u8],
-    posts: &mut [u16],
-    frames: &mut [u32],
+    terms: &[u64; 1024],
+    cells: &mut &mut [u8],
+    posts: &mut &mut [u16],
+    frames: &mut &mut [u32],
+    n: &mut [usize; 4],
     t: u16,
-    x: TermRecord,
+    x: u64,
     env: u16,
-    acc: Access,
+    acc: u64,
     depth: usize,
-    n: Tally,
-) -> Ran
-    requires { ⌜ ReadyAt (now s) c t (now cells) (acc .depth) depth x ⌝ }
-    requires { ⌜ x .kind ≡ 14 ⌝ }
-    ensures { λ r. ⌜ doneOf r (now (cells .exit)) (now (posts .exit)) (now (frames .exit)) ≡ evalAt (now (s .entry)) c depth t env acc (storeOf n (now (cells .entry)) (now (posts .entry)) (now (frames .entry))) ⌝ }
-    ensures { λ r. ⌜ r .n .calls ≤ n .calls ⌝ }
+) -> u64
+    requires { ⌜ Node (now terms) t x post ⌝ }
+    ensures { λ r. ⌜ Evaluated (evalAt (now (terms .entry)) depth t env acc) (now (n .entry)) (now (cells .entry)) (now (posts .entry)) (now (frames .entry)) r (now (n .exit)) (now (cells .exit)) (now (posts .exit)) (now (frames .exit)) ⌝ }
 {
-    let a = eval(s, c, cells, posts, frames, x.first, env, acc, depth, n);
-    let a_out = a.out;
-    let Out::Val(v) = a_out else {
-        return a;
-    };
-    let n1 = a.n;
-    append(posts, t, v, n1)
+    let w = eval(terms, cells, posts, frames, n, first_of(x), env, acc, depth);
+    if words::is_stop(w) {
+        return w;
+    }
+    append(*posts, n, t, w)
 }
 
-// Applies f to v at the call t: its body runs in the caller's access.
+// Applies f to v at the call t: 18, 19, 20, 21, or its body runs in the caller's access, with its argument in a new cell.
 fn apply(
-    s: &[u8],
-    c: Counts,
-    cells: &mut [u8],
-    posts: &mut [u16],
-    frames: &mut [u32],
+    terms: &[u64; 1024],
+    cells: &mut &mut [u8],
+    posts: &mut &mut [u16],
+    frames: &mut &mut [u32],
+    n: &mut [usize; 4],
     t: u16,
-    f: Value,
-    v: Value,
-    acc: Access,
+    f: u64,
+    v: u64,
+    acc: u64,
     depth: usize,
-    n: Tally,
-) -> Ran
-    requires { ⌜ Ready (now s) c (now cells) (acc .depth) depth t ⌝ }
-    ensures { λ r. ⌜ doneOf r (now (cells .exit)) (now (posts .exit)) (now (frames .exit)) ≡ applyAt (now (s .entry)) c depth t f v acc (storeOf n (now (cells .entry)) (now (posts .entry)) (now (frames .entry))) ⌝ }
-    ensures { λ r. ⌜ r .n .calls ≤ n .calls ⌝ }
+) -> u64
+    requires { ⌜ Table (now terms) ⌝ }
+    ensures { λ r. ⌜ Evaluated (applyAt (now (terms .entry)) depth t f v acc) (now (n .entry)) (now (cells .entry)) (now (posts .entry)) (now (frames .entry)) r (now (n .exit)) (now (cells .exit)) (now (posts .exit)) (now (frames .exit)) ⌝ }
 {
-    let Value::Fun { body, env } = f else {
-        return Ran {
-            out: Out::Stop(Stop::Stuck(t)),
-            n: n,
-        };
-    };
-    let b = begin_call(cells, t, v, env, depth, n);
-    match b {
-        Begun::Stop(x) => Ran {
-            out: Out::Stop(x),
-            n: n,
-        },
-        Begun::Body { own, rest } => {
-            eval(s, c, cells, posts, frames, body, own, acc, depth - 1, rest)
-        }
+    if words::sort(f) != 2 {
+        return words::stop(18, t);
     }
+    if depth == 0 {
+        return words::stop(19, t);
+    }
+    let calls = n[0];
+    if calls == 0 {
+        return words::stop(20, t);
+    }
+    let k = n[1];
+    let made = bind(*cells, k, v, words::env(f));
+    if made == 0 {
+        return words::stop(21, t);
+    }
+    n[0] = calls - 1;
+    n[1] = made;
+    let body = words::payload(f);
+    let own = next_cell(k);
+    eval(terms, cells, posts, frames, n, body, own, acc, depth - 1)
 }

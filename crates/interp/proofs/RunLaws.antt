@@ -1,11 +1,11 @@
 -- From what the interpreter comes to, to the whole run: the refinement theorem at the start that each runner makes.
-use mathlib.Core.Bool.{Bool, true}
+use mathlib.Core.Bool.{Bool, true, false}
 use mathlib.Core.List.{List, [], _∷_, _++_}
 use mathlib.Core.Path.{_≡_, refl, sym, ap, _∙_, subst}
-use Prim.Native.Nat.{ℕ, _-_, _/_, _%_}
+use Prim.Native.Nat.{ℕ, zero, suc, _-_, _*_, _/_, _%_, _<_}
 use native.Mathlib.Omega.{arith}
 use lib.Dec.{eqb, ltb}
-use lib.ListN.{length, drop, replicate, length-append, length-drop}
+use lib.ListN.{length, getD, drop, replicate, length-replicate, length-append, length-drop}
 use borrow.Author.Tests.{eqb-true, ltb-true}
 use Rattle.privileges.specs.Booleans.{and-left, and-right}
 use Rattle.privileges.specs.Sets.{meet, union}
@@ -17,16 +17,19 @@ use Rattle.program.specs.Laws.Records.{authority-is}
 use Rattle.program.specs.declared.records.Counts.{Counts}
 use Rattle.semantics.specs.Values.{Budget, budget, Result}
 use Rattle.semantics.specs.Access.{Frame, privs}
-use Rattle.semantics.specs.Runs.{eager, lazy, Request, Sizes, sizes, stack, known, runConditions, evaluation, started, ran, left, counts, answerOf, clearedFrames, buffersAfter, run}
+use Rattle.semantics.specs.Runs.{eager, lazy, Request, Buffers, Sizes, sizes, stack, known, runConditions, evaluation, started, ran, left, counts, answerOf, clearedFrames, buffersAfter, run}
 use Rattle.semantics.specs.Theorems.{course-clear, course-found, run-course}
 use Rattle.machine.specs.declared.state.Out.{Out}
-use Rattle.machine.specs.declared.state.Ran.{Ran}
-use Rattle.machine.specs.Store.{Done, doneOf, evalAt, zerosLike}
-use Rattle.evaluator.specs.Ready.{Ready}
-use Rattle.refinement.specs.Claims.{outcomeOf, countsOf, laidOut, startOf, eagerStart, lazyStart, Refined}
+use Rattle.machine.specs.Words.{outOf}
+use Rattle.machine.specs.Table.{Empty}
+use Rattle.machine.specs.Cells.{zerosLike}
+use Rattle.machine.specs.Access.{pairOf, enforced, lazyMode}
+use Rattle.machine.specs.Steps.{callsLeft, cellsMade, postsMade}
+use Rattle.machine.specs.Store.{Done, storeOf, doneOf, evalAt}
+use Rattle.refinement.specs.Claims.{outcomeOf, countsOf, laidOut, Refined}
 use Rattle.refinement.specs.Theorems.{eager-refined, lazy-refined}
 use Rattle.interp.specs.Answers.{causeOf, placeOf, outcomeTold, asked, lent, after}
-use Rattle.interp.specs.Internal.{Cleared, Startable, Admits, Evaluated}
+use Rattle.interp.specs.Internal.{Cleared, Admits, rootDone, Told, Evaluated}
 use Rattle.interp.specs.declared.answer.Refusal.{Refusal}
 use Rattle.interp.specs.declared.answer.Run.{Run}
 use Rattle.interp.specs.declared.answer.Run.the-variants.{Refused, Ran as IsRan}
@@ -47,7 +50,7 @@ module _ (root₀ : ℕ) (q : Request) (cells posts frames store : List ℕ) (x 
   same-counts-told : (u : Budget) → counts q (sizes (lent cells posts store)) u ≡ counts q (sizes (lent cells posts frames)) u
   same-counts-told (budget c d r ps) = refl
 
-  told-after : {d : Done} {r : Run} {cells′ posts′ frames′ last : List ℕ} → Evaluated root₀ (q .calls) d r cells′ posts′ frames′
+  told-after : {d : Done} {r : Run} {cells′ posts′ frames′ last : List ℕ} → Told root₀ (q .calls) d r (lent cells′ posts′ frames′)
       → Refined root₀ q (lent cells posts store) d x → last ≡ clearedFrames (q .runner) frames
       → after r cells′ posts′ last
       ≡ record { answer = answerOf root₀ q (sizes (lent cells posts frames)) (started x); buffers = buffersAfter (q .runner) (lent cells posts frames) (started x) }
@@ -60,7 +63,7 @@ module _ (root₀ : ℕ) (q : Request) (cells posts frames store : List ℕ) (x 
   }
 
 pub ran-after : (s : List ℕ) (q : Request) (cells posts frames store : List ℕ) → screen (runConditions s q (sizes (lent cells posts frames))) ≡ clear
-    → {d : Done} {r : Run} {cells′ posts′ frames′ last : List ℕ} → Evaluated (root s) (q .calls) d r cells′ posts′ frames′
+    → {d : Done} {r : Run} {cells′ posts′ frames′ last : List ℕ} → Told (root s) (q .calls) d r (lent cells′ posts′ frames′)
     → Refined (root s) q (lent cells posts store) d (evaluation (q .runner) s q (sizes (lent cells posts frames)))
     → last ≡ clearedFrames (q .runner) frames
     → after r cells′ posts′ last ≡ run s q (lent cells posts frames)
@@ -69,23 +72,27 @@ ran-after s q cells posts frames store e v R l =
     ∙ sym (run-course s q (lent cells posts frames) _ (course-clear s q (lent cells posts frames) e))
 
 -- ---- evaluation
-pub root-ready : {s : List ℕ} {c : Counts} {cells : List ℕ} {frames depth : ℕ} → Startable s c cells frames depth → Ready s c cells frames depth (c .terms - 1)
-root-ready S = record {
-  well-formed = S .well-formed;
-  counts-are = S .counts-are;
-  term-small = omega (arith, S .counts-are .terms-are, S .well-formed .terms-most);
-  cells-most = S .cells-most;
-  shallow = omega (arith, S .counts-are .terms-are, S .well-formed .terms-most, S .frames-most, S .depth-most);
-}
+-- a table of zeros is an empty one
+zero-at : (n t : ℕ) → _≡_ {A = ℕ} (getD (replicate n 0) t 0) 0
+zero-at zero t = refl
+zero-at (suc n) zero = refl
+zero-at (suc n) (suc t) = zero-at n t
+
+pub empty-table : (l : List ℕ) → l ≡ replicate 1024 0 → Empty l
+empty-table l e = record { long = ap length e ∙ length-replicate {A = ℕ} 1024 0; zero-at = λ t. ap (λ (x : List ℕ). getD x t 0) e ∙ zero-at 1024 t }
+
+-- the frames are back as the list that they were given back as
+pub frames-back : {w : ℕ} {n c p f z : List ℕ} {d : Done} → z ≡ f → doneOf w (storeOf n c p f) ≡ d → doneOf w (storeOf n c p z) ≡ d
+frames-back {w} {n} {c} {p} q e = ap (λ (l : List ℕ). doneOf w (storeOf n c p l)) q ∙ e
 
 pub out-told : (root₀ : ℕ) {o : Out} (p : Out) → o ≡ p → outcomeOf root₀ p ≡ outcomeOf root₀ o
 out-told root₀ p e = ap (outcomeOf root₀) (sym e)
 
-pub evaluated : (root₀ calls : ℕ) {x : Ran} {cells posts frames cells′ : List ℕ} {d : Done} {o : Outcome} → doneOf x cells posts frames ≡ d
-    → outcomeTold o ≡ outcomeOf root₀ (x .out) → cells′ ≡ zerosLike cells
-    → Evaluated root₀ calls d (IsRan o (record { calls = calls - x .n .calls; cells = x .n .cells; posts = x .n .posts })) cells′ posts frames
-evaluated root₀ calls e q z = record {
-  answer-is = λ i. ran ((q ∙ ap (λ (d : Done). outcomeOf root₀ (d .out)) e) i) (countsOf calls (e i .store .n));
+pub told-by : (root₀ calls : ℕ) {w : ℕ} {n cells posts frames cells′ : List ℕ} {d : Done} {x : Out} {o : Outcome} → doneOf w (storeOf n cells posts frames) ≡ d → x ≡ outOf w
+    → outcomeTold o ≡ outcomeOf root₀ x → cells′ ≡ zerosLike cells
+    → Told root₀ calls d (IsRan o (record { calls = calls - callsLeft n; cells = cellsMade n; posts = postsMade n })) (lent cells′ posts frames)
+told-by root₀ calls e p q z = record {
+  answer-is = λ i. ran ((q ∙ ap (outcomeOf root₀) p ∙ ap (λ (d : Done). outcomeOf root₀ (outOf (d .out))) e) i) (countsOf calls (e i .store .n));
   cells-are = z ∙ ap (λ (d : Done). zerosLike (d .store .cells)) e;
   posts-are = ap (λ (d : Done). d .store .posts) e;
   frames-are = ap (λ (d : Done). d .store .frames) e;
@@ -104,48 +111,59 @@ stack-length [] e = refl
 stack-length (x ∷ []) e = absurd (omega (arith, e))
 stack-length (x ∷ y ∷ l) e = omega (arith, stack-length l (omega (arith, e)))
 
+same-laid : (s : List ℕ) → WellFormed s → (fs : List Frame) → known (principals s) fs ≡ true → laidOut (authorityRecord s) fs ≡ laidOut (authority s) fs
+same-laid s w [] h = refl
+same-laid s w (f ∷ fs) h =
+    let low : ltb (f .principal) (principals s) ≡ true = search and-left in
+    let rest : known (principals s) fs ≡ true = search (and-left, and-right) in
+    λ i. same-laid s w fs rest i ++ (authority-is s w (f .principal) (ltb-true (f .principal) (principals s) low) i ∷ f .enabled ∷ [])
+
 -- what evaluating the root by its number in the counts comes to
-root-evaluated : {s : List ℕ} {c : Counts} → CountsOf s c → (at : ℕ → Done) {calls : ℕ} {r : Run} {cells posts frames : List ℕ}
-    → Evaluated (c .terms - 1) calls (at (c .terms - 1)) r cells posts frames → Evaluated (root s) calls (at (root s)) r cells posts frames
-root-evaluated k at {calls = calls} {r = r} {cells = cells} {posts = posts} {frames = frames} v =
-    subst (λ n. Evaluated n calls (at n) r cells posts frames) (ap (λ (n : ℕ). n - 1) (k .terms-are)) v
+root-told : {s : List ℕ} {c : Counts} → CountsOf s c → (at : ℕ → Done) {calls : ℕ} {r : Run} {b : Buffers} → Told (c .terms - 1) calls (at (c .terms - 1)) r b → Told (root s) calls (at (root s)) r b
+root-told k at {calls = calls} {r = r} {b = b} v = subst (λ n. Told n calls (at n) r b) (ap (λ (n : ℕ). n - 1) (k .terms-are)) v
 
 module _ (s start : List ℕ) (e : Bool) (cells posts : List ℕ) (calls depth : ℕ) {c : Counts} where
-  pub eager-after : (store : List ℕ) {P : ℕ} {r : Run} {cells′ posts′ frames′ : List ℕ} → Cleared s start (length cells) (length posts) true calls depth c
-      → P ≡ privs (authorityRecord s) (stack start)
-      → let q = asked eager e start calls depth in
-      Evaluated (c .terms - 1) calls (evalAt s c depth (c .terms - 1) 0 (eagerStart q P) (startOf q (lent cells posts store))) r cells′ posts′ frames′
-      → after r cells′ posts′ [] ≡ run s q (lent cells posts [])
-  eager-after store {P = P} {r = r} {cells′ = cells′} {posts′ = posts′} {frames′ = frames′} K g v =
+  -- a in the place of the number that it is
+  moved : (terms frames : List ℕ) (mode acc : ℕ) {a : ℕ} {r : Run} {b : Buffers} → CountsOf s c → acc ≡ a
+      → Told (c .terms - 1) calls (rootDone terms c mode acc calls depth (lent cells posts frames)) r b
+      → Told (root s) calls (evalAt terms depth (root s) 0 a (storeOf (calls ∷ 0 ∷ 0 ∷ mode ∷ []) cells posts frames)) r b
+  moved terms frames mode acc {r = r} {b = b} k q v =
+      let st = storeOf (calls ∷ 0 ∷ 0 ∷ mode ∷ []) cells posts frames in
+      subst (λ x. Told (root s) calls (evalAt terms depth (root s) 0 x st) r b) q (root-told k (λ n. evalAt terms depth n 0 acc st) v)
+
+  pub eager-after : (store : List ℕ) {may P mode acc : ℕ} {r : Run} {cells′ posts′ frames′ : List ℕ} → Cleared s start (length cells) (length posts) true calls depth c
+      → may ≡ authorityRecord s 0 → may < 4294967296 → P ≡ privs (authorityRecord s) (stack start) → acc ≡ pairOf may P → lazyMode mode ≡ false → enforced mode ≡ e
+      → Evaluated s c mode acc calls depth (lent cells posts store) r (lent cells′ posts′ frames′)
+      → after r cells′ posts′ [] ≡ run s (asked eager e start calls depth) (lent cells posts [])
+  eager-after store {may = may} {mode = mode} {acc = acc} K m small g a lz en v =
       let q = asked eager e start calls depth in
-      let st = startOf q (lent cells posts store) in
+      let w = K .well-formed in
       ran-after s q cells posts [] store (K .none-found)
-      (subst (λ P. Evaluated (root s) calls (evalAt s c depth (root s) 0 (eagerStart q P) st) r cells′ posts′ frames′) (g ∙ same-privs s (K .well-formed) (stack start) (K .all-known))
-      (root-evaluated (K .counts-are) (λ n. evalAt s c depth n 0 (eagerStart q P) st) v))
-      (eager-refined s (K .well-formed) c (K .counts-are) q (lent cells posts store) (K .depth-most) (privs (authority s) (stack start)))
+      (moved (v .terms) store mode acc (K .counts-are) (a ∙ ap (pairOf may) (g ∙ same-privs s w (stack start) (K .all-known))) (v .tells))
+      (eager-refined s w c (K .counts-are) (v .terms) (v .table) q (lent cells posts store) (K .depth-most) (K .cells-most) mode en may (privs (authority s) (stack start)) lz small
+      (m ∙ authority-is s w 0 (omega (arith, w .principals-least))))
       refl
 
-  pub lazy-after : (frames : List ℕ) {store : List ℕ} {r : Run} {cells′ posts′ frames′ last : List ℕ}
+  pub lazy-after : (frames : List ℕ) {store : List ℕ} {mode acc : ℕ} {r : Run} {cells′ posts′ frames′ last : List ℕ}
       → Cleared s start (length cells) (length posts) (eqb (length frames) 6496) calls depth c
-      → store ≡ laidOut (stack start) ++ drop (length start) frames
-      → let q = asked lazy e start calls depth in
-      Evaluated (c .terms - 1) calls (evalAt s c depth (c .terms - 1) 0 (lazyStart q (length start / 2)) (startOf q (lent cells posts store))) r cells′ posts′ frames′
+      → store ≡ laidOut (authorityRecord s) (stack start) ++ drop (length start) frames → acc ≡ length start → lazyMode mode ≡ true → enforced mode ≡ e
+      → Evaluated s c mode acc calls depth (lent cells posts store) r (lent cells′ posts′ frames′)
       → last ≡ zerosLike frames′
-      → after r cells′ posts′ last ≡ run s q (lent cells posts frames)
-  lazy-after frames {store = store} {r = r} {cells′ = cells′} {posts′ = posts′} {frames′ = frames′} K g v l =
+      → after r cells′ posts′ last ≡ run s (asked lazy e start calls depth) (lent cells posts frames)
+  lazy-after frames {store = store} {mode = mode} {acc = acc} K g a lz en v l =
       let q = asked lazy e start calls depth in
-      let st = startOf q (lent cells posts store) in
-      let half : length start / 2 ≡ length (stack start) = sym (stack-length start (K .whole .even)) in
+      let w = K .well-formed in
+      let two : length start ≡ length (stack start) * 2 = omega (arith, stack-length start (K .whole .even), K .whole .even) in
       let long : length frames ≡ 6496 = eqb-true (length frames) 6496 (K .frames-right) in
+      let laid : store ≡ laidOut (authority s) (stack start) ++ drop (length start) frames =
+      g ∙ ap (λ (x : List ℕ). x ++ drop (length start) frames) (same-laid s w (stack start) (K .all-known)) in
       let kept : length store ≡ length frames =
-      ap (λ (x : List ℕ). length x) g ∙ length-append (laidOut (stack start)) _
-      ∙ omega (arith, laid-length start (K .whole .even), length-drop (length start) frames, long, K .whole .few) in
+      ap (λ (x : List ℕ). length x) g ∙ length-append (laidOut (authorityRecord s) (stack start)) _
+      ∙ omega (arith, laid-length (authorityRecord s) start (K .whole .even), length-drop (length start) frames, long, K .whole .few) in
       let refined =
-      lazy-refined s (K .well-formed) c (K .counts-are) q (lent cells posts store) (K .depth-most) (stack start) (drop (length start) frames)
-      (omega (arith, half, K .whole .few)) (K .all-known) g (kept ∙ long) in
-      let at-end =
-      subst (λ n. Evaluated (root s) calls (evalAt s c depth (root s) 0 (lazyStart q n) st) r cells′ posts′ frames′) half
-      (root-evaluated (K .counts-are) (λ n. evalAt s c depth n 0 (lazyStart q (length start / 2)) st) v) in
+      lazy-refined s w c (K .counts-are) (v .terms) (v .table) q (lent cells posts store) (K .depth-most) (K .cells-most) mode en lz (stack start) (drop (length start) frames)
+      (omega (arith, two, K .whole .few)) laid (kept ∙ long) in
+      let at-end = moved (v .terms) store mode acc (K .counts-are) (a ∙ two) (v .tells) in
       ran-after s q cells posts frames store (K .none-found) at-end refined
       (l ∙ ap zerosLike (at-end .frames-are) ∙ ap (λ (z : Sizes). replicate (z .frames) 0) (refined .same-sizes) ∙ ap (λ (n : ℕ). replicate n 0) kept)
 

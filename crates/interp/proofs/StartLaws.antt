@@ -61,37 +61,38 @@ two-set [] (x ∷ f) (suc n) a b e h = absurd (omega (arith, e))
 two-set (x ∷ L) (y ∷ f) zero a b e h = absurd (omega (arith, e))
 two-set (x ∷ L) (y ∷ f) (suc n) a b e h = simp unary-clauses (simp unary-clauses at (ap (λ (r : List ℕ). x ∷ r) (two-set L f n a b (omega (arith, e)) (omega (arith, h)))))
 
--- a whole number of frames lies behind a place
-pub laid-length : (l : List ℕ) → length l % 2 ≡ 0 → length (laidOut (stack l)) ≡ length l
-laid-length [] e = refl
-laid-length (x ∷ []) e = absurd (omega (arith, e))
-laid-length (x ∷ y ∷ l) e = length-append (laidOut (stack l)) _ ∙ omega (arith, laid-length l (omega (arith, e)))
+-- a whole number of frames lies behind a place; A gives the set that a frame's principal may use
+pub laid-length : (A : ℕ → ℕ) (l : List ℕ) → length l % 2 ≡ 0 → length (laidOut A (stack l)) ≡ length l
+laid-length A [] e = refl
+laid-length A (x ∷ []) e = absurd (omega (arith, e))
+laid-length A (x ∷ y ∷ l) e = length-append (laidOut A (stack l)) _ ∙ omega (arith, laid-length A l (omega (arith, e)))
 
-module _ (l f : List ℕ) where
-  pub lay-none : f ≡ laidOut (stack (drop (length l) l)) ++ drop 0 f
-  lay-none = ap (λ (x : List Frame). laidOut x ++ f) (sym (stack-end l (length l) (omega arith)))
+module _ (A : ℕ → ℕ) (l f : List ℕ) where
+  pub lay-none : f ≡ laidOut A (stack (drop (length l) l)) ++ drop 0 f
+  lay-none = ap (λ (x : List Frame). laidOut A x ++ f) (sym (stack-end l (length l) (omega arith)))
 
   -- the two numbers of one frame more
-  pub lay-more : {g : List ℕ} (j n : ℕ) → j % 2 ≡ 0 → 2 ≤ j → j + n ≡ length l → length l % 2 ≡ 0 → length l ≤ length f
-      → g ≡ laidOut (stack (drop j l)) ++ drop n f
-      → set (set g n (at l (j - 2))) (n + 1) (at l (j - 2 + 1)) ≡ laidOut (stack (drop (j - 2) l)) ++ drop (n + 2) f
-  lay-more j n e h k w r q =
-      ap (λ (x : List ℕ). set (set x n (at l (j - 2))) (n + 1) (at l (j - 2 + 1))) q
-      ∙ two-set (laidOut (stack (drop j l))) f n (at l (j - 2)) (at l (j - 2 + 1)) long (omega (arith, h, k, r))
-      ∙ ap (λ (x : List Frame). laidOut x ++ drop (n + 2) f) (sym (stack-before l j h (omega (arith, k))))
+  pub lay-more : {g : List ℕ} {m : ℕ} (j n : ℕ) → j % 2 ≡ 0 → 2 ≤ j → j + n ≡ length l → length l % 2 ≡ 0 → length l ≤ length f → m ≡ A (at l (j - 2))
+      → g ≡ laidOut A (stack (drop j l)) ++ drop n f
+      → set (set g n m) (n + 1) (at l (j - 2 + 1)) ≡ laidOut A (stack (drop (j - 2) l)) ++ drop (n + 2) f
+  lay-more j n e h k w r p q =
+      (λ i. set (set (q i) n (p i)) (n + 1) (at l (j - 2 + 1)))
+      ∙ two-set (laidOut A (stack (drop j l))) f n (A (at l (j - 2))) (at l (j - 2 + 1)) long (omega (arith, h, k, r))
+      ∙ ap (λ (x : List Frame). laidOut A x ++ drop (n + 2) f) (sym (stack-before l j h (omega (arith, k))))
     where
       behind : length (drop j l) ≡ n
       behind = length-drop j l ∙ omega (arith, k)
 
-      long : length (laidOut (stack (drop j l))) ≡ n
-      long = laid-length (drop j l) (omega (arith, behind, e, k, w)) ∙ behind
+      long : length (laidOut A (stack (drop j l))) ≡ n
+      long = laid-length A (drop j l) (omega (arith, behind, e, k, w)) ∙ behind
 
 -- from the first place on it is the whole
-pub all-laid : (l f : List ℕ) {g : List ℕ} (i n : ℕ) → i ≤ 0 → i + n ≡ length l → g ≡ laidOut (stack (drop i l)) ++ drop n f → g ≡ laidOut (stack l) ++ drop (length l) f
-all-laid l f i n h e q =
+pub all-laid : (A : ℕ → ℕ) (l f : List ℕ) {g : List ℕ} (i n : ℕ) → i ≤ 0 → i + n ≡ length l → g ≡ laidOut A (stack (drop i l)) ++ drop n f
+    → g ≡ laidOut A (stack l) ++ drop (length l) f
+all-laid A l f i n h e q =
     let z : i ≡ 0 = omega (arith, h) in
     let w : n ≡ length l = omega (arith, h, e) in
-    q ∙ (λ j. laidOut (stack (drop (z j) l)) ++ drop (w j) f)
+    q ∙ (λ j. laidOut A (stack (drop (z j) l)) ++ drop (w j) f)
 
 pub all-granted : (A : ℕ → ℕ) (l : List ℕ) {g : ℕ} (i : ℕ) → i ≤ 0 → g ≡ privs A (stack (drop i l)) → g ≡ privs A (stack l)
 all-granted A l i h q =

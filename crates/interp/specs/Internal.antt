@@ -2,7 +2,7 @@
 use mathlib.Core.Bool.{Bool, true, _&&_}
 use mathlib.Core.List.{List, [], _∷_, _++_}
 use mathlib.Core.Path.{_≡_}
-use Prim.Native.Nat.{ℕ, _%_, _≤_}
+use Prim.Native.Nat.{ℕ, _-_, _%_, _≤_}
 use lib.Dec.{leb, eqb}
 use lib.ListN.{length}
 use Rattle.program.specs.Layout.{principals}
@@ -11,9 +11,11 @@ use Rattle.program.specs.Screening.{Condition, clear, refused, screen, unless}
 use Rattle.program.specs.Decoding.{decodingConditions}
 use Rattle.program.specs.Laws.Readable.{WellFormed}
 use Rattle.program.specs.declared.records.Counts.{Counts}
-use Rattle.semantics.specs.Runs.{stack, known, ran}
-use Rattle.machine.specs.declared.state.Tally.{Tally}
-use Rattle.machine.specs.Store.{Done, zerosLike}
+use Rattle.semantics.specs.Runs.{stack, known, ran, Buffers}
+use Rattle.machine.specs.Words.{outOf}
+use Rattle.machine.specs.Table.{Decoded}
+use Rattle.machine.specs.Cells.{zerosLike}
+use Rattle.machine.specs.Store.{Done, storeOf, evalAt}
 use Rattle.refinement.specs.Claims.{outcomeOf, countsOf}
 use Rattle.interp.specs.Answers.{causeOf, placeOf, told}
 use Rattle.interp.specs.declared.answer.Admission.{Admission}
@@ -51,20 +53,18 @@ Admits s start cells posts frames calls depth (Admitted c) = Cleared s start cel
 Admits s start cells posts frames calls depth (Refused f) = screen (conditions s start cells posts frames calls depth) ≡ refused (causeOf f) (placeOf f)
 
 -- ---- evaluation
--- what evaluating the root asks of the counts, the cell store, the frames and the open calls
-pub record Startable (s : List ℕ) (c : Counts) (cells : List ℕ) (frames depth : ℕ) : Type 0 where
-  pub well-formed : WellFormed s
-  pub counts-are : CountsOf s c
-  pub cells-most : length cells ≤ 65536
-  pub frames-most : frames ≤ 16
-  pub depth-most : depth ≤ 100
+-- what the interpreter comes to at the root, with the terms' words in `terms`
+abbrev pub rootDone : (terms : List ℕ) → Counts → (mode acc calls depth : ℕ) → Buffers → Done
+rootDone terms c mode acc calls depth b = evalAt terms depth (c .terms - 1) 0 acc (storeOf (calls ∷ 0 ∷ 0 ∷ mode ∷ []) (b .cells) (b .posts) (b .frames))
 
-abbrev pub fresh : (calls : ℕ) → Tally
-fresh calls = record { calls = calls; cells = 0; posts = 0 }
+-- the answer from what it comes to, and the stores: cells cleared, posts and frames as it leaves them
+pub record Told (root calls : ℕ) (d : Done) (r : Run) (b : Buffers) : Type 0 where
+  pub answer-is : told r ≡ ran (outcomeOf root (outOf (d .out))) (countsOf calls (d .store .n))
+  pub cells-are : b .cells ≡ zerosLike (d .store .cells)
+  pub posts-are : b .posts ≡ d .store .posts
+  pub frames-are : b .frames ≡ d .store .frames
 
--- the answer from what the interpreter comes to, and the stores: cells cleared, posts and frames as it leaves them
-pub record Evaluated (root calls : ℕ) (d : Done) (r : Run) (cells posts frames : List ℕ) : Type 0 where
-  pub answer-is : told r ≡ ran (outcomeOf root (d .out)) (countsOf calls (d .store .n))
-  pub cells-are : cells ≡ zerosLike (d .store .cells)
-  pub posts-are : posts ≡ d .store .posts
-  pub frames-are : frames ≡ d .store .frames
+pub record Evaluated (s : List ℕ) (c : Counts) (mode acc calls depth : ℕ) (b : Buffers) (r : Run) (b′ : Buffers) : Type 0 where
+  pub terms : List ℕ
+  pub table : Decoded s c terms
+  pub tells : Told (c .terms - 1) calls (rootDone terms c mode acc calls depth b) r b′

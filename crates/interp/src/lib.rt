@@ -2,14 +2,14 @@
 ghost use mathlib.Core.Bool.{true};
 ghost use mathlib.Core.List.{[]};
 ghost use mathlib.Core.Path.{_≡_};
-ghost use Prim.Native.Nat.{_-_};
 ghost use lib.Dec.{eqb};
 ghost use lib.ListN.{length};
 ghost use Rattle.semantics.specs.Runs.{eager as eagerRunner, lazy as lazyRunner, run};
-ghost use Rattle.machine.specs.Store.{storeOf, evalAt};
+ghost use Rattle.program.specs.Records.{CountsOf};
+ghost use Rattle.program.specs.Laws.Readable.{WellFormed};
 ghost use Rattle.refinement.specs.Claims.{outcomeOf};
 ghost use Rattle.interp.specs.Answers.{outcomeTold, asked, lent, after};
-ghost use Rattle.interp.specs.Internal.{Cleared, Startable, fresh, Evaluated};
+ghost use Rattle.interp.specs.Internal.{Cleared, Evaluated};
 
 pub mod admission;
 pub mod answer;
@@ -20,12 +20,13 @@ use answer::Admission;
 use answer::Made;
 use answer::Outcome;
 use answer::Run;
-use evaluator::eval;
 use machine::access::clear_frames;
-use machine::state::Access;
+use machine::access::mode_of;
+use machine::access::pair;
 use machine::state::Out;
 use machine::state::Stop;
-use machine::state::Tally;
+use machine::table::decode_terms;
+use machine::words::out_of;
 use program::records::Counts;
 use start::lay_frames;
 use start::start_grants;
@@ -44,48 +45,46 @@ fn outcome_of(root: u16, out: Out) -> Outcome
     }
 }
 
-// Evaluates the root, clears the cells and tells the outcome.
+// Decodes the terms, evaluates the root, clears the cells and tells the outcome.
 fn evaluate(
     s: &[u8],
     c: Counts,
     cells: &mut [u8],
     posts: &mut [u16],
     frames: &mut [u32],
-    acc: Access,
+    mode: usize,
+    acc: u64,
     calls: u32,
     depth: u32,
 ) -> Run
-    requires { ⌜ Startable (now s) c (now cells) (acc .depth) depth ⌝ }
-    ensures { λ r. ⌜ Evaluated (c .terms - 1) calls (evalAt (now (s .entry)) c depth (c .terms - 1) 0 acc (storeOf (fresh calls) (now (cells .entry)) (now (posts .entry)) (now (frames .entry)))) r (now (cells .exit)) (now (posts .exit)) (now (frames .exit)) ⌝ }
+    requires { ⌜ WellFormed (now s) ⌝ }
+    requires { ⌜ CountsOf (now s) c ⌝ }
+    ensures { λ r. ⌜ Evaluated (now (s .entry)) c mode acc calls depth (lent (now (cells .entry)) (now (posts .entry)) (now (frames .entry))) r (lent (now (cells .exit)) (now (posts .exit)) (now (frames .exit))) ⌝ }
 {
     let root = c.terms - 1;
+    let mut terms = [0; 1024];
+    decode_terms(s, c, &mut terms);
     let allowed = calls as usize;
-    let none = Tally {
-        calls: allowed,
-        cells: 0,
-        posts: 0,
-    };
-    let ran = eval(
-        s,
-        c,
+    let mut n = [allowed, 0, 0, mode];
+    let mut word = 0;
+    evaluator::entry::run(
+        &terms,
         cells,
         posts,
         frames,
+        &mut n,
         root,
-        0,
         acc,
         depth as usize,
-        none,
+        &mut word,
     );
     machine::cells::clear(cells);
-    let n = ran.n;
     let made = Made {
-        calls: allowed - n.calls,
-        cells: n.cells,
-        posts: n.posts,
+        calls: allowed - n[0],
+        cells: n[1],
+        posts: n[2],
     };
-    let out = ran.out;
-    let outcome = outcome_of(root, out);
+    let outcome = outcome_of(root, out_of(word));
     Run::Ran {
         outcome: outcome,
         made: made,
@@ -106,16 +105,19 @@ fn eager(
     requires { ⌜ Cleared (now s) (now start) (length (now cells)) (length (now posts)) true calls depth c ⌝ }
     ensures { λ r. ⌜ after r (now (cells .exit)) (now (posts .exit)) [] ≡ run (now (s .entry)) (asked eagerRunner enforce (now (start .entry)) calls depth) (lent (now (cells .entry)) (now (posts .entry)) []) ⌝ }
 {
-    let granted = start_grants(s, start);
-    let acc = Access {
-        enforce: enforce,
-        lazy: false,
-        signer: 0,
-        granted: granted,
-        depth: 0,
-    };
+    let acc = pair(program::records::authority(s, 0), start_grants(s, start));
     let mut frames = [0; 1];
-    evaluate(s, c, cells, posts, &mut frames, acc, calls, depth)
+    evaluate(
+        s,
+        c,
+        cells,
+        posts,
+        &mut frames,
+        mode_of(false, enforce),
+        acc,
+        calls,
+        depth,
+    )
 }
 
 // The lazy runner walks the frames of its store, which it leaves cleared.
@@ -133,15 +135,18 @@ fn lazy(
     requires { ⌜ Cleared (now s) (now start) (length (now cells)) (length (now posts)) (eqb (length (now frames)) 6496) calls depth c ⌝ }
     ensures { λ r. ⌜ after r (now (cells .exit)) (now (posts .exit)) (now (frames .exit)) ≡ run (now (s .entry)) (asked lazyRunner enforce (now (start .entry)) calls depth) (lent (now (cells .entry)) (now (posts .entry)) (now (frames .entry))) ⌝ }
 {
-    lay_frames(start, frames);
-    let acc = Access {
-        enforce: enforce,
-        lazy: true,
-        signer: 0,
-        granted: 0,
-        depth: start.len() / 2,
-    };
-    let r = evaluate(s, c, cells, posts, frames, acc, calls, depth);
+    lay_frames(s, start, frames);
+    let r = evaluate(
+        s,
+        c,
+        cells,
+        posts,
+        frames,
+        mode_of(true, enforce),
+        start.len() as u64,
+        calls,
+        depth,
+    );
     clear_frames(frames);
     r
 }

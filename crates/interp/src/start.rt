@@ -52,17 +52,17 @@ pub fn start_grants(s: &[u8], start: &[u32]) -> u32
     set
 }
 
-// Lays the stack into the frame store, the outermost frame first.
-pub fn lay_frames(start: &[u32], frames: &mut [u32])
+// Lays the stack into the frame store, the outermost frame first: the set that each frame's principal may use, and the enabled set.
+pub fn lay_frames(s: &[u8], start: &[u32], frames: &mut [u32])
     requires { ⌜ Whole (now start) ⌝ }
     requires { ⌜ 32 ≤ length (now frames) ⌝ }
-    ensures { λ _. ⌜ now (frames .exit) ≡ laidOut (stack (now (start .entry))) ++ drop (length (now (start .entry))) (now (frames .entry)) ⌝ }
+    ensures { λ _. ⌜ now (frames .exit) ≡ laidOut (authorityRecord (now (s .entry))) (stack (now (start .entry))) ++ drop (length (now (start .entry))) (now (frames .entry)) ⌝ }
 {
     let mut at = 0;
     let mut i = start.len();
     while 0 < i {
         i -= 2;
-        frames[at] = start[i];
+        frames[at] = program::records::authority(s, start[i]);
         frames[at + 1] = start[i + 1];
         at += 2;
     }

@@ -1,17 +1,19 @@
-// Access control: what 01 says of each runner. An eager run holds the granted set, a lazy one walks the frames of its store.
+// Access control, as one number. An eager run holds a pair: the set that the signing principal may use, and 2^32 times the granted set. A lazy run
+// holds how many numbers of its frame store are in use, two for each frame: the set that its principal may use, and the enabled set. A run's mode is
+// 1 if checks are enforced, and 2 more if it is lazy.
 ghost use mathlib.Core.Path.{_≡_};
-ghost use Prim.Native.Nat.{_<_, _≤_};
+ghost use Prim.Native.Nat.{_<_};
 ghost use lib.ListN.{getD, set};
-ghost use Rattle.machine.specs.Store.{framesGrant, grantedOf, allowedOf, signAccess, signFrames, firstEnabled, enableAccess, enableFrames, restoreFrames, zerosLike};
-use crate::state::Access;
+ghost use Rattle.machine.specs.Access.{pairOf, lowOf, highOf, enforced, lazyMode, framesGrant, grantedOf, allowedOf, signAccess, signFrames, firstEnabled, enableAccess, enableFrames, enabledNow, restoreFrames};
+ghost use Rattle.machine.specs.Cells.{zerosLike};
 
-fn word(f: &[u32], i: usize) -> u32
+fn number_at(f: &[u32], i: usize) -> u32
     ensures { λ r. ⌜ r ≡ getD (now (f .entry)) i 0 ⌝ }
 {
     if i < f.len() { f[i] } else { 0 }
 }
 
-fn put_word(f: &mut [u32], i: usize, v: u32)
+fn put_number(f: &mut [u32], i: usize, v: u32)
     ensures { λ _. ⌜ now (f .exit) ≡ set (now (f .entry)) i v ⌝ }
 {
     if i < f.len() {
@@ -19,121 +21,148 @@ fn put_word(f: &mut [u32], i: usize, v: u32)
     }
 }
 
-// Whether the first `depth` frames grant p, the last of them being the innermost.
-fn frames_grant(s: &[u8], frames: &[u32], depth: usize, p: u8) -> bool
-    requires { ⌜ (depth ≤ 16777216) × (p < 32) ⌝ }
-    ensures { λ r. ⌜ r ≡ framesGrant (now (s .entry)) (now (frames .entry)) depth p ⌝ }
+pub fn pair(low: u32, high: u32) -> u64
+    ensures { λ r. ⌜ r ≡ pairOf low high ⌝ }
 {
-    let mut d = depth;
-    while 0 < d {
-        let may = program::records::authority(s, word(frames, d * 2 - 2));
-        if !privileges::contains(p, may) {
+    (low as u64) + 4294967296 * (high as u64)
+}
+
+fn low(acc: u64) -> u32
+    ensures { λ r. ⌜ r ≡ lowOf acc ⌝ }
+{
+    (acc % 4294967296) as u32
+}
+
+fn high(acc: u64) -> u32
+    ensures { λ r. ⌜ r ≡ highOf acc ⌝ }
+{
+    (acc / 4294967296) as u32
+}
+
+pub fn mode_of(lazy: bool, enforce: bool) -> usize
+    ensures { λ r. ⌜ (lazyMode r ≡ lazy) × (enforced r ≡ enforce) ⌝ }
+{
+    if lazy {
+        if enforce {
+            return 3;
+        }
+        return 2;
+    }
+    if enforce {
+        return 1;
+    }
+    0
+}
+
+fn enforces(mode: usize) -> bool
+    ensures { λ r. ⌜ r ≡ enforced mode ⌝ }
+{
+    mode % 2 == 1
+}
+
+fn is_lazy(mode: usize) -> bool
+    ensures { λ r. ⌜ r ≡ lazyMode mode ⌝ }
+{
+    1 < mode
+}
+
+// Whether the frames in the first `used` numbers grant p, the last of them being the innermost. One test stands for all indexes.
+fn frames_grant(frames: &[u32], used: u32, p: u8) -> bool
+    requires { ⌜ p < 32 ⌝ }
+    ensures { λ r. ⌜ r ≡ framesGrant (now (frames .entry)) used p ⌝ }
+{
+    let mut d = used as usize;
+    if frames.len() < d {
+        return false;
+    }
+    while 1 < d {
+        d -= 2;
+        if !privileges::contains(p, frames[d]) {
             return false;
         }
-        if privileges::contains(p, word(frames, d * 2 - 1)) {
+        if privileges::contains(p, frames[d + 1]) {
             return true;
         }
-        d -= 1;
     }
     false
 }
 
 // Whether p is granted.
-pub fn granted(s: &[u8], frames: &[u32], acc: Access, p: u8) -> bool
-    requires { ⌜ (acc .depth ≤ 16777216) × (p < 32) ⌝ }
-    ensures { λ r. ⌜ r ≡ grantedOf (now (s .entry)) acc (now (frames .entry)) p ⌝ }
+pub fn granted(frames: &mut [u32], mode: usize, acc: u64, p: u8) -> bool
+    requires { ⌜ p < 32 ⌝ }
+    ensures { λ r. ⌜ (r ≡ grantedOf mode acc (now (frames .entry)) p) × (now (frames .exit) ≡ now (frames .entry)) ⌝ }
 {
-    if acc.lazy {
-        return frames_grant(s, frames, acc.depth, p);
+    if is_lazy(mode) {
+        return frames_grant(frames, low(acc), p);
     }
-    privileges::contains(p, acc.granted)
+    privileges::contains(p, high(acc))
 }
 
-// Whether a check of p goes on: always, where checks are passed over.
-pub fn allowed(s: &[u8], frames: &[u32], acc: Access, p: u8) -> bool
-    requires { ⌜ (acc .depth ≤ 16777216) × (p < 32) ⌝ }
-    ensures { λ r. ⌜ r ≡ allowedOf (now (s .entry)) acc (now (frames .entry)) p ⌝ }
+// Whether a check of p goes on: always, where checks are skipped.
+pub fn allowed(frames: &mut [u32], mode: usize, acc: u64, p: u8) -> bool
+    requires { ⌜ p < 32 ⌝ }
+    ensures { λ r. ⌜ (r ≡ allowedOf mode acc (now (frames .entry)) p) × (now (frames .exit) ≡ now (frames .entry)) ⌝ }
 {
-    if acc.enforce {
-        return granted(s, frames, acc, p);
+    if enforces(mode) {
+        return granted(frames, mode, acc, p);
     }
     true
 }
 
-// Where the first of so many frames has its enabled set. With no frame it wraps to the largest index, which is past every store: 0 is read there and
-// nothing written.
-fn first_enabled(frames: usize) -> usize
-    requires { ⌜ frames ≤ 16777217 ⌝ }
-    ensures { λ r. ⌜ r ≡ firstEnabled frames ⌝ }
+// Where the first frame has its enabled set. With no frame it wraps to the largest index, which is past every store: 0 is read there and nothing
+// written.
+fn first_enabled(acc: u64) -> usize
+    ensures { λ r. ⌜ r ≡ firstEnabled acc ⌝ }
 {
-    std::num::wrapping_sub_usize(frames * 2, 1)
+    std::num::wrapping_sub_usize(low(acc) as usize, 1)
 }
 
-// What a sign makes of the access and of the frames.
-pub fn sign(s: &[u8], frames: &mut [u32], acc: Access, who: u32) -> Access
-    requires { ⌜ acc .depth ≤ 16777216 ⌝ }
-    ensures { λ r. ⌜ (r ≡ signAccess (now (s .entry)) acc who) × (now (frames .exit) ≡ signFrames acc (now (frames .entry)) who) ⌝ }
+// What a sign by a principal that may use `may` makes of the access and of the frames.
+pub fn sign(frames: &mut [u32], mode: usize, acc: u64, may: u32) -> u64
+    ensures { λ r. ⌜ (r ≡ signAccess mode acc may) × (now (frames .exit) ≡ signFrames mode acc (now (frames .entry)) may) ⌝ }
 {
-    if acc.lazy {
-        let outer = acc.depth;
-        let inner = outer + 1;
-        put_word(frames, outer * 2, who);
-        put_word(frames, first_enabled(inner), 0);
-        return Access {
-            enforce: acc.enforce,
-            lazy: true,
-            signer: who,
-            granted: acc.granted,
-            depth: inner,
-        };
+    if is_lazy(mode) {
+        let at = low(acc) as usize;
+        put_number(frames, at, may);
+        put_number(frames, at + 1, 0);
+        return (at + 2) as u64;
     }
-    Access {
-        enforce: acc.enforce,
-        lazy: false,
-        signer: who,
-        granted: privileges::meet(acc.granted, program::records::authority(s, who)),
-        depth: acc.depth,
-    }
+    pair(may, privileges::meet(high(acc), may))
 }
 
 // What an enable makes of the access and of the frames.
-pub fn enable(s: &[u8], frames: &mut [u32], acc: Access, p: u8) -> Access
-    requires { ⌜ (acc .depth ≤ 16777216) × (p < 32) ⌝ }
-    ensures { λ r. ⌜ (r ≡ enableAccess (now (s .entry)) acc p) × (now (frames .exit) ≡ enableFrames acc (now (frames .entry)) p) ⌝ }
+pub fn enable(frames: &mut [u32], mode: usize, acc: u64, p: u8) -> u64
+    requires { ⌜ p < 32 ⌝ }
+    ensures { λ r. ⌜ (r ≡ enableAccess mode acc p) × (now (frames .exit) ≡ enableFrames mode acc (now (frames .entry)) p) ⌝ }
 {
-    if acc.lazy {
-        let at = first_enabled(acc.depth);
-        let old = word(frames, at);
-        put_word(frames, at, privileges::insert(p, old));
+    if is_lazy(mode) {
+        let at = first_enabled(acc);
+        put_number(frames, at, privileges::insert(p, number_at(frames, at)));
         return acc;
     }
-    if privileges::contains(p, program::records::authority(s, acc.signer)) {
-        return Access {
-            enforce: acc.enforce,
-            lazy: false,
-            signer: acc.signer,
-            granted: privileges::insert(p, acc.granted),
-            depth: acc.depth,
-        };
+    let may = low(acc);
+    if privileges::contains(p, may) {
+        return pair(may, privileges::insert(p, high(acc)));
     }
     acc
 }
 
 // The enabled set of the first frame, to be restored when an enable ends.
-pub fn enabled_now(frames: &[u32], acc: Access) -> u32
-    requires { ⌜ acc .depth ≤ 16777216 ⌝ }
-    ensures { λ r. ⌜ r ≡ getD (now (frames .entry)) (firstEnabled (acc .depth)) 0 ⌝ }
+pub fn enabled_now(frames: &mut [u32], mode: usize, acc: u64) -> u32
+    ensures { λ r. ⌜ (r ≡ enabledNow mode acc (now (frames .entry))) × (now (frames .exit) ≡ now (frames .entry)) ⌝ }
 {
-    word(frames, first_enabled(acc.depth))
+    if is_lazy(mode) {
+        return number_at(frames, first_enabled(acc));
+    }
+    0
 }
 
 // Restores the first frame's enabled set.
-pub fn restore(frames: &mut [u32], acc: Access, old: u32)
-    requires { ⌜ acc .depth ≤ 16777216 ⌝ }
-    ensures { λ _. ⌜ now (frames .exit) ≡ restoreFrames acc (now (frames .entry)) old ⌝ }
+pub fn restore(frames: &mut [u32], mode: usize, acc: u64, old: u32)
+    ensures { λ _. ⌜ now (frames .exit) ≡ restoreFrames mode acc (now (frames .entry)) old ⌝ }
 {
-    if acc.lazy {
-        put_word(frames, first_enabled(acc.depth), old);
+    if is_lazy(mode) {
+        put_number(frames, first_enabled(acc), old);
     }
 }
 

@@ -1,42 +1,25 @@
-// The cell store: eight bytes a cell, counted from 1, of a value and the cell behind it. Past the end there are zeros, and nothing is written there.
+// The cell store: eight bytes a cell, counted from 1, of a word's sort, payload and environment and the cell behind it. A cell that is not whole in
+// the store reads as zeros.
 ghost use mathlib.Core.Path.{_≡_};
-ghost use Prim.Native.Nat.{_+_, _/_, _<_, _≤_};
-ghost use lib.ListN.{length, getD, set};
+ghost use Prim.Native.Nat.{_+_, _*_, _<_, _≤_};
+ghost use lib.ListN.{length};
 ghost use Rattle.program.specs.Bytes.{word16};
-ghost use Rattle.machine.specs.Store.{behindOf, walkOf, valueOf, lookOf, tagOf, payloadOf, envOf, set16, cellSet, boundTally, zerosLike};
-use crate::state::Found;
-use crate::state::Tally;
-use crate::state::Value;
-
-fn byte(s: &[u8], i: usize) -> u8
-    ensures { λ r. ⌜ r ≡ getD (now (s .entry)) i 0 ⌝ }
-{
-    if i < s.len() { s[i] } else { 0 }
-}
-
-fn put(s: &mut [u8], i: usize, v: u8)
-    ensures { λ _. ⌜ now (s .exit) ≡ set (now (s .entry)) i v ⌝ }
-{
-    if i < s.len() {
-        s[i] = v;
-    }
-}
+ghost use Rattle.machine.specs.Cells.{behindOf, walkOf, heldOf, lookOf, set16, cellSet, nextCell, Bound, zerosLike};
+use crate::words;
 
 fn get16(s: &[u8], i: usize) -> u16
-    requires { ⌜ i < 18446744073709551615 ⌝ }
+    requires { ⌜ i + 1 < length (now s) ⌝ }
     ensures { λ r. ⌜ r ≡ word16 (now (s .entry)) i ⌝ }
 {
-    let hi = byte(s, i);
-    let lo = byte(s, i + 1);
-    (hi as u16) * 256 + (lo as u16)
+    (s[i] as u16) * 256 + (s[i + 1] as u16)
 }
 
 fn put16(s: &mut [u8], i: usize, n: u16)
-    requires { ⌜ i < 18446744073709551615 ⌝ }
+    requires { ⌜ i + 1 < length (now s) ⌝ }
     ensures { λ _. ⌜ now (s .exit) ≡ set16 (now (s .entry)) i n ⌝ }
 {
-    put(s, i, (n / 256) as u8);
-    put(s, i + 1, (n % 256) as u8);
+    s[i] = (n / 256) as u8;
+    s[i + 1] = (n % 256) as u8;
 }
 
 // The cell behind cell e.
@@ -46,7 +29,25 @@ fn behind(cells: &[u8], e: u16) -> u16
     if e == 0 {
         return 0;
     }
-    get16(cells, (e as usize) * 8 - 3)
+    let end = (e as usize) * 8;
+    if cells.len() < end {
+        return 0;
+    }
+    get16(cells, end - 3)
+}
+
+// The word in cell e.
+fn held(cells: &[u8], e: u16) -> u64
+    requires { ⌜ 0 < e ⌝ }
+    ensures { λ r. ⌜ r ≡ heldOf (now (cells .entry)) e ⌝ }
+{
+    let end = (e as usize) * 8;
+    if cells.len() < end {
+        return 0;
+    }
+    (cells[end - 8] as u64)
+        + 65536 * (get16(cells, end - 7) as u64)
+        + 4294967296 * (get16(cells, end - 5) as u64)
 }
 
 // The cell that k steps lead to.
@@ -62,88 +63,45 @@ fn walk(cells: &[u8], env: u16, k: u16) -> u16
     e
 }
 
-// The value in the cell whose bytes begin at i.
-fn value_at(cells: &[u8], i: usize) -> Value
-    requires { ⌜ i < 18446744073709551600 ⌝ }
-    ensures { λ r. ⌜ r ≡ valueOf (now (cells .entry)) i ⌝ }
-{
-    let tag = byte(cells, i);
-    let n = get16(cells, i + 1);
-    if tag == 0 {
-        return Value::Bool(0 < n);
-    }
-    if tag == 1 {
-        return Value::Num(n);
-    }
-    Value::Fun {
-        body: n,
-        env: get16(cells, i + 3),
-    }
-}
-
-// The value of the variable that is k bindings away.
-pub fn look(cells: &[u8], env: u16, k: u16) -> Found
-    ensures { λ r. ⌜ r ≡ lookOf (now (cells .entry)) env k ⌝ }
+// The value of the variable t that is k bindings away.
+pub fn look(cells: &mut [u8], t: u16, env: u16, k: u16) -> u64
+    ensures { λ r. ⌜ (r ≡ lookOf (now (cells .entry)) t env k) × (now (cells .exit) ≡ now (cells .entry)) ⌝ }
 {
     let e = walk(cells, env, k);
     if e == 0 {
-        return Found::Unbound;
+        return words::stop(18, t);
     }
-    Found::Is(value_at(cells, (e as usize) * 8 - 8))
+    held(cells, e)
 }
 
-fn tag_of(v: Value) -> u8
-    ensures { λ r. ⌜ r ≡ tagOf v ⌝ }
+// Cell number i, from 0, gets a word and the cell behind it.
+fn put_cell(cells: &mut [u8], i: usize, w: u64, behind: u16)
+    requires { ⌜ i * 8 + 8 ≤ length (now cells) ⌝ }
+    ensures { λ _. ⌜ now (cells .exit) ≡ cellSet (now (cells .entry)) i w behind ⌝ }
 {
-    match v {
-        Value::Bool(_) => 0,
-        Value::Num(_) => 1,
-        Value::Fun { body: _, env: _ } => 2,
-    }
+    let at = i * 8;
+    cells[at] = (words::sort(w) % 256) as u8;
+    put16(cells, at + 1, words::payload(w));
+    put16(cells, at + 3, words::env(w));
+    put16(cells, at + 5, behind);
 }
 
-fn payload_of(v: Value) -> u16
-    ensures { λ r. ⌜ r ≡ payloadOf v ⌝ }
+// The number of the cell after so many.
+pub fn next_cell(made: usize) -> u16
+    ensures { λ r. ⌜ r ≡ nextCell made ⌝ }
 {
-    match v {
-        Value::Bool(b) => { if b { 1 } else { 0 } }
-        Value::Num(n) => n,
-        Value::Fun { body, env: _ } => body,
-    }
+    ((made % 65536 + 1) % 65536) as u16
 }
 
-fn env_of(v: Value) -> u16
-    ensures { λ r. ⌜ r ≡ envOf v ⌝ }
+// Gives the next cell a word and the cell behind it, and says how many are made then. If the store has none, it is 0, and nothing is written.
+pub fn bind(cells: &mut [u8], made: usize, w: u64, behind: u16) -> usize
+    ensures { λ r. ⌜ Bound made w behind (now (cells .entry)) r (now (cells .exit)) ⌝ }
 {
-    match v {
-        Value::Bool(_) => 0,
-        Value::Num(_) => 0,
-        Value::Fun { body: _, env } => env,
+    if cells.len() / 8 <= made {
+        return 0;
     }
-}
-
-// Cell number i, from 0, gets a value and the cell behind it.
-fn put_cell(cells: &mut [u8], i: usize, v: Value, behind: u16)
-    requires { ⌜ i < 8192 ⌝ }
-    ensures { λ _. ⌜ now (cells .exit) ≡ cellSet (now (cells .entry)) i v behind ⌝ }
-{
-    put(cells, i * 8, tag_of(v));
-    put16(cells, i * 8 + 1, payload_of(v));
-    put16(cells, i * 8 + 3, env_of(v));
-    put16(cells, i * 8 + 5, behind);
-}
-
-// One more cell, which the store has room for.
-pub fn bind(cells: &mut [u8], v: Value, behind: u16, n: Tally) -> Tally
-    requires { ⌜ (n .cells < length (now cells) / 8) × (length (now cells) ≤ 65536) ⌝ }
-    ensures { λ r. ⌜ (r ≡ boundTally n) × (now (cells .exit) ≡ cellSet (now (cells .entry)) (n .cells) v behind) ⌝ }
-{
-    put_cell(cells, n.cells, v, behind);
-    Tally {
-        calls: n.calls,
-        cells: n.cells + 1,
-        posts: n.posts,
-    }
+    put_cell(cells, made, w, behind);
+    made + 1
 }
 
 // All bytes are zero.

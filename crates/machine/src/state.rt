@@ -1,4 +1,4 @@
-// What a run holds between two steps.
+// What a word of `words` stands for.
 
 // A function value is its body and the cell of the environment where it was made; 0 is the empty environment. The environment of a recursive
 // function is the cell that holds the function itself.
@@ -20,37 +20,5 @@ pub enum Stop {
 
 pub enum Out {
     Val(Value),
-    Stop(Stop),
-}
-
-// Calls that are left, and cells and posts that are made.
-pub struct Tally {
-    pub calls: usize,
-    pub cells: usize,
-    pub posts: usize,
-}
-
-pub struct Ran {
-    pub out: Out,
-    pub n: Tally,
-}
-
-// Access control: an eager run holds the signing principal and the granted set, a lazy one the number of frames in its store.
-pub struct Access {
-    pub enforce: bool,
-    pub lazy: bool,
-    pub signer: u32,
-    pub granted: u32,
-    pub depth: usize,
-}
-
-pub enum Found {
-    Is(Value),
-    Unbound,
-}
-
-// How a call begins: its own cell and what is left for its body, or a stop.
-pub enum Begun {
-    Body { own: u16, rest: Tally },
     Stop(Stop),
 }

@@ -6,7 +6,7 @@ use sheets::request::Request;
 use sheets::rng::Rng;
 use std::time::Instant;
 
-pub const ROUNDS: usize = 7;
+pub const ROUNDS: usize = 21;
 
 /// Seconds per sheet.
 pub struct Times {

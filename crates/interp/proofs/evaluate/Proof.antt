@@ -1,21 +1,50 @@
+-- The words of the terms are decoded, and the evaluator keeps its contract on them: answer, counts and stores are what the interpreter comes to at the
+-- root. The frames come back from the call as what they were lent as, since the evaluator keeps their name.
 use native.Mathlib.Omega.{arith}
 use borrow.Author.Needs.{needs}
-use Rattle.interp.proofs.RunLaws.{root-ready, evaluated}
+use mathlib.Core.Path.{refl, sym, ap}
 use Prim.Native.Nat.{_-_}
+use Rattle.evaluator.specs.Contracts.{Names}
+use Rattle.evaluator.specs.Laws.{table-of}
+use Rattle.interp.proofs.RunLaws.{empty-table, frames-back, told-by}
 use Rattle.interp.proofs.evaluate.Statement.{statement}
 use Rattle.interp.proofs.evaluate.Tie as tie
 
 sub-root : tie.Need-sub-root
-sub-root c = omega (arith, c .before .before .before .before .before .pre .counts-are .terms-are, c .before .before .before .before .before .pre .well-formed .terms-least)
+sub-root c =
+    let start = c .before .before .before .before .before in
+    omega (arith, start .pre .1 .terms-are, start .pre .0 .terms-least)
 
-eval-requires : tie.Need-eval-requires
-eval-requires c κs = root-ready (c .before .before .before .before .before .before .before .before .pre)
+decode-terms-requires : tie.Need-decode-terms-requires
+decode-terms-requires c κs =
+    let start = c .before .before .before .before .before .before in
+    (start .pre .0, (start .pre .1, empty-table _ refl))
+
+run-requires : tie.Need-run-requires
+run-requires c κs =
+    let at-decode-terms = c .before .before .before .before .before .before in
+    let start = at-decode-terms .before .before .before .before .before .before .before in
+    table-of (start .pre .0) (start .pre .1) (at-decode-terms .decode-terms .ensures)
 
 clear-requires : tie.Need-clear-requires
 clear-requires c κs = search needs
 
-sub-t23 : tie.Need-sub-t23
-sub-t23 c = omega (arith, c .before .before .before .before .before .before .before .before .before .before .before .before .eval .ensures .1)
+array-read-t28 : tie.Need-array-read-t28
+array-read-t28 c = search needs
+
+sub-t34 : tie.Need-sub-t34
+sub-t34 c =
+    let at-run = c .before .before .before .before .before .before .before .before .before .before in
+    omega (arith, at-run .run .ensures .calls)
+
+array-read-t37 : tie.Need-array-read-t37
+array-read-t37 c = search needs
+
+array-read-t40 : tie.Need-array-read-t40
+array-read-t40 c = search needs
+
+out-of-requires : tie.Need-out-of-requires
+out-of-requires c κs = search needs
 
 outcome-of-requires : tie.Need-outcome-of-requires
 outcome-of-requires c κs = search needs
@@ -30,16 +59,34 @@ same-length-3 : tie.Need-same-length-3
 same-length-3 c = search needs
 
 returns : tie.Need-returns
-returns c = evaluated (c .before .before .before .before .before .before .before .before .before .before .before .before .before .before .before .before .before .before .before .before .before .before .args .c .terms - 1) (c .before .before .before .before .before .before .before .before .before .before .before .before .before .before .before .before .before .before .before .before .before .before .args .calls) (c .before .before .before .before .before .before .before .before .before .before .before .before .before .eval .ensures .0) (c .outcome-of .ensures) (c .before .before .before .before .before .clear .ensures)
+returns c =
+    let at-clear = c .before .before .before .before in
+    let at-frames = at-clear .before .before .before in
+    let at-run = at-frames .before .before .before .before .before in
+    let at-decode-terms = at-run .before .before .before .before .before .before .before in
+    let start = at-decode-terms .before .before .before .before .before .before .before in
+    let e = at-run .run .ensures in record {
+      terms = _;
+      table = at-decode-terms .decode-terms .ensures;
+      tells = told-by (start .args .c .terms - 1)
+          (start .args .calls) (frames-back (at-frames .frames .given .1 .0 (sym (ap (λ (m : Names). m .frames) (e .names)))) (e .done))
+          (c .before .out-of .ensures)
+          (c .outcome-of .ensures) (at-clear .clear .ensures);
+    }
 
 pub evaluate-spec : {M : Type 1} → statement M
 evaluate-spec =
     tie.close
     (tie.spec
     sub-root
-    eval-requires
+    decode-terms-requires
+    run-requires
     clear-requires
-    sub-t23
+    array-read-t28
+    sub-t34
+    array-read-t37
+    array-read-t40
+    out-of-requires
     outcome-of-requires
     same-length
     same-length-2

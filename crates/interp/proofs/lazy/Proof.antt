@@ -1,16 +1,25 @@
+-- The run walks the start stack's frames, which are laid into the store first and cleared at the end.
 use native.Mathlib.Omega.{arith}
-use borrow.Author.Needs.{needs}
+use mathlib.Core.Path.{refl}
 use borrow.Author.Tests.{eqb-true}
 use lib.ListN.{length}
 use Rattle.interp.proofs.RunLaws.{lazy-after}
+use borrow.Author.Needs.{needs}
 use Rattle.interp.proofs.lazy.Statement.{statement}
 use Rattle.interp.proofs.lazy.Tie as tie
 
 lay-frames-requires : tie.Need-lay-frames-requires
-lay-frames-requires c κs = (c .before .before .before .before .before .before .pre .whole, omega (arith, eqb-true (length (c .before .before .before .before .before .before .args .frames .now)) 6496 (c .before .before .before .before .before .before .pre .frames-right)))
+lay-frames-requires c κs =
+    let start = c .before .before .before .before .before .before in
+    (start .pre .whole, omega (arith, eqb-true (length (start .args .frames .now)) 6496 (start .pre .frames-right)))
+
+mode-of-requires : tie.Need-mode-of-requires
+mode-of-requires c κs = search needs
 
 evaluate-requires : tie.Need-evaluate-requires
-evaluate-requires c κs = record { well-formed = c .before .before .before .before .before .before .before .before .before .before .before .before .pre .well-formed; counts-are = c .before .before .before .before .before .before .before .before .before .before .before .before .pre .counts-are; cells-most = c .before .before .before .before .before .before .before .before .before .before .before .before .pre .cells-most; frames-most = omega (arith, c .before .before .before .before .before .before .before .before .before .before .before .before .pre .whole .few); depth-most = c .before .before .before .before .before .before .before .before .before .before .before .before .pre .depth-most }
+evaluate-requires c κs =
+    let start = c .before .before .before .before .before .before .before .before .before .before .before .before .before in
+    (start .pre .well-formed, start .pre .counts-are)
 
 clear-frames-requires : tie.Need-clear-frames-requires
 clear-frames-requires c κs = search needs
@@ -25,13 +34,21 @@ same-length-3 : tie.Need-same-length-3
 same-length-3 c = search needs
 
 returns : tie.Need-returns
-returns c = lazy-after (c .before .before .before .before .before .before .before .before .before .before .before .before .before .before .before .before .before .before .before .before .before .before .before .args .s .now) (c .before .before .before .before .before .before .before .before .before .before .before .before .before .before .before .before .before .before .before .before .before .before .before .args .start .now) (c .before .before .before .before .before .before .before .before .before .before .before .before .before .before .before .before .before .before .before .before .before .before .before .args .enforce) (c .before .before .before .before .before .before .before .before .before .before .before .before .before .before .before .before .before .before .before .before .before .before .before .args .cells .now) (c .before .before .before .before .before .before .before .before .before .before .before .before .before .before .before .before .before .before .before .before .before .before .before .args .posts .now) (c .before .before .before .before .before .before .before .before .before .before .before .before .before .before .before .before .before .before .before .before .before .before .before .args .calls) (c .before .before .before .before .before .before .before .before .before .before .before .before .before .before .before .before .before .before .before .before .before .before .before .args .depth) (c .before .before .before .before .before .before .before .before .before .before .before .before .before .before .before .before .before .before .before .before .before .before .before .args .frames .now) (c .before .before .before .before .before .before .before .before .before .before .before .before .before .before .before .before .before .before .before .before .before .before .before .pre) (c .before .before .before .before .before .before .before .before .before .before .before .before .before .before .before .before .lay-frames .ensures) (c .before .before .before .before .before .before .before .before .before .before .evaluate .ensures) (c .before .before .clear-frames .ensures)
+returns c =
+    let at-evaluate = c .before .before .before .before .before .before .before .before .before .before in
+    let at-mode-of = at-evaluate .before in
+    let at-lay-frames = at-mode-of .before .before .before .before .before .before in
+    let start = at-lay-frames .before .before .before .before .before .before .before in
+    lazy-after (start .args .s .now) (start .args .start .now) (start .args .enforce) (start .args .cells .now) (start .args .posts .now) (start .args .calls)
+    (start .args .depth) (start .args .frames .now) (start .pre) (at-lay-frames .lay-frames .ensures) refl (at-mode-of .mode-of .ensures .0)
+    (at-mode-of .mode-of .ensures .1) (at-evaluate .evaluate .ensures) (c .before .before .clear-frames .ensures)
 
 pub lazy-spec : {M : Type 1} → statement M
 lazy-spec =
     tie.close
     (tie.spec
     lay-frames-requires
+    mode-of-requires
     evaluate-requires
     clear-frames-requires
     same-length

@@ -25,13 +25,22 @@ returns : tie.Need-returns
 returns c = out-told (c .before .before .before .args .root) _ (c .before .out .given .1)
 
 returns-2 : tie.Need-returns-2
-returns-2 c = out-told (c .before .before .before .before .before .before .args .root) _ (c .before .before .before .before .out2 .given .1 ∙ ap (λ (v : Value). Val v) (c .before .v .given .1))
+returns-2 c =
+    let at-out2 = c .before .before .before .before in
+    let start = at-out2 .before .before in
+    out-told (start .args .root) _ (at-out2 .out2 .given .1 ∙ ap (λ (v : Value). Val v) (c .before .v .given .1))
 
 returns-3 : tie.Need-returns-3
-returns-3 c = out-told (c .before .before .before .before .before .before .args .root) _ (c .before .before .before .before .out2 .given .1 ∙ ap (λ (v : Value). Val v) (c .before .v2 .given .1))
+returns-3 c =
+    let at-out2 = c .before .before .before .before in
+    let start = at-out2 .before .before in
+    out-told (start .args .root) _ (at-out2 .out2 .given .1 ∙ ap (λ (v : Value). Val v) (c .before .v2 .given .1))
 
 returns-4 : tie.Need-returns-4
-returns-4 c = out-told (c .before .before .before .before .before .before .args .root) _ (c .before .before .before .before .out2 .given .1 ∙ ap (λ (v : Value). Val v) (c .before .v3 .given .1))
+returns-4 c =
+    let at-out2 = c .before .before .before .before in
+    let start = at-out2 .before .before in
+    out-told (start .args .root) _ (at-out2 .out2 .given .1 ∙ ap (λ (v : Value). Val v) (c .before .v3 .given .1))
 
 pub outcome-of-spec : {M : Type 1} → statement M
 outcome-of-spec =

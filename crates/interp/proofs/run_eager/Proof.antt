@@ -14,10 +14,17 @@ enum-known-a-2 : tie.Need-enum-known-a-2
 enum-known-a-2 c = search needs
 
 eager-requires : tie.Need-eager-requires
-eager-requires c κs = is-admitted (c .before .before .before .before .before .before .before .before .before .before .args .sheet .now) (c .before .before .before .before .before .before .before .before .before .before .args .start .now) (c .before .before .before .before .before .before .before .before .before .before .args .enforce) (c .before .before .before .before .before .before .before .before .before .before .args .cells .now) (c .before .before .before .before .before .before .before .before .before .before .args .posts .now) (c .before .before .before .before .before .before .before .before .before .before .args .calls) (c .before .before .before .before .before .before .before .before .before .before .args .depth) true (c .before .before .before .a2 .given .1) (c .before .before .before .before .before .admit .ensures)
+eager-requires c κs =
+    let at-admit = c .before .before .before .before .before in
+    let start = at-admit .before .before .before .before .before in
+    is-admitted (start .args .sheet .now) (start .args .start .now) (start .args .enforce) (start .args .cells .now) (start .args .posts .now)
+    (start .args .calls) (start .args .depth) true (c .before .before .before .a2 .given .1) (at-admit .admit .ensures)
 
 returns : tie.Need-returns
-returns c = eager-refused (c .before .before .before .before .before .before .before .before .args .sheet .now) (c .before .before .before .before .before .before .before .before .args .start .now) (c .before .before .before .before .before .before .before .before .args .enforce) (c .before .before .before .before .before .before .before .before .args .cells .now) (c .before .before .before .before .before .before .before .before .args .posts .now) (c .before .before .before .before .before .before .before .before .args .calls) (c .before .before .before .before .before .before .before .before .args .depth) (c .before .a .given .1) (c .before .before .before .admit .ensures)
+returns c =
+    let start = c .before .before .before .before .before .before .before .before in
+    eager-refused (start .args .sheet .now) (start .args .start .now) (start .args .enforce) (start .args .cells .now) (start .args .posts .now)
+    (start .args .calls) (start .args .depth) (c .before .a .given .1) (c .before .before .before .admit .ensures)
 
 same-length : tie.Need-same-length
 same-length c = search needs

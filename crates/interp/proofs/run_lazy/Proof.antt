@@ -15,10 +15,18 @@ enum-known-a-2 : tie.Need-enum-known-a-2
 enum-known-a-2 c = search needs
 
 lazy-requires : tie.Need-lazy-requires
-lazy-requires c κs = is-admitted (c .before .before .before .before .before .before .before .before .before .before .before .before .args .sheet .now) (c .before .before .before .before .before .before .before .before .before .before .before .before .args .start .now) (c .before .before .before .before .before .before .before .before .before .before .before .before .args .enforce) (c .before .before .before .before .before .before .before .before .before .before .before .before .args .cells .now) (c .before .before .before .before .before .before .before .before .before .before .before .before .args .posts .now) (c .before .before .before .before .before .before .before .before .before .before .before .before .args .calls) (c .before .before .before .before .before .before .before .before .before .before .before .before .args .depth) (eqb (length (c .before .before .before .before .before .before .before .before .before .before .before .before .args .frames .now)) 6496) (c .before .before .before .before .a2 .given .1) (c .before .before .before .before .before .before .admit .ensures)
+lazy-requires c κs =
+    let at-a2 = c .before .before .before .before in
+    let at-admit = at-a2 .before .before in
+    let start = at-admit .before .before .before .before .before .before in
+    is-admitted (start .args .sheet .now) (start .args .start .now) (start .args .enforce) (start .args .cells .now) (start .args .posts .now)
+    (start .args .calls) (start .args .depth) (eqb (length (start .args .frames .now)) 6496) (at-a2 .a2 .given .1) (at-admit .admit .ensures)
 
 returns : tie.Need-returns
-returns c = lazy-refused (c .before .before .before .before .before .before .before .before .before .args .sheet .now) (c .before .before .before .before .before .before .before .before .before .args .start .now) (c .before .before .before .before .before .before .before .before .before .args .enforce) (c .before .before .before .before .before .before .before .before .before .args .cells .now) (c .before .before .before .before .before .before .before .before .before .args .posts .now) (c .before .before .before .before .before .before .before .before .before .args .calls) (c .before .before .before .before .before .before .before .before .before .args .depth) (c .before .before .before .before .before .before .before .before .before .args .frames .now) (c .before .a .given .1) (c .before .before .before .admit .ensures)
+returns c =
+    let start = c .before .before .before .before .before .before .before .before .before in
+    lazy-refused (start .args .sheet .now) (start .args .start .now) (start .args .enforce) (start .args .cells .now) (start .args .posts .now)
+    (start .args .calls) (start .args .depth) (start .args .frames .now) (c .before .a .given .1) (c .before .before .before .admit .ensures)
 
 same-length : tie.Need-same-length
 same-length c = search needs

@@ -1,17 +1,16 @@
 -- The bytes of a cell: what is written is read back, and what lies before it stays.
-use mathlib.Core.Bool.{true, false}
-use mathlib.Core.Path.{_≡_, refl, sym, ap, _∙_}
+use mathlib.Core.Bool.{true}
+use mathlib.Core.Path.{_≡_, _∙_}
 use mathlib.Core.List.{List}
 use Prim.Native.Nat.{ℕ, _+_, _*_, _/_, _%_, _-_, _<_, _≤_}
 use native.Mathlib.Omega.{arith}
-use lib.Dec.{ltb, eqb}
+use lib.Dec.{leb, eqb}
 use lib.ListN.{getD, length, set, length-set}
 use lib.Seq.{getD-set-same, getD-set-other}
-use borrow.Author.Tests.{ne-eqb}
+use borrow.Author.Tests.{ne-eqb, le-leb}
 use Rattle.program.specs.Bytes.{word16}
-use Rattle.machine.specs.declared.state.Value.{Value}
-use Rattle.machine.specs.declared.state.Value.the-variants.{Bool as VBool, Num, Fun}
-use Rattle.machine.specs.Store.{pick, set16, cellSet, tagOf, payloadOf, envOf, valueOf, behindOf}
+use Rattle.machine.specs.Words.{pick, sortOf, payloadOf, envOf}
+use Rattle.machine.specs.Cells.{behindOf, heldOf, set16, cellSet}
 
 length-set16 : (l : List ℕ) (i n : ℕ) → length (set16 l i n) ≡ length l
 unfolding set16
@@ -37,82 +36,91 @@ word16-same : (l k : List ℕ) (j : ℕ) → getD k j 0 ≡ getD l j 0 → getD 
 word16-same l k j p q = λ i. p i * 256 + q i
 
 set16-apart : (l : List ℕ) (i n j : ℕ) → j + 1 < i → word16 (set16 l i n) j ≡ word16 l j
-set16-apart l i n j h = word16-same l (set16 l i n) j (set16-other l i n j (λ e. omega arith) (λ e. omega arith)) (set16-other l i n (j + 1) (λ e. omega arith) (λ e. omega arith))
+set16-apart l i n j h =
+    word16-same l (set16 l i n) j (set16-other l i n j (λ e. omega arith) (λ e. omega arith)) (set16-other l i n (j + 1) (λ e. omega arith) (λ e. omega arith))
 
-module _ (l : List ℕ) (i : ℕ) (v : Value) (behind : ℕ) where
-  pub length-cell : length (cellSet l i v behind) ≡ length l
+-- a cell that is whole in the store, by its first byte
+module _ (l : List ℕ) (i : ℕ) (fits : i * 8 + 7 < length l) where
+  whole : leb ((i + 1) * 8) (length l) ≡ true
+  whole = le-leb ((i + 1) * 8) (length l) (omega arith)
+
+  held-at : heldOf l (i + 1) ≡ getD l (i * 8) 0 + 65536 * word16 l (i * 8 + 1) + 4294967296 * word16 l (i * 8 + 3)
+  unfolding heldOf
+  held-at =
+      let at : ℕ = (i + 1) * 8 in
+      let p : at - 8 ≡ i * 8 = omega arith in
+      let q : at - 7 ≡ i * 8 + 1 = omega arith in
+      let r : at - 5 ≡ i * 8 + 3 = omega arith in
+      λ j. pick (whole j) (getD l (p j) 0 + 65536 * word16 l (q j) + 4294967296 * word16 l (r j)) 0
+
+  behind-at : behindOf l (i + 1) ≡ word16 l (i * 8 + 5)
+  unfolding behindOf
+  behind-at =
+      let p : (i + 1) * 8 - 3 ≡ i * 8 + 5 = omega arith in
+      λ j. pick (ne-eqb (i + 1) 0 (λ e. omega arith) j) 0 (pick (whole j) (word16 l (p j)) 0)
+
+module _ (l : List ℕ) (i w behind : ℕ) where
+  pub length-cell : length (cellSet l i w behind) ≡ length l
   unfolding cellSet
   length-cell = simp (length-set16, length-set)
 
-  cell-before : (j : ℕ) → j < 8 * i → getD (cellSet l i v behind) j 0 ≡ getD l j 0
+  cell-before : (j : ℕ) → j < 8 * i → getD (cellSet l i w behind) j 0 ≡ getD l j 0
   unfolding cellSet
   cell-before j h =
-      set16-other _ (i * 8 + 5) behind j (λ e. omega arith) (λ e. omega arith) ∙ set16-other _ (i * 8 + 3) (envOf v) j (λ e. omega arith) (λ e. omega arith)
-      ∙ set16-other _ (i * 8 + 1) (payloadOf v) j (λ e. omega arith) (λ e. omega arith) ∙ getD-set-other l (i * 8) j (tagOf v) 0 (λ e. omega arith)
+      set16-other _ (i * 8 + 5) behind j (λ e. omega arith) (λ e. omega arith) ∙ set16-other _ (i * 8 + 3) (envOf w) j (λ e. omega arith) (λ e. omega arith)
+      ∙ set16-other _ (i * 8 + 1) (payloadOf w) j (λ e. omega arith) (λ e. omega arith) ∙ getD-set-other l (i * 8) j (sortOf w % 256) 0 (λ e. omega arith)
 
   module _ (fits : i * 8 + 7 < length l) where
-    cell-tag : getD (cellSet l i v behind) (i * 8) 0 ≡ tagOf v
+    cell-sort : getD (cellSet l i w behind) (i * 8) 0 ≡ sortOf w % 256
     unfolding cellSet
-    cell-tag =
-        set16-other _ (i * 8 + 5) behind (i * 8) (λ e. omega arith) (λ e. omega arith) ∙ set16-other _ (i * 8 + 3) (envOf v) (i * 8) (λ e. omega arith) (λ e. omega arith)
-        ∙ set16-other _ (i * 8 + 1) (payloadOf v) (i * 8) (λ e. omega arith) (λ e. omega arith) ∙ getD-set-same l (i * 8) (tagOf v) 0 (omega arith)
+    cell-sort =
+        set16-other _ (i * 8 + 5) behind (i * 8) (λ e. omega arith) (λ e. omega arith)
+        ∙ set16-other _ (i * 8 + 3) (envOf w) (i * 8) (λ e. omega arith) (λ e. omega arith)
+        ∙ set16-other _ (i * 8 + 1) (payloadOf w) (i * 8) (λ e. omega arith) (λ e. omega arith) ∙ getD-set-same l (i * 8) (sortOf w % 256) 0 (omega arith)
 
-    cell-body : word16 (cellSet l i v behind) (i * 8 + 1) ≡ payloadOf v
+    cell-payload : word16 (cellSet l i w behind) (i * 8 + 1) ≡ payloadOf w
     unfolding cellSet
-    cell-body =
-        set16-apart _ (i * 8 + 5) behind (i * 8 + 1) (omega arith) ∙ set16-apart _ (i * 8 + 3) (envOf v) (i * 8 + 1) (omega arith)
-        ∙ set16-reads _ (i * 8 + 1) (payloadOf v) (simp length-set (omega arith))
+    cell-payload =
+        set16-apart _ (i * 8 + 5) behind (i * 8 + 1) (omega arith) ∙ set16-apart _ (i * 8 + 3) (envOf w) (i * 8 + 1) (omega arith)
+        ∙ set16-reads _ (i * 8 + 1) (payloadOf w) (simp length-set (omega arith))
 
-    cell-env : word16 (cellSet l i v behind) (i * 8 + 3) ≡ envOf v
+    cell-env : word16 (cellSet l i w behind) (i * 8 + 3) ≡ envOf w
     unfolding cellSet
-    cell-env = set16-apart _ (i * 8 + 5) behind (i * 8 + 3) (omega arith) ∙ set16-reads _ (i * 8 + 3) (envOf v) (simp (length-set16, length-set) (omega arith))
+    cell-env = set16-apart _ (i * 8 + 5) behind (i * 8 + 3) (omega arith) ∙ set16-reads _ (i * 8 + 3) (envOf w) (simp (length-set16, length-set) (omega arith))
 
-    cell-link : word16 (cellSet l i v behind) (i * 8 + 5) ≡ behind
+    cell-link : word16 (cellSet l i w behind) (i * 8 + 5) ≡ behind
     unfolding cellSet
     cell-link = set16-reads _ (i * 8 + 5) behind (simp (length-set16, length-set) (omega arith))
 
     -- the cell behind the new one
-    pub cell-behind : behindOf (cellSet l i v behind) (i + 1) ≡ behind
-    unfolding behindOf
-    cell-behind =
-        simp (ne-eqb (i + 1) 0 (λ e. omega arith)) (ap (word16 (cellSet l i v behind)) {x = (i + 1) * 8 - 3} {y = i * 8 + 5} (omega arith) ∙ cell-link)
+    pub cell-behind : behindOf (cellSet l i w behind) (i + 1) ≡ behind
+    cell-behind = behind-at (cellSet l i w behind) i (omega (arith, length-cell)) ∙ cell-link
 
--- a value from its tag, number and environment
-unfoldable made : ℕ → ℕ → ℕ → Value
-made tag body env = pick (eqb tag 0) (VBool (ltb 0 body)) (pick (eqb tag 1) (Num body) (Fun body env))
+    -- what a cell was given is what it holds, of a word of three parts whose sort has one byte
+    pub cell-holds : sortOf w < 256 → w < 281474976710656 → heldOf (cellSet l i w behind) (i + 1) ≡ w
+    cell-holds p q =
+        held-at (cellSet l i w behind) i (omega (arith, length-cell))
+        ∙ (λ j. cell-sort j + 65536 * cell-payload j + 4294967296 * cell-env j) ∙ omega arith
 
-made-again : (v : Value) → made (tagOf v) (payloadOf v) (envOf v) ≡ v
-unfolding made tagOf payloadOf envOf
-made-again (VBool true) = refl
-made-again (VBool false) = refl
-made-again (Num n) = refl
-made-again (Fun b e) = refl
-
-value-made : (cells : List ℕ) (i : ℕ) → valueOf cells i ≡ made (getD cells i 0) (word16 cells (i + 1)) (word16 cells (i + 3))
-unfolding valueOf made
-value-made cells i = refl
-
--- what a cell was given is what it holds
-pub cell-holds : (l : List ℕ) (i : ℕ) (v : Value) (behind : ℕ) → i * 8 + 7 < length l → valueOf (cellSet l i v behind) ((i + 1) * 8 - 8) ≡ v
-cell-holds l i v behind fits =
-    ap (valueOf (cellSet l i v behind)) {x = (i + 1) * 8 - 8} {y = i * 8} (omega arith) ∙ value-made (cellSet l i v behind) (i * 8)
-    ∙ (λ z. made (cell-tag l i v behind fits z) (cell-body l i v behind fits z) (cell-env l i v behind fits z)) ∙ made-again v
-
--- ---- two stores that agree on the first cells
+-- ---- two stores of one length that agree on the first cells
 pub record Agree (m : ℕ) (l k : List ℕ) : Type 0 where
+  pub long : length k ≡ length l
   pub same : (j : ℕ) → j < 8 * m → getD k j 0 ≡ getD l j 0
 
 module _ {m : ℕ} {l k : List ℕ} (a : Agree m l k) where
-  pub agree-value : (e : ℕ) → 1 ≤ e → e ≤ m → valueOf k (e * 8 - 8) ≡ valueOf l (e * 8 - 8)
-  agree-value e p q =
-      value-made k (e * 8 - 8)
-      ∙ (λ z. made (a .same (e * 8 - 8) (omega arith) z) (word16-same l k (e * 8 - 8 + 1) (a .same _ (omega arith)) (a .same _ (omega arith)) z)
-      (word16-same l k (e * 8 - 8 + 3) (a .same _ (omega arith)) (a .same _ (omega arith)) z))
-      ∙ sym (value-made l (e * 8 - 8))
+  -- the two bytes at j
+  same16 : (j : ℕ) → j + 1 < 8 * m → word16 k j ≡ word16 l j
+  same16 j h = word16-same l k j (a .same j (omega arith)) (a .same (j + 1) h)
+
+  pub agree-held : (e : ℕ) → 1 ≤ e → e ≤ m → heldOf k e ≡ heldOf l e
+  unfolding heldOf
+  agree-held e p q =
+      λ z. pick (leb (e * 8) (a .long z))
+      (a .same (e * 8 - 8) (omega arith) z + 65536 * same16 (e * 8 - 7) (omega arith) z + 4294967296 * same16 (e * 8 - 5) (omega arith) z) 0
 
   pub agree-behind : (e : ℕ) → 1 ≤ e → e ≤ m → behindOf k e ≡ behindOf l e
   unfolding behindOf
-  agree-behind e p q = λ z. pick (eqb e 0) 0 (word16-same l k (e * 8 - 3) (a .same _ (omega arith)) (a .same _ (omega arith)) z)
+  agree-behind e p q = λ z. pick (eqb e 0) 0 (pick (leb (e * 8) (a .long z)) (same16 (e * 8 - 3) (omega arith) z) 0)
 
-pub agree-cell : (l : List ℕ) (i : ℕ) (v : Value) (behind : ℕ) → Agree i l (cellSet l i v behind)
-agree-cell l i v behind = record { same = cell-before l i v behind }
+pub agree-cell : (l : List ℕ) (i w behind : ℕ) → Agree i l (cellSet l i w behind)
+agree-cell l i w behind = record { long = length-cell l i w behind; same = cell-before l i w behind }

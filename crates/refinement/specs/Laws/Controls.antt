@@ -1,6 +1,6 @@
 -- The interpreter's two styles stand for the meaning's two access controls.
 use mathlib.Core.Bool.{Bool, true, false, cond, _&&_, _||_}
-use mathlib.Core.Path.{_≡_, refl, sym, _∙_, subst}
+use mathlib.Core.Path.{_≡_, refl, sym, ap, _∙_, subst}
 use mathlib.Core.List.{List, [], _∷_}
 use Prim.Native.Nat.{ℕ, zero, suc, _+_, _*_, _<_, _≤_}
 use native.Mathlib.Omega.{arith}
@@ -8,230 +8,204 @@ use native.Mathlib.Decide.{ℕ-discrete}
 use native.Mathlib.Numerals.{add-one}
 use lib.ListN.{getD, length, set, length-set}
 use lib.Seq.{getD-set-same, getD-set-other}
+use borrow.Author.Tests.{le-leb}
 use Rattle.privileges.specs.Sets.{has, meet, insert}
-use Rattle.program.specs.Layout.{principals, authority}
-use Rattle.program.specs.Records.{authorityRecord}
-use Rattle.program.specs.Laws.Readable.{WellFormed}
-use Rattle.program.specs.Laws.Records.{authority-is}
 use Rattle.semantics.specs.Access.{Frame, frame, chk, enableFirst, lazyControl, Rights, rights, addAuthorised, eagerControl}
-use Rattle.machine.specs.declared.state.Access.{Access as Mode}
-use Rattle.machine.specs.Store.{pick, framesGrant, grantedOf, signAccess, signFrames, firstEnabled, enableAccess, enableFrames, restoreFrames}
-use Rattle.refinement.specs.Laws.Relation.{Kept}
+use Rattle.machine.specs.Words.{pick}
+use Rattle.machine.specs.Access.{pairOf, lowOf, highOf, enforced, lazyMode, walkGrants, framesGrant, grantedOf, signAccess, signFrames, lastOf, enableAccess, enableFrames, enabledNow, restoreFrames}
+use Rattle.refinement.specs.Laws.Relation.{Fixed, Kept}
 use Rattle.refinement.specs.Laws.Steps.{Models}
 
--- ---- modes
-abbrev signedLazy : Mode → ℕ → Mode
-signedLazy m n = record { enforce = m .enforce; lazy = true; signer = n; granted = m .granted; depth = m .depth + 1 }
-
-abbrev signedEager : List ℕ → Mode → ℕ → Mode
-signedEager s m n = record { enforce = m .enforce; lazy = false; signer = n; granted = meet (m .granted) (authorityRecord s n); depth = m .depth }
-
-abbrev signedFrames : ℕ → List ℕ → ℕ → List ℕ
-signedFrames d f n = set (set f (d * 2) n) (d * 2 + 1) 0
-
-sign-kept : (d : ℕ) (f g : List ℕ) (n : ℕ) → Kept (d + 1) (signedFrames d f n) g → Kept d f g
-sign-kept d f g n k = record {
-  long = k .long ∙ simp length-set;
-  same = λ i h. k .same i (omega arith) ∙ getD-set-other (set f (d * 2) n) (d * 2 + 1) i 0 0 (λ e. omega arith) ∙ getD-set-other f (d * 2) i n 0 (λ e. omega arith);
-}
-
-enable-kept : (d : ℕ) (f g : List ℕ) (v : ℕ) → d * 2 ≤ length f → Kept d (set f (firstEnabled d) v) g → Kept d f (set g (firstEnabled d) (getD f (firstEnabled d) 0))
-unfolding firstEnabled
-enable-kept zero f g v l k = record { long = simp length-set (k .long ∙ simp length-set); same = λ i h. absurd (omega arith) }
-enable-kept (suc d) f g v l k = record {
-  long = length-set g (d * 2 + 1) (getD f (d * 2 + 1) 0) ∙ k .long ∙ length-set f (d * 2 + 1) v;
-  same = λ i h. elim (ℕ-discrete i (d * 2 + 1)) [
-    | yes e ↦ subst (λ z. getD (set g (d * 2 + 1) (getD f (d * 2 + 1) 0)) z 0 ≡ getD f z 0) (sym e)
-        (getD-set-same g (d * 2 + 1) (getD f (d * 2 + 1) 0) 0 (omega (arith, k .long, length-set f (d * 2 + 1) v)))
-    | no x ↦ getD-set-other g (d * 2 + 1) i (getD f (d * 2 + 1) 0) 0 x ∙ k .same i h ∙ getD-set-other f (d * 2 + 1) i v 0 x
-  ];
-}
-
-module _ (s : List ℕ) where
-  deeper-go : (b : Bool) (m : Mode) (n : ℕ) → pick b (signedLazy m n) (signedEager s m n) .depth ≤ m .depth + 1
-  deeper-go true m n = omega arith
-  deeper-go false m n = omega arith
-
-  deeper-is : (m : Mode) (n : ℕ) → signAccess s m n .depth ≤ m .depth + 1
-  unfolding signAccess
-  deeper-is m n = deeper-go (m .lazy) m n
-
-  abbrev enabledEager : Mode → ℕ → Mode
-  enabledEager m p = record { enforce = m .enforce; lazy = false; signer = m .signer; granted = insert p (m .granted); depth = m .depth }
-
-  level-go : (b c : Bool) (m : Mode) (p : ℕ) → pick b m (pick c (enabledEager m p) m) .depth ≡ m .depth
-  level-go true c m p = refl
-  level-go false true m p = refl
-  level-go false false m p = refl
-
-  level-is : (m : Mode) (p : ℕ) → enableAccess s m p .depth ≡ m .depth
-  unfolding enableAccess
-  level-is m p = level-go (m .lazy) (has p (authorityRecord s (m .signer))) m p
-
-  unsigned-go : (b : Bool) (m : Mode) (f g : List ℕ) (n : ℕ) → Kept (pick b (signedLazy m n) (signedEager s m n) .depth) (pick b (signedFrames (m .depth) f n) f) g → Kept (m .depth) f g
-  unsigned-go true m f g n k = sign-kept (m .depth) f g n k
-  unsigned-go false m f g n k = k
-
-  unsigned-is : (m : Mode) (f g : List ℕ) (n : ℕ) → Kept (signAccess s m n .depth) (signFrames m f n) g → Kept (m .depth) f g
-  unfolding signAccess signFrames
-  unsigned-is m f g n k = unsigned-go (m .lazy) m f g n k
-
--- ---- the eager style
-pub record EagerMode (s : List ℕ) (enforce : Bool) (a : Rights) (m : Mode) : Type 0 where
-  pub style : m .lazy ≡ false
-  pub enforcing : m .enforce ≡ enforce
-  pub signing : m .signer ≡ a .signer
-  pub granting : m .granted ≡ a .granted
-  pub known : a .signer < principals s
-
-module _ (s : List ℕ) (w : WellFormed s) (enforce : Bool) where
-  eager-signed : (a : Rights) (m : Mode) (n : ℕ) → EagerMode s enforce a m → n < principals s → EagerMode s enforce (rights n (meet (a .granted) (authority s n))) (signAccess s m n)
-  unfolding signAccess
-  eager-signed a m n h l =
-      subst (λ b. EagerMode s enforce (rights n (meet (a .granted) (authority s n))) (pick b (signedLazy m n) (signedEager s m n))) (sym (h .style))
-      record { style = refl; enforcing = h .enforcing; signing = refl; granting = λ i. meet (h .granting i) (authority-is s w n l i); known = l }
-
-  eager-test : (a : Rights) (m : Mode) (p : ℕ) → EagerMode s enforce a m → has p (authorityRecord s (m .signer)) ≡ has p (authority s (a .signer))
-  eager-test a m p h = (λ i. has p (authorityRecord s (h .signing i))) ∙ (λ i. has p (authority-is s w (a .signer) (h .known) i))
-
-  eager-go : (a : Rights) (m : Mode) (p : ℕ) (c : Bool) → EagerMode s enforce a m → EagerMode s enforce (rights (a .signer) (cond c (insert p (a .granted)) (a .granted))) (pick c (enabledEager s m p) m)
-  eager-go a m p true h = record { style = refl; enforcing = h .enforcing; signing = h .signing; granting = λ i. insert p (h .granting i); known = h .known }
-  eager-go a m p false h = record { style = h .style; enforcing = h .enforcing; signing = h .signing; granting = h .granting; known = h .known }
-
-  eager-enabled : (a : Rights) (m : Mode) (p : ℕ) → EagerMode s enforce a m
-      → EagerMode s enforce (rights (a .signer) (addAuthorised (authority s) (a .signer) p (a .granted))) (enableAccess s m p)
-  unfolding enableAccess addAuthorised
-  eager-enabled a m p h =
-      let after : Rights = rights (a .signer) (cond (has p (authority s (a .signer))) (insert p (a .granted)) (a .granted)) in
-      subst (λ b. EagerMode s enforce after (pick b m (pick (has p (authorityRecord s (m .signer))) (enabledEager s m p) m))) (sym (h .style))
-      (subst (λ c. EagerMode s enforce after (pick c (enabledEager s m p) m)) (sym (eager-test a m p h)) (eager-go a m p (has p (authority s (a .signer))) h))
-
-  eager-grants : (a : Rights) (m : Mode) (f : List ℕ) (p : ℕ) → EagerMode s enforce a m → grantedOf s m f p ≡ has p (a .granted)
+-- ---- what each style does, at a number whose low half is known
+module _ (mode : ℕ) (b : Bool) (style : lazyMode mode ≡ b) (acc low : ℕ) (used : lowOf acc ≡ low) where
+  granted-by : (f : List ℕ) (p : ℕ) → grantedOf mode acc f p ≡ pick b (framesGrant f low p) (has p (highOf acc))
   unfolding grantedOf
-  eager-grants a m f p h = (λ i. pick (h .style i) (framesGrant s f (m .depth) p) (has p (m .granted))) ∙ (λ i. has p (h .granting i))
+  granted-by f p = λ i. pick (style i) (framesGrant f (used i) p) (has p (highOf acc))
 
-  eager-undone : (a : Rights) (m : Mode) (f g : List ℕ) (p : ℕ) → EagerMode s enforce a m → Kept (m .depth) (enableFrames m f p) g
-      → Kept (m .depth) f (restoreFrames m g (getD f (firstEnabled (m .depth)) 0))
-  unfolding enableFrames restoreFrames
-  eager-undone a m f g p h k =
-      let at : ℕ = firstEnabled (m .depth) in
-      subst (λ b. Kept (m .depth) f (pick b (set g at (getD f at 0)) g)) (sym (h .style))
-      (subst (λ b. Kept (m .depth) (pick b (set f at (insert p (getD f at 0))) f) g) (h .style) k)
+  sign-access : (may : ℕ) → signAccess mode acc may ≡ pick b (low + 2) (pairOf may (meet (highOf acc) may))
+  unfolding signAccess
+  sign-access may = λ i. pick (style i) (used i + 2) (pairOf may (meet (highOf acc) may))
 
-  pub eager-models : Models s (eagerControl (authority s)) enforce (λ a m f. EagerMode s enforce a m)
-  eager-models = record {
-    keeps = λ a m f g h k. h;
-    signed = λ a m f n h i l. eager-signed a m n h i;
-    enabled = λ a m f p h l. eager-enabled a m p h;
-    grants = eager-grants;
-    enforces = λ a m f h. h .enforcing;
-    deeper = deeper-is s;
-    level = level-is s;
-    unsigned = unsigned-is s;
-    undone = λ a m f g p h l k. eager-undone a m f g p h k;
+  sign-frames : (f : List ℕ) (may : ℕ) → signFrames mode acc f may ≡ pick b (set (set f low may) (low + 1) 0) f
+  unfolding signFrames
+  sign-frames f may = λ i. pick (style i) (set (set f (used i) may) (used i + 1) 0) f
+
+  enable-access : (p : ℕ) → enableAccess mode acc p ≡ pick b acc (pick (has p low) (pairOf low (insert p (highOf acc))) acc)
+  unfolding enableAccess
+  enable-access p = λ i. pick (style i) acc (pick (has p (used i)) (pairOf (used i) (insert p (highOf acc))) acc)
+
+  enable-frames : (f : List ℕ) (p : ℕ) → enableFrames mode acc f p ≡ pick b (set f (lastOf low) (insert p (getD f (lastOf low) 0))) f
+  unfolding enableFrames
+  enable-frames f p = λ i. pick (style i) (set f (lastOf (used i)) (insert p (getD f (lastOf (used i)) 0))) f
+
+  restore-frames : (f g : List ℕ) → restoreFrames mode acc g (enabledNow mode acc f) ≡ pick b (set g (lastOf low) (getD f (lastOf low) 0)) g
+  unfolding restoreFrames enabledNow
+  restore-frames f g = (λ i. pick (style i) (set g (lastOf (used i)) (pick (style i) (getD f (lastOf (used i)) 0) 0)) g) ∙ same b
+    where
+      same : (b : Bool) → pick b (set g (lastOf low) (pick b (getD f (lastOf low) 0) 0)) g ≡ pick b (set g (lastOf low) (getD f (lastOf low) 0)) g
+      same true = refl
+      same false = refl
+
+-- ---- the eager style: a pair of the set that the signer may use and the granted set
+pub record EagerMode (A : ℕ → ℕ) (a : Rights) (acc : ℕ) : Type 0 where
+  pub signing : lowOf acc ≡ A (a .signer)
+  pub granting : highOf acc ≡ a .granted
+
+pub pair-mode : (A : ℕ → ℕ) (n may P g : ℕ) → may ≡ A n → may < 4294967296 → P ≡ g → EagerMode A (rights n g) (pairOf may P)
+pair-mode A n may P g e i f = record { signing = omega arith; granting = omega arith }
+
+module _ (z : Fixed) (style : lazyMode (z .mode) ≡ false) where
+  eager-enabled : (a : Rights) (acc p : ℕ) → EagerMode (z .may) a acc
+      → EagerMode (z .may) (rights (a .signer) (addAuthorised (z .may) (a .signer) p (a .granted))) (enableAccess (z .mode) acc p)
+  unfolding addAuthorised
+  eager-enabled a acc p h =
+      subst (EagerMode (z .may) _) (sym (enable-access (z .mode) false style acc (z .may (a .signer)) (h .signing) p)) (go (has p (z .may (a .signer))))
+    where
+      go : (c : Bool) → EagerMode (z .may) (rights (a .signer) (cond c (insert p (a .granted)) (a .granted)))
+          (pick c (pairOf (z .may (a .signer)) (insert p (highOf acc))) acc)
+      go true =
+          pair-mode (z .may) (a .signer) (z .may (a .signer)) (insert p (highOf acc)) (insert p (a .granted)) refl (omega (arith, h .signing))
+          (λ i. insert p (h .granting i))
+      go false = record { signing = h .signing; granting = h .granting }
+
+  eager-unsigned : (acc d : ℕ) (f g : List ℕ) (may : ℕ) → Kept (d + 1) (signFrames (z .mode) acc f may) g → Kept d f g
+  eager-unsigned acc d f g may k =
+      let k′ : Kept (d + 1) f g = subst (λ x. Kept (d + 1) x g) (sign-frames (z .mode) false style acc (lowOf acc) refl f may) k in
+      record { long = k′ .long; same = λ i h. k′ .same i (omega arith) }
+
+  pub eager-models : (enforce : Bool) → enforced (z .mode) ≡ enforce → Models z (eagerControl (z .may)) enforce (λ a acc d f. EagerMode (z .may) a acc)
+  eager-models enforce checks = record {
+    keeps = λ a acc d f g h k. h;
+    signed = λ a acc d f n may h e i l.
+        subst (EagerMode (z .may) _) (sym (sign-access (z .mode) false style acc (lowOf acc) refl may))
+        (pair-mode (z .may) n may (meet (highOf acc) may) (meet (a .granted) (z .may n)) e i (λ j. meet (h .granting j) (e j)));
+    enabled = λ a acc d f p h l. eager-enabled a acc p h;
+    grants = λ a acc d f p h l. granted-by (z .mode) false style acc (lowOf acc) refl f p ∙ (λ i. has p (h .granting i));
+    enforces = checks;
+    unsigned = λ a acc d f g may h k. eager-unsigned acc d f g may k;
+    undone = λ a acc d f g p h l k.
+        subst (Kept d f) (sym (restore-frames (z .mode) false style acc (lowOf acc) refl f g))
+        (subst (λ x. Kept d x g) (enable-frames (z .mode) false style acc (lowOf acc) refl f p) k);
   }
 
--- ---- the lazy style: the first d frames of the list, the outermost first, with principals below a count
-pub data Frames (count : ℕ) (f : List ℕ) : (d : ℕ) → List Frame → Type 0 where
-  no-frames : Frames count f 0 []
-  a-frame : {d : ℕ} {x : Frame} {xs : List Frame} → x .principal < count → getD f (d * 2) 0 ≡ x .principal → getD f (d * 2 + 1) 0 ≡ x .enabled
-      → Frames count f d xs → Frames count f (suc d) (x ∷ xs)
+-- ---- the lazy style: the first d frames of the list, the outermost first
+pub data Frames (A : ℕ → ℕ) (f : List ℕ) : (d : ℕ) → List Frame → Type 0 where
+  no-frames : Frames A f 0 []
+  a-frame : {d : ℕ} {x : Frame} {xs : List Frame} → getD f (d * 2) 0 ≡ A (x .principal) → getD f (d * 2 + 1) 0 ≡ x .enabled → Frames A f d xs
+      → Frames A f (suc d) (x ∷ xs)
 
-module _ (count : ℕ) (f : List ℕ) where
-  frames-same : (g : List ℕ) {d : ℕ} {xs : List Frame} → Frames count f d xs → ((i : ℕ) → i < 2 * d → getD g i 0 ≡ getD f i 0) → Frames count g d xs
-  frames-same g no-frames h = no-frames
-  frames-same g (a-frame {d = d} l p q r) h = a-frame l (h (d * 2) (omega arith) ∙ p) (h (d * 2 + 1) (omega arith) ∙ q) (frames-same g r (λ i l. h i (omega arith)))
+pub record LazyMode (A : ℕ → ℕ) (a : List Frame) (acc d : ℕ) (f : List ℕ) : Type 0 where
+  pub used : lowOf acc ≡ d * 2
+  pub long : length f ≡ 6496
+  pub frames : Frames A f d a
 
-  frames-sign : (n d : ℕ) (xs : List Frame) → n < count → d * 2 + 1 < length f → Frames count f d xs → Frames count (signedFrames d f n) (d + 1) (frame n 0 ∷ xs)
-  frames-sign n d xs z l h =
-      subst (λ k. Frames count (signedFrames d f n) k (frame n 0 ∷ xs)) (sym (add-one d))
-      (a-frame z (getD-set-other (set f (d * 2) n) (d * 2 + 1) (d * 2) 0 0 (λ e. omega arith) ∙ getD-set-same f (d * 2) n 0 (omega arith))
-      (getD-set-same (set f (d * 2) n) (d * 2 + 1) 0 0 (omega (arith, length-set f (d * 2) n)))
-      (frames-same (signedFrames d f n) h
-      (λ i g. getD-set-other (set f (d * 2) n) (d * 2 + 1) i 0 0 (λ e. omega arith) ∙ getD-set-other f (d * 2) i n 0 (λ e. omega arith))))
+abbrev signedFrames : ℕ → List ℕ → ℕ → List ℕ
+signedFrames d f may = set (set f (d * 2) may) (d * 2 + 1) 0
 
-  frames-first : (p d : ℕ) (x : Frame) (xs : List Frame) → d * 2 + 1 < length f → x .principal < count → getD f (d * 2) 0 ≡ x .principal
-      → getD f (d * 2 + 1) 0 ≡ x .enabled → Frames count f d xs
-      → Frames count (set f (d * 2 + 1) (insert p (getD f (d * 2 + 1) 0))) (suc d) (frame (x .principal) (insert p (x .enabled)) ∷ xs)
-  frames-first p d x xs l z e g h =
-      a-frame z (getD-set-other f (d * 2 + 1) (d * 2) (insert p (getD f (d * 2 + 1) 0)) 0 (λ e. omega arith) ∙ e)
-      (getD-set-same f (d * 2 + 1) (insert p (getD f (d * 2 + 1) 0)) 0 l ∙ (λ i. insert p (g i)))
-      (frames-same _ h (λ i k. getD-set-other f (d * 2 + 1) i (insert p (getD f (d * 2 + 1) 0)) 0 (λ e. omega arith)))
+-- a sign leaves the frames before its own
+signed-same : (d : ℕ) (f : List ℕ) (may i : ℕ) → i < 2 * d → getD (signedFrames d f may) i 0 ≡ getD f i 0
+signed-same d f may i h = getD-set-other (set f (d * 2) may) (d * 2 + 1) i 0 0 (λ e. omega arith) ∙ getD-set-other f (d * 2) i may 0 (λ e. omega arith)
 
-  abbrev enabledFrames : (d p : ℕ) → List ℕ
-  enabledFrames d p = set f (firstEnabled d) (insert p (getD f (firstEnabled d) 0))
+last-is : (d : ℕ) → lastOf (suc d * 2) ≡ d * 2 + 1
+unfolding lastOf
+last-is d = ap lastOf {x = suc d * 2} {y = suc (d * 2 + 1)} (omega arith)
 
-  frames-enable : (p : ℕ) {d : ℕ} {xs : List Frame} → Frames count f d xs → d * 2 ≤ length f → Frames count (enabledFrames d p) d (enableFirst p xs)
-  unfolding firstEnabled
-  frames-enable p no-frames l = no-frames
-  frames-enable p (a-frame {d = d} {x = x} {xs = xs} z e g h) l = frames-first p d x xs (omega arith) z e g h
+-- the first frame's enabled set is put back
+enable-kept : (d : ℕ) (f g : List ℕ) (v : ℕ) → d * 2 ≤ length f → Kept d (set f (lastOf (d * 2)) v) g
+    → Kept d f (set g (lastOf (d * 2)) (getD f (lastOf (d * 2)) 0))
+enable-kept zero f g v l k = record { long = simp length-set (k .long ∙ simp length-set); same = λ i h. absurd (omega arith) }
+enable-kept (suc d) f g v l k = subst (λ at. Kept (suc d) (set f at v) g → Kept (suc d) f (set g at (getD f at 0))) (sym (last-is d)) go k
+  where
+    go : Kept (suc d) (set f (d * 2 + 1) v) g → Kept (suc d) f (set g (d * 2 + 1) (getD f (d * 2 + 1) 0))
+    go k = record {
+      long = length-set g (d * 2 + 1) (getD f (d * 2 + 1) 0) ∙ k .long ∙ length-set f (d * 2 + 1) v;
+      same = λ i h. elim (ℕ-discrete i (d * 2 + 1)) [
+        | yes e ↦ subst (λ x. getD (set g (d * 2 + 1) (getD f (d * 2 + 1) 0)) x 0 ≡ getD f x 0) (sym e)
+            (getD-set-same g (d * 2 + 1) (getD f (d * 2 + 1) 0) 0 (omega (arith, k .long, length-set f (d * 2 + 1) v)))
+        | no x ↦ getD-set-other g (d * 2 + 1) i (getD f (d * 2 + 1) 0) 0 x ∙ k .same i h ∙ getD-set-other f (d * 2 + 1) i v 0 x
+      ];
+    }
 
 granted-step : (a b c : Bool) → pick a (pick b true c) false ≡ (a && (b || c))
 granted-step true true c = refl
 granted-step true false c = refl
 granted-step false b c = refl
 
-frames-grant : (s : List ℕ) → WellFormed s → (f : List ℕ) (p : ℕ) {d : ℕ} {xs : List Frame} → Frames (principals s) f d xs → framesGrant s f d p ≡ chk (authority s) xs p
-unfolding framesGrant
-frames-grant s w f p no-frames = refl
-frames-grant s w f p (a-frame {d = d} {x = x} {xs = xs} z e g h) =
-    granted-step (has p (authorityRecord s (getD f (d * 2) 0))) (has p (getD f (d * 2 + 1) 0)) (framesGrant s f d p)
-    ∙ (λ i. has p (authorityRecord s (e i)) && (has p (g i) || frames-grant s w f p h i))
-    ∙ (λ i. has p (authority-is s w (x .principal) z i) && (has p (x .enabled) || chk (authority s) xs p))
+module _ (A : ℕ → ℕ) (f : List ℕ) where
+  frames-same : (g : List ℕ) {d : ℕ} {xs : List Frame} → Frames A f d xs → ((i : ℕ) → i < 2 * d → getD g i 0 ≡ getD f i 0) → Frames A g d xs
+  frames-same g no-frames h = no-frames
+  frames-same g (a-frame {d = d} p q r) h = a-frame (h (d * 2) (omega arith) ∙ p) (h (d * 2 + 1) (omega arith) ∙ q) (frames-same g r (λ i l. h i (omega arith)))
 
-pub record LazyMode (s : List ℕ) (enforce : Bool) (a : List Frame) (m : Mode) (f : List ℕ) : Type 0 where
-  pub style : m .lazy ≡ true
-  pub enforcing : m .enforce ≡ enforce
-  pub long : length f ≡ 6496
-  pub frames : Frames (principals s) f (m .depth) a
+  frames-sign : (n may d : ℕ) (xs : List Frame) → may ≡ A n → d * 2 + 1 < length f → Frames A f d xs → Frames A (signedFrames d f may) (d + 1) (frame n 0 ∷ xs)
+  frames-sign n may d xs e l h =
+      subst (λ k. Frames A (signedFrames d f may) k (frame n 0 ∷ xs)) (sym (add-one d))
+      (a-frame (getD-set-other (set f (d * 2) may) (d * 2 + 1) (d * 2) 0 0 (λ e. omega arith) ∙ getD-set-same f (d * 2) may 0 (omega arith) ∙ e)
+      (getD-set-same (set f (d * 2) may) (d * 2 + 1) 0 0 (omega (arith, length-set f (d * 2) may)))
+      (frames-same (signedFrames d f may) h (signed-same d f may)))
 
-module _ (s : List ℕ) (w : WellFormed s) (enforce : Bool) where
-  lazy-signed : (a : List Frame) (m : Mode) (f : List ℕ) (n : ℕ) → LazyMode s enforce a m f → n < principals s → m .depth < 3248
-      → LazyMode s enforce (frame n 0 ∷ a) (signAccess s m n) (signFrames m f n)
-  unfolding signAccess signFrames
-  lazy-signed a m f n h z l =
-      subst (λ b. LazyMode s enforce (frame n 0 ∷ a) (pick b (signedLazy m n) (signedEager s m n)) (pick b (signedFrames (m .depth) f n) f)) (sym (h .style))
+  abbrev enabledFrames : (at p : ℕ) → List ℕ
+  enabledFrames at p = set f at (insert p (getD f at 0))
+
+  frames-enable : (p : ℕ) {d : ℕ} {xs : List Frame} → Frames A f d xs → d * 2 ≤ length f → Frames A (enabledFrames (lastOf (d * 2)) p) d (enableFirst p xs)
+  frames-enable p no-frames l = no-frames
+  frames-enable p (a-frame {d = d} {x = x} {xs = xs} e g h) l =
+      subst (λ at. Frames A (enabledFrames at p) (suc d) (enableFirst p (x ∷ xs))) (sym (last-is d))
+      (a-frame (getD-set-other f (d * 2 + 1) (d * 2) (insert p (getD f (d * 2 + 1) 0)) 0 (λ e. omega arith) ∙ e)
+      (getD-set-same f (d * 2 + 1) (insert p (getD f (d * 2 + 1) 0)) 0 (omega arith) ∙ (λ i. insert p (g i)))
+      (frames-same _ h (λ i k. getD-set-other f (d * 2 + 1) i (insert p (getD f (d * 2 + 1) 0)) 0 (λ e. omega arith))))
+
+  frames-walk : (p : ℕ) {d : ℕ} {xs : List Frame} → Frames A f d xs → walkGrants f (d * 2) p ≡ chk A xs p
+  unfolding walkGrants
+  frames-walk p no-frames = refl
+  frames-walk p (a-frame {d = d} {x = x} {xs = xs} e g h) =
+      ap (λ n. walkGrants f n p) {x = suc d * 2} {y = suc (suc (d * 2))} (omega arith)
+      ∙ granted-step (has p (getD f (d * 2) 0)) (has p (getD f (d * 2 + 1) 0)) (walkGrants f (d * 2) p)
+      ∙ (λ i. has p (e i) && (has p (g i) || frames-walk p h i))
+
+  frames-grant : (p : ℕ) {d : ℕ} {xs : List Frame} → Frames A f d xs → d * 2 ≤ length f → framesGrant f (d * 2) p ≡ chk A xs p
+  unfolding framesGrant
+  frames-grant p {d} h l = (λ i. pick (le-leb (d * 2) (length f) l i) (walkGrants f (d * 2) p) false) ∙ frames-walk p h
+
+module _ (z : Fixed) (style : lazyMode (z .mode) ≡ true) where
+  lazy-signed : (a : List Frame) (acc d : ℕ) (f : List ℕ) (n may : ℕ) → LazyMode (z .may) a acc d f → may ≡ z .may n → d < 3248
+      → LazyMode (z .may) (frame n 0 ∷ a) (signAccess (z .mode) acc may) (d + 1) (signFrames (z .mode) acc f may)
+  lazy-signed a acc d f n may h e l =
+      subst (λ x. LazyMode (z .may) (frame n 0 ∷ a) x (d + 1) (signFrames (z .mode) acc f may))
+      (sym (sign-access (z .mode) true style acc (d * 2) (h .used) may))
+      (subst (LazyMode (z .may) (frame n 0 ∷ a) (d * 2 + 2) (d + 1)) (sym (sign-frames (z .mode) true style acc (d * 2) (h .used) f may))
       record {
-        style = refl;
-        enforcing = h .enforcing;
-        long = length-set (set f (m .depth * 2) n) (m .depth * 2 + 1) 0 ∙ length-set f (m .depth * 2) n ∙ h .long;
-        frames = frames-sign (principals s) f n (m .depth) a z (omega (arith, h .long)) (h .frames);
-      }
+        used = omega arith;
+        long = length-set (set f (d * 2) may) (d * 2 + 1) 0 ∙ length-set f (d * 2) may ∙ h .long;
+        frames = frames-sign (z .may) f n may d a e (omega (arith, h .long)) (h .frames);
+      })
 
-  lazy-enabled : (a : List Frame) (m : Mode) (f : List ℕ) (p : ℕ) → LazyMode s enforce a m f → m .depth ≤ 3248 → LazyMode s enforce (enableFirst p a) (enableAccess s m p) (enableFrames m f p)
-  unfolding enableAccess enableFrames
-  lazy-enabled a m f p h l =
-      subst (λ b. LazyMode s enforce (enableFirst p a) (pick b m (pick (has p (authorityRecord s (m .signer))) (enabledEager s m p) m))
-      (pick b (enabledFrames (principals s) f (m .depth) p) f)) (sym (h .style))
+  lazy-enabled : (a : List Frame) (acc d : ℕ) (f : List ℕ) (p : ℕ) → LazyMode (z .may) a acc d f → d ≤ 3248
+      → LazyMode (z .may) (enableFirst p a) (enableAccess (z .mode) acc p) d (enableFrames (z .mode) acc f p)
+  lazy-enabled a acc d f p h l =
+      subst (λ x. LazyMode (z .may) (enableFirst p a) x d (enableFrames (z .mode) acc f p)) (sym (enable-access (z .mode) true style acc (d * 2) (h .used) p))
+      (subst (LazyMode (z .may) (enableFirst p a) acc d) (sym (enable-frames (z .mode) true style acc (d * 2) (h .used) f p))
       record {
-        style = h .style;
-        enforcing = h .enforcing;
-        long = length-set f (firstEnabled (m .depth)) (insert p (getD f (firstEnabled (m .depth)) 0)) ∙ h .long;
-        frames = frames-enable (principals s) f p (h .frames) (omega (arith, h .long));
-      }
+        used = h .used;
+        long = length-set f (lastOf (d * 2)) (insert p (getD f (lastOf (d * 2)) 0)) ∙ h .long;
+        frames = frames-enable (z .may) f p (h .frames) (omega (arith, h .long));
+      })
 
-  lazy-grants : (a : List Frame) (m : Mode) (f : List ℕ) (p : ℕ) → LazyMode s enforce a m f → grantedOf s m f p ≡ chk (authority s) a p
-  unfolding grantedOf
-  lazy-grants a m f p h = (λ i. pick (h .style i) (framesGrant s f (m .depth) p) (has p (m .granted))) ∙ frames-grant s w f p (h .frames)
+  lazy-unsigned : (a : List Frame) (acc d : ℕ) (f g : List ℕ) (may : ℕ) → LazyMode (z .may) a acc d f → Kept (d + 1) (signFrames (z .mode) acc f may) g
+      → Kept d f g
+  lazy-unsigned a acc d f g may h k =
+      let k′ : Kept (d + 1) (signedFrames d f may) g = subst (λ x. Kept (d + 1) x g) (sign-frames (z .mode) true style acc (d * 2) (h .used) f may) k in
+      record { long = k′ .long ∙ simp length-set; same = λ i l. k′ .same i (omega arith) ∙ signed-same d f may i l }
 
-  lazy-undone : (a : List Frame) (m : Mode) (f g : List ℕ) (p : ℕ) → LazyMode s enforce a m f → m .depth ≤ 3248 → Kept (m .depth) (enableFrames m f p) g
-      → Kept (m .depth) f (restoreFrames m g (getD f (firstEnabled (m .depth)) 0))
-  unfolding enableFrames restoreFrames
-  lazy-undone a m f g p h l k =
-      let at : ℕ = firstEnabled (m .depth) in
-      subst (λ b. Kept (m .depth) f (pick b (set g at (getD f at 0)) g)) (sym (h .style))
-      (enable-kept (m .depth) f g (insert p (getD f at 0)) (omega (arith, h .long))
-      (subst (λ b. Kept (m .depth) (pick b (enabledFrames (principals s) f (m .depth) p) f) g) (h .style) k))
-
-  pub lazy-models : Models s (lazyControl (authority s)) enforce (λ a m f. LazyMode s enforce a m f)
-  lazy-models = record {
-    keeps = λ a m f g h k. record { style = h .style; enforcing = h .enforcing; long = k .long ∙ h .long; frames = frames-same (principals s) f g (h .frames) (k .same) };
-    signed = lazy-signed;
+  pub lazy-models : (enforce : Bool) → enforced (z .mode) ≡ enforce → Models z (lazyControl (z .may)) enforce (LazyMode (z .may))
+  lazy-models enforce checks = record {
+    keeps = λ a acc d f g h k. record { used = h .used; long = k .long ∙ h .long; frames = frames-same (z .may) f g (h .frames) (k .same) };
+    signed = λ a acc d f n may h e i l. lazy-signed a acc d f n may h e l;
     enabled = lazy-enabled;
-    grants = lazy-grants;
-    enforces = λ a m f h. h .enforcing;
-    deeper = deeper-is s;
-    level = level-is s;
-    unsigned = unsigned-is s;
-    undone = lazy-undone;
+    grants = λ a acc d f p h l. granted-by (z .mode) true style acc (d * 2) (h .used) f p ∙ frames-grant (z .may) f p (h .frames) (omega (arith, h .long));
+    enforces = checks;
+    unsigned = lazy-unsigned;
+    undone = λ a acc d f g p h l k.
+        subst (Kept d f) (sym (restore-frames (z .mode) true style acc (d * 2) (h .used) f g))
+        (enable-kept d f g (insert p (getD f (lastOf (d * 2)) 0)) (omega (arith, h .long))
+        (subst (λ x. Kept d x g) (enable-frames (z .mode) true style acc (d * 2) (h .used) f p) k));
   }

@@ -1,23 +1,34 @@
--- How the interpreter's words, cells, tallies and outcomes stand for the meaning's values, environments, budgets and results.
+-- How the interpreter's words, cells, counters and outcomes stand for the meaning's values, environments, budgets and results.
 use mathlib.Core.Bool.{Bool, true, false}
 use mathlib.Core.Path.{_≡_, refl, sym, _∙_, subst}
 use mathlib.Core.List.{List, [], _∷_}
-use Prim.Native.Nat.{ℕ, _+_, _*_, _/_, _-_, _<_, _≤_}
+use Prim.Native.Nat.{ℕ, _+_, _*_, _/_, _<_, _≤_}
 use native.Mathlib.Omega.{arith}
 use lib.Dec.{ltb}
 use lib.ListN.{getD, length, set, length-set}
-use Rattle.program.specs.Layout.{principals, kindByte, small, first, second, third}
+use borrow.Author.Tests.{lt-ltb, le-ltb}
 use Rattle.program.specs.Terms.{Op, sum, difference, less, Term, boolean, number, variable, function, letrec, call, if, check, enable, sign, test, binary, post}
 use Rattle.program.specs.Laws.Nesting.{height}
 use Rattle.semantics.specs.Values.{Value, bool, num, closure, Env, empty, bind, Budget, budget, Result, ends, stops}
 use Rattle.semantics.specs.Meaning.{_then_}
-use Rattle.machine.specs.declared.state.Value.{Value as Word}
-use Rattle.machine.specs.declared.state.Value.the-variants.{Bool as VBool, Num, Fun}
 use Rattle.machine.specs.declared.state.Stop.{Stop}
-use Rattle.machine.specs.declared.state.Out.the-variants.{Val, Stop as Stopped}
-use Rattle.machine.specs.Store.{valueOf, behindOf, Store as State, Done, andThen}
+use Rattle.machine.specs.declared.state.Stop.the-variants.{Check, Stuck, OpenCalls, Calls, Cells, Posts}
+use Rattle.machine.specs.Words.{pick, booleanWord, numberWord, functionWord, stopWord, sortOf, payloadOf, envOf, isStop}
+use Rattle.machine.specs.Table.{wordKind, wordSmall, wordFirst, wordSecond, wordThird, wordAuthority}
+use Rattle.machine.specs.Cells.{behindOf, heldOf}
+use Rattle.machine.specs.Steps.{cellsMade}
+use Rattle.machine.specs.Store.{Store as State, Done, doneOf, andThen}
 use Rattle.machine.specs.Stops.{causeOf, placeOf}
-use Rattle.refinement.specs.Laws.Cells.{Agree, agree-value, agree-behind}
+use Rattle.refinement.specs.Laws.Cells.{Agree, agree-held, agree-behind}
+
+-- ---- what stays in a run: the words of the terms, the sets that the principals may use, the lent list of posts, and the mode
+pub record Fixed : Type 0 where
+  pub terms : List ℕ
+  pub may : ℕ → ℕ
+  pub posts : List ℕ
+  pub mode : ℕ
+
+-- ---- counters and posts
 
 -- the posts, the latest first, written over the front of a list
 abbrev pub written : List ℕ → List ℕ → List ℕ
@@ -28,16 +39,21 @@ pub length-written : (l ps : List ℕ) → length (written l ps) ≡ length l
 length-written l [] = refl
 length-written l (p ∷ ps) = length-set (written l ps) (length ps) p ∙ length-written l ps
 
--- the counts and the posts
-pub record Balance (posts : List ℕ) (st : State) (c d r : ℕ) (ps : List ℕ) : Type 0 where
-  pub calls : st .n .calls ≡ c
-  pub cells : st .n .cells + d ≡ length (st .cells) / 8
-  pub made : st .n .posts ≡ length ps
-  pub room : length ps + r ≡ length posts
-  pub list : st .posts ≡ written posts ps
+abbrev pub countersOf : (calls cells posts mode : ℕ) → List ℕ
+countersOf c m p mode = c ∷ m ∷ p ∷ mode ∷ []
 
-pub data Balances (posts : List ℕ) (st : State) : Budget → Type 0 where
-  balance : {c d r : ℕ} {ps : List ℕ} → Balance posts st c d r ps → Balances posts st (budget c d r ps)
+-- with m cells made
+pub record Balance (z : Fixed) (st : State) (c m d r : ℕ) (ps : List ℕ) : Type 0 where
+  pub counters : st .n ≡ countersOf c m (length ps) (z .mode)
+  pub cells : m + d ≡ length (st .cells) / 8
+  pub most : length (st .cells) ≤ 65536
+  pub room : length ps + r ≡ length (z .posts)
+  pub list : st .posts ≡ written (z .posts) ps
+
+pub data Balances (z : Fixed) (st : State) : Budget → Type 0 where
+  balance : {c m d r : ℕ} {ps : List ℕ} → Balance z st c m d r ps → Balances z st (budget c d r ps)
+
+-- ---- later states
 
 -- the first frames are kept
 pub record Kept (depth : ℕ) (f g : List ℕ) : Type 0 where
@@ -50,23 +66,68 @@ kept-refl depth f = record { long = refl; same = λ i h. refl }
 kept-trans : {depth : ℕ} {f g h : List ℕ} → Kept depth f g → Kept depth g h → Kept depth f h
 kept-trans p q = record { long = q .long ∙ p .long; same = λ i h. q .same i h ∙ p .same i h }
 
--- a later state of a run: cells made before and the first frames are as they were
+-- cells made before and the first frames are as they were
 pub record Later (depth : ℕ) (st₀ st : State) : Type 0 where
-  pub more : st₀ .n .cells ≤ st .n .cells
-  pub size : length (st .cells) ≡ length (st₀ .cells)
-  pub old : Agree (st₀ .n .cells) (st₀ .cells) (st .cells)
+  pub more : cellsMade (st₀ .n) ≤ cellsMade (st .n)
+  pub old : Agree (cellsMade (st₀ .n)) (st₀ .cells) (st .cells)
   pub frames : Kept depth (st₀ .frames) (st .frames)
 
 pub later-refl : (depth : ℕ) (st : State) → Later depth st st
-later-refl depth st = record { more = omega arith; size = refl; old = record { same = λ j h. refl }; frames = kept-refl depth (st .frames) }
+later-refl depth st = record { more = omega arith; old = record { long = refl; same = λ j h. refl }; frames = kept-refl depth (st .frames) }
 
 later-trans : {depth : ℕ} {a b c : State} → Later depth a b → Later depth b c → Later depth a c
 later-trans p q = record {
   more = omega (arith, p .more, q .more);
-  size = q .size ∙ p .size;
-  old = record { same = λ j h. q .old .same j (omega (arith, p .more)) ∙ p .old .same j h };
+  old = record { long = q .old .long ∙ p .old .long; same = λ j h. q .old .same j (omega (arith, p .more)) ∙ p .old .same j h };
   frames = kept-trans (p .frames) (q .frames);
 }
+
+-- ---- words
+
+-- a word of three parts, with its sort
+pub record Word (sort w : ℕ) : Type 0 where
+  pub sort-is : sortOf w ≡ sort
+  pub small : w < 281474976710656
+
+abbrev pub sortFor : Value → ℕ
+sortFor (bool b) = 0
+sortFor (num n) = 1
+sortFor (closure r ty body env) = 2
+
+sort-most : (x : Value) → sortFor x ≤ 2
+sort-most (bool b) = omega arith
+sort-most (num n) = omega arith
+sort-most (closure r ty body env) = omega arith
+
+-- a function's word and what it is read as
+pub record Function (b e w : ℕ) : Type 0 where
+  pub word : Word 2 w
+  pub body-is : payloadOf w ≡ b
+  pub env-is : envOf w ≡ e
+
+pub function-word : (b e : ℕ) → b < 65536 → e < 65536 → Function b e (functionWord b e)
+function-word b e p q = record { word = record { sort-is = omega arith; small = omega arith }; body-is = omega arith; env-is = omega arith }
+
+-- a stop's word
+stop-range : (x : Stop) → (17 ≤ causeOf x) × (causeOf x ≤ 22)
+stop-range (Check t) = (omega arith, omega arith)
+stop-range (Stuck t) = (omega arith, omega arith)
+stop-range (OpenCalls t) = (omega arith, omega arith)
+stop-range (Calls t) = (omega arith, omega arith)
+stop-range (Cells t) = (omega arith, omega arith)
+stop-range (Posts t) = (omega arith, omega arith)
+
+stop-parts : (k t : ℕ) → k < 65536 → t < 65536 → (sortOf (stopWord k t) ≡ k) × (payloadOf (stopWord k t) ≡ t)
+stop-parts k t h i = (omega arith, omega arith)
+
+pub stop-word : (x : Stop) → placeOf x < 65536
+    → (sortOf (stopWord (causeOf x) (placeOf x)) ≡ causeOf x) × (payloadOf (stopWord (causeOf x) (placeOf x)) ≡ placeOf x)
+stop-word x i = stop-parts (causeOf x) (placeOf x) (omega (arith, stop-range x)) i
+
+stop-stops : (x : Stop) → isStop (stopWord (causeOf x) (placeOf x)) ≡ true
+stop-stops x = lt-ltb 2 (sortOf (stopWord (causeOf x) (placeOf x))) (omega (arith, stop-range x))
+
+-- ---- terms
 
 -- the number of the kind of an operation on two numbers
 abbrev pub kindNumber : Op → ℕ
@@ -74,75 +135,124 @@ kindNumber sum = 11
 kindNumber difference = 12
 kindNumber less = 13
 
-module _ (s : List ℕ) where
-  -- the record of term t stands for a term of the meaning; its children are lower, and a principal is known
-  pub data Stands : (t : ℕ) → Term → Type 0 where
-    on-boolean : {t : ℕ} {b : Bool} → kindByte s t ≡ 0 → ltb 0 (small s t) ≡ b → Stands t (boolean t b)
-    on-number : {t : ℕ} → kindByte s t ≡ 1 → Stands t (number t (first s t))
-    on-variable : {t : ℕ} → kindByte s t ≡ 2 → Stands t (variable t (first s t))
-    on-function : {t ty : ℕ} {a : Term} → kindByte s t ≡ 3 → second s t < t → Stands (second s t) a → Stands t (function t ty a)
-    on-letrec : {t ty : ℕ} {a b : Term} → kindByte s t ≡ 4 → second s t < t → third s t < t → Stands (second s t) a → Stands (third s t) b → Stands t (letrec t ty a b)
-    on-call : {t : ℕ} {a b : Term} → kindByte s t ≡ 5 → first s t < t → second s t < t → Stands (first s t) a → Stands (second s t) b → Stands t (call t a b)
-    on-if : {t : ℕ} {a b c : Term} → kindByte s t ≡ 6 → first s t < t → second s t < t → third s t < t
-        → Stands (first s t) a → Stands (second s t) b → Stands (third s t) c → Stands t (if t a b c)
-    on-check : {t : ℕ} {a : Term} → kindByte s t ≡ 7 → first s t < t → Stands (first s t) a → Stands t (check t (small s t) a)
-    on-enable : {t : ℕ} {a : Term} → kindByte s t ≡ 8 → first s t < t → Stands (first s t) a → Stands t (enable t (small s t) a)
-    on-sign : {t : ℕ} {a : Term} → kindByte s t ≡ 9 → small s t < principals s → first s t < t → Stands (first s t) a → Stands t (sign t (small s t) a)
-    on-test : {t : ℕ} {a b : Term} → kindByte s t ≡ 10 → first s t < t → second s t < t → Stands (first s t) a → Stands (second s t) b → Stands t (test t (small s t) a b)
-    on-binary : {t : ℕ} {a b : Term} (op : Op) → kindByte s t ≡ kindNumber op → first s t < t → second s t < t
-        → Stands (first s t) a → Stands (second s t) b → Stands t (binary t op a b)
-    on-post : {t : ℕ} {a : Term} → kindByte s t ≡ 14 → first s t < t → Stands (first s t) a → Stands t (post t a)
+module _ (z : Fixed) where
+  abbrev pub wordAt : (t : ℕ) → ℕ
+  wordAt t = getD (z .terms) t 0
 
-  -- a function's body: its number has 16 bits and it is at most 32 high
+  abbrev pub kind : (t : ℕ) → ℕ
+  kind t = wordKind (wordAt t)
+
+  abbrev pub small : (t : ℕ) → ℕ
+  small t = wordSmall (wordAt t)
+
+  abbrev pub first : (t : ℕ) → ℕ
+  first t = wordFirst (wordAt t)
+
+  abbrev pub second : (t : ℕ) → ℕ
+  second t = wordSecond (wordAt t)
+
+  abbrev pub third : (t : ℕ) → ℕ
+  third t = wordThird (wordAt t)
+
+  -- the word of term t stands for a term of the meaning; its children are lower, and a sign has the set of its principal
+  pub data Stands : (t : ℕ) → Term → Type 0 where
+    on-boolean : {t : ℕ} {b : Bool} → kind t ≡ 0 → ltb 0 (small t) ≡ b → Stands t (boolean t b)
+    on-number : {t : ℕ} → kind t ≡ 1 → Stands t (number t (first t))
+    on-variable : {t : ℕ} → kind t ≡ 2 → Stands t (variable t (first t))
+    on-function : {t ty : ℕ} {a : Term} → kind t ≡ 3 → second t < t → Stands (second t) a → Stands t (function t ty a)
+    on-letrec : {t ty : ℕ} {a b : Term} → kind t ≡ 4 → second t < t → third t < t → Stands (second t) a → Stands (third t) b → Stands t (letrec t ty a b)
+    on-call : {t : ℕ} {a b : Term} → kind t ≡ 5 → first t < t → second t < t → Stands (first t) a → Stands (second t) b → Stands t (call t a b)
+    on-if : {t : ℕ} {a b c : Term} → kind t ≡ 6 → first t < t → second t < t → third t < t
+        → Stands (first t) a → Stands (second t) b → Stands (third t) c → Stands t (if t a b c)
+    on-check : {t : ℕ} {a : Term} → kind t ≡ 7 → first t < t → Stands (first t) a → Stands t (check t (small t) a)
+    on-enable : {t : ℕ} {a : Term} → kind t ≡ 8 → first t < t → Stands (first t) a → Stands t (enable t (small t) a)
+    on-sign : {t : ℕ} {a : Term} → kind t ≡ 9 → wordAuthority (wordAt t) ≡ z .may (small t) → first t < t → Stands (first t) a → Stands t (sign t (small t) a)
+    on-test : {t : ℕ} {a b : Term} → kind t ≡ 10 → first t < t → second t < t → Stands (first t) a → Stands (second t) b → Stands t (test t (small t) a b)
+    on-binary : {t : ℕ} {a b : Term} (op : Op) → kind t ≡ kindNumber op → first t < t → second t < t
+        → Stands (first t) a → Stands (second t) b → Stands t (binary t op a b)
+    on-post : {t : ℕ} {a : Term} → kind t ≡ 14 → first t < t → Stands (first t) a → Stands t (post t a)
+
+  -- a function's body is at most 32 high
   pub record Body (b : ℕ) (c : Term) : Type 0 where
-    pub inside : b < 65536
     pub shallow : height c ≤ 32
     pub stands : Stands b c
 
-  -- a word for a value and a link for an environment, in a store of which the first m cells are made
+  -- ---- a word for a value and a link for an environment, in a store of which the first m cells are made
   mutual
-    pub data Rep (cells : List ℕ) (m : ℕ) : Word → Value → Type 0 where
-      rep-bool : {b : Bool} → Rep cells m (VBool b) (bool b)
-      rep-num : {n : ℕ} → Rep cells m (Num n) (num n)
-      rep-fun : {b e ty : ℕ} {c : Term} {E : Env} → Body b c → RepEnv cells m e E → Rep cells m (Fun b e) (closure false ty c E)
-      rep-rec : {b e ty : ℕ} {c : Term} {E : Env} → Body b c → 1 ≤ e → e ≤ m → valueOf cells (e * 8 - 8) ≡ Fun b e → RepEnv cells m (behindOf cells e) E
-          → Rep cells m (Fun b e) (closure true ty c E)
+    pub data Rep (cells : List ℕ) (m : ℕ) : ℕ → Value → Type 0 where
+      rep-bool : {w : ℕ} {b : Bool} → Word 0 w → ltb 0 (payloadOf w) ≡ b → Rep cells m w (bool b)
+      rep-num : {w n : ℕ} → Word 1 w → payloadOf w ≡ n → Rep cells m w (num n)
+      rep-fun : {w ty : ℕ} {c : Term} {E : Env} → Word 2 w → Body (payloadOf w) c → RepEnv cells m (envOf w) E → Rep cells m w (closure false ty c E)
+      rep-rec : {w ty : ℕ} {c : Term} {E : Env} → Word 2 w → Body (payloadOf w) c → 1 ≤ envOf w → envOf w ≤ m → heldOf cells (envOf w) ≡ w
+          → RepEnv cells m (behindOf cells (envOf w)) E → Rep cells m w (closure true ty c E)
 
     pub data RepEnv (cells : List ℕ) (m : ℕ) : ℕ → Env → Type 0 where
       env-none : RepEnv cells m 0 empty
-      env-some : {e : ℕ} {x : Value} {E : Env} → 1 ≤ e → e ≤ m → Rep cells m (valueOf cells (e * 8 - 8)) x → RepEnv cells m (behindOf cells e) E
+      env-some : {e : ℕ} {x : Value} {E : Env} → 1 ≤ e → e ≤ m → Rep cells m (heldOf cells e) x → RepEnv cells m (behindOf cells e) E
           → RepEnv cells m e (bind x E)
+
+  module _ {l : List ℕ} {m : ℕ} where
+    -- of numbers below their bounds
+    pub boolean-rep : (b : Bool) → Rep l m (booleanWord b) (bool b)
+    boolean-rep true = rep-bool {w = 65536} record { sort-is = refl; small = omega arith } refl
+    boolean-rep false = rep-bool {w = 0} record { sort-is = refl; small = omega arith } refl
+
+    pub number-rep : (n : ℕ) → n < 65536 → Rep l m (numberWord n) (num n)
+    number-rep n h = rep-num {w = numberWord n} {n = n} record { sort-is = omega arith; small = omega arith } (omega arith)
+
+    pub rep-word : {w : ℕ} {x : Value} → Rep l m w x → Word (sortFor x) w
+    rep-word (rep-bool h e) = h
+    rep-word (rep-num h e) = h
+    rep-word (rep-fun h b e) = h
+    rep-word (rep-rec h b p q v e) = h
+
+    pub rep-low : {w : ℕ} {x : Value} → Rep l m w x → sortOf w ≤ 2
+    rep-low {x = x} r = omega (arith, rep-word r .sort-is, sort-most x)
+
+    pub env-low : {e : ℕ} {E : Env} → RepEnv l m e E → e ≤ m
+    env-low env-none = omega arith
+    env-low (env-some p q v h) = q
 
   -- both stay when cells past the first m are made
   module _ {m k : ℕ} {l l′ : List ℕ} (more : m ≤ k) (a : Agree m l l′) where
     mutual
-      pub rep-later : {v : Word} {x : Value} → Rep l m v x → Rep l′ k v x
-      rep-later rep-bool = rep-bool
-      rep-later rep-num = rep-num
-      rep-later (rep-fun b h) = rep-fun b (env-later h)
-      rep-later (rep-rec {e = e} {E = E} b p q v h) = rep-rec b p (omega arith) (agree-value a e p q ∙ v) (subst (λ x. RepEnv l′ k x E) (sym (agree-behind a e p q)) (env-later h))
+      pub rep-later : {w : ℕ} {x : Value} → Rep l m w x → Rep l′ k w x
+      rep-later (rep-bool h e) = rep-bool h e
+      rep-later (rep-num h e) = rep-num h e
+      rep-later (rep-fun h b e) = rep-fun h b (env-later e)
+      rep-later (rep-rec {w = w} {E = E} h b p q v e) =
+          rep-rec h b p (omega arith) (agree-held a (envOf w) p q ∙ v) (subst (λ x. RepEnv l′ k x E) (sym (agree-behind a (envOf w) p q)) (env-later e))
 
       pub env-later : {e : ℕ} {x : Env} → RepEnv l m e x → RepEnv l′ k e x
       env-later env-none = env-none
       env-later (env-some {e = e} {x = y} {E = E} p q v h) =
-          env-some p (omega arith) (subst (λ x. Rep l′ k x y) (sym (agree-value a e p q)) (rep-later v)) (subst (λ x. RepEnv l′ k x E) (sym (agree-behind a e p q)) (env-later h))
+          env-some p (omega arith) (subst (λ x. Rep l′ k x y) (sym (agree-held a e p q)) (rep-later v))
+          (subst (λ x. RepEnv l′ k x E) (sym (agree-behind a e p q)) (env-later h))
 
-  -- outcomes
-  module _ (posts : List ℕ) where
-    pub data Meets (depth : ℕ) (st₀ : State) : Done → Result → Type 0 where
-      valued : {v : Word} {x : Value} {st : State} {o : Budget} → Rep (st .cells) (st .n .cells) v x → Balances posts st o → Later depth st₀ st
-          → Meets depth st₀ (record { out = Val v; store = st }) (ends x o)
-      halted : {x : Stop} {st : State} {o : Budget} → Balances posts st o → Later depth st₀ st
-          → Meets depth st₀ (record { out = Stopped x; store = st }) (stops (causeOf x) (placeOf x) o)
+  -- the same at a state
+  abbrev pub RepAt : State → ℕ → Value → Type 0
+  RepAt st w x = Rep (st .cells) (cellsMade (st .n)) w x
 
-    pub meets-later : {depth : ℕ} {st₀ st : State} {d : Done} {o : Result} → Later depth st₀ st → Meets depth st d o → Meets depth st₀ d o
-    meets-later l (valued r t m) = valued r t (later-trans l m)
-    meets-later l (halted t m) = halted t (later-trans l m)
+  abbrev pub EnvAt : State → ℕ → Env → Type 0
+  EnvAt st e E = RepEnv (st .cells) (cellsMade (st .n)) e E
 
-    -- what follows a value
-    pub meets-then : {depth : ℕ} {st₀ : State} {d : Done} {o : Result} (k : Word → State → Done) (q : Value → Budget → Result) → Meets depth st₀ d o
-        → ((v : Word) (x : Value) (st : State) (r : Budget) → Rep (st .cells) (st .n .cells) v x → Balances posts st r → Later depth st₀ st → Meets depth st (k v st) (q x r))
-        → Meets depth st₀ (andThen d k) (o then q)
-    unfolding andThen
-    meets-then k q (valued r t l) h = meets-later l (h _ _ _ _ r t l)
-    meets-then k q (halted t l) h = halted t l
+  -- ---- outcomes
+  pub data Meets (depth : ℕ) (st₀ : State) : Done → Result → Type 0 where
+    valued : {w : ℕ} {x : Value} {st : State} {o : Budget} → RepAt st w x → Balances z st o → Later depth st₀ st → Meets depth st₀ (doneOf w st) (ends x o)
+    halted : {st : State} {o : Budget} (x : Stop) → placeOf x < 65536 → Balances z st o → Later depth st₀ st
+        → Meets depth st₀ (doneOf (stopWord (causeOf x) (placeOf x)) st) (stops (causeOf x) (placeOf x) o)
+
+  pub meets-later : {depth : ℕ} {st₀ st : State} {d : Done} {o : Result} → Later depth st₀ st → Meets depth st d o → Meets depth st₀ d o
+  meets-later l (valued r t m) = valued r t (later-trans l m)
+  meets-later l (halted x i t m) = halted x i t (later-trans l m)
+
+  -- what follows a value
+  pub meets-then : {depth : ℕ} {st₀ : State} {d : Done} {o : Result} (k : ℕ → State → Done) (q : Value → Budget → Result) → Meets depth st₀ d o
+      → ((w : ℕ) (x : Value) (st : State) (r : Budget) → RepAt st w x → Balances z st r → Later depth st₀ st → Meets depth st (k w st) (q x r))
+      → Meets depth st₀ (andThen d k) (o then q)
+  unfolding andThen
+  meets-then {depth} {st₀} k q (valued {w = w} {x = x} {st = st} {o = o} r t l) h =
+      subst (λ b. Meets depth st₀ (pick b (doneOf w st) (k w st)) (q x o)) (sym (le-ltb 2 (sortOf w) (rep-low r))) (meets-later l (h _ _ _ _ r t l))
+  meets-then {depth} {st₀} k q (halted {st = st} {o = o} x i t l) h =
+      let w : ℕ = stopWord (causeOf x) (placeOf x) in
+      subst (λ b. Meets depth st₀ (pick b (doneOf w st) (k w st)) (stops (causeOf x) (placeOf x) o)) (sym (stop-stops x)) (halted x i t l)

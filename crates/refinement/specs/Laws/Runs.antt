@@ -1,14 +1,10 @@
 -- From the relation to what a run tells and leaves.
-use mathlib.Core.Bool.{true}
 use mathlib.Core.Path.{_≡_, refl, sym, ap, _∙_, subst}
 use mathlib.Core.List.{List, [], _∷_, _++_, reverse, reverseAux-eq, append-assoc}
 use Prim.Native.Nat.{ℕ, suc, _+_, _*_, _/_, _-_, _≤_}
 use native.Mathlib.Omega.{arith}
-use lib.Dec.{ltb}
 use lib.ListN.{getD, length, set, drop, length-append, length-reverse}
 use lib.Seq.{drop-cons, set-at, getD-at, getD-append-add}
-use borrow.Author.Tests.{ltb-true}
-use Rattle.privileges.specs.Booleans.{and-left, and-right}
 use Rattle.program.specs.Layout.{root}
 use Rattle.program.specs.Terms.{program}
 use Rattle.program.specs.Records.{CountsOf}
@@ -16,19 +12,23 @@ use Rattle.program.specs.Laws.Readable.{WellFormed}
 use Rattle.program.specs.Laws.Trees.{root-lower}
 use Rattle.program.specs.Laws.Nesting.{program-height}
 use Rattle.program.specs.declared.records.Counts.{Counts}
-use Rattle.semantics.specs.Values.{empty, Budget, Result}
+use Rattle.semantics.specs.Values.{Value, empty, Budget, Result, ends}
 use Rattle.semantics.specs.Meaning.{Control, eval}
 use Rattle.semantics.specs.Access.{Frame}
-use Rattle.semantics.specs.Runs.{Request, Buffers, sizes, known, initial, outcome, left, counts, inOrder}
-use Rattle.machine.specs.declared.state.Out.{Out}
-use Rattle.machine.specs.declared.state.Access.{Access as Mode}
-use Rattle.machine.specs.Store.{Store as State, Done, evalAt}
+use Rattle.semantics.specs.Runs.{Request, Buffers, sizes, ground-bool, ground-num, ended, initial, outcome, left, counts, inOrder}
+use Rattle.machine.specs.declared.state.Stop.{Stop}
+use Rattle.machine.specs.declared.state.Stop.the-variants.{Check, Stuck, OpenCalls, Calls, Cells, Posts}
+use Rattle.machine.specs.declared.state.Out.the-variants.{Stop as Stopped}
+use Rattle.machine.specs.Words.{payloadOf, envOf, stopWord, outBy, outOf}
+use Rattle.machine.specs.Table.{Decoded}
+use Rattle.machine.specs.Store.{Store as State, Done, doneOf, evalAt}
+use Rattle.machine.specs.Stops.{causeOf, placeOf}
 use Rattle.refinement.specs.Claims.{outcomeOf, countsOf, sizesOf, laidOut, startOf, Refined}
-use Rattle.refinement.specs.Laws.Relation.{written, length-written, Balances, balance, Later, rep-bool, rep-num, rep-fun, rep-rec, env-none, Meets, valued, halted}
+use Rattle.refinement.specs.Laws.Relation.{Fixed, written, length-written, Balances, balance, Later, stop-word, Rep, rep-bool, rep-num, rep-fun, rep-rec, env-none, Meets, valued, halted}
 use Rattle.refinement.specs.Laws.Steps.{Models}
 use Rattle.refinement.specs.Laws.Simulation.{eval-does}
 use Rattle.refinement.specs.Laws.Controls.{Frames, no-frames, a-frame}
-use Rattle.refinement.specs.Laws.Trees.{program-stands}
+use Rattle.refinement.specs.Laws.Trees.{fixedOf, program-stands}
 
 -- ---- the posts, written over the front of the list
 written-is : (l ps : List ℕ) → length ps ≤ length l → written l ps ≡ reverse ps ++ drop (length ps) l
@@ -40,52 +40,78 @@ written-is l (p ∷ ps) h =
     ∙ sym (reverseAux-eq ps (p ∷ drop (suc (length ps)) l)) ∙ reverseAux-eq (p ∷ ps) (drop (suc (length ps)) l)
 
 -- ---- the start frames in the list
-length-laid : (fs : List Frame) → length (laidOut fs) ≡ length fs * 2
-length-laid [] = refl
-length-laid (f ∷ fs) = length-append (laidOut fs) (f .principal ∷ f .enabled ∷ []) ∙ omega (arith, length-laid fs)
+module _ (A : ℕ → ℕ) where
+  length-laid : (fs : List Frame) → length (laidOut A fs) ≡ length fs * 2
+  length-laid [] = refl
+  length-laid (f ∷ fs) = length-append (laidOut A fs) (A (f .principal) ∷ f .enabled ∷ []) ∙ omega (arith, length-laid fs)
 
-pub laid-frames : (count : ℕ) (fs : List Frame) (rest : List ℕ) → known count fs ≡ true → Frames count (laidOut fs ++ rest) (length fs) fs
-laid-frames count [] rest k = no-frames
-laid-frames count (f ∷ fs) rest k =
-    subst (λ l. Frames count l (suc (length fs)) (f ∷ fs)) (sym (append-assoc (laidOut fs) (f .principal ∷ f .enabled ∷ []) rest))
-    (a-frame (ltb-true (f .principal) count (and-left (ltb (f .principal) count) (known count fs) k))
-    (getD-at (laidOut fs) (f .principal) (f .enabled ∷ rest) 0 (length fs * 2) (length-laid fs))
-    (ap (λ (n : ℕ). getD (laidOut fs ++ (f .principal ∷ f .enabled ∷ rest)) n 0) {x = length fs * 2 + 1} {y = length (laidOut fs) + 1} (omega (arith, length-laid fs))
-    ∙ getD-append-add (laidOut fs) (f .principal ∷ f .enabled ∷ rest) 1 0)
-    (laid-frames count fs (f .principal ∷ f .enabled ∷ rest) (and-right (ltb (f .principal) count) (known count fs) k)))
+  pub laid-frames : (fs : List Frame) (rest : List ℕ) → Frames A (laidOut A fs ++ rest) (length fs) fs
+  laid-frames [] rest = no-frames
+  laid-frames (f ∷ fs) rest =
+      let behind : List ℕ = A (f .principal) ∷ f .enabled ∷ rest in
+      subst (λ l. Frames A l (suc (length fs)) (f ∷ fs)) (sym (append-assoc (laidOut A fs) (A (f .principal) ∷ f .enabled ∷ []) rest))
+      (a-frame (getD-at (laidOut A fs) (A (f .principal)) (f .enabled ∷ rest) 0 (length fs * 2) (length-laid fs))
+      (ap (λ (n : ℕ). getD (laidOut A fs ++ behind) n 0) {x = length fs * 2 + 1} {y = length (laidOut A fs) + 1} (omega (arith, length-laid fs))
+      ∙ getD-append-add (laidOut A fs) behind 1 0)
+      (laid-frames fs behind))
+
+-- ---- what a word tells
+stop-out : (x : Stop) (e : ℕ) → outBy (causeOf x) (placeOf x) e ≡ Stopped x
+unfolding outBy
+stop-out (Check t) e = refl
+stop-out (Stuck t) e = refl
+stop-out (OpenCalls t) e = refl
+stop-out (Calls t) e = refl
+stop-out (Cells t) e = refl
+stop-out (Posts t) e = refl
+
+module _ (z : Fixed) (n : ℕ) where
+  value-outcome : {l : List ℕ} {m w : ℕ} {x : Value} (o : Budget) → Rep z l m w x → outcomeOf n (outOf w) ≡ outcome n (ends x o)
+  unfolding outBy
+  value-outcome {w = w} o (rep-bool h e) = (λ i. outcomeOf n (outBy (h .sort-is i) (payloadOf w) (envOf w))) ∙ (λ i. ended (ground-bool (e i)))
+  value-outcome {w = w} o (rep-num h e) = (λ i. outcomeOf n (outBy (h .sort-is i) (payloadOf w) (envOf w))) ∙ (λ i. ended (ground-num (e i)))
+  value-outcome {w = w} o (rep-fun h b e) = λ i. outcomeOf n (outBy (h .sort-is i) (payloadOf w) (envOf w))
+  value-outcome {w = w} o (rep-rec h b p q v e) = λ i. outcomeOf n (outBy (h .sort-is i) (payloadOf w) (envOf w))
 
 -- ---- what a state tells of the budget that it stands for
-module _ (q : Request) (b : Buffers) (st : State) where
-  record Told (u : Budget) : Type 0 where
+module _ (s table : List ℕ) (mode : ℕ) (q : Request) (b : Buffers) where
+  abbrev run : Fixed
+  run = fixedOf s table (b .posts) mode
+
+  record Told (st : State) (u : Budget) : Type 0 where
     counts-told : countsOf (q .calls) (st .n) ≡ counts q (sizes b) u
     posts-told : st .posts ≡ inOrder u ++ drop (length (inOrder u)) (b .posts)
     sizes-told : sizesOf st ≡ sizes b
 
-  told : {depth : ℕ} {u : Budget} → Balances (b .posts) st u → Later depth (startOf q b) st → Told u
-  told (balance {d = d} {ps = ps} h) l =
-      let p : st .n .cells ≡ length (b .cells) / 8 - d = omega (arith, h .cells, l .size) in
+  told : {depth : ℕ} {st : State} {u : Budget} → Balances run st u → Later depth (startOf mode q b) st → Told st u
+  told (balance {c = c} {m = m} {d = d} {ps = ps} h) l =
+      let p : m ≡ length (b .cells) / 8 - d = omega (arith, h .cells, l .old .long) in
       record {
-        counts-told = λ i. record { calls = q .calls - h .calls i; cells = p i; posts = h .made i };
+        counts-told = (λ i. countsOf (q .calls) (h .counters i)) ∙ (λ i. record { calls = q .calls - c; cells = p i; posts = length ps });
         posts-told = h .list ∙ written-is (b .posts) ps (omega (arith, h .room)) ∙ ap (λ (n : ℕ). reverse ps ++ drop n (b .posts)) (sym (length-reverse ps));
-        sizes-told = λ i. record { cells = l .size i; posts = (ap length (h .list) ∙ length-written (b .posts) ps) i; frames = l .frames .long i };
+        sizes-told = λ i. record { cells = l .old .long i; posts = (ap length (h .list) ∙ length-written (b .posts) ps) i; frames = l .frames .long i };
       }
 
-  refined-by : (n : ℕ) {o : Out} {x : Result} → outcomeOf n o ≡ outcome n x → Told (left x) → Refined n q b (record { out = o; store = st }) x
+  refined-by : (n : ℕ) {w : ℕ} {st : State} {x : Result} → outcomeOf n (outOf w) ≡ outcome n x → Told st (left x) → Refined n q b (doneOf w st) x
   refined-by n e t = record { same-outcome = e; same-counts = t .counts-told; same-posts = t .posts-told; same-sizes = t .sizes-told }
 
-meets-refined : (s : List ℕ) (q : Request) (b : Buffers) (n depth : ℕ) {d : Done} {x : Result} → Meets s (b .posts) depth (startOf q b) d x → Refined n q b d x
-meets-refined s q b n depth (valued {st = st} rep-bool t l) = refined-by q b st n refl (told q b st t l)
-meets-refined s q b n depth (valued {st = st} rep-num t l) = refined-by q b st n refl (told q b st t l)
-meets-refined s q b n depth (valued {st = st} (rep-fun k v) t l) = refined-by q b st n refl (told q b st t l)
-meets-refined s q b n depth (valued {st = st} (rep-rec k p u w v) t l) = refined-by q b st n refl (told q b st t l)
-meets-refined s q b n depth (halted {st = st} t l) = refined-by q b st n refl (told q b st t l)
+  meets-refined : (n : ℕ) {depth : ℕ} {d : Done} {x : Result} → Meets run depth (startOf mode q b) d x → Refined n q b d x
+  meets-refined n (valued {o = o} r t l) = refined-by n (value-outcome run n o r) (told t l)
+  meets-refined n (halted {o = o} x i t l) =
+      let w : ℕ = stopWord (causeOf x) (placeOf x) in
+      let v = stop-word x i in
+      refined-by n {w = w} ((λ j. outcomeOf n (outBy (v .0 j) (v .1 j) (envOf w))) ∙ (λ j. outcomeOf n (stop-out x (envOf w) j))) (told t l)
 
 -- ---- a whole run, in either style
-module _ (s : List ℕ) (w : WellFormed s) (c : Counts) (h : CountsOf s c) (q : Request) (b : Buffers) (few : q .depth ≤ 100) where
-  pub refined : (X : Control) (R : X .State → Mode → List ℕ → Type 0) → Models s X (q .enforce) R → (m : Mode) (a : X .State) → m .depth ≤ 16 → R a m (b .frames)
-      → Refined (root s) q b (evalAt s c (q .depth) (root s) 0 m (startOf q b)) (eval X (q .enforce) (q .depth) (program s) a empty (initial q (sizes b)))
-  refined X R models m a deep r =
-      meets-refined s q b (root s) (m .depth)
-      (eval-does s w c h (b .posts) X (q .enforce) R models (q .depth) (program-stands s w) (omega (arith, root-lower s w, w .terms-most)) (program-height s w)
-      .go 0 empty m a (startOf q b) (initial q (sizes b)) (omega arith) r env-none
-      (balance record { calls = refl; cells = omega arith; made = refl; room = omega arith; list = refl }))
+module _ (s : List ℕ) (w : WellFormed s) (c : Counts) (h : CountsOf s c) (table : List ℕ) (decoded : Decoded s c table) (q : Request) (b : Buffers)
+    (few : q .depth ≤ 100) (most : length (b .cells) ≤ 65536) (mode : ℕ) where
+  pub refined : (X : Control) (R : X .State → (acc depth : ℕ) → List ℕ → Type 0) → Models (fixedOf s table (b .posts) mode) X (q .enforce) R
+      → (acc depth : ℕ) (a : X .State) → depth ≤ 16 → R a acc depth (b .frames)
+      → Refined (root s) q b (evalAt table (q .depth) (root s) 0 acc (startOf mode q b))
+      (eval X (q .enforce) (q .depth) (program s) a empty (initial q (sizes b)))
+  refined X R models acc depth a deep r =
+      meets-refined s table mode q b (root s)
+      (eval-does (fixedOf s table (b .posts) mode) X (q .enforce) R models (q .depth) (program-stands s w c h table decoded (b .posts) mode)
+      (omega (arith, root-lower s w, w .terms-most)) (program-height s w)
+      .go 0 empty acc depth a (startOf mode q b) (initial q (sizes b)) (omega arith) r env-none
+      (balance record { counters = refl; cells = omega arith; most = most; room = omega arith; list = refl }))

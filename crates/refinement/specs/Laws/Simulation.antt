@@ -6,190 +6,202 @@ use Prim.Native.Nat.{ℕ, zero, suc, _+_, _*_, _<_, _≤_, max}
 use native.Mathlib.Omega.{arith}
 use native.Mathlib.Decide.{ℕ-discrete}
 use lib.Dec.{ltb, eqb}
+use lib.ListN.{getD}
 use borrow.Author.Tests.{eq-eqb, ne-eqb}
-use Rattle.program.specs.Layout.{termAt, kindByte, small, first, second}
 use Rattle.program.specs.Terms.{Op, sum, difference, less, Term}
-use Rattle.program.specs.Records.{CountsOf, termAtByte}
-use Rattle.program.specs.Laws.Readable.{WellFormed}
 use Rattle.program.specs.Laws.Nesting.{height}
-use Rattle.program.specs.Laws.Records.{term-is}
-use Rattle.program.specs.declared.records.Counts.{Counts}
-use Rattle.program.specs.declared.records.TermRecord.{TermRecord}
 use Rattle.semantics.specs.Values.{Value, bool, num, closure, lookup, Budget, ends}
 use Rattle.semantics.specs.Meaning.{Control, Evaluation, Application, found, tooDeep, evalWith, apply, eval}
-use Rattle.machine.specs.declared.state.Value.{Value as Word}
-use Rattle.machine.specs.declared.state.Value.the-variants.{Bool as VBool, Num, Fun}
 use Rattle.machine.specs.declared.state.Stop.the-variants.{Stuck, OpenCalls}
-use Rattle.machine.specs.declared.state.Out.the-variants.{Val}
-use Rattle.machine.specs.declared.state.Access.{Access as Mode}
-use Rattle.machine.specs.Store.{pick, lookOf, foundOut, leafOf, Store as State, stopped, atOut, Runs, Applier, binaryS, onFun, Shape, binary, shapeOf, byShape, step, below, evalAt, applyAt}
-use Rattle.refinement.specs.Laws.Relation.{Balances, kindNumber, Stands, on-boolean, on-number, on-variable, on-function, on-letrec, on-call, on-if, on-check, on-enable, on-sign, on-test, on-binary, on-post, Body, Rep, rep-bool, rep-num, rep-fun, rep-rec, Meets}
-use Rattle.refinement.specs.Laws.Steps.{Models, Sim, SimApply, look-finds, meets-end, meets-stop, meets-found, sim-less, sim-same, sim-call, sim-binary, sim-if, sim-post, sim-test, sim-check, sim-sign, sim-enable, sim-letrec, begin-meets}
+use Rattle.machine.specs.Words.{pick, booleanWord, numberWord, functionWord, stopWord, payloadOf}
+use Rattle.machine.specs.Table.{wordKind, wordSmall, wordFirst, wordSecond, wordAuthority}
+use Rattle.machine.specs.Cells.{lookOf}
+use Rattle.machine.specs.Steps.{cellsMade}
+use Rattle.machine.specs.Store.{Store as State, Done, doneOf, Runs, Applier, Shape, binary, shapeOf, leafOf, binaryS, byShape, begin, step, below, applyAt, evalAt}
+use Rattle.refinement.specs.Laws.Relation.{Fixed, Balances, sortFor, function-word, kindNumber, wordAt, kind, small, first, second, Stands, on-boolean, on-number, on-variable, on-function, on-letrec, on-call, on-if, on-check, on-enable, on-sign, on-test, on-binary, on-post, Body, rep-bool, rep-num, rep-fun, rep-rec, RepAt, EnvAt, boolean-rep, number-rep, rep-word, env-low, Meets}
+use Rattle.refinement.specs.Laws.Steps.{look-finds, few-cells, Models, Sim, SimApply, meets-end, meets-stop, meets-found, sim-less, sim-same, sim-call, sim-binary, sim-if, sim-post, sim-test, sim-check, sim-sign, sim-enable, sim-letrec, begin-meets}
 
-module _ (s : List ℕ) (w : WellFormed s) (c : Counts) (counts-are : CountsOf s c) where
-  abbrev recordOf : (t : ℕ) → TermRecord
-  recordOf t = termAtByte s (termAt s t)
+leaf-is : (cells : List ℕ) (t x env k : ℕ) → wordKind x ≡ k → leafOf cells t x env
+    ≡ pick (eqb k 0) (booleanWord (ltb 0 (wordSmall x)))
+    (pick (eqb k 1) (numberWord (wordFirst x)) (pick (eqb k 2) (lookOf cells t env (wordFirst x)) (functionWord (wordSecond x) env)))
+unfolding leafOf
+leaf-is cells t x env k e = λ i. pick (eqb (e i) 0) (booleanWord (ltb 0 (wordSmall x)))
+    (pick (eqb (e i) 1) (numberWord (wordFirst x)) (pick (eqb (e i) 2) (lookOf cells t env (wordFirst x)) (functionWord (wordSecond x) env)))
 
-  module _ (f : Applier) where
-    -- a term's run, whatever bound it is under
-    below-step : (n t : ℕ) → t < n → (env : ℕ) (m : Mode) (st : State) → below s c f n t env m st ≡ step s c (below s c f t) f t env m st
-    unfolding below
-    below-step zero t h env m st = absurd (omega arith)
-    below-step (suc n) t h env m st = elim (ℕ-discrete t n) [
-      | yes e ↦ (λ i. pick (eq-eqb t n e i) (step s c (below s c f n) f t env m st) (below s c f n t env m st)) ∙ (λ i. step s c (below s c f (sym e i)) f t env m st)
-      | no g ↦ (λ i. pick (ne-eqb t n g i) (step s c (below s c f n) f t env m st) (below s c f n t env m st)) ∙ below-step n t (omega arith) env m st
-    ]
+binary-shape : (op : Op) → shapeOf (kindNumber op) ≡ binary
+unfolding shapeOf
+binary-shape sum = refl
+binary-shape difference = refl
+binary-shape less = refl
 
-    step-is : (t : ℕ) (x : Shape) → shapeOf (kindByte s t) ≡ x → (env : ℕ) (m : Mode) (st : State)
-        → step s c (below s c f t) f t env m st ≡ byShape s c x (below s c f t) f t (recordOf t) env m st
-    unfolding step
-    step-is t x e env m st =
-        (λ i. byShape s c (shapeOf (term-is s w c counts-are t i .kind)) (below s c f t) f t (term-is s w c counts-are t i) env m st)
-        ∙ (λ i. byShape s c (e i) (below s c f t) f t (recordOf t) env m st)
+-- a call of a word of this sort, where x is a function's
+abbrev applied : (t : ℕ) → State → (x : Done) (sort : ℕ) → Done
+applied t st x k = pick (eqb k 2) x (doneOf (stopWord 18 t) st)
 
-  leaf-is : (cells : List ℕ) (t : ℕ) (x : TermRecord) (env k : ℕ) → x .kind ≡ k → leafOf cells t x env
-      ≡ pick (eqb k 0) (Val (VBool (ltb 0 (x .small)))) (pick (eqb k 1) (Val (Num (x .first))) (pick (eqb k 2) (foundOut t (lookOf cells env (x .first))) (Val (Fun (x .second) env))))
-  unfolding leafOf
-  leaf-is cells t x env k e =
-      λ i. pick (eqb (e i) 0) (Val (VBool (ltb 0 (x .small)))) (pick (eqb (e i) 1) (Val (Num (x .first))) (pick (eqb (e i) 2) (foundOut t (lookOf cells env (x .first))) (Val (Fun (x .second) env))))
+module _ (terms : List ℕ) (f : Applier) where
+  -- a term's run, whatever bound it is under
+  below-step : (n t : ℕ) → t < n → (env acc : ℕ) (st : State) → below terms f n t env acc st ≡ step terms (below terms f t) f t env acc st
+  unfolding below
+  below-step zero t h env acc st = absurd (omega arith)
+  below-step (suc n) t h env acc st = elim (ℕ-discrete t n) [
+    | yes e ↦ (λ i. pick (eq-eqb t n e i) (step terms (below terms f n) f t env acc st) (below terms f n t env acc st))
+        ∙ (λ i. step terms (below terms f (sym e i)) f t env acc st)
+    | no g ↦ (λ i. pick (ne-eqb t n g i) (step terms (below terms f n) f t env acc st) (below terms f n t env acc st)) ∙ below-step n t (omega arith) env acc st
+  ]
 
-  binary-shape : (op : Op) → shapeOf (kindNumber op) ≡ binary
-  unfolding shapeOf
-  binary-shape sum = refl
-  binary-shape difference = refl
-  binary-shape less = refl
+  step-is : (t : ℕ) (x : Shape) → shapeOf (wordKind (getD terms t 0)) ≡ x → (env acc : ℕ) (st : State)
+      → step terms (below terms f t) f t env acc st ≡ byShape x (below terms f t) f t (getD terms t 0) env acc st
+  unfolding step
+  step-is t x e env acc st = λ i. byShape (e i) (below terms f t) f t (getD terms t 0) env acc st
 
-  module _ (posts : List ℕ) (X : Control) (enforce : Bool) (R : X .State → Mode → List ℕ → Type 0) (ctl : Models s X enforce R) where
-    abbrev Does : ℕ → Runs → Evaluation X → Type 0
-    Does h p P = Sim s posts X R h p P
+module _ (z : Fixed) (X : Control) (enforce : Bool) (R : X .State → (acc depth : ℕ) → List ℕ → Type 0) (ctl : Models z X enforce R) where
+  abbrev Does : ℕ → Runs → Evaluation X → Type 0
+  Does h p P = Sim z X R h p P
 
-    at-step : (h : ℕ) (f : Applier) (P : Evaluation X) (n t k : ℕ) (x : Shape) → t < n → kindByte s t ≡ k → shapeOf k ≡ x
-        → Does h (byShape s c x (below s c f t) f t (recordOf t)) P → Does h (below s c f n t) P
-    at-step h f P n t k x l e g d =
-        sim-same s c posts X enforce R ctl h (byShape s c x (below s c f t) f t (recordOf t)) (below s c f n t) P
-        (λ env m st. below-step f n t l env m st ∙ step-is f t x (ap shapeOf e ∙ g) env m st) d
+  abbrev under : Applier → (n t : ℕ) → Runs
+  under f n t = below (z .terms) f n t
 
-    -- terms with no run below them
-    leaf-boolean : (h t : ℕ) (x : TermRecord) (b : Bool) → x .kind ≡ 0 → ltb 0 (x .small) ≡ b → Does h (λ env m st. atOut (leafOf (st .cells) t x env) st) (λ a E o. ends (bool b) o)
-    leaf-boolean h t x b k e = record {
-      go = λ env E m a st o w r v y.
-          subst (λ z. Meets s posts (m .depth) st (atOut z st) (ends (bool b) o)) (sym (leaf-is (st .cells) t x env 0 k ∙ (λ i. Val (VBool (e i))))) (meets-end s posts rep-bool y);
-    }
+  at-step : (h : ℕ) (f : Applier) (P : Evaluation X) (n t k : ℕ) (x : Shape) → t < n → kind z t ≡ k → shapeOf k ≡ x
+      → Does h (byShape x (under f t) f t (wordAt z t)) P → Does h (under f n t) P
+  at-step h f P n t k x l e g s =
+      sim-same z X enforce R ctl h (byShape x (under f t) f t (wordAt z t)) (under f n t) P
+      (λ env acc st. below-step (z .terms) f n t l env acc st ∙ step-is (z .terms) f t x (ap shapeOf e ∙ g) env acc st) s
 
-    leaf-number : (h t : ℕ) (x : TermRecord) → x .kind ≡ 1 → Does h (λ env m st. atOut (leafOf (st .cells) t x env) st) (λ a E o. ends (num (x .first)) o)
-    leaf-number h t x k = record {
-      go = λ env E m a st o w r v y.
-          subst (λ z. Meets s posts (m .depth) st (atOut z st) (ends (num (x .first)) o)) (sym (leaf-is (st .cells) t x env 1 k)) (meets-end s posts rep-num y);
-    }
+  -- terms with no run below them
+  abbrev leaf : (t x : ℕ) → Runs
+  leaf t x env acc st = doneOf (leafOf (st .cells) t x env) st
 
-    leaf-variable : (h t : ℕ) (x : TermRecord) → x .kind ≡ 2 → Does h (λ env m st. atOut (leafOf (st .cells) t x env) st) (λ a E o. found t (lookup E (x .first)) o)
-    leaf-variable h t x k = record {
-      go = λ env E m a st o w r v y.
-          subst (λ z. Meets s posts (m .depth) st (atOut z st) (found t (lookup E (x .first)) o)) (sym (leaf-is (st .cells) t x env 2 k))
-          (meets-found s posts t (look-finds s (st .cells) (st .n .cells) v (x .first)) y);
-    }
+  leaf-boolean : (h t x : ℕ) (b : Bool) → wordKind x ≡ 0 → ltb 0 (wordSmall x) ≡ b → Does h (leaf t x) (λ a E o. ends (bool b) o)
+  leaf-boolean h t x b k e = record {
+    go = λ env E acc d a st o w r v y.
+        subst (λ i. Meets z d st (doneOf i st) (ends (bool b) o)) (sym (leaf-is (st .cells) t x env 0 k ∙ (λ i. booleanWord (e i))))
+        (meets-end z (boolean-rep z b) y);
+  }
 
-    leaf-function : (h t : ℕ) (x : TermRecord) (ty : ℕ) (b : Term) → x .kind ≡ 3 → Body s (x .second) b
-        → Does h (λ env m st. atOut (leafOf (st .cells) t x env) st) (λ a E o. ends (closure false ty b E) o)
-    leaf-function h t x ty b k z = record {
-      go = λ env E m a st o w r v y.
-          subst (λ z. Meets s posts (m .depth) st (atOut z st) (ends (closure false ty b E) o)) (sym (leaf-is (st .cells) t x env 3 k)) (meets-end s posts (rep-fun z v) y);
-    }
+  leaf-number : (h t x : ℕ) → wordKind x ≡ 1 → Does h (leaf t x) (λ a E o. ends (num (wordFirst x)) o)
+  leaf-number h t x k = record {
+    go = λ env E acc d a st o w r v y.
+        subst (λ i. Meets z d st (doneOf i st) (ends (num (wordFirst x)) o)) (sym (leaf-is (st .cells) t x env 1 k))
+        (meets-end z (number-rep z (wordFirst x) (omega arith)) y);
+  }
 
-    module _ (g : ℕ) (f : Applier) (F : Application X) (hf : (h : ℕ) → SimApply s posts X R (g + h) f F) where
-      -- with room for a term's own height, and g for the calls in it
-      lift : (h k : ℕ) {p : Runs} {P : Evaluation X} → h ≤ k → Does (g + h) p P → Does (g + k) p P
-      lift h k {p} {P} l d = sim-less s c posts X enforce R ctl (g + h) (g + k) p P (omega arith) d
+  leaf-variable : (h t x : ℕ) → t < 65536 → wordKind x ≡ 2 → Does h (leaf t x) (λ a E o. found t (lookup E (wordFirst x)) o)
+  leaf-variable h t x i k = record {
+    go = λ env E acc d a st o w r v y.
+        subst (λ i. Meets z d st (doneOf i st) (found t (lookup E (wordFirst x)) o)) (sym (leaf-is (st .cells) t x env 2 k))
+        (meets-found z t i (look-finds z (st .cells) (cellsMade (st .n)) t v (wordFirst x)) y);
+  }
 
-      pub sim : {t : ℕ} {x : Term} → Stands s t x → (n : ℕ) → t < n → t < 65536 → height x ≤ 32 → Does (g + height x) (below s c f n t) (evalWith X enforce F x)
-      unfolding evalWith shapeOf
-      sim (on-boolean {t = t} {b = b} k e) n l i z = at-step (g + 1) f _ n t 0 _ l k refl (leaf-boolean (g + 1) t (recordOf t) b k e)
-      sim (on-number {t = t} k) n l i z = at-step (g + 1) f _ n t 1 _ l k refl (leaf-number (g + 1) t (recordOf t) k)
-      sim (on-variable {t = t} k) n l i z = at-step (g + 1) f _ n t 2 _ l k refl (leaf-variable (g + 1) t (recordOf t) k)
-      sim (on-function {t = t} {ty = ty} {a = a} k p ha) n l i z =
-          let h = g + (1 + height a) in
-          at-step h f _ n t 3 _ l k refl (leaf-function h t (recordOf t) ty a k (record { inside = omega arith; shallow = omega arith; stands = ha }))
-      sim (on-letrec {t = t} {ty = ty} {a = a} {b = b} k p q ha hb) n l i z =
-          let h = 1 + max (height a) (height b) in
-          at-step (g + h) f _ n t 4 _ l k refl
-          (sim-letrec s c posts X enforce R ctl (g + h) t (second s t) ty a _ _ (record { inside = omega arith; shallow = omega arith; stands = ha })
-          (lift (height b) h (omega arith) (sim hb t q (omega arith) (omega arith))))
-      sim (on-call {t = t} {a = a} {b = b} k p q ha hb) n l i z =
-          let h = 1 + max (height a) (height b) in
-          at-step (g + h) f _ n t 5 _ l k refl
-          (sim-call s c posts X enforce R ctl (g + h) t _ _ _ _ f F
-          (lift (height a) h (omega arith) (sim ha t p (omega arith) (omega arith))) (lift (height b) h (omega arith) (sim hb t q (omega arith) (omega arith))) (hf h))
-      sim (on-if {t = t} {a = a} {b = b} {c = d} k p q r ha hb hd) n l i z =
-          let h = 1 + max (height a) (max (height b) (height d)) in
-          at-step (g + h) f _ n t 6 _ l k refl
-          (sim-if s c posts X enforce R ctl (g + h) t _ _ _ _ _ _
-          (lift (height a) h (omega arith) (sim ha t p (omega arith) (omega arith))) (lift (height b) h (omega arith) (sim hb t q (omega arith) (omega arith)))
-          (lift (height d) h (omega arith) (sim hd t r (omega arith) (omega arith))))
-      sim (on-check {t = t} {a = a} k p ha) n l i z =
-          let h = 1 + height a in
-          at-step (g + h) f _ n t 7 _ l k refl
-          (sim-check s c posts X enforce R ctl (g + h) (small s t) t _ _ (lift (height a) h (omega arith) (sim ha t p (omega arith) (omega arith))))
-      sim (on-enable {t = t} {a = a} k p ha) n l i z =
-          let h = 1 + height a in
-          at-step (g + h) f _ n t 8 _ l k refl
-          (sim-enable s c posts X enforce R ctl (g + h) (small s t) _ _ (lift (height a) h (omega arith) (sim ha t p (omega arith) (omega arith))))
-      sim (on-sign {t = t} {a = a} k u p ha) n l i z =
-          at-step (g + (1 + height a)) f _ n t 9 _ l k refl
-          (sim-less s c posts X enforce R ctl (suc (g + height a)) (g + (1 + height a)) _ _ (omega arith)
-          (sim-sign s c posts X enforce R ctl (g + height a) (small s t) _ _ u (sim ha t p (omega arith) (omega arith))))
-      sim (on-test {t = t} {a = a} {b = b} k p q ha hb) n l i z =
-          let h = 1 + max (height a) (height b) in
-          at-step (g + h) f _ n t 10 _ l k refl
-          (sim-test s c posts X enforce R ctl (g + h) (small s t) _ _ _ _
-          (lift (height a) h (omega arith) (sim ha t p (omega arith) (omega arith))) (lift (height b) h (omega arith) (sim hb t q (omega arith) (omega arith))))
-      sim (on-binary {t = t} {a = a} {b = b} op k p q ha hb) n l i z =
-          let h = 1 + max (height a) (height b) in
-          at-step (g + h) f _ n t (kindNumber op) binary l k (binary-shape op)
-          (sim-same s c posts X enforce R ctl (g + h) (binaryS (below s c f t (first s t)) (below s c f t (second s t)) (kindNumber op) t) _ _
-          (λ env m st j. binaryS (below s c f t (first s t)) (below s c f t (second s t)) (k j) t env m st)
-          (sim-binary s c posts X enforce R ctl (g + h) t op _ _ _ _
-          (lift (height a) h (omega arith) (sim ha t p (omega arith) (omega arith))) (lift (height b) h (omega arith) (sim hb t q (omega arith) (omega arith)))))
-      sim (on-post {t = t} {a = a} k p ha) n l i z =
-          let h = 1 + height a in
-          at-step (g + h) f _ n t 14 _ l k refl
-          (sim-post s c posts X enforce R ctl (g + h) t _ _ (lift (height a) h (omega arith) (sim ha t p (omega arith) (omega arith))))
+  leaf-function : (h t x ty : ℕ) (b : Term) → wordKind x ≡ 3 → Body z (wordSecond x) b → Does h (leaf t x) (λ a E o. ends (closure false ty b E) o)
+  leaf-function h t x ty b k g = record {
+    go = λ env E acc d a st o w r v y.
+        let f = function-word (wordSecond x) env (omega arith) (omega (arith, env-low z v, few-cells z y)) in
+        subst (λ i. Meets z d st (doneOf i st) (ends (closure false ty b E) o)) (sym (leaf-is (st .cells) t x env 3 k))
+        (meets-end z (rep-fun (f .word) (subst (λ i. Body z i b) (sym (f .body-is)) g) (subst (λ i. EnvAt z st i E) (sym (f .env-is)) v)) y);
+  }
 
-    -- ---- calls
-    apply-zero : (h : ℕ) → SimApply s posts X R h (applyAt s c 0) (apply X enforce 0)
-    unfolding applyAt apply
-    apply-zero h = record { go = λ t v x w y m a st o l r rv rw′ z. none rv t z }
-      where
-        none : {depth : ℕ} {st : State} {o : Budget} {v : Word} {x : Value} → Rep s (st .cells) (st .n .cells) v x → (t : ℕ) → Balances posts st o
-            → Meets s posts depth st (onFun v (λ body env. stopped (OpenCalls t) st) (stopped (Stuck t) st)) (tooDeep t x o)
-        none rep-bool t z = meets-stop s posts (Stuck t) z
-        none rep-num t z = meets-stop s posts (Stuck t) z
-        none (rep-fun k e) t z = meets-stop s posts (OpenCalls t) z
-        none (rep-rec k p q e h) t z = meets-stop s posts (OpenCalls t) z
+  module _ (g : ℕ) (f : Applier) (F : Application X) (hf : (h : ℕ) → SimApply z X R (g + h) f F) where
+    -- with room for a term's own height, and g for the calls in it
+    lift : (h k : ℕ) {p : Runs} {P : Evaluation X} → h ≤ k → Does (g + h) p P → Does (g + k) p P
+    lift h k {p} {P} l s = sim-less z X enforce R ctl (g + h) (g + k) p P (omega arith) s
 
-    module _ (k h : ℕ) (hk : (b : ℕ) (x : Term) → Body s b x → Does h (below s c (applyAt s c k) 65536 b) (evalWith X enforce (apply X enforce k) x))
-        (t : ℕ) (v : Word) (y : Value) (m : Mode) (a : X .State) (st : State) (o : Budget) (l : m .depth + h ≤ 3248) (r : R a m (st .frames))
-        (rx : Rep s (st .cells) (st .n .cells) v y) (z : Balances posts st o) where
-      apply-meets : {u : Word} {x : Value} → Rep s (st .cells) (st .n .cells) u x → Meets s posts (m .depth) st (applyAt s c (suc k) t u v m st) (apply X enforce (suc k) t x y a o)
-      unfolding applyAt apply
-      apply-meets rep-bool = meets-stop s posts (Stuck t) z
-      apply-meets rep-num = meets-stop s posts (Stuck t) z
-      apply-meets (rep-fun {b = b} {e = e} {ty = ty} {c = x} {E = E} u g) =
-          begin-meets s c posts X enforce R ctl (below s c (applyAt s c k) 65536) t b e v m st h ty false x E y (evalWith X enforce (apply X enforce k) x) (hk b x u) a l r (rep-fun u g) rx z
-      apply-meets (rep-rec {b = b} {e = e} {ty = ty} {c = x} {E = E} u p q i g) =
-          begin-meets s c posts X enforce R ctl (below s c (applyAt s c k) 65536) t b e v m st h ty true x E y (evalWith X enforce (apply X enforce k) x) (hk b x u) a l r (rep-rec u p q i g) rx z
+    pub sim : {t : ℕ} {x : Term} → Stands z t x → (n : ℕ) → t < n → t < 65536 → height x ≤ 32 → Does (g + height x) (under f n t) (evalWith X enforce F x)
+    unfolding evalWith shapeOf
+    sim (on-boolean {t = t} {b = b} k e) n l i s = at-step (g + 1) f _ n t 0 _ l k refl (leaf-boolean (g + 1) t (wordAt z t) b k e)
+    sim (on-number {t = t} k) n l i s = at-step (g + 1) f _ n t 1 _ l k refl (leaf-number (g + 1) t (wordAt z t) k)
+    sim (on-variable {t = t} k) n l i s = at-step (g + 1) f _ n t 2 _ l k refl (leaf-variable (g + 1) t (wordAt z t) i k)
+    sim (on-function {t = t} {ty = ty} {a = a} k p ha) n l i s =
+        let h = g + (1 + height a) in
+        at-step h f _ n t 3 _ l k refl (leaf-function h t (wordAt z t) ty a k (record { shallow = omega arith; stands = ha }))
+    sim (on-letrec {t = t} {ty = ty} {a = a} {b = b} k p q ha hb) n l i s =
+        let h = 1 + max (height a) (height b) in
+        at-step (g + h) f _ n t 4 _ l k refl
+        (sim-letrec z X enforce R ctl (g + h) t (second z t) ty i a _ _ (omega arith) (record { shallow = omega arith; stands = ha })
+        (lift (height b) h (omega arith) (sim hb t q (omega arith) (omega arith))))
+    sim (on-call {t = t} {a = a} {b = b} k p q ha hb) n l i s =
+        let h = 1 + max (height a) (height b) in
+        at-step (g + h) f _ n t 5 _ l k refl
+        (sim-call z X enforce R ctl (g + h) t i _ _ _ _ f F
+        (lift (height a) h (omega arith) (sim ha t p (omega arith) (omega arith))) (lift (height b) h (omega arith) (sim hb t q (omega arith) (omega arith)))
+        (hf h))
+    sim (on-if {t = t} {a = a} {b = b} {c = d} k p q r ha hb hd) n l i s =
+        let h = 1 + max (height a) (max (height b) (height d)) in
+        at-step (g + h) f _ n t 6 _ l k refl
+        (sim-if z X enforce R ctl (g + h) t i _ _ _ _ _ _
+        (lift (height a) h (omega arith) (sim ha t p (omega arith) (omega arith))) (lift (height b) h (omega arith) (sim hb t q (omega arith) (omega arith)))
+        (lift (height d) h (omega arith) (sim hd t r (omega arith) (omega arith))))
+    sim (on-check {t = t} {a = a} k p ha) n l i s =
+        let h = 1 + height a in
+        at-step (g + h) f _ n t 7 _ l k refl
+        (sim-check z X enforce R ctl (g + h) (small z t) t i _ _ (lift (height a) h (omega arith) (sim ha t p (omega arith) (omega arith))))
+    sim (on-enable {t = t} {a = a} k p ha) n l i s =
+        let h = 1 + height a in
+        at-step (g + h) f _ n t 8 _ l k refl
+        (sim-enable z X enforce R ctl (g + h) (small z t) _ _ (lift (height a) h (omega arith) (sim ha t p (omega arith) (omega arith))))
+    sim (on-sign {t = t} {a = a} k u p ha) n l i s =
+        at-step (g + (1 + height a)) f _ n t 9 _ l k refl
+        (sim-less z X enforce R ctl (suc (g + height a)) (g + (1 + height a)) _ _ (omega arith)
+        (sim-sign z X enforce R ctl (g + height a) (small z t) (wordAuthority (wordAt z t)) _ _ u (omega arith) (sim ha t p (omega arith) (omega arith))))
+    sim (on-test {t = t} {a = a} {b = b} k p q ha hb) n l i s =
+        let h = 1 + max (height a) (height b) in
+        at-step (g + h) f _ n t 10 _ l k refl
+        (sim-test z X enforce R ctl (g + h) (small z t) _ _ _ _
+        (lift (height a) h (omega arith) (sim ha t p (omega arith) (omega arith))) (lift (height b) h (omega arith) (sim hb t q (omega arith) (omega arith))))
+    sim (on-binary {t = t} {a = a} {b = b} op k p q ha hb) n l i s =
+        let h = 1 + max (height a) (height b) in
+        at-step (g + h) f _ n t (kindNumber op) binary l k (binary-shape op)
+        (sim-same z X enforce R ctl (g + h) (binaryS (under f t (first z t)) (under f t (second z t)) (kindNumber op) t) _ _
+        (λ env acc st j. binaryS (under f t (first z t)) (under f t (second z t)) (k j) t env acc st)
+        (sim-binary z X enforce R ctl (g + h) t i op _ _ _ _
+        (lift (height a) h (omega arith) (sim ha t p (omega arith) (omega arith))) (lift (height b) h (omega arith) (sim hb t q (omega arith) (omega arith)))))
+    sim (on-post {t = t} {a = a} k p ha) n l i s =
+        let h = 1 + height a in
+        at-step (g + h) f _ n t 14 _ l k refl
+        (sim-post z X enforce R ctl (g + h) t i _ _ (lift (height a) h (omega arith) (sim ha t p (omega arith) (omega arith))))
 
-    apply-does : (k h : ℕ) → SimApply s posts X R (32 * k + h) (applyAt s c k) (apply X enforce k)
-    apply-does zero h = apply-zero (32 * 0 + h)
-    apply-does (suc k) h = record {
-      go = λ t v x u y m a st o l r rv ru z.
-          apply-meets k (32 * k + 32)
-          (λ b d q. sim-less s c posts X enforce R ctl (32 * k + height d) (32 * k + 32) _ _ (omega (arith, q .shallow))
-          (sim (32 * k) (applyAt s c k) (apply X enforce k) (apply-does k) (q .stands) 65536 (q .inside) (q .inside) (q .shallow)))
-          t u y m a st o (omega arith) r ru z rv;
-    }
+  -- ---- calls
+  abbrev bodies : (depth : ℕ) → ℕ → Runs
+  bodies k = under (applyAt (z .terms) k) 65536
 
-    -- a term, with k open calls left: each call and the term itself signs at most 32 times
-    pub eval-does : (k : ℕ) {t : ℕ} {x : Term} → Stands s t x → t < 65536 → height x ≤ 32 → Does (32 * k + 32) (evalAt s c k t) (eval X enforce k x)
-    unfolding evalAt eval
-    eval-does k {t} {x} h i z =
-        sim-less s c posts X enforce R ctl (32 * k + height x) (32 * k + 32) _ _ (omega arith) (sim (32 * k) (applyAt s c k) (apply X enforce k) (apply-does k) h 65536 i i z)
+  module _ (t : ℕ) (i : t < 65536) (u d : ℕ) (st : State) (o : Budget) (y : Balances z st o) where
+    open-meets : {x : Value} → RepAt z st u x → Meets z d st (applied t st (doneOf (stopWord 19 t) st) (sortFor x)) (tooDeep t x o)
+    open-meets (rep-bool k e) = meets-stop z (Stuck t) i y
+    open-meets (rep-num k e) = meets-stop z (Stuck t) i y
+    open-meets (rep-fun k b e) = meets-stop z (OpenCalls t) i y
+    open-meets (rep-rec k b p q v e) = meets-stop z (OpenCalls t) i y
+
+    module _ (k h : ℕ) (hk : (b : ℕ) (x : Term) → b < 65536 → Body z b x → Does h (bodies k b) (evalWith X enforce (apply X enforce k) x))
+        (w : ℕ) (v : Value) (acc : ℕ) (a : X .State) (l : d + h ≤ 3248) (r : R a acc d (st .frames)) (rx : RepAt z st w v) where
+      enter-meets : {x : Value} → RepAt z st u x
+          → Meets z d st (applied t st (begin (bodies k) t u w acc st) (sortFor x)) (apply X enforce (suc k) t x v a o)
+      unfolding apply
+      enter-meets (rep-bool j e) = meets-stop z (Stuck t) i y
+      enter-meets (rep-num j e) = meets-stop z (Stuck t) i y
+      enter-meets (rep-fun {ty = ty} {c = x} {E = E} j b e) =
+          begin-meets z X enforce R ctl (bodies k) t u w acc st i h ty false x E v (evalWith X enforce (apply X enforce k) x)
+          (hk (payloadOf u) x (omega arith) b) d a l r (rep-fun j b e) rx y
+      enter-meets (rep-rec {ty = ty} {c = x} {E = E} j b p q g e) =
+          begin-meets z X enforce R ctl (bodies k) t u w acc st i h ty true x E v (evalWith X enforce (apply X enforce k) x)
+          (hk (payloadOf u) x (omega arith) b) d a l r (rep-rec j b p q g e) rx y
+
+  apply-does : (k h : ℕ) → SimApply z X R (32 * k + h) (applyAt (z .terms) k) (apply X enforce k)
+  unfolding applyAt apply
+  apply-does zero h = record {
+    go = λ t i u x w y acc d a st o l r ru rx b.
+        subst (λ s. Meets z d st (applied t st (doneOf (stopWord 19 t) st) s) (tooDeep t x o)) (sym (rep-word z ru .sort-is)) (open-meets t i u d st o b ru);
+  }
+  apply-does (suc k) h = record {
+    go = λ t i u x w y acc d a st o l r ru rx b.
+        subst (λ s. Meets z d st (applied t st (begin (bodies k) t u w acc st) s) (apply X enforce (suc k) t x y a o)) (sym (rep-word z ru .sort-is))
+        (enter-meets t i u d st o b k (32 * k + 32)
+        (λ c e j q. sim-less z X enforce R ctl (32 * k + height e) (32 * k + 32) _ _ (omega (arith, q .shallow))
+        (sim (32 * k) (applyAt (z .terms) k) (apply X enforce k) (apply-does k) (q .stands) 65536 j j (q .shallow)))
+        w y acc a (omega arith) r rx ru);
+  }
+
+  -- a term, with k open calls left: each call and the term itself signs at most 32 times
+  pub eval-does : (k : ℕ) {t : ℕ} {x : Term} → Stands z t x → t < 65536 → height x ≤ 32 → Does (32 * k + 32) (evalAt (z .terms) k t) (eval X enforce k x)
+  unfolding evalAt eval
+  eval-does k {t} {x} h i s =
+      sim-less z X enforce R ctl (32 * k + height x) (32 * k + 32) _ _ (omega arith)
+      (sim (32 * k) (applyAt (z .terms) k) (apply X enforce k) (apply-does k) h 65536 i i s)

@@ -1,18 +1,23 @@
--- A readable sheet's records stand for its tree.
-use mathlib.Core.Path.{_≡_, refl}
+-- The words of a readable sheet's terms stand for its tree.
+use mathlib.Core.Path.{_≡_, refl, sym, _∙_, subst}
 use mathlib.Core.Bool.{true}
 use mathlib.Core.List.{List}
 use Prim.Native.Nat.{ℕ, zero, suc, _<_, _≤_}
 use native.Mathlib.Omega.{arith}
+use native.Mathlib.Decide.{ℕ-discrete}
 use lib.Dec.{ltb, eqb}
 use borrow.Author.Tests.{leb-true, ltb-true}
-use Rattle.program.specs.Layout.{principals, terms, root, kindByte, small, first, second, third}
+use Rattle.program.specs.Layout.{principals, authority, terms, termAt, root, kindByte, small, first, second, third}
 use Rattle.program.specs.Formats.{Kind, Boolean, Number, Variable, Function, Letrec, Call, If, Check, Enable, Sign, Test, Sum, Difference, Less, Post, kindOf, format}
 use Rattle.program.specs.Terms.{Term, sum, difference, less, node, treeTo, program}
+use Rattle.program.specs.Records.{CountsOf, termAtByte, termRecord, authorityRecord}
 use Rattle.program.specs.Decoding.{partOk}
 use Rattle.program.specs.Laws.Readable.{WellFormed}
+use Rattle.program.specs.Laws.Records.{term-is, authority-is}
 use Rattle.program.specs.Laws.Trees.{parts, Below, below, root-lower}
-use Rattle.refinement.specs.Laws.Relation.{Stands, on-boolean, on-number, on-variable, on-function, on-letrec, on-call, on-if, on-check, on-enable, on-sign, on-test, on-binary, on-post}
+use Rattle.program.specs.declared.records.Counts.{Counts}
+use Rattle.machine.specs.Table.{wordKind, wordSmall, wordFirst, wordSecond, wordThird, wordAuthority, Holds, Decoded}
+use Rattle.refinement.specs.Laws.Relation.{Fixed, wordAt, Stands, on-boolean, on-number, on-variable, on-function, on-letrec, on-call, on-if, on-check, on-enable, on-sign, on-test, on-binary, on-post}
 
 -- the numbers of the kinds
 abbrev code : Kind → ℕ
@@ -55,31 +60,83 @@ flag-is zero h = refl
 flag-is (suc zero) h = refl
 flag-is (suc (suc n)) h = absurd (omega arith)
 
-module _ (s : List ℕ) (t : ℕ) (sub : ℕ → Term) (h : (x : ℕ) → x < t → Stands s x (sub x)) where
-  node-stands : (k : Kind) → kindByte s t ≡ code k → Below (format k) t (first s t) (second s t) (third s t) → partOk s t (format k .small) (small s t) ≡ true
-      → Stands s t (node k t (small s t) (first s t) (second s t) (third s t) sub)
-  node-stands Boolean e w z = on-boolean e (flag-is (small s t) (leb-true (small s t) 1 z))
-  node-stands Number e w z = on-number e
-  node-stands Variable e w z = on-variable e
-  node-stands Function e w z = on-function e (w .second-below refl) (h _ (w .second-below refl))
-  node-stands Letrec e w z = on-letrec e (w .second-below refl) (w .third-below refl) (h _ (w .second-below refl)) (h _ (w .third-below refl))
-  node-stands Call e w z = on-call e (w .first-below refl) (w .second-below refl) (h _ (w .first-below refl)) (h _ (w .second-below refl))
-  node-stands If e w z =
-      on-if e (w .first-below refl) (w .second-below refl) (w .third-below refl) (h _ (w .first-below refl)) (h _ (w .second-below refl)) (h _ (w .third-below refl))
-  node-stands Check e w z = on-check e (w .first-below refl) (h _ (w .first-below refl))
-  node-stands Enable e w z = on-enable e (w .first-below refl) (h _ (w .first-below refl))
-  node-stands Sign e w z = on-sign e (ltb-true (small s t) (principals s) z) (w .first-below refl) (h _ (w .first-below refl))
-  node-stands Test e w z = on-test e (w .first-below refl) (w .second-below refl) (h _ (w .first-below refl)) (h _ (w .second-below refl))
-  node-stands Sum e w z = on-binary sum e (w .first-below refl) (w .second-below refl) (h _ (w .first-below refl)) (h _ (w .second-below refl))
-  node-stands Difference e w z = on-binary difference e (w .first-below refl) (w .second-below refl) (h _ (w .first-below refl)) (h _ (w .second-below refl))
-  node-stands Less e w z = on-binary less e (w .first-below refl) (w .second-below refl) (h _ (w .first-below refl)) (h _ (w .second-below refl))
-  node-stands Post e w z = on-post e (w .first-below refl) (h _ (w .first-below refl))
+-- what stays in a run of a sheet
+abbrev pub fixedOf : (s table posts : List ℕ) (mode : ℕ) → Fixed
+fixedOf s table posts mode = record { terms = table; may = authority s; posts = posts; mode = mode }
 
-tree-stands : (s : List ℕ) → WellFormed s → (k t : ℕ) → t < terms s → t < k → Stands s t (treeTo s k t)
-tree-stands s w zero t l h = absurd (omega arith)
-tree-stands s w (suc k) t l h =
-    let p = parts s w t l in
-    node-stands s t (λ x. treeTo s k x) (λ x g. tree-stands s w k x (omega arith) (omega arith)) (kindOf (kindByte s t)) (code-is (kindByte s t) (p .kind-ok)) (below s w t l) (p .small-ok)
+module _ (s : List ℕ) (w : WellFormed s) (c : Counts) (counts-are : CountsOf s c) (table : List ℕ) (decoded : Decoded s c table)
+    (posts : List ℕ) (mode : ℕ) where
+  abbrev run : Fixed
+  run = fixedOf s table posts mode
 
-pub program-stands : (s : List ℕ) → WellFormed s → Stands s (root s) (program s)
-program-stands s w = tree-stands s w (suc (root s)) (root s) (root-lower s w) (omega arith)
+  module _ (t : ℕ) (sub : ℕ → Term) (h : (x : ℕ) → x < t → Stands run x (sub x)) where
+    abbrev x : ℕ
+    x = wordAt run t
+
+    -- a term of this kind with these parts, of which the small one is in range
+    abbrev StandsBy : Kind → (n a b c : ℕ) → Type 0
+    StandsBy k n a b c = Below (format k) t a b c → partOk s t (format k .small) n ≡ true → Stands run t (node k t n a b c sub)
+
+    authority-same : wordKind x ≡ 9 → wordSmall x < principals s → wordAuthority x ≡ authority s (wordSmall x)
+    authority-same e l =
+        let hold = decoded .holds t in
+        hold .authority-is (sym (hold .kind-is) ∙ e) ∙ (λ i. authorityRecord s (sym (hold .small-is) i)) ∙ authority-is s w (wordSmall x) l
+
+    -- a sign's second and third are not looked at
+    sign-stands : wordKind x ≡ 9 → (b c : ℕ) → StandsBy Sign (wordSmall x) (wordFirst x) b c
+    sign-stands e b c v i = on-sign e (authority-same e (ltb-true (wordSmall x) (principals s) i)) (v .first-below refl) (h _ (v .first-below refl))
+
+    node-stands : (k : Kind) → wordKind x ≡ code k → StandsBy k (wordSmall x) (wordFirst x) (wordSecond x) (wordThird x)
+    node-stands Boolean e v i = on-boolean e (flag-is (wordSmall x) (leb-true (wordSmall x) 1 i))
+    node-stands Number e v i = on-number e
+    node-stands Variable e v i = on-variable e
+    node-stands Function e v i = on-function e (v .second-below refl) (h _ (v .second-below refl))
+    node-stands Letrec e v i = on-letrec e (v .second-below refl) (v .third-below refl) (h _ (v .second-below refl)) (h _ (v .third-below refl))
+    node-stands Call e v i = on-call e (v .first-below refl) (v .second-below refl) (h _ (v .first-below refl)) (h _ (v .second-below refl))
+    node-stands If e v i =
+        on-if e (v .first-below refl) (v .second-below refl) (v .third-below refl) (h _ (v .first-below refl)) (h _ (v .second-below refl))
+        (h _ (v .third-below refl))
+    node-stands Check e v i = on-check e (v .first-below refl) (h _ (v .first-below refl))
+    node-stands Enable e v i = on-enable e (v .first-below refl) (h _ (v .first-below refl))
+    node-stands Sign e v i = sign-stands e (wordSecond x) (wordThird x) v i
+    node-stands Test e v i = on-test e (v .first-below refl) (v .second-below refl) (h _ (v .first-below refl)) (h _ (v .second-below refl))
+    node-stands Sum e v i = on-binary sum e (v .first-below refl) (v .second-below refl) (h _ (v .first-below refl)) (h _ (v .second-below refl))
+    node-stands Difference e v i = on-binary difference e (v .first-below refl) (v .second-below refl) (h _ (v .first-below refl)) (h _ (v .second-below refl))
+    node-stands Less e v i = on-binary less e (v .first-below refl) (v .second-below refl) (h _ (v .first-below refl)) (h _ (v .second-below refl))
+    node-stands Post e v i = on-post e (v .first-below refl) (h _ (v .first-below refl))
+
+    -- the same of the parts in the sheet
+    record-stands : kindByte s t ≤ 14 → StandsBy (kindOf (kindByte s t)) (small s t) (first s t) (second s t) (third s t)
+    record-stands l =
+        subst (λ n. StandsBy k n (first s t) (second s t) (third s t)) (hold .small-is ∙ (λ i. laid i .small))
+        (subst (λ n. StandsBy k (wordSmall x) n (second s t) (third s t)) (hold .first-is ∙ (λ i. laid i .first)) (go (ℕ-discrete (kindByte s t) 9)))
+      where
+        k : Kind
+        k = kindOf (kindByte s t)
+
+        hold : Holds s c t x
+        hold = decoded .holds t
+
+        laid : termRecord s c t ≡ termAtByte s (termAt s t)
+        laid = term-is s w c counts-are t
+
+        kind-same : wordKind x ≡ kindByte s t
+        kind-same = hold .kind-is ∙ (λ i. laid i .kind)
+
+        go : Dec (kindByte s t ≡ 9) → StandsBy k (wordSmall x) (wordFirst x) (second s t) (third s t)
+        go (yes e) =
+            subst (λ n. StandsBy (kindOf n) (wordSmall x) (wordFirst x) (second s t) (third s t)) (sym e) (sign-stands (kind-same ∙ e) (second s t) (third s t))
+        go (no e) =
+            let other : termRecord s c t .kind ≡ 9 → ⊥ = λ g. e ((λ i. sym laid i .kind) ∙ g) in
+            subst (λ n. StandsBy k (wordSmall x) (wordFirst x) n (third s t)) (hold .second-is other ∙ (λ i. laid i .second))
+            (subst (λ n. StandsBy k (wordSmall x) (wordFirst x) (wordSecond x) n) (hold .third-is other ∙ (λ i. laid i .third))
+            (node-stands k (kind-same ∙ code-is (kindByte s t) l)))
+
+  tree-stands : (k t : ℕ) → t < terms s → t < k → Stands run t (treeTo s k t)
+  tree-stands zero t l h = absurd (omega arith)
+  tree-stands (suc k) t l h =
+      record-stands t (λ y. treeTo s k y) (λ y g. tree-stands k y (omega arith) (omega arith)) (parts s w t l .kind-ok) (below s w t l)
+      (parts s w t l .small-ok)
+
+  pub program-stands : Stands run (root s) (program s)
+  program-stands = tree-stands (suc (root s)) (root s) (root-lower s w) (omega arith)

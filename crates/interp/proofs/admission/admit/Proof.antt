@@ -13,10 +13,21 @@ enum-known-d-2 : tie.Need-enum-known-d-2
 enum-known-d-2 c = search needs
 
 admit-readable-requires : tie.Need-admit-readable-requires
-admit-readable-requires c κs = (readable (c .before .before .before .before .before .before .args .s .now) (c .before .before .before .before .before .before .args .start .now) (c .before .before .before .before .before .before .args .cells) (c .before .before .before .before .before .before .args .posts) (c .before .before .before .before .before .before .args .frames) (c .before .before .before .before .before .before .args .calls) (c .before .before .before .before .before .before .args .depth) (c .before .before .before .decode .ensures .0) (c .before .d2 .given .1), counted (c .before .before .before .before .before .before .args .s .now) (c .before .before .before .before .before .before .args .start .now) (c .before .before .before .before .before .before .args .cells) (c .before .before .before .before .before .before .args .posts) (c .before .before .before .before .before .before .args .frames) (c .before .before .before .before .before .before .args .calls) (c .before .before .before .before .before .before .args .depth) (c .before .d2 .given .1) (c .before .before .before .decode .ensures .1))
+admit-readable-requires c κs =
+    let at-d2 = c .before in
+    let at-decode = at-d2 .before .before in
+    let start = at-decode .before .before .before in (
+      readable (start .args .s .now) (start .args .start .now) (start .args .cells) (start .args .posts) (start .args .frames) (start .args .calls)
+          (start .args .depth) (at-decode .decode .ensures .0) (at-d2 .d2 .given .1),
+      counted (start .args .s .now) (start .args .start .now) (start .args .cells)
+          (start .args .posts) (start .args .frames) (start .args .calls) (start .args .depth) (at-d2 .d2 .given .1) (at-decode .decode .ensures .1),
+    )
 
 returns : tie.Need-returns
-returns c = unreadable (c .before .before .before .before .before .before .args .s .now) (c .before .before .before .before .before .before .args .start .now) (c .before .before .before .before .before .before .args .cells) (c .before .before .before .before .before .before .args .posts) (c .before .before .before .before .before .before .args .frames) (c .before .before .before .before .before .before .args .calls) (c .before .before .before .before .before .before .args .depth) (c .before .before .before .decode .ensures .0) (c .before .d .given .1)
+returns c =
+    let start = c .before .before .before .before .before .before in
+    unreadable (start .args .s .now) (start .args .start .now) (start .args .cells) (start .args .posts) (start .args .frames) (start .args .calls)
+    (start .args .depth) (c .before .before .before .decode .ensures .0) (c .before .d .given .1)
 
 returns-2 : tie.Need-returns-2
 returns-2 c = search needs

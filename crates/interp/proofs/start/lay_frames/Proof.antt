@@ -1,8 +1,11 @@
+-- Each turn lays one frame, from the outermost on, in front of what is left of the store. The numbers of the stack that are left fall by two.
+use native.Mathlib.Omega.{arith}
+use borrow.Author.Needs.{needs}
 use mathlib.Core.Path.{_≡_, refl}
 use mathlib.Core.List.{_++_}
 use Prim.Native.Nat.{_+_, _%_}
-use native.Mathlib.Omega.{arith}
 use lib.ListN.{length, drop, length-set}
+use Rattle.program.specs.Records.{authorityRecord}
 use Rattle.semantics.specs.Runs.{stack}
 use Rattle.refinement.specs.Claims.{laidOut}
 use Rattle.interp.proofs.StartLaws.{lay-none, lay-more, all-laid}
@@ -10,61 +13,135 @@ use Rattle.interp.proofs.start.lay_frames.Statement.{statement}
 use Rattle.interp.proofs.start.lay_frames.Tie as tie
 
 abbrev Inv-loop : tie.InvT-loop
-Inv-loop start frames₀ at₀ i₀ frames at i = (i % 2 ≡ 0) × ((i + at ≡ length start) × ((length frames ≡ length frames₀) × (frames ≡ laidOut (stack (drop i start)) ++ drop at frames₀)))
+Inv-loop s start frames₀ at₀ i₀ frames at i = (i % 2 ≡ 0) × ((i + at ≡ length start) ×
+    ((length frames ≡ length frames₀) × (frames ≡ laidOut (authorityRecord s) (stack (drop i start)) ++ drop at frames₀)))
 
 abbrev μ-loop : tie.MeasureT-loop
-μ-loop start frames₀ at₀ i₀ frames at i = i
+μ-loop s start frames₀ at₀ i₀ frames at i = i
 
 loop-holds : tie.Need-loop-holds Inv-loop μ-loop
-loop-holds c = (c .pre .0 .even, (omega arith, (refl, lay-none (c .args .start .now) (c .args .frames .now))))
+loop-holds c =
+    let start = c .before .before .before in
+    (start .pre .0 .even, (omega arith, (refl, lay-none _ (start .args .start .now) (start .args .frames .now))))
 
 sub-i : tie.Need-sub-i Inv-loop μ-loop
-sub-i c = omega (arith, c .before .before .pre .0 .few, c .before .before .pre .0 .even, c .before .before .pre .1, c .before .loop .inv .0, c .before .loop .inv .1 .0, c .before .loop .inv .1 .1 .0)
+sub-i c =
+    let at-loop = c .before in
+    let start = at-loop .before .before .before .before in
+    omega (arith, start .pre .0 .few, start .pre .0 .even, start .pre .1, at-loop .loop .inv .0, at-loop .loop .inv .1 .0, at-loop .loop .inv .1 .1 .0)
+
+mul-authority : tie.Need-mul-authority Inv-loop μ-loop
+mul-authority c =
+    let at-loop = c .before in
+    let start = at-loop .before .before .before .before in
+    omega (arith, start .pre .0 .few, start .pre .0 .even, start .pre .1, at-loop .loop .inv .0, at-loop .loop .inv .1 .0, at-loop .loop .inv .1 .1 .0)
+
+shared-slice-read-authority : tie.Need-shared-slice-read-authority Inv-loop μ-loop
+shared-slice-read-authority c =
+    let at-loop = c .before .before in
+    let start = at-loop .before .before .before .before in
+    omega (arith, start .pre .0 .few, start .pre .0 .even, start .pre .1, at-loop .loop .inv .0, at-loop .loop .inv .1 .0, at-loop .loop .inv .1 .1 .0)
+
+authority-requires : tie.Need-authority-requires Inv-loop μ-loop
+authority-requires c κs = search needs
 
 mul-frames : tie.Need-mul-frames Inv-loop μ-loop
-mul-frames c = omega (arith, c .before .before .pre .0 .few, c .before .before .pre .0 .even, c .before .before .pre .1, c .before .loop .inv .0, c .before .loop .inv .1 .0, c .before .loop .inv .1 .1 .0)
-
-shared-slice-read-frames : tie.Need-shared-slice-read-frames Inv-loop μ-loop
-shared-slice-read-frames c = omega (arith, c .before .before .before .pre .0 .few, c .before .before .before .pre .0 .even, c .before .before .before .pre .1, c .before .before .loop .inv .0, c .before .before .loop .inv .1 .0, c .before .before .loop .inv .1 .1 .0)
-
-mul-frames-2 : tie.Need-mul-frames-2 Inv-loop μ-loop
-mul-frames-2 c = omega (arith, c .before .before .before .pre .0 .few, c .before .before .before .pre .0 .even, c .before .before .before .pre .1, c .before .before .loop .inv .0, c .before .before .loop .inv .1 .0, c .before .before .loop .inv .1 .1 .0)
+mul-frames c =
+    let at-loop = c .before .before .before in
+    let start = at-loop .before .before .before .before in
+    omega (arith, start .pre .0 .few, start .pre .0 .even, start .pre .1, at-loop .loop .inv .0, at-loop .loop .inv .1 .0, at-loop .loop .inv .1 .1 .0)
 
 slice-write-frames : tie.Need-slice-write-frames Inv-loop μ-loop
-slice-write-frames c = omega (arith, c .before .before .before .pre .0 .few, c .before .before .before .pre .0 .even, c .before .before .before .pre .1, c .before .before .loop .inv .0, c .before .before .loop .inv .1 .0, c .before .before .loop .inv .1 .1 .0)
+slice-write-frames c =
+    let at-loop = c .before .before .before in
+    let start = at-loop .before .before .before .before in
+    omega (arith, start .pre .0 .few, start .pre .0 .even, start .pre .1, at-loop .loop .inv .0, at-loop .loop .inv .1 .0, at-loop .loop .inv .1 .1 .0)
 
 add-frames : tie.Need-add-frames Inv-loop μ-loop
-add-frames c = omega (arith, c .before .before .before .pre .0 .few, c .before .before .before .pre .0 .even, c .before .before .before .pre .1, c .before .before .loop .inv .0, c .before .before .loop .inv .1 .0, c .before .before .loop .inv .1 .1 .0)
+add-frames c =
+    let at-loop = c .before .before .before in
+    let start = at-loop .before .before .before .before in
+    omega (arith, start .pre .0 .few, start .pre .0 .even, start .pre .1, at-loop .loop .inv .0, at-loop .loop .inv .1 .0, at-loop .loop .inv .1 .1 .0)
 
-mul-frames-3 : tie.Need-mul-frames-3 Inv-loop μ-loop
-mul-frames-3 c = omega (arith, c .before .before .before .pre .0 .few, c .before .before .before .pre .0 .even, c .before .before .before .pre .1, c .before .before .loop .inv .0, c .before .before .loop .inv .1 .0, c .before .before .loop .inv .1 .1 .0)
+mul-frames-2 : tie.Need-mul-frames-2 Inv-loop μ-loop
+mul-frames-2 c =
+    let at-loop = c .before .before .before in
+    let start = at-loop .before .before .before .before in
+    omega (arith, start .pre .0 .few, start .pre .0 .even, start .pre .1, at-loop .loop .inv .0, at-loop .loop .inv .1 .0, at-loop .loop .inv .1 .1 .0)
 
-shared-slice-read-frames-2 : tie.Need-shared-slice-read-frames-2 Inv-loop μ-loop
-shared-slice-read-frames-2 c = omega (arith, c .before .before .before .before .pre .0 .few, c .before .before .before .before .pre .0 .even, c .before .before .before .before .pre .1, c .before .before .before .loop .inv .0, c .before .before .before .loop .inv .1 .0, c .before .before .before .loop .inv .1 .1 .0)
+shared-slice-read-frames : tie.Need-shared-slice-read-frames Inv-loop μ-loop
+shared-slice-read-frames c =
+    let at-loop = c .before .before .before .before in
+    let start = at-loop .before .before .before .before in
+    omega (arith, start .pre .0 .few, start .pre .0 .even, start .pre .1, at-loop .loop .inv .0, at-loop .loop .inv .1 .0, at-loop .loop .inv .1 .1 .0)
 
 add-frames-2 : tie.Need-add-frames-2 Inv-loop μ-loop
-add-frames-2 c = omega (arith, c .before .before .before .before .pre .0 .few, c .before .before .before .before .pre .0 .even, c .before .before .before .before .pre .1, c .before .before .before .loop .inv .0, c .before .before .before .loop .inv .1 .0, c .before .before .before .loop .inv .1 .1 .0)
+add-frames-2 c =
+    let at-loop = c .before .before .before .before in
+    let start = at-loop .before .before .before .before in
+    omega (arith, start .pre .0 .few, start .pre .0 .even, start .pre .1, at-loop .loop .inv .0, at-loop .loop .inv .1 .0, at-loop .loop .inv .1 .1 .0)
 
-mul-frames-4 : tie.Need-mul-frames-4 Inv-loop μ-loop
-mul-frames-4 c = omega (arith, c .before .before .before .before .pre .0 .few, c .before .before .before .before .pre .0 .even, c .before .before .before .before .pre .1, c .before .before .before .loop .inv .0, c .before .before .before .loop .inv .1 .0, c .before .before .before .loop .inv .1 .1 .0)
+mul-frames-3 : tie.Need-mul-frames-3 Inv-loop μ-loop
+mul-frames-3 c =
+    let at-loop = c .before .before .before .before in
+    let start = at-loop .before .before .before .before in
+    omega (arith, start .pre .0 .few, start .pre .0 .even, start .pre .1, at-loop .loop .inv .0, at-loop .loop .inv .1 .0, at-loop .loop .inv .1 .1 .0)
 
 slice-write-frames-2 : tie.Need-slice-write-frames-2 Inv-loop μ-loop
-slice-write-frames-2 c = simp length-set (omega (arith, c .before .before .before .before .pre .0 .few, c .before .before .before .before .pre .0 .even, c .before .before .before .before .pre .1, c .before .before .before .loop .inv .0, c .before .before .before .loop .inv .1 .0, c .before .before .before .loop .inv .1 .1 .0, c .before .before .loop-test .taken))
+slice-write-frames-2 c =
+    let at-loop = c .before .before .before .before in
+    let start = at-loop .before .before .before .before in
+    simp length-set (omega (
+      arith,
+      start .pre .0 .few,
+      start .pre .0 .even,
+      start .pre .1,
+      at-loop .loop .inv .0,
+      at-loop .loop .inv .1 .0,
+      at-loop .loop .inv .1 .1 .0,
+      c .before .before .before .loop-test .taken,
+    ))
 
 add-at : tie.Need-add-at Inv-loop μ-loop
-add-at c = omega (arith, c .before .before .before .before .pre .0 .few, c .before .before .before .before .pre .0 .even, c .before .before .before .before .pre .1, c .before .before .before .loop .inv .0, c .before .before .before .loop .inv .1 .0, c .before .before .before .loop .inv .1 .1 .0)
+add-at c =
+    let at-loop = c .before .before .before .before in
+    let start = at-loop .before .before .before .before in
+    omega (arith, start .pre .0 .few, start .pre .0 .even, start .pre .1, at-loop .loop .inv .0, at-loop .loop .inv .1 .0, at-loop .loop .inv .1 .1 .0)
 
 loop-less : tie.Need-loop-less Inv-loop μ-loop
-loop-less c = omega (arith, c .before .before .before .before .pre .0 .few, c .before .before .before .before .pre .0 .even, c .before .before .before .before .pre .1, c .before .before .before .loop .inv .0, c .before .before .before .loop .inv .1 .0, c .before .before .before .loop .inv .1 .1 .0)
+loop-less c =
+    let at-loop = c .before .before .before .before in
+    let start = at-loop .before .before .before .before in
+    omega (arith, start .pre .0 .few, start .pre .0 .even, start .pre .1, at-loop .loop .inv .0, at-loop .loop .inv .1 .0, at-loop .loop .inv .1 .1 .0)
 
 loop-again : tie.Need-loop-again Inv-loop μ-loop
-loop-again c = (omega (arith, c .before .before .before .loop .inv .0, c .before .before .loop-test .taken), (omega (arith, c .before .before .before .loop .inv .0, c .before .before .before .loop .inv .1 .0, c .before .before .loop-test .taken), (simp length-set (c .before .before .before .loop .inv .1 .1 .0), lay-more (c .before .before .before .before .args .start .now) (c .before .before .before .before .args .frames .now) _ _ (c .before .before .before .loop .inv .0) (omega (arith, c .before .before .before .loop .inv .0, c .before .before .loop-test .taken)) (c .before .before .before .loop .inv .1 .0) (c .before .before .before .before .pre .0 .even) (omega (arith, c .before .before .before .before .pre .0 .few, c .before .before .before .before .pre .1)) (c .before .before .before .loop .inv .1 .1 .1))))
+loop-again c =
+    let at-loop-test = c .before .before .before in
+    let at-loop = at-loop-test .before in
+    let start = at-loop .before .before .before .before in (
+      omega (arith, at-loop .loop .inv .0, at-loop-test .loop-test .taken),
+      (
+        omega (arith, at-loop .loop .inv .0, at-loop .loop .inv .1 .0, at-loop-test .loop-test .taken),
+        (
+          simp length-set (at-loop .loop .inv .1 .1 .0),
+          lay-more _ (start .args .start .now) (start .args .frames .now) _ _ (at-loop .loop .inv .0)
+              (omega (arith, at-loop .loop .inv .0, at-loop-test .loop-test .taken)) (at-loop .loop .inv .1 .0) (start .pre .0 .even)
+              (omega (arith, start .pre .0 .few, start .pre .1)) (c .before .authority .ensures) (at-loop .loop .inv .1 .1 .1),
+        ),
+      ),
+    )
 
 same-length : tie.Need-same-length Inv-loop μ-loop
-same-length c = omega (arith, c .before .before .pre .0 .few, c .before .before .pre .0 .even, c .before .before .pre .1, c .before .loop .inv .0, c .before .loop .inv .1 .0, c .before .loop .inv .1 .1 .0)
+same-length c =
+    let at-loop = c .before in
+    let start = at-loop .before .before .before .before in
+    omega (arith, start .pre .0 .few, start .pre .0 .even, start .pre .1, at-loop .loop .inv .0, at-loop .loop .inv .1 .0, at-loop .loop .inv .1 .1 .0)
 
 returns : tie.Need-returns Inv-loop μ-loop
-returns c = all-laid (c .before .before .args .start .now) (c .before .before .args .frames .now) _ _ (c .loop-test .left) (c .before .loop .inv .1 .0) (c .before .loop .inv .1 .1 .1)
+returns c =
+    let at-loop = c .before in
+    let start = at-loop .before .before .before .before in
+    all-laid _ (start .args .start .now) (start .args .frames .now) _ _ (c .loop-test .left) (at-loop .loop .inv .1 .0) (at-loop .loop .inv .1 .1 .1)
 
 pub lay-frames-spec : {M : Type 1} → statement M
 lay-frames-spec =
@@ -74,15 +151,16 @@ lay-frames-spec =
     μ-loop
     loop-holds
     sub-i
+    mul-authority
+    shared-slice-read-authority
+    authority-requires
     mul-frames
-    shared-slice-read-frames
-    mul-frames-2
     slice-write-frames
     add-frames
-    mul-frames-3
-    shared-slice-read-frames-2
+    mul-frames-2
+    shared-slice-read-frames
     add-frames-2
-    mul-frames-4
+    mul-frames-3
     slice-write-frames-2
     add-at
     loop-less

@@ -17,25 +17,49 @@ loop-holds : tie.Need-loop-holds Inv-loop μ-loop
 loop-holds c = (omega arith, (omega arith, refl))
 
 mul-if1 : tie.Need-mul-if1 Inv-loop μ-loop
-mul-if1 c = omega (arith, c .before .before .pre .few, c .before .before .pre .even, c .before .loop .inv .0)
+mul-if1 c =
+    let start = c .before .before in
+    omega (arith, start .pre .few, start .pre .even, c .before .loop .inv .0)
 
 shared-slice-read-if1 : tie.Need-shared-slice-read-if1 Inv-loop μ-loop
-shared-slice-read-if1 c = omega (arith, c .before .before .before .pre .few, c .before .before .before .pre .even, c .before .before .loop .inv .0)
+shared-slice-read-if1 c =
+    let start = c .before .before .before in
+    omega (arith, start .pre .few, start .pre .even, c .before .before .loop .inv .0)
 
 returns : tie.Need-returns Inv-loop μ-loop
-returns c = unknown-here (c .before .before .before .before .args .count) (c .before .before .before .before .args .start .now) _ (omega (arith, c .before .before .before .before .pre .even, c .before .before .before .loop .inv .0, c .before .before .loop-test .taken)) (c .if1 .taken) ∙ sym (c .before .before .before .loop .inv .1 .1)
+returns c =
+    let at-loop = c .before .before .before in
+    let start = at-loop .before in
+    unknown-here (start .args .count) (start .args .start .now) _ (omega (arith, start .pre .even, at-loop .loop .inv .0, c .before .before .loop-test .taken))
+    (c .if1 .taken) ∙ sym (at-loop .loop .inv .1 .1)
 
 add-i : tie.Need-add-i Inv-loop μ-loop
-add-i c = omega (arith, c .before .before .before .before .pre .few, c .before .before .before .before .pre .even, c .before .before .before .loop .inv .0)
+add-i c =
+    let start = c .before .before .before .before in
+    omega (arith, start .pre .few, start .pre .even, c .before .before .before .loop .inv .0)
 
 loop-less : tie.Need-loop-less Inv-loop μ-loop
-loop-less c = omega (arith, c .before .before .before .before .pre .few, c .before .before .before .before .pre .even, c .before .before .before .loop .inv .0)
+loop-less c =
+    let start = c .before .before .before .before in
+    omega (arith, start .pre .few, start .pre .even, c .before .before .before .loop .inv .0)
 
 loop-again : tie.Need-loop-again Inv-loop μ-loop
-loop-again c = (omega (arith, c .before .before .before .loop .inv .0), (omega (arith, c .before .before .before .before .pre .even, c .before .before .before .loop .inv .0, c .before .before .loop-test .taken), c .before .before .before .loop .inv .1 .1 ∙ known-here (c .before .before .before .before .args .count) (c .before .before .before .before .args .start .now) _ (omega (arith, c .before .before .before .before .pre .even, c .before .before .before .loop .inv .0, c .before .before .loop-test .taken)) (c .if1 .left)))
+loop-again c =
+    let at-loop-test = c .before .before in
+    let at-loop = at-loop-test .before in
+    let start = at-loop .before in (
+      omega (arith, at-loop .loop .inv .0),
+      (
+        omega (arith, start .pre .even, at-loop .loop .inv .0, at-loop-test .loop-test .taken),
+        at-loop .loop .inv .1 .1 ∙ known-here (start .args .count) (start .args .start .now) _
+            (omega (arith, start .pre .even, at-loop .loop .inv .0, at-loop-test .loop-test .taken)) (c .if1 .left),
+      ),
+    )
 
 returns-2 : tie.Need-returns-2 Inv-loop μ-loop
-returns-2 c = known-end (c .before .before .args .count) (c .before .before .args .start .now) _ (c .loop-test .left) ∙ sym (c .before .loop .inv .1 .1)
+returns-2 c =
+    let start = c .before .before in
+    known-end (start .args .count) (start .args .start .now) _ (c .loop-test .left) ∙ sym (c .before .loop .inv .1 .1)
 
 pub principals-known-spec : {M : Type 1} → statement M
 principals-known-spec =

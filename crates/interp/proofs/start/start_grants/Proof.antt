@@ -18,28 +18,48 @@ abbrev μ-loop : tie.MeasureT-loop
 μ-loop s start set₀ i₀ set i = i
 
 loop-holds : tie.Need-loop-holds Inv-loop μ-loop
-loop-holds c = (c .before .before .pre .even, (omega arith, grants-none (authorityRecord (c .before .before .args .s .now)) (c .before .before .args .start .now)))
+loop-holds c =
+    let start = c .before .before in
+    (start .pre .even, (omega arith, grants-none (authorityRecord (start .args .s .now)) (start .args .start .now)))
 
 sub-i : tie.Need-sub-i Inv-loop μ-loop
-sub-i c = omega (arith, c .before .before .before .before .pre .few, c .before .before .before .before .pre .even, c .before .loop .inv .0, c .before .loop .inv .1 .0)
+sub-i c =
+    let at-loop = c .before in
+    let start = at-loop .before .before .before in
+    omega (arith, start .pre .few, start .pre .even, at-loop .loop .inv .0, at-loop .loop .inv .1 .0)
 
 mul-authority : tie.Need-mul-authority Inv-loop μ-loop
-mul-authority c = omega (arith, c .before .before .before .before .pre .few, c .before .before .before .before .pre .even, c .before .loop .inv .0, c .before .loop .inv .1 .0)
+mul-authority c =
+    let at-loop = c .before in
+    let start = at-loop .before .before .before in
+    omega (arith, start .pre .few, start .pre .even, at-loop .loop .inv .0, at-loop .loop .inv .1 .0)
 
 shared-slice-read-authority : tie.Need-shared-slice-read-authority Inv-loop μ-loop
-shared-slice-read-authority c = omega (arith, c .before .before .before .before .before .pre .few, c .before .before .before .before .before .pre .even, c .before .before .loop .inv .0, c .before .before .loop .inv .1 .0)
+shared-slice-read-authority c =
+    let at-loop = c .before .before in
+    let start = at-loop .before .before .before in
+    omega (arith, start .pre .few, start .pre .even, at-loop .loop .inv .0, at-loop .loop .inv .1 .0)
 
 authority-requires : tie.Need-authority-requires Inv-loop μ-loop
 authority-requires c κs = search needs
 
 add-union : tie.Need-add-union Inv-loop μ-loop
-add-union c = omega (arith, c .before .before .before .before .before .before .pre .few, c .before .before .before .before .before .before .pre .even, c .before .before .before .loop .inv .0, c .before .before .before .loop .inv .1 .0)
+add-union c =
+    let at-loop = c .before .before .before in
+    let start = at-loop .before .before .before in
+    omega (arith, start .pre .few, start .pre .even, at-loop .loop .inv .0, at-loop .loop .inv .1 .0)
 
 mul-union : tie.Need-mul-union Inv-loop μ-loop
-mul-union c = omega (arith, c .before .before .before .before .before .before .pre .few, c .before .before .before .before .before .before .pre .even, c .before .before .before .loop .inv .0, c .before .before .before .loop .inv .1 .0)
+mul-union c =
+    let at-loop = c .before .before .before in
+    let start = at-loop .before .before .before in
+    omega (arith, start .pre .few, start .pre .even, at-loop .loop .inv .0, at-loop .loop .inv .1 .0)
 
 shared-slice-read-union : tie.Need-shared-slice-read-union Inv-loop μ-loop
-shared-slice-read-union c = omega (arith, c .before .before .before .before .before .before .before .pre .few, c .before .before .before .before .before .before .before .pre .even, c .before .before .before .before .loop .inv .0, c .before .before .before .before .loop .inv .1 .0)
+shared-slice-read-union c =
+    let at-loop = c .before .before .before .before in
+    let start = at-loop .before .before .before in
+    omega (arith, start .pre .few, start .pre .even, at-loop .loop .inv .0, at-loop .loop .inv .1 .0)
 
 union-requires : tie.Need-union-requires Inv-loop μ-loop
 union-requires c κs = search needs
@@ -48,13 +68,30 @@ meet-requires : tie.Need-meet-requires Inv-loop μ-loop
 meet-requires c κs = search needs
 
 loop-less : tie.Need-loop-less Inv-loop μ-loop
-loop-less c = omega (arith, c .before .before .before .before .before .before .before .before .before .pre .few, c .before .before .before .before .before .before .before .before .before .pre .even, c .before .before .before .before .before .before .loop .inv .0, c .before .before .before .before .before .before .loop .inv .1 .0)
+loop-less c =
+    let at-loop = c .before .before .before .before .before .before in
+    let start = at-loop .before .before .before in
+    omega (arith, start .pre .few, start .pre .even, at-loop .loop .inv .0, at-loop .loop .inv .1 .0)
 
 loop-again : tie.Need-loop-again Inv-loop μ-loop
-loop-again c = (omega (arith, c .before .before .before .before .before .before .loop .inv .0, c .before .before .before .before .before .loop-test .taken), (omega (arith, c .before .before .before .before .before .before .loop .inv .1 .0), c .meet .ensures ∙ (λ j. meet (c .before .before .before .authority .ensures j) (c .before .union .ensures j)) ∙ grants-more (authorityRecord (c .before .before .before .before .before .before .before .before .before .args .s .now)) (c .before .before .before .before .before .before .before .before .before .args .start .now) (c .before .before .before .before .before .before .loop .i) (omega (arith, c .before .before .before .before .before .before .loop .inv .0, c .before .before .before .before .before .loop-test .taken)) (c .before .before .before .before .before .before .loop .inv .1 .0) (c .before .before .before .before .before .before .loop .inv .1 .1)))
+loop-again c =
+    let at-loop-test = c .before .before .before .before .before in
+    let at-loop = at-loop-test .before in
+    let start = at-loop .before .before .before in (
+      omega (arith, at-loop .loop .inv .0, at-loop-test .loop-test .taken),
+      (
+        omega (arith, at-loop .loop .inv .1 .0),
+        c .meet .ensures ∙
+            (λ j. meet (c .before .before .before .authority .ensures j) (c .before .union .ensures j)) ∙ grants-more (authorityRecord (start .args .s .now))
+            (start .args .start .now) (at-loop .loop .i) (omega (arith, at-loop .loop .inv .0, at-loop-test .loop-test .taken)) (at-loop .loop .inv .1 .0)
+            (at-loop .loop .inv .1 .1),
+      ),
+    )
 
 returns : tie.Need-returns Inv-loop μ-loop
-returns c = all-granted (authorityRecord (c .before .before .before .before .args .s .now)) (c .before .before .before .before .args .start .now) _ (c .loop-test .left) (c .before .loop .inv .1 .1)
+returns c =
+    let start = c .before .before .before .before in
+    all-granted (authorityRecord (start .args .s .now)) (start .args .start .now) _ (c .loop-test .left) (c .before .loop .inv .1 .1)
 
 pub start-grants-spec : {M : Type 1} → statement M
 start-grants-spec =

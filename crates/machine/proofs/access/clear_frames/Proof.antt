@@ -1,8 +1,9 @@
+-- So many numbers are zero, and the others as they were, until all are zero. The numbers that are left fall.
+use native.Mathlib.Omega.{arith}
 use borrow.Author.Needs.{needs}
 use mathlib.Core.Path.{_≡_, refl, ap, _∙_}
 use mathlib.Core.List.{List, _++_}
 use Prim.Native.Nat.{ℕ, _≤_, _-_}
-use native.Mathlib.Omega.{arith}
 use lib.ListN.{length, drop, replicate, set, length-set}
 use borrow.Author.Fill.{fill-more}
 use Rattle.machine.proofs.CellLaws.{filled}
@@ -31,13 +32,19 @@ loop-less : tie.Need-loop-less Inv-loop μ-loop
 loop-less c = omega arith
 
 loop-again : tie.Need-loop-again Inv-loop μ-loop
-loop-again c = (ap (λ (l : List ℕ). set l (c .before .loop .i) 0) (c .before .loop .inv .0) ∙ fill-more (c .before .loop .i) 0 (c .before .before .args .a .now) (omega arith), (omega arith, simp length-set (c .before .loop .inv .1 .1)))
+loop-again c =
+    let at-loop = c .before in (
+      ap (λ (l : List ℕ). set l (at-loop .loop .i) 0) (at-loop .loop .inv .0) ∙ fill-more (at-loop .loop .i) 0 (c .before .before .args .a .now) (omega arith),
+      (omega arith, simp length-set (at-loop .loop .inv .1 .1)),
+    )
 
 same-length : tie.Need-same-length Inv-loop μ-loop
 same-length c = c .before .loop .inv .1 .1
 
 returns : tie.Need-returns Inv-loop μ-loop
-returns c = filled _ (c .before .before .args .a .now) (c .before .loop .i) (c .before .loop .inv .0) (omega arith)
+returns c =
+    let at-loop = c .before in
+    filled _ (c .before .before .args .a .now) (at-loop .loop .i) (at-loop .loop .inv .0) (omega arith)
 
 pub clear-frames-spec : {M : Type 1} → statement M
 clear-frames-spec =

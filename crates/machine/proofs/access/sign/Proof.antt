@@ -1,53 +1,71 @@
-use mathlib.Core.Path.{refl}
-use Rattle.machine.specs.Store.{signAccess, signFrames}
-use Rattle.machine.proofs.AccessLaws.{sign-first}
+-- A lazy run opens a frame, an eager one meets the granted set with the principal's.
+use Rattle.machine.proofs.AccessLaws.{sign-lazy, sign-eager}
 use borrow.Author.Needs.{needs}
 use Rattle.machine.proofs.access.sign.Statement.{statement}
 use Rattle.machine.proofs.access.sign.Tie as tie
 
-add-inner : tie.Need-add-inner
-add-inner c = search needs
+is-lazy-requires : tie.Need-is-lazy-requires
+is-lazy-requires c κs = search needs
 
-mul-put-word : tie.Need-mul-put-word
-mul-put-word c = search needs
+low-requires : tie.Need-low-requires
+low-requires c κs = search needs
 
-put-word-requires : tie.Need-put-word-requires
-put-word-requires c κs = search needs
+cast-at : tie.Need-cast-at
+cast-at c = search needs
 
-first-enabled-requires : tie.Need-first-enabled-requires
-first-enabled-requires c κs = search needs
+put-number-requires : tie.Need-put-number-requires
+put-number-requires c κs = search needs
 
-put-word-requires-2 : tie.Need-put-word-requires-2
-put-word-requires-2 c κs = search needs
+add-put-number : tie.Need-add-put-number
+add-put-number c = search needs
+
+put-number-requires-2 : tie.Need-put-number-requires-2
+put-number-requires-2 c κs = search needs
+
+add-result : tie.Need-add-result
+add-result c = search needs
 
 same-length : tie.Need-same-length
 same-length c = search needs
 
 returns : tie.Need-returns
-unfolding signAccess
-returns c = (simp (c .before .before .before .before .before .before .before .before .before .if1 .taken), sign-first (c .before .before .before .before .before .before .before .before .before .before .before .before .args .acc) _ _ (c .before .before .before .before .before .before .before .before .before .if1 .taken) (c .before .before .before .before .before .before .before .put-word .ensures) (c .before .before .before .first-enabled .ensures) (c .before .before .put-word2 .ensures))
+returns c =
+    let at-put-number = c .before .before .before .before .before .before in
+    let at-low = at-put-number .before .before in
+    let at-if1 = at-low .before in
+    let at-is-lazy = at-if1 .before in
+    sign-lazy _ _ _ (at-is-lazy .is-lazy .ensures) (at-if1 .if1 .taken) _ (at-low .low .ensures) (at-put-number .put-number .ensures)
+    (c .before .before .put-number2 .ensures)
 
-authority-requires : tie.Need-authority-requires
-authority-requires c κs = search needs
+high-requires : tie.Need-high-requires
+high-requires c κs = search needs
 
 meet-requires : tie.Need-meet-requires
 meet-requires c κs = search needs
 
+pair-requires : tie.Need-pair-requires
+pair-requires c κs = search needs
+
 returns-2 : tie.Need-returns-2
-unfolding signAccess signFrames
-returns-2 c = (simp (c .before .before .if1 .left) (rw (c .meet .ensures, c .before .authority .ensures) refl), simp (c .before .before .if1 .left))
+returns-2 c =
+    let at-is-lazy = c .before .before .before .before in
+    sign-eager _ _ _ (at-is-lazy .is-lazy .ensures) (c .before .before .before .if1 .left) _ (c .before .before .high .ensures) (c .before .meet .ensures)
+    (c .pair .ensures)
 
 pub sign-spec : {M : Type 1} → statement M
 sign-spec =
     tie.close
     (tie.spec
-    add-inner
-    mul-put-word
-    put-word-requires
-    first-enabled-requires
-    put-word-requires-2
+    is-lazy-requires
+    low-requires
+    cast-at
+    put-number-requires
+    add-put-number
+    put-number-requires-2
+    add-result
     same-length
     returns
-    authority-requires
+    high-requires
     meet-requires
+    pair-requires
     returns-2)

@@ -1,3 +1,5 @@
+-- A variable past the bindings is stuck; any other is what its cell holds.
+use mathlib.Core.Path.{refl}
 use Rattle.machine.proofs.CellLaws.{look-none, look-some}
 use borrow.Author.Needs.{needs}
 use Rattle.machine.proofs.cells.look.Statement.{statement}
@@ -6,32 +8,32 @@ use Rattle.machine.proofs.cells.look.Tie as tie
 walk-requires : tie.Need-walk-requires
 walk-requires c κs = search needs
 
+stop-requires : tie.Need-stop-requires
+stop-requires c κs = search needs
+
+same-length : tie.Need-same-length
+same-length c = search needs
+
 returns : tie.Need-returns
-returns c = look-none _ _ _ _ (c .before .walk .ensures) (c .if1 .taken)
+returns c = (look-none _ _ _ _ _ (c .before .before .walk .ensures) (c .before .if1 .taken) (c .stop .ensures), refl)
 
-cast-value-at : tie.Need-cast-value-at
-cast-value-at c = search needs
+held-requires : tie.Need-held-requires
+held-requires c κs = search needs
 
-mul-value-at : tie.Need-mul-value-at
-mul-value-at c = search needs
-
-sub-value-at : tie.Need-sub-value-at
-sub-value-at c = search needs
-
-value-at-requires : tie.Need-value-at-requires
-value-at-requires c κs = search needs
+same-length-2 : tie.Need-same-length-2
+same-length-2 c = search needs
 
 returns-2 : tie.Need-returns-2
-returns-2 c = look-some _ _ _ _ (c .before .before .walk .ensures) (c .before .if1 .left) _ (c .value-at .ensures)
+returns-2 c = (look-some _ _ _ _ _ (c .before .before .before .walk .ensures) (c .before .before .if1 .left) (c .held .ensures), refl)
 
 pub look-spec : {M : Type 1} → statement M
 look-spec =
     tie.close
     (tie.spec
     walk-requires
+    stop-requires
+    same-length
     returns
-    cast-value-at
-    mul-value-at
-    sub-value-at
-    value-at-requires
+    held-requires
+    same-length-2
     returns-2)

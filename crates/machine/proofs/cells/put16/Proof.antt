@@ -1,31 +1,32 @@
-use Rattle.machine.specs.Store.{set16}
+-- The two writes are the definition's.
+use mathlib.Core.Path.{refl}
+use Rattle.machine.specs.Cells.{set16}
 use borrow.Author.Needs.{needs}
 use Rattle.machine.proofs.cells.put16.Statement.{statement}
 use Rattle.machine.proofs.cells.put16.Tie as tie
 
-cast-put : tie.Need-cast-put
-cast-put c = search needs
+cast-s : tie.Need-cast-s
+cast-s c = search needs
 
-put-requires : tie.Need-put-requires
-put-requires c κs = search needs
+slice-write-s : tie.Need-slice-write-s
+slice-write-s c = search needs
 
-add-put : tie.Need-add-put
-add-put c = search needs
+cast-s-2 : tie.Need-cast-s-2
+cast-s-2 c = search needs
 
-cast-put-2 : tie.Need-cast-put-2
-cast-put-2 c = search needs
+add-s : tie.Need-add-s
+add-s c = search needs
 
-put-requires-2 : tie.Need-put-requires-2
-put-requires-2 c κs = search needs
+slice-write-s-2 : tie.Need-slice-write-s-2
+slice-write-s-2 c = search needs
 
 same-length : tie.Need-same-length
 same-length c = search needs
 
 returns : tie.Need-returns
 unfolding set16
-returns c = rw (c .before .before .before .before .before .before .put .ensures) at (c .before .before .put2 .ensures)
+returns c = refl
 
 pub put16-spec : {M : Type 1} → statement M
 put16-spec =
-    tie.close
-    (tie.spec cast-put put-requires add-put cast-put-2 put-requires-2 same-length returns)
+    tie.close (tie.spec cast-s slice-write-s cast-s-2 add-s slice-write-s-2 same-length returns)

@@ -1,8 +1,9 @@
-use borrow.Author.Needs.{needs}
-use Rattle.machine.proofs.CellLaws.{walk-more, walk-ends}
-use mathlib.Core.Path.{_≡_, refl}
+-- Each turn goes one cell behind, so that what is left of the walk leads to the same cell. The steps that are left fall.
 use native.Mathlib.Omega.{arith}
-use Rattle.machine.specs.Store.{walkOf}
+use borrow.Author.Needs.{needs}
+use mathlib.Core.Path.{_≡_, refl}
+use Rattle.machine.specs.Cells.{walkOf}
+use Rattle.machine.proofs.CellLaws.{walk-more, walk-ends}
 use Rattle.machine.proofs.cells.walk.Statement.{statement}
 use Rattle.machine.proofs.cells.walk.Tie as tie
 

@@ -1,55 +1,135 @@
+-- A law for each end: an operand that is no number, a sum that fits or is held, a difference that fits or is held, a comparison.
 use native.Mathlib.Omega.{arith}
-use Rattle.machine.proofs.StepLaws.{operate-is, sum-fits, sum-over, diff-fits, diff-none, less-is, operate-left, operate-right}
-use mathlib.Core.Path.{sym}
+use mathlib.Core.Path.{sym, _∙_}
+use Rattle.machine.proofs.StepLaws.{operate-left, operate-right, sum-fits, sum-over, difference-fits, difference-none, less-is}
 use borrow.Author.Needs.{needs}
 use Rattle.machine.proofs.steps.operate.Statement.{statement}
 use Rattle.machine.proofs.steps.operate.Tie as tie
 
-enum-known-a : tie.Need-enum-known-a
-enum-known-a c = search needs
+sort-requires : tie.Need-sort-requires
+sort-requires c κs = search needs
+
+stop-requires : tie.Need-stop-requires
+stop-requires c κs = search needs
 
 returns : tie.Need-returns
-returns c = sym (operate-left _ _ _ _ (c .match .keys2))
+returns c = operate-left _ _ _ _ (λ e. c .before .if1 .taken (c .before .before .sort .ensures ∙ e)) (c .stop .ensures)
 
-enum-known-b : tie.Need-enum-known-b
-enum-known-b c = search needs
+sort-requires-2 : tie.Need-sort-requires-2
+sort-requires-2 c κs = search needs
+
+stop-requires-2 : tie.Need-stop-requires-2
+stop-requires-2 c κs = search needs
 
 returns-2 : tie.Need-returns-2
-returns-2 c = rw (c .before .before .a .given .1) (sym (operate-right _ _ _ _ (c .match2 .keys2)))
+returns-2 c =
+    let at-sort = c .before .before .before .before in
+    operate-right _ _ _ _ (sym (at-sort .sort .ensures) ∙ c .before .before .before .if1 .left)
+    (λ e. c .before .if2 .taken (c .before .before .sort2 .ensures ∙ e)) (c .stop2 .ensures)
 
-sub-if2 : tie.Need-sub-if2
-sub-if2 c = search needs
+payload-requires : tie.Need-payload-requires
+payload-requires c κs = search needs
 
-add-t12 : tie.Need-add-t12
-add-t12 c = search needs
+payload-requires-2 : tie.Need-payload-requires-2
+payload-requires-2 c κs = search needs
+
+sub-if4 : tie.Need-sub-if4
+sub-if4 c = search needs
+
+add-number : tie.Need-add-number
+add-number c = search needs
+
+number-requires : tie.Need-number-requires
+number-requires c κs = search needs
 
 returns-3 : tie.Need-returns-3
-returns-3 c = operate-is _ _ _ _ (c .before .before .before .before .before .before .a .given .1) (c .before .before .before .b .given .1) (sum-fits _ _ _ (c .before .if1 .taken) (c .if2 .taken) (omega arith))
+returns-3 c =
+    let at-payload = c .before .before .before .before in
+    let at-if2 = at-payload .before in
+    let at-sort2 = at-if2 .before in
+    let at-if1 = at-sort2 .before in
+    let at-sort = at-if1 .before in
+    sum-fits _ _ _ _ (sym (at-sort .sort .ensures) ∙ at-if1 .if1 .left) (sym (at-sort2 .sort2 .ensures) ∙ at-if2 .if2 .left) (at-payload .payload .ensures)
+    (c .before .before .before .payload2 .ensures) (c .before .before .if3 .taken) (c .before .if4 .taken) (omega (arith, at-payload .payload .ensures))
+    (c .number .ensures)
+
+number-requires-2 : tie.Need-number-requires-2
+number-requires-2 c κs = search needs
 
 returns-4 : tie.Need-returns-4
-returns-4 c = operate-is _ _ _ _ (c .before .before .before .before .before .before .a .given .1) (c .before .before .before .b .given .1) (sum-over _ _ _ (c .before .if1 .taken) (c .if2 .left) (omega arith))
+returns-4 c =
+    let at-payload = c .before .before .before .before in
+    let at-if2 = at-payload .before in
+    let at-sort2 = at-if2 .before in
+    let at-if1 = at-sort2 .before in
+    let at-sort = at-if1 .before in
+    sum-over _ _ _ _ (sym (at-sort .sort .ensures) ∙ at-if1 .if1 .left) (sym (at-sort2 .sort2 .ensures) ∙ at-if2 .if2 .left) (at-payload .payload .ensures)
+    (c .before .before .before .payload2 .ensures) (c .before .before .if3 .taken) (c .before .if4 .left) (omega (arith, at-payload .payload .ensures))
+    (c .number2 .ensures)
+
+number-requires-3 : tie.Need-number-requires-3
+number-requires-3 c κs = search needs
 
 returns-5 : tie.Need-returns-5
-returns-5 c = operate-is _ _ _ _ (c .before .before .before .before .before .before .before .a .given .1) (c .before .before .before .before .b .given .1) (diff-fits _ _ _ (c .before .before .if1 .left) (c .before .if3 .taken))
+returns-5 c =
+    let at-payload2 = c .before .before .before .before in
+    let at-payload = at-payload2 .before in
+    let at-if2 = at-payload .before in
+    let at-sort2 = at-if2 .before in
+    let at-if1 = at-sort2 .before in
+    let at-sort = at-if1 .before in
+    difference-fits _ _ _ _ (sym (at-sort .sort .ensures) ∙ at-if1 .if1 .left) (sym (at-sort2 .sort2 .ensures) ∙ at-if2 .if2 .left)
+    (at-payload .payload .ensures) (at-payload2 .payload2 .ensures) (c .before .before .before .if3 .left) (c .before .before .if5 .taken) (c .number3 .ensures)
+
+number-requires-4 : tie.Need-number-requires-4
+number-requires-4 c κs = search needs
 
 returns-6 : tie.Need-returns-6
-returns-6 c = operate-is _ _ _ _ (c .before .before .before .before .before .before .before .a .given .1) (c .before .before .before .before .b .given .1) (diff-none _ _ _ (c .before .before .if1 .left) (c .before .if3 .taken) (c .if4 .left))
+returns-6 c =
+    let at-payload2 = c .before .before .before .before in
+    let at-payload = at-payload2 .before in
+    let at-if2 = at-payload .before in
+    let at-sort2 = at-if2 .before in
+    let at-if1 = at-sort2 .before in
+    let at-sort = at-if1 .before in
+    difference-none _ _ _ _ (sym (at-sort .sort .ensures) ∙ at-if1 .if1 .left) (sym (at-sort2 .sort2 .ensures) ∙ at-if2 .if2 .left)
+    (at-payload .payload .ensures) (at-payload2 .payload2 .ensures) (c .before .before .before .if3 .left) (c .before .before .if5 .taken)
+    (c .before .if6 .left) (c .number4 .ensures)
+
+boolean-requires : tie.Need-boolean-requires
+boolean-requires c κs = search needs
 
 returns-7 : tie.Need-returns-7
-returns-7 c = operate-is _ _ _ _ (c .before .before .before .before .before .before .a .given .1) (c .before .before .before .b .given .1) (less-is _ _ _ (c .before .if1 .left) (c .if3 .left))
+returns-7 c =
+    let at-payload = c .before .before .before .before in
+    let at-if2 = at-payload .before in
+    let at-sort2 = at-if2 .before in
+    let at-if1 = at-sort2 .before in
+    let at-sort = at-if1 .before in
+    less-is _ _ _ _ (sym (at-sort .sort .ensures) ∙ at-if1 .if1 .left) (sym (at-sort2 .sort2 .ensures) ∙ at-if2 .if2 .left) (at-payload .payload .ensures)
+    (c .before .before .before .payload2 .ensures) (c .before .before .if3 .left) (c .before .if5 .left) (c .boolean .ensures)
 
 pub operate-spec : {M : Type 1} → statement M
 operate-spec =
     tie.close
     (tie.spec
-    enum-known-a
+    sort-requires
+    stop-requires
     returns
-    enum-known-b
+    sort-requires-2
+    stop-requires-2
     returns-2
-    sub-if2
-    add-t12
+    payload-requires
+    payload-requires-2
+    sub-if4
+    add-number
+    number-requires
     returns-3
+    number-requires-2
     returns-4
+    number-requires-3
     returns-5
+    number-requires-4
     returns-6
+    boolean-requires
     returns-7)

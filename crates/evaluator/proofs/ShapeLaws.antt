@@ -1,0 +1,330 @@
+-- What evaluating a term of each shape is, by the interpreter's clauses, with its children evaluated at their own numbers. Assumes nothing.
+use mathlib.Core.Bool.{Bool, true, false}
+use mathlib.Core.List.{List, [], _∷_}
+use mathlib.Core.Logic.{_⊎_, inl, inr, ⊎-elim}
+use mathlib.Core.Path.{_≡_, refl, sym, ap, ap₂, _∙_, fun-ext, subst}
+use Prim.Native.Nat.{ℕ, zero, suc, _+_, _-_, _*_, _/_, _<_, _≤_}
+use native.Mathlib.Decide.{ℕ-discrete}
+use native.Mathlib.Nat.{eq-or-lt-of-le}
+use native.Mathlib.Numerals.{sub-one}
+use native.Mathlib.Omega.{arith}
+use lib.Dec.{leb, ltb, eqb}
+use lib.ListN.{length, getD, set, List·getD-eq-default}
+use lib.Seq.{getD-set-same, getD-set-other}
+use borrow.Author.Tests.{eq-eqb, ne-eqb, le-leb, lt-leb, lt-ltb, le-ltb, ltb-true, ltb-false}
+use Rattle.machine.specs.Words.{pick, booleanWord, numberWord, functionWord, stopWord, sortOf, payloadOf, envOf, isStop}
+use Rattle.machine.specs.Table.{wordKind, wordSmall, wordFirst, wordSecond, wordThird, wordAuthority}
+use Rattle.machine.specs.Cells.{lookOf, cellSet, madeWith, storeWith, Bound}
+use Rattle.machine.specs.Access.{grantedOf, allowedOf, signAccess, signFrames, enableAccess, enableFrames, enabledNow, restoreFrames}
+use Rattle.machine.specs.Steps.{callsLeft, cellsMade, postsMade, modeOf, operateOf, postCounters, Appended}
+use Rattle.machine.specs.Store.{Store, Done, storeOf, doneOf, withFrames, andThen, Runs, Applier, Shape, childless, letrec, call, if, check, enable, sign, test, binary, post, shapeOf, leafOf, hasRoom, ownCell, bound, called, letrecS, callS, branchS, ifS, checkS, testS, signS, restored, enableS, binaryS, postDone, postS, byShape, begin, step, below, applyAt, evalAt}
+use Rattle.machine.specs.Lower.{evaluatesFirst, evaluatesSecond, evaluatesThird, readsPrivilege, Lower}
+use Rattle.machine.specs.Enter.{Enterable, goesTo, Enters}
+use Rattle.machine.specs.declared.enter.Entered.{Entered}
+use Rattle.machine.proofs.CellLaws.{bound-room}
+use Rattle.evaluator.specs.Contracts.{Table, Node, Tail, Pair}
+
+module _ (terms : List ℕ) where
+  -- below any number above it, a term is evaluated alike
+  below-top : (f : Applier) (n t env acc : ℕ) (st : Store) → t < n → below terms f n t env acc st ≡ step terms (below terms f t) f t env acc st
+  unfolding below
+  below-top f zero t env acc st h = absurd (omega arith)
+  below-top f (suc n) t env acc st h =
+      ⊎-elim (λ e. rw (eq-eqb t n e, e) refl) (λ lt. rw (ne-eqb t n (λ e. absurd (omega arith))) (below-top f n t env acc st lt)) (eq-or-lt-of-le {n = t} {m = n} (omega arith))
+
+  below-same : (f : Applier) (m n t : ℕ) → t < m → t < n → below terms f m t ≡ below terms f n t
+  below-same f m n t h g = fun-ext λ env. fun-ext λ acc. fun-ext λ st. below-top f m t env acc st h ∙ sym (below-top f n t env acc st g)
+
+-- ---- which shape a kind has
+up : {m k : ℕ} → (k ≡ m → ⊥) → m ≤ k → suc m ≤ k
+up n h = omega (arith, n)
+
+module _ {terms : List ℕ} (T : Table terms) {t x k : ℕ} (small : t < 65536) (is : x ≡ getD terms t 0) (kind : k ≡ wordKind x) where
+  -- a kind that is the number j
+  pub node-of : (j : ℕ) → k ≡ j → Node terms t x (shapeOf j)
+  node-of j e = record { ready = T; term-small = small; word-is = is; shape-is = ap shapeOf (sym kind ∙ e) }
+
+  node-by : {h : Shape} → shapeOf k ≡ h → Node terms t x h
+  node-by e = record { ready = T; term-small = small; word-is = is; shape-is = ap shapeOf (sym kind) ∙ e }
+
+  pub node-leaf : k < 4 → Node terms t x childless
+  unfolding shapeOf
+  node-leaf h = node-by (simp (le-leb k 3 (omega arith)))
+
+  pub tail-of : Enterable k → Tail terms t x
+  tail-of h = record {
+    node = record { ready = T; term-small = small; word-is = is; shape-is = refl };
+    tail = subst Enterable kind h;
+  }
+
+  pub pair-of : (k ≡ 5) ⊎ ((11 ≤ k) × (k < 14)) → Pair terms t x
+  pair-of h = record {
+    ready = T;
+    term-small = small;
+    word-is = is;
+    kind-is = ⊎-elim (λ e. inl (sym kind ∙ e)) (λ l. inr (omega (arith, kind, l .0), omega (arith, kind, l .1))) h;
+  }
+
+  -- sum, difference and less, and what is past them
+  pub node-binary : 11 ≤ k → k ≤ 13 → Node terms t x binary
+  unfolding shapeOf
+  node-binary l h =
+      node-by (simp (
+        lt-leb k 3 (omega arith),
+        ne-eqb k 4 (λ e. omega (arith, e)),
+        ne-eqb k 5 (λ e. omega (arith, e)),
+        ne-eqb k 6 (λ e. omega (arith, e)),
+        ne-eqb k 7 (λ e. omega (arith, e)),
+        ne-eqb k 8 (λ e. omega (arith, e)),
+        ne-eqb k 9 (λ e. omega (arith, e)),
+        ne-eqb k 10 (λ e. omega (arith, e)),
+        le-leb k 13 h,
+      ))
+
+  pub node-post : 13 < k → Node terms t x post
+  unfolding shapeOf
+  node-post h =
+      node-by (simp (
+        lt-leb k 3 (omega arith),
+        ne-eqb k 4 (λ e. omega (arith, e)),
+        ne-eqb k 5 (λ e. omega (arith, e)),
+        ne-eqb k 6 (λ e. omega (arith, e)),
+        ne-eqb k 7 (λ e. omega (arith, e)),
+        ne-eqb k 8 (λ e. omega (arith, e)),
+        ne-eqb k 9 (λ e. omega (arith, e)),
+        ne-eqb k 10 (λ e. omega (arith, e)),
+        lt-leb k 13 h,
+      ))
+
+-- a kind below 11 that is none of 0 to 8
+pub nine-or-ten : (k : ℕ) → (k ≡ 0 → ⊥) → (k ≡ 1 → ⊥) → (k ≡ 2 → ⊥) → (k ≡ 3 → ⊥) → (k ≡ 4 → ⊥) → (k ≡ 5 → ⊥) → (k ≡ 6 → ⊥) → (k ≡ 7 → ⊥) → (k ≡ 8 → ⊥) → k < 11
+    → (k ≡ 9) ⊎ (k ≡ 10)
+nine-or-ten k n0 n1 n2 n3 n4 n5 n6 n7 n8 h =
+    let low : 9 ≤ k = up n8 (up n7 (up n6 (up n5 (up n4 (up n3 (up n2 (up n1 (up n0 (omega arith))))))))) in
+    ⊎-elim (λ e. inl (sym e)) (λ l. inr (omega arith)) (eq-or-lt-of-le {n = 9} {m = k} low)
+
+module _ {terms : List ℕ} {t x : ℕ} {h : Shape} (N : Node terms t x h) where
+  pub lower : Lower h t x
+  lower =
+      subst (λ (g : Shape). Lower g t x) (N .shape-is)
+      (subst (λ (y : ℕ). Lower (shapeOf (wordKind y)) t y) (sym (N .word-is)) (N .ready .lower t))
+
+  pub first-below : {u : ℕ} → evaluatesFirst h ≡ true → u ≡ wordFirst x → u < t
+  first-below e q = omega (arith, q, lower .first-lower e)
+
+  pub second-below : {u : ℕ} → evaluatesSecond h ≡ true → u ≡ wordSecond x → u < t
+  second-below e q = omega (arith, q, lower .second-lower e)
+
+  pub third-below : {u : ℕ} → evaluatesThird h ≡ true → u ≡ wordThird x → u < t
+  third-below e q = omega (arith, q, lower .third-lower e)
+
+  pub privilege-below : {p : ℕ} → readsPrivilege h ≡ true → p ≡ wordSmall x → p < 32
+  privilege-below e q = omega (arith, q, lower .privilege e)
+
+  module _ (k : ℕ) where
+    top : (env acc : ℕ) (st : Store) → evalAt terms k t env acc st ≡ byShape h (below terms (applyAt terms k) t) (applyAt terms k) t x env acc st
+    unfolding evalAt step
+    top env acc st = below-top terms (applyAt terms k) 65536 t env acc st (N .term-small) ∙ rw (← N .word-is, N .shape-is) refl
+
+    child : {u v : ℕ} → u ≡ v → u < t → below terms (applyAt terms k) t v ≡ evalAt terms k u
+    unfolding evalAt
+    child {u} e g = ap (below terms (applyAt terms k) t) (sym e) ∙ below-same terms (applyAt terms k) t 65536 u g (omega (arith, N .term-small))
+
+-- ---- one of two terms
+picked : {A : Type 0} (b : Bool) (u v : ℕ) (to : ℕ → A) → pick b (to u) (to v) ≡ to (pick b u v)
+picked true u v to = refl
+picked false u v to = refl
+
+pub chosen-below : {u v t o : ℕ} (b : Bool) → o ≡ pick b u v → u < t → v < t → o < t
+chosen-below true e l h = omega (arith, e, l)
+chosen-below false e l h = omega (arith, e, h)
+
+-- ---- each shape
+module _ {terms : List ℕ} {t x : ℕ} (k env acc : ℕ) where
+  module _ (N : Node terms t x childless) (st : Store) where
+    leaf-is : {w : ℕ} → w ≡ leafOf (st .cells) t x env → evalAt terms k t env acc st ≡ doneOf w st
+    leaf-is q = top N k env acc st ∙ ap (λ (w : ℕ). doneOf w st) (sym q)
+
+    module _ {kind : ℕ} (e : kind ≡ wordKind x) where
+      pub boolean-is : {w s : ℕ} → kind ≡ 0 → s ≡ wordSmall x → w ≡ booleanWord (ltb 0 s) → evalAt terms k t env acc st ≡ doneOf w st
+      unfolding leafOf
+      boolean-is j p q = leaf-is (q ∙ rw (← e, j, p) refl)
+
+      pub number-is : {w n : ℕ} → kind ≡ 1 → n ≡ wordFirst x → w ≡ numberWord n → evalAt terms k t env acc st ≡ doneOf w st
+      unfolding leafOf
+      number-is j p q = leaf-is (q ∙ rw (← e, j, p) refl)
+
+      pub variable-is : {w n : ℕ} → kind ≡ 2 → n ≡ wordFirst x → w ≡ lookOf (st .cells) t env n → evalAt terms k t env acc st ≡ doneOf w st
+      unfolding leafOf
+      variable-is j p q = leaf-is (q ∙ rw (← e, j, p) refl)
+
+      pub function-is : {w b : ℕ} → kind ≡ 3 → b ≡ wordSecond x → w ≡ functionWord b env → evalAt terms k t env acc st ≡ doneOf w st
+      unfolding leafOf
+      function-is j p q = leaf-is (q ∙ rw (← e, j, p) refl)
+
+  module _ (N : Node terms t x post) {u : ℕ} (p : u ≡ wordFirst x) where
+    pub post-is : (st : Store) → evalAt terms k t env acc st ≡ andThen (evalAt terms k u env acc st) (λ w st₁. postDone t w st₁)
+    unfolding postS
+    post-is st = top N k env acc st ∙ ap (λ (f : Runs). postS f t env acc st) (child N k p (first-below N refl p))
+
+  module _ (N : Node terms t x if) {u v z : ℕ} (p : u ≡ wordFirst x) (q : v ≡ wordSecond x) (r : z ≡ wordThird x) where
+    pub if-is : (st : Store) → evalAt terms k t env acc st
+        ≡ andThen (evalAt terms k u env acc st) (λ w st₁. branchS t w (evalAt terms k v env acc st₁) (evalAt terms k z env acc st₁) st₁)
+    unfolding ifS
+    if-is st =
+        top N k env acc st
+        ∙ ap₂ (λ (f g : Runs). ifS f g (below terms (applyAt terms k) t (wordThird x)) t env acc st) (child N k p (first-below N refl p)) (child N k q (second-below N refl q))
+        ∙ ap (λ (g : Runs). ifS (evalAt terms k u) (evalAt terms k v) g t env acc st) (child N k r (third-below N refl r))
+
+  module _ (N : Node terms t x enable) (st : Store) where
+    pub enable-is : {u s a old : ℕ} {seen l m : List ℕ} {d : Done} → u ≡ wordFirst x → s ≡ wordSmall x → old ≡ enabledNow (modeOf (st .n)) acc (st .frames)
+        → seen ≡ st .frames → a ≡ enableAccess (modeOf (st .n)) acc s → l ≡ enableFrames (modeOf (st .n)) acc seen s
+        → d ≡ evalAt terms k u env a (withFrames l st) → m ≡ restoreFrames (modeOf (st .n)) acc (d .store .frames) old
+        → doneOf (d .out) (withFrames m (d .store)) ≡ evalAt terms k t env acc st
+    unfolding enableS
+    enable-is {d = d} p s o z a l g m =
+        ap (λ (f : List ℕ). doneOf (d .out) (withFrames f (d .store))) m
+        ∙ ap₂ (λ (w : ℕ) (z : Done). restored (modeOf (st .n)) acc w z) o (rw (l, z, a, s) at g)
+        ∙ sym (top N k env acc st ∙ ap (λ (f : Runs). enableS f (wordSmall x) env acc st) (child N k p (first-below N refl p)))
+
+-- ---- a letrec, check, sign or test
+module _ {terms : List ℕ} {t x : ℕ} (T : Tail terms t x) (k env acc : ℕ) {n cells frames n′ cells′ frames′ : List ℕ} {e : Entered}
+    (E : Enters t x env acc n cells frames e n′ cells′ frames′) where
+  tail-is : (posts : List ℕ) → evalAt terms k t env acc (storeOf n cells posts frames) ≡ goesTo e (below terms (applyAt terms k) t) (storeOf n′ cells′ posts frames′)
+  tail-is posts = top (T .node) k env acc (storeOf n cells posts frames) ∙ E .goes (below terms (applyAt terms k) t) (applyAt terms k) posts
+
+  pub tail-stops : (posts : List ℕ) → isStop (e .stop) ≡ true → evalAt terms k t env acc (storeOf n cells posts frames) ≡ doneOf (e .stop) (storeOf n′ cells′ posts frames′)
+  tail-stops posts h = tail-is posts ∙ rw h refl
+
+  pub next-below : e .next < t
+  next-below = E .lower t (lower (T .node))
+
+  pub tail-goes : (posts : List ℕ) → isStop (e .stop) ≡ false
+      → evalAt terms k t env acc (storeOf n cells posts frames) ≡ evalAt terms k (e .next) (e .env) (e .acc) (storeOf n′ cells′ posts frames′)
+  tail-goes posts h =
+      tail-is posts ∙ rw h refl ∙ (λ i. child (T .node) k {u = e .next} refl next-below i (e .env) (e .acc) (storeOf n′ cells′ posts frames′))
+
+-- ---- a call or an operation
+module _ {terms : List ℕ} {t x : ℕ} (P : Pair terms t x) where
+  call-node : wordKind x ≡ 5 → Node terms t x call
+  unfolding shapeOf
+  call-node = node-of (P .ready) (P .term-small) (P .word-is) refl 5
+
+  binary-node : (11 ≤ wordKind x) × (wordKind x ≤ 13) → Node terms t x binary
+  binary-node h = node-binary (P .ready) (P .term-small) (P .word-is) refl (h .0) (h .1)
+
+  pub operand-below : {u v : ℕ} → u ≡ wordFirst x → v ≡ wordSecond x → (u < t) × (v < t)
+  operand-below p q =
+      ⊎-elim (λ e. (first-below (call-node e) refl p, second-below (call-node e) refl q)) (λ h. (first-below (binary-node h) refl p, second-below (binary-node h) refl q))
+      (P .kind-is)
+
+  -- how it ends: an application, or a word
+  unfoldable pub pairEnd : (k acc a b : ℕ) → Store → Done
+  pairEnd k acc a b st = pick (eqb (wordKind x) 5) (applyAt terms k t a b acc st) (doneOf (operateOf (wordKind x) t a b) st)
+
+  pub pair-is : (k env acc : ℕ) {u v : ℕ} → u ≡ wordFirst x → v ≡ wordSecond x → (st : Store) → evalAt terms k t env acc st
+      ≡ andThen (evalAt terms k u env acc st) (λ a st₁. andThen (evalAt terms k v env acc st₁) (λ b st₂. pairEnd k acc a b st₂))
+  unfolding callS binaryS pairEnd
+  pair-is k env acc {u} {v} p q st = ⊎-elim (λ e. top (call-node e) k env acc st ∙ applied e) (λ h. top (binary-node h) k env acc st ∙ operated h) (P .kind-is)
+    where
+      ending : Bool → Done
+      ending c = andThen (evalAt terms k u env acc st)
+          (λ a st₁. andThen (evalAt terms k v env acc st₁) (λ b st₂. pick c (applyAt terms k t a b acc st₂) (doneOf (operateOf (wordKind x) t a b) st₂)))
+
+      applied : wordKind x ≡ 5 → callS (below terms (applyAt terms k) t (wordFirst x)) (below terms (applyAt terms k) t (wordSecond x)) (applyAt terms k) t env acc st
+          ≡ ending (eqb (wordKind x) 5)
+      applied e =
+          ap₂ (λ (f g : Runs). callS f g (applyAt terms k) t env acc st) (child (call-node e) k p (first-below (call-node e) refl p)) (child (call-node e) k q (second-below (call-node e) refl q))
+          ∙ ap ending (sym (eq-eqb (wordKind x) 5 e))
+
+      operated : (h : (11 ≤ wordKind x) × (wordKind x ≤ 13)) → binaryS (below terms (applyAt terms k) t (wordFirst x)) (below terms (applyAt terms k) t (wordSecond x)) (wordKind x) t env acc st
+          ≡ ending (eqb (wordKind x) 5)
+      operated h =
+          ap₂ (λ (f g : Runs). binaryS f g (wordKind x) t env acc st) (child (binary-node h) k p (first-below (binary-node h) refl p)) (child (binary-node h) k q (second-below (binary-node h) refl q))
+          ∙ ap ending (sym (ne-eqb (wordKind x) 5 (λ e. omega (arith, e, h .0))))
+
+  pub pair-applies : (k acc a b : ℕ) (st : Store) {o : ℕ} → o ≡ wordKind x → o ≡ 5 → pairEnd k acc a b st ≡ applyAt terms k t a b acc st
+  unfolding pairEnd
+  pair-applies k acc a b st e z = rw (eq-eqb (wordKind x) 5 (sym e ∙ z)) refl
+
+  pub pair-operates : (k acc a b : ℕ) (st : Store) {o w : ℕ} → o ≡ wordKind x → (o ≡ 5 → ⊥) → w ≡ operateOf o t a b → pairEnd k acc a b st ≡ doneOf w st
+  unfolding pairEnd
+  pair-operates k acc a b st e n q = rw (ne-eqb (wordKind x) 5 (λ z. n (e ∙ z)), ← e, q) refl
+
+-- ---- a branch, by the condition's word
+pub branch-stuck : (t w : ℕ) (p q : Done) (st : Store) {s r : ℕ} → s ≡ sortOf w → (s ≡ 0 → ⊥) → r ≡ stopWord 18 t → branchS t w p q st ≡ doneOf r st
+unfolding branchS
+branch-stuck t w p q st e n r = simp (ne-eqb (sortOf w) 0 (λ z. n (e ∙ z))) (ap (λ (x : ℕ). doneOf x st) (sym r))
+
+pub branch-to : (terms : List ℕ) (k env acc t w u v : ℕ) (st : Store) {s n o : ℕ} → s ≡ sortOf w → s ≡ 0 → n ≡ payloadOf w → o ≡ pick (ltb 0 n) u v
+    → branchS t w (evalAt terms k u env acc st) (evalAt terms k v env acc st) st ≡ evalAt terms k o env acc st
+unfolding branchS
+branch-to terms k env acc t w u v st {n = n} e z g o =
+    simp (eq-eqb (sortOf w) 0 (sym e ∙ z)) (rw (← g) (picked (ltb 0 n) u v (λ (x : ℕ). evalAt terms k x env acc st))) ∙ ap (λ (x : ℕ). evalAt terms k x env acc st) (sym o)
+
+-- ---- an application
+module _ (terms : List ℕ) (k t f v acc : ℕ) (st : Store) where
+  pub apply-stuck : {s r : ℕ} → s ≡ sortOf f → (s ≡ 2 → ⊥) → r ≡ stopWord 18 t → applyAt terms k t f v acc st ≡ doneOf r st
+  unfolding applyAt
+  apply-stuck {r = w} e n r = go k
+    where
+      go : (k : ℕ) → applyAt terms k t f v acc st ≡ doneOf w st
+      go zero = simp (ne-eqb (sortOf f) 2 (λ z. n (e ∙ z))) (ap (λ (x : ℕ). doneOf x st) (sym r))
+      go (suc k) = simp (ne-eqb (sortOf f) 2 (λ z. n (e ∙ z))) (ap (λ (x : ℕ). doneOf x st) (sym r))
+
+  module _ {s : ℕ} (e : s ≡ sortOf f) (z : s ≡ 2) where
+    pub apply-deep : {r : ℕ} → k ≡ 0 → r ≡ stopWord 19 t → applyAt terms k t f v acc st ≡ doneOf r st
+    unfolding applyAt
+    apply-deep h r = rw h (simp (eq-eqb (sortOf f) 2 (sym e ∙ z)) (ap (λ (x : ℕ). doneOf x st) (sym r)))
+
+    module _ (opens : k ≡ 0 → ⊥) where
+      apply-begin : applyAt terms k t f v acc st ≡ begin (evalAt terms (k - 1)) t f v acc st
+      unfolding applyAt evalAt
+      apply-begin = go k opens
+        where
+          go : (k : ℕ) → (k ≡ 0 → ⊥) → applyAt terms k t f v acc st ≡ begin (below terms (applyAt terms (k - 1)) 65536) t f v acc st
+          go zero n = absurd (n refl)
+          go (suc k) n = simp (eq-eqb (sortOf f) 2 (sym e ∙ z)) (rw sub-one refl)
+
+      pub apply-spent : {r : ℕ} → callsLeft (st .n) ≡ 0 → r ≡ stopWord 20 t → applyAt terms k t f v acc st ≡ doneOf r st
+      unfolding begin
+      apply-spent h r = apply-begin ∙ simp (eq-eqb (callsLeft (st .n)) 0 h) (ap (λ (x : ℕ). doneOf x st) (sym r))
+
+      module _ (calls : callsLeft (st .n) ≡ 0 → ⊥) where
+        pub apply-full : {r : ℕ} → length (st .cells) / 8 ≤ cellsMade (st .n) → r ≡ stopWord 21 t → applyAt terms k t f v acc st ≡ doneOf r st
+        unfolding begin hasRoom
+        apply-full h r = apply-begin ∙ simp (ne-eqb (callsLeft (st .n)) 0 calls, le-ltb (cellsMade (st .n)) (length (st .cells) / 8) h) (ap (λ (x : ℕ). doneOf x st) (sym r))
+
+        pub apply-runs : {b e o m : ℕ} {l : List ℕ} → Bound (cellsMade (st .n)) v e (st .cells) m l → (m ≡ 0 → ⊥) → b ≡ payloadOf f → e ≡ envOf f → o ≡ ownCell st
+            → applyAt terms k t f v acc st ≡ evalAt terms (k - 1) b o acc (storeOf (set (set (st .n) 0 (callsLeft (st .n) - 1)) 1 m) l (st .posts) (st .frames))
+        unfolding begin hasRoom
+        apply-runs c n b e o =
+            let h = bound-room _ _ _ _ c n in
+            apply-begin
+            ∙ simp (ne-eqb (callsLeft (st .n)) 0 calls, lt-ltb (cellsMade (st .n)) (length (st .cells) / 8) (h .0)) (rw (h .1 .0, h .1 .1, b, e, o) refl)
+
+-- ---- the calls left after a cell is counted, and after a call is
+pub same-calls : (n : List ℕ) (m : ℕ) → callsLeft (set n 1 m) ≡ callsLeft n
+same-calls n m = getD-set-other n 1 0 m 0 (λ e. omega (arith, e))
+
+pub one-call-less : (n : List ℕ) (m : ℕ) → (callsLeft n ≡ 0 → ⊥) → callsLeft (set (set n 0 (callsLeft n - 1)) 1 m) < callsLeft n
+one-call-less n m h = go n h
+  where
+    go : (n : List ℕ) → (callsLeft n ≡ 0 → ⊥) → callsLeft (set (set n 0 (callsLeft n - 1)) 1 m) < callsLeft n
+    go [] h = absurd (h refl)
+    go (a ∷ l) h = omega (arith, h, same-calls (set (a ∷ l) 0 (a - 1)) m)
+
+-- ---- a post that is appended, or not
+module _ {t w : ℕ} {n l n′ l′ : List ℕ} {r : ℕ} (a : Appended t w n l r n′ l′) where
+  pub post-done : (c f : List ℕ) → doneOf r (storeOf n′ c l′ f) ≡ postDone t w (storeOf n c l f)
+  unfolding postDone
+  post-done c f = λ i. doneOf (a .word-is i) (storeOf (a .counters-are i) c (a .posts-are i) f)
+
+  pub post-calls : callsLeft n′ ≤ callsLeft n
+  unfolding postCounters
+  post-calls = omega (arith, ap (λ (m : List ℕ). callsLeft m) (a .counters-are), go (eqb (sortOf w) 1) (leb (length l) (postsMade n)))
+    where
+      go : (b d : Bool) → callsLeft (pick b (pick d n (set n 2 (postsMade n + 1))) n) ≡ callsLeft n
+      go true true = refl
+      go true false = getD-set-other n 2 0 (postsMade n + 1) 0 (λ e. omega (arith, e))
+      go false d = refl

@@ -1,0 +1,58 @@
+-- The contract of the evaluator's functions, said once: what they ask of the words of the terms, and what they give and leave.
+use mathlib.Core.List.{List}
+use mathlib.Core.Logic.{_⊎_}
+use mathlib.Core.Path.{_≡_}
+use Prim.Native.Nat.{ℕ, _+_, _*_, _<_, _≤_}
+use lib.ListN.{length, getD}
+use denote.Ref.{RefT}
+use Rattle.machine.specs.Table.{wordKind}
+use Rattle.machine.specs.Lower.{Lower}
+use Rattle.machine.specs.Steps.{callsLeft}
+use Rattle.machine.specs.Enter.{Enterable}
+use Rattle.machine.specs.Store.{Store, Done, storeOf, doneOf, Shape, shapeOf}
+
+-- ---- what is asked: of the words, and of a function for one shape
+pub record Table (terms : List ℕ) : Type 0 where
+  pub long : length terms ≡ 1024
+  pub lower : (t : ℕ) → Lower (shapeOf (wordKind (getD terms t 0))) t (getD terms t 0)
+
+pub record Node (terms : List ℕ) (t x : ℕ) (h : Shape) : Type 0 where
+  pub ready : Table terms
+  pub term-small : t < 65536
+  pub word-is : x ≡ getD terms t 0
+  pub shape-is : shapeOf (wordKind x) ≡ h
+
+-- a letrec, check, sign or test: the shapes that end as the one child that they evaluate
+pub record Tail (terms : List ℕ) (t x : ℕ) : Type 0 where
+  pub node : Node terms t x (shapeOf (wordKind x))
+  pub tail : Enterable (wordKind x)
+
+-- a call, or an operation on two numbers: the two shapes that evaluate first and second and end by their values
+pub record Pair (terms : List ℕ) (t x : ℕ) : Type 0 where
+  pub ready : Table terms
+  pub term-small : t < 65536
+  pub word-is : x ≡ getD terms t 0
+  pub kind-is : (wordKind x ≡ 5) ⊎ ((11 ≤ wordKind x) × (wordKind x ≤ 13))
+
+-- ---- what is given: the lent slices are those that came, under the names that the checker follows them by
+pub record Names : Type 0 where
+  pub cells : ℕ
+  pub posts : ℕ
+  pub frames : ℕ
+
+abbrev pub namesOf : (cells posts frames : RefT (List ℕ)) → Names
+namesOf c p f = record { cells = c .name; posts = p .name; frames = f .name }
+
+abbrev pub stateOf : (n : List ℕ) (cells posts frames : RefT (List ℕ)) → Store
+stateOf n c p f = storeOf n (c .now) (p .now) (f .now)
+
+-- result, counters and stores are as the interpreter's run gives them, and the calls left did not rise
+pub record Evaluated (run : Store → Done) (n : List ℕ) (cells posts frames : RefT (List ℕ)) (r : ℕ) (n′ : List ℕ) (cells′ posts′ frames′ : RefT (List ℕ)) : Type 0 where
+  pub done : doneOf r (stateOf n′ cells′ posts′ frames′) ≡ run (stateOf n cells posts frames)
+  pub calls : callsLeft n′ ≤ callsLeft n
+  pub names : namesOf cells′ posts′ frames′ ≡ namesOf cells posts frames
+
+-- What falls at each call of the cycle: a call left is worth more than any term's number, which has 16 bits, and a term's number twice as much as the
+-- step from `eval` to the function of its shape.
+abbrev pub workLeft : (n : List ℕ) (t step : ℕ) → ℕ
+workLeft n t step = callsLeft n * 131076 + t * 2 + step

@@ -1,0 +1,66 @@
+// The evaluator on lent slices. Each function here keeps one of the three in a local and lends that on, so that the evaluator gets references to
+// slices. A slice that is lent so is spent, and comes back as the result.
+ghost use Rattle.machine.specs.Store.{evalAt};
+ghost use Rattle.evaluator.specs.Contracts.{Table, Evaluated};
+use crate::eval;
+
+fn lend_cells<'a>(
+    terms: &[u64; 1024],
+    cells: &'a mut [u8],
+    posts: &mut &mut [u16],
+    frames: &mut &mut [u32],
+    n: &mut [usize; 4],
+    t: u16,
+    acc: u64,
+    depth: usize,
+    word: &mut u64,
+) -> &'a mut [u8]
+    requires { ⌜ Table (now terms) ⌝ }
+    ensures { λ r. ⌜ Evaluated (evalAt (now (terms .entry)) depth t 0 acc) (now (n .entry)) (cells .entry) (now (posts .entry)) (now (frames .entry)) (now (word .exit)) (now (n .exit)) r (now (posts .exit)) (now (frames .exit)) ⌝ }
+{
+    let mut lent = cells;
+    *word = eval(terms, &mut lent, posts, frames, n, t, 0, acc, depth);
+    let back = lent;
+    back
+}
+
+fn lend_posts<'a>(
+    terms: &[u64; 1024],
+    cells: &mut [u8],
+    posts: &'a mut [u16],
+    frames: &mut &mut [u32],
+    n: &mut [usize; 4],
+    t: u16,
+    acc: u64,
+    depth: usize,
+    word: &mut u64,
+) -> &'a mut [u16]
+    requires { ⌜ Table (now terms) ⌝ }
+    ensures { λ r. ⌜ Evaluated (evalAt (now (terms .entry)) depth t 0 acc) (now (n .entry)) (cells .entry) (posts .entry) (now (frames .entry)) (now (word .exit)) (now (n .exit)) (cells .exit) r (now (frames .exit)) ⌝ }
+{
+    let mut lent = posts;
+    lend_cells(terms, cells, &mut lent, frames, n, t, acc, depth, word);
+    let back = lent;
+    back
+}
+
+// Evaluates term t in the empty environment, and says in `word` what it gives.
+pub fn run<'a>(
+    terms: &[u64; 1024],
+    cells: &mut [u8],
+    posts: &mut [u16],
+    frames: &'a mut [u32],
+    n: &mut [usize; 4],
+    t: u16,
+    acc: u64,
+    depth: usize,
+    word: &mut u64,
+) -> &'a mut [u32]
+    requires { ⌜ Table (now terms) ⌝ }
+    ensures { λ r. ⌜ Evaluated (evalAt (now (terms .entry)) depth t 0 acc) (now (n .entry)) (cells .entry) (posts .entry) (frames .entry) (now (word .exit)) (now (n .exit)) (cells .exit) (posts .exit) r ⌝ }
+{
+    let mut lent = frames;
+    lend_posts(terms, cells, posts, &mut lent, n, t, acc, depth, word);
+    let back = lent;
+    back
+}

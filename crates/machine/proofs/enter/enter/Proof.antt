@@ -1,0 +1,233 @@
+-- A letrec, check, sign or test is what it enters: a law for each of its six ends.
+use mathlib.Core.Path.{refl}
+use Rattle.machine.specs.Store.{shapeOf}
+use Rattle.machine.proofs.EnterLaws.{enter-full, enter-cell, enter-sign, enter-allowed, enter-refused, enter-test, privileged, only-test}
+use borrow.Author.Needs.{needs}
+use Rattle.machine.proofs.enter.enter.Statement.{statement}
+use Rattle.machine.proofs.enter.enter.Tie as tie
+
+kind-of-requires : tie.Need-kind-of-requires
+kind-of-requires c κs = search needs
+
+element-copy-out-k : tie.Need-element-copy-out-k
+element-copy-out-k c = search needs
+
+next-cell-requires : tie.Need-next-cell-requires
+next-cell-requires c κs = search needs
+
+second-of-requires : tie.Need-second-of-requires
+second-of-requires c κs = search needs
+
+function-requires : tie.Need-function-requires
+function-requires c κs = search needs
+
+bind-requires : tie.Need-bind-requires
+bind-requires c κs = search needs
+
+stop-requires : tie.Need-stop-requires
+stop-requires c κs = search needs
+
+third-of-requires : tie.Need-third-of-requires
+third-of-requires c κs = search needs
+
+halts-requires : tie.Need-halts-requires
+halts-requires c κs = search needs
+
+same-length : tie.Need-same-length
+same-length c = search needs
+
+returns : tie.Need-returns
+returns c =
+    let at-bind = c .before .before .before .before .before .before in
+    let at-if1 = at-bind .before .before .before .before .before .before in
+    let at-kind-of = at-if1 .before in
+    enter-full _ _ _ _ _ _ _ (at-kind-of .kind-of .ensures) (at-if1 .if1 .taken) (c .before .third-of .ensures) (at-bind .bind .ensures)
+    (c .before .before .before .if2 .taken) (c .before .before .stop .ensures) (c .halts .ensures)
+
+element-write-n : tie.Need-element-write-n
+element-write-n c = search needs
+
+third-of-requires-2 : tie.Need-third-of-requires-2
+third-of-requires-2 c κs = search needs
+
+goes-requires : tie.Need-goes-requires
+goes-requires c κs = search needs
+
+same-length-2 : tie.Need-same-length-2
+same-length-2 c = search needs
+
+returns-2 : tie.Need-returns-2
+returns-2 c =
+    let at-bind = c .before .before .before .before .before in
+    let at-function = at-bind .before in
+    let at-second-of = at-function .before in
+    let at-next-cell = at-second-of .before .before in
+    let at-if1 = at-next-cell .before .before in
+    let at-kind-of = at-if1 .before in
+    enter-cell _ _ _ _ _ _ _ (at-kind-of .kind-of .ensures) (at-if1 .if1 .taken) (c .before .third-of2 .ensures) (at-bind .bind .ensures)
+    (c .before .before .if2 .left) (at-next-cell .next-cell .ensures) (at-second-of .second-of .ensures) (at-function .function .ensures) (c .goes .ensures)
+
+element-copy-out-mode : tie.Need-element-copy-out-mode
+element-copy-out-mode c = search needs
+
+first-of-requires : tie.Need-first-of-requires
+first-of-requires c κs = search needs
+
+authority-of-requires : tie.Need-authority-of-requires
+authority-of-requires c κs = search needs
+
+sign-requires : tie.Need-sign-requires
+sign-requires c κs = search needs
+
+goes-requires-2 : tie.Need-goes-requires-2
+goes-requires-2 c κs = search needs
+
+same-length-3 : tie.Need-same-length-3
+same-length-3 c = search needs
+
+returns-3 : tie.Need-returns-3
+returns-3 c =
+    let at-sign = c .before .before .before in
+    let at-authority-of = at-sign .before in
+    let at-first-of = at-authority-of .before .before in
+    let at-if3 = at-first-of .before in
+    let at-kind-of = at-if3 .before .before .before in
+    enter-sign _ _ _ _ _ _ _ (at-kind-of .kind-of .ensures) (at-if3 .if3 .taken) (at-first-of .first-of .ensures) (at-authority-of .authority-of .ensures)
+    (at-sign .sign .ensures .0) (at-sign .sign .ensures .1) (c .goes2 .ensures)
+
+small-of-requires : tie.Need-small-of-requires
+small-of-requires c κs = search needs
+
+allowed-requires : tie.Need-allowed-requires
+unfolding shapeOf
+allowed-requires c κs =
+    let at-kind-of = c .before .before .before .before .before .before in
+    let start = at-kind-of .before .before .before in
+    privileged _ (at-kind-of .kind-of .ensures) 7 refl (c .before .before .if4 .taken) (start .pre .1) (c .small-of .ensures)
+
+first-of-requires-2 : tie.Need-first-of-requires-2
+first-of-requires-2 c κs = search needs
+
+goes-requires-3 : tie.Need-goes-requires-3
+goes-requires-3 c κs = search needs
+
+same-length-4 : tie.Need-same-length-4
+same-length-4 c = search needs
+
+returns-4 : tie.Need-returns-4
+returns-4 c =
+    let at-allowed = c .before .before .before .before .before in
+    let at-small-of = at-allowed .before in
+    let at-if4 = at-small-of .before .before in
+    let at-kind-of = at-if4 .before .before .before .before in
+    enter-allowed _ _ _ _ _ _ _ (at-kind-of .kind-of .ensures) (at-if4 .if4 .taken) (at-small-of .small-of .ensures) (at-allowed .allowed .ensures .0)
+    (at-allowed .allowed .ensures .1) (c .before .first-of2 .ensures) (c .before .before .if5 .taken) (c .goes3 .ensures)
+
+stop-requires-2 : tie.Need-stop-requires-2
+stop-requires-2 c κs = search needs
+
+first-of-requires-3 : tie.Need-first-of-requires-3
+first-of-requires-3 c κs = search needs
+
+halts-requires-2 : tie.Need-halts-requires-2
+halts-requires-2 c κs = search needs
+
+same-length-5 : tie.Need-same-length-5
+same-length-5 c = search needs
+
+returns-5 : tie.Need-returns-5
+returns-5 c =
+    let at-allowed = c .before .before .before .before .before .before in
+    let at-small-of = at-allowed .before in
+    let at-if4 = at-small-of .before .before in
+    let at-kind-of = at-if4 .before .before .before .before in
+    enter-refused _ _ _ _ _ _ _ (at-kind-of .kind-of .ensures) (at-if4 .if4 .taken) (at-small-of .small-of .ensures) (at-allowed .allowed .ensures .0)
+    (at-allowed .allowed .ensures .1) (c .before .first-of3 .ensures) (c .before .before .before .if5 .left) (c .before .before .stop2 .ensures)
+    (c .halts2 .ensures)
+
+small-of-requires-2 : tie.Need-small-of-requires-2
+small-of-requires-2 c κs = search needs
+
+granted-requires : tie.Need-granted-requires
+unfolding shapeOf
+granted-requires c κs =
+    let at-if1 = c .before .before .before .before .before in
+    let at-kind-of = at-if1 .before in
+    let start = at-kind-of .before .before .before in
+    privileged _ (at-kind-of .kind-of .ensures) 10 refl (only-test _ (at-kind-of .kind-of .ensures) (start .pre .0) (at-if1 .if1 .left)
+    (c .before .before .before .if3 .left) (c .before .before .if4 .left)) (start .pre .1) (c .small-of2 .ensures)
+
+first-of-requires-4 : tie.Need-first-of-requires-4
+first-of-requires-4 c κs = search needs
+
+second-of-requires-2 : tie.Need-second-of-requires-2
+second-of-requires-2 c κs = search needs
+
+choose-requires : tie.Need-choose-requires
+choose-requires c κs = search needs
+
+goes-requires-4 : tie.Need-goes-requires-4
+goes-requires-4 c κs = search needs
+
+same-length-6 : tie.Need-same-length-6
+same-length-6 c = search needs
+
+returns-6 : tie.Need-returns-6
+returns-6 c =
+    let at-granted = c .before .before .before .before .before .before in
+    let at-small-of2 = at-granted .before in
+    let at-if4 = at-small-of2 .before .before in
+    let at-if3 = at-if4 .before in
+    let at-if1 = at-if3 .before .before in
+    let at-kind-of = at-if1 .before in
+    let start = at-kind-of .before .before .before in
+    enter-test _ _ _ _ _ _ _ (at-kind-of .kind-of .ensures) (only-test _ (at-kind-of .kind-of .ensures) (start .pre .0) (at-if1 .if1 .left) (at-if3 .if3 .left)
+    (at-if4 .if4 .left)) (at-small-of2 .small-of2 .ensures) (at-granted .granted .ensures .0) (at-granted .granted .ensures .1)
+    (c .before .before .before .first-of4 .ensures) (c .before .before .second-of2 .ensures) (c .before .choose .ensures) (c .goes4 .ensures)
+
+pub enter-spec : {M : Type 1} → statement M
+enter-spec =
+    tie.close
+    (tie.spec
+    kind-of-requires
+    element-copy-out-k
+    next-cell-requires
+    second-of-requires
+    function-requires
+    bind-requires
+    stop-requires
+    third-of-requires
+    halts-requires
+    same-length
+    returns
+    element-write-n
+    third-of-requires-2
+    goes-requires
+    same-length-2
+    returns-2
+    element-copy-out-mode
+    first-of-requires
+    authority-of-requires
+    sign-requires
+    goes-requires-2
+    same-length-3
+    returns-3
+    small-of-requires
+    allowed-requires
+    first-of-requires-2
+    goes-requires-3
+    same-length-4
+    returns-4
+    stop-requires-2
+    first-of-requires-3
+    halts-requires-2
+    same-length-5
+    returns-5
+    small-of-requires-2
+    granted-requires
+    first-of-requires-4
+    second-of-requires-2
+    choose-requires
+    goes-requires-4
+    same-length-6
+    returns-6)

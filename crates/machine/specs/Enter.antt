@@ -1,0 +1,31 @@
+-- The shapes that end as one child of theirs: letrec, check, sign and test. What they do before that child is a step that evaluates no other term.
+use mathlib.Core.List.{List}
+use mathlib.Core.Logic.{_⊎_}
+use mathlib.Core.Path.{_≡_}
+use Prim.Native.Nat.{ℕ, _<_}
+use Rattle.machine.specs.declared.enter.Entered.{Entered}
+use Rattle.machine.specs.Words.{pick, isStop}
+use Rattle.machine.specs.Table.{wordKind}
+use Rattle.machine.specs.Steps.{callsLeft}
+use Rattle.machine.specs.Store.{Store, Done, storeOf, doneOf, Runs, Applier, shapeOf, byShape}
+use Rattle.machine.specs.Lower.{Lower}
+
+-- the kinds of letrec, check, sign and test
+abbrev pub Enterable : (kind : ℕ) → Type 0
+Enterable k = (k ≡ 4) ⊎ ((k ≡ 7) ⊎ ((k ≡ 9) ⊎ (k ≡ 10)))
+
+abbrev pub going : (next env acc : ℕ) → Entered
+going u env acc = record { stop = 0; next = u; env = env; acc = acc }
+
+abbrev pub halting : (stop next : ℕ) → Entered
+halting w u = record { stop = w; next = u; env = 0; acc = 0 }
+
+-- a stop stays, or the child is evaluated
+abbrev pub goesTo : Entered → (ℕ → Runs) → Store → Done
+goesTo e ev st = pick (isStop (e .stop)) (doneOf (e .stop) st) (ev (e .next) (e .env) (e .acc) st)
+
+pub record Enters (t x env acc : ℕ) (n cells frames : List ℕ) (e : Entered) (n′ cells′ frames′ : List ℕ) : Type 0 where
+  pub goes : (ev : ℕ → Runs) (ap : Applier) (posts : List ℕ)
+      → byShape (shapeOf (wordKind x)) ev ap t x env acc (storeOf n cells posts frames) ≡ goesTo e ev (storeOf n′ cells′ posts frames′)
+  pub calls : callsLeft n′ ≡ callsLeft n
+  pub lower : (b : ℕ) → Lower (shapeOf (wordKind x)) b x → e .next < b

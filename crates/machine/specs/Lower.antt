@@ -1,0 +1,61 @@
+-- Which parts of a word each shape evaluates, and which reads a privilege.
+use mathlib.Core.Bool.{Bool, true, false}
+use mathlib.Core.Path.{_≡_}
+use Prim.Native.Nat.{ℕ, _<_}
+use Rattle.machine.specs.Table.{wordSmall, wordFirst, wordSecond, wordThird}
+use Rattle.machine.specs.Store.{Shape, childless, letrec, call, if, check, enable, sign, test, binary, post}
+
+abbrev pub evaluatesFirst : Shape → Bool
+evaluatesFirst childless = false
+evaluatesFirst letrec = false
+evaluatesFirst call = true
+evaluatesFirst if = true
+evaluatesFirst check = true
+evaluatesFirst enable = true
+evaluatesFirst sign = true
+evaluatesFirst test = true
+evaluatesFirst binary = true
+evaluatesFirst post = true
+
+abbrev pub evaluatesSecond : Shape → Bool
+evaluatesSecond childless = false
+evaluatesSecond letrec = false
+evaluatesSecond call = true
+evaluatesSecond if = true
+evaluatesSecond check = false
+evaluatesSecond enable = false
+evaluatesSecond sign = false
+evaluatesSecond test = true
+evaluatesSecond binary = true
+evaluatesSecond post = false
+
+abbrev pub evaluatesThird : Shape → Bool
+evaluatesThird childless = false
+evaluatesThird letrec = true
+evaluatesThird call = false
+evaluatesThird if = true
+evaluatesThird check = false
+evaluatesThird enable = false
+evaluatesThird sign = false
+evaluatesThird test = false
+evaluatesThird binary = false
+evaluatesThird post = false
+
+abbrev pub readsPrivilege : Shape → Bool
+readsPrivilege childless = false
+readsPrivilege letrec = false
+readsPrivilege call = false
+readsPrivilege if = false
+readsPrivilege check = true
+readsPrivilege enable = true
+readsPrivilege sign = false
+readsPrivilege test = true
+readsPrivilege binary = false
+readsPrivilege post = false
+
+-- what is evaluated has a lower number, and a privilege is below 32
+pub record Lower (h : Shape) (t x : ℕ) : Type 0 where
+  pub first-lower : evaluatesFirst h ≡ true → wordFirst x < t
+  pub second-lower : evaluatesSecond h ≡ true → wordSecond x < t
+  pub third-lower : evaluatesThird h ≡ true → wordThird x < t
+  pub privilege : readsPrivilege h ≡ true → wordSmall x < 32

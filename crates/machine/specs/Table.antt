@@ -1,0 +1,44 @@
+-- The term table of a sheet as words: the parts of a record from the lowest byte on. A sign has its principal's set in the place of second and third.
+use mathlib.Core.List.{List}
+use mathlib.Core.Path.{_≡_}
+use Prim.Native.Nat.{ℕ, _/_, _%_}
+use lib.ListN.{length, getD}
+use Rattle.program.specs.Records.{termRecord, authorityRecord}
+use Rattle.program.specs.declared.records.Counts.{Counts}
+
+abbrev pub wordKind : ℕ → ℕ
+wordKind x = x % 256
+
+abbrev pub wordSmall : ℕ → ℕ
+wordSmall x = x / 256 % 256
+
+abbrev pub wordFirst : ℕ → ℕ
+wordFirst x = x / 65536 % 65536
+
+abbrev pub wordSecond : ℕ → ℕ
+wordSecond x = x / 4294967296 % 65536
+
+abbrev pub wordThird : ℕ → ℕ
+wordThird x = x / 281474976710656 % 65536
+
+abbrev pub wordAuthority : ℕ → ℕ
+wordAuthority x = x / 4294967296 % 4294967296
+
+-- x is the word of term t; a record whose kind is 9 is a sign
+pub record Holds (s : List ℕ) (c : Counts) (t x : ℕ) : Type 0 where
+  pub kind-is : wordKind x ≡ termRecord s c t .kind
+  pub small-is : wordSmall x ≡ termRecord s c t .small
+  pub first-is : wordFirst x ≡ termRecord s c t .first
+  pub second-is : (termRecord s c t .kind ≡ 9 → ⊥) → wordSecond x ≡ termRecord s c t .second
+  pub third-is : (termRecord s c t .kind ≡ 9 → ⊥) → wordThird x ≡ termRecord s c t .third
+  pub authority-is : termRecord s c t .kind ≡ 9 → wordAuthority x ≡ authorityRecord s (termRecord s c t .small)
+
+-- a table that is empty still
+pub record Empty (terms : List ℕ) : Type 0 where
+  pub long : length terms ≡ 1024
+  pub zero-at : (t : ℕ) → getD terms t 0 ≡ 0
+
+-- the words of all terms; a number past the table has the word 0
+pub record Decoded (s : List ℕ) (c : Counts) (terms : List ℕ) : Type 0 where
+  pub long : length terms ≡ 1024
+  pub holds : (t : ℕ) → Holds s c t (getD terms t 0)

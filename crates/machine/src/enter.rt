@@ -1,0 +1,89 @@
+// What a letrec, a check, a sign and a test do before the one child that they end as.
+ghost use mathlib.Core.Bool.{true};
+ghost use mathlib.Core.Path.{_≡_};
+ghost use Prim.Native.Nat.{_<_};
+ghost use Rattle.machine.specs.Table.{wordKind, wordSmall};
+ghost use Rattle.machine.specs.Store.{shapeOf};
+ghost use Rattle.machine.specs.Lower.{readsPrivilege};
+ghost use Rattle.machine.specs.Enter.{Enterable, going, halting, Enters};
+use crate::access::allowed;
+use crate::access::granted;
+use crate::access::sign;
+use crate::cells::bind;
+use crate::cells::next_cell;
+use crate::steps::choose;
+use crate::table::authority_of;
+use crate::table::first_of;
+use crate::table::kind_of;
+use crate::table::second_of;
+use crate::table::small_of;
+use crate::table::third_of;
+use crate::words;
+
+// The child to evaluate, with its environment and access; or a stop, where 0 is none.
+pub struct Entered {
+    pub stop: u64,
+    pub next: u16,
+    pub env: u16,
+    pub acc: u64,
+}
+
+fn goes(next: u16, env: u16, acc: u64) -> Entered
+    ensures { λ r. ⌜ r ≡ going next env acc ⌝ }
+{
+    Entered {
+        stop: 0,
+        next: next,
+        env: env,
+        acc: acc,
+    }
+}
+
+fn halts(stop: u64, next: u16) -> Entered
+    ensures { λ r. ⌜ r ≡ halting stop next ⌝ }
+{
+    Entered {
+        stop: stop,
+        next: next,
+        env: 0,
+        acc: 0,
+    }
+}
+
+pub fn enter(
+    cells: &mut [u8],
+    frames: &mut [u32],
+    n: &mut [usize; 4],
+    t: u16,
+    x: u64,
+    env: u16,
+    acc: u64,
+) -> Entered
+    requires { ⌜ Enterable (wordKind x) ⌝ }
+    requires { ⌜ (readsPrivilege (shapeOf (wordKind x)) ≡ true → wordSmall x < 32) ⌝ }
+    ensures { λ r. ⌜ Enters t x env acc (now (n .entry)) (now (cells .entry)) (now (frames .entry)) r (now (n .exit)) (now (cells .exit)) (now (frames .exit)) ⌝ }
+{
+    let kind = kind_of(x);
+    if kind == 4 {
+        let k = n[1];
+        let own = next_cell(k);
+        let made = bind(cells, k, words::function(second_of(x), own), env);
+        if made == 0 {
+            return halts(words::stop(21, t), third_of(x));
+        }
+        n[1] = made;
+        return goes(third_of(x), own, acc);
+    }
+    let mode = n[3];
+    if kind == 9 {
+        return goes(first_of(x), env, sign(frames, mode, acc, authority_of(x)));
+    }
+    if kind == 7 {
+        if allowed(frames, mode, acc, small_of(x)) {
+            return goes(first_of(x), env, acc);
+        }
+        return halts(words::stop(17, t), first_of(x));
+    }
+    let yes = granted(frames, mode, acc, small_of(x));
+    goes(choose(yes, first_of(x), second_of(x)), env, acc)
+}
