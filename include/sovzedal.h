@@ -1,8 +1,8 @@
 /* Sovzedal: rule sheets decoded, type-checked and run, with or without their checks.
  *
- * Link target/staticlib/libcapi.a, which `rt staticlib capi` writes. Of the C library it needs memcpy and memset alone: no heap, no system call, no
- * global state, so that calls on buffers of their own may be made from several threads. A run recurses, and uses at most 467 KB of the caller's stack
- * (466,600 bytes, measured on x86-64); decoding and type checking use far less.
+ * For x86-64. Link libsovzedal.a (README.md, "Embed it", has the command that writes it). Of the C library it needs memcpy and memset alone: no heap,
+ * no system call, no global state, so that calls on buffers of their own may be made from several threads. A run recurses: SOVZEDAL_STACK bytes of
+ * native stack are enough for any call, and a run that may have fewer calls open needs less (see there); decoding and type checking use far less.
  *
  * What the proof assumes of a C caller, for every function here:
  *   - each pointer is valid for as many elements as the length after it says, and is aligned for its type; with a length of 0 nothing is read or
@@ -19,15 +19,15 @@
  *   SOVZEDAL_SHORT    3  `answer` has fewer than 8 entries: nothing was done and nothing written anywhere;
  * and writes exactly the first 8 entries of `answer`:
  *
- *   entry   decode, readable   typecheck, accepted   run, ended or stopped             refused
- *   0       0                  0                     0, or the stop's cause            cause
- *   1       0                  0                     0, or the stop's term             place
- *   2       0                  root's type, 0 or 1   an end's value: 0 boolean, 1 number   0
- *   3       terms              terms                 an end's value                    0
- *   4       principals         0                     calls made                        0
- *   5       types              0                     cells made                        0
- *   6       0                  0                     posts made                        0
- *   7       0                  needs                 0                                 0
+ *   entry   decode, readable   typecheck, accepted   run, ended or stopped                 refused   name, SOVZEDAL_AT_..
+ *   0       0                  0                     0, or the stop's cause                cause     CAUSE
+ *   1       0                  0                     0, or the stop's term                 place     PLACE
+ *   2       0                  root's type, 0 or 1   an end's value: 0 boolean, 1 number   0         TYPE
+ *   3       terms              terms                 an end's value                        0         VALUE, TERMS
+ *   4       principals         0                     calls made                            0         CALLS, PRINCIPALS
+ *   5       types              0                     cells made                            0         CELLS, TYPES
+ *   6       0                  0                     posts made                            0         POSTS
+ *   7       0                  needs                 0                                     0         NEEDS
  *
  * Types: 0 is the boolean, 1 the number. Needs are a set of privileges: bit k, worth 2^k, stands for privilege k. docs/REFUSALS.md explains the causes.
  */
@@ -41,6 +41,12 @@
 extern "C" {
 #endif
 
+/* The version of this interface, and of the format that it reads. */
+#define SOVZEDAL_VERSION_MAJOR 1
+#define SOVZEDAL_VERSION_MINOR 0
+#define SOVZEDAL_FORMAT 1
+
+/* What a function returns. */
 enum {
     SOVZEDAL_OK = 0,
     SOVZEDAL_STOPPED = 1,
@@ -48,16 +54,86 @@ enum {
     SOVZEDAL_SHORT = 3
 };
 
+/* Where each part of an answer stands. */
 enum {
-    SOVZEDAL_ANSWER = 8,          /* entries that are written of `answer` */
-    SOVZEDAL_MOST_SHEET = 10894,  /* bytes of the longest readable sheet */
-    SOVZEDAL_MOST_START = 32,     /* numbers of the largest start stack: 16 frames */
-    SOVZEDAL_MOST_CALLS = 4096,   /* the largest allowance of calls */
-    SOVZEDAL_MOST_DEPTH = 100,    /* the largest allowance of open calls */
-    SOVZEDAL_MOST_CELLS = 65536,  /* bytes of the largest cell store */
-    SOVZEDAL_MOST_POSTS = 256,    /* entries of the largest post list */
-    SOVZEDAL_FRAMES = 6496        /* numbers of a lazy run's frame store, exactly */
+    SOVZEDAL_AT_CAUSE = 0,
+    SOVZEDAL_AT_PLACE = 1,
+    SOVZEDAL_AT_TYPE = 2,        /* of the root, or of an end's value: SOVZEDAL_BOOLEAN or SOVZEDAL_NUMBER */
+    SOVZEDAL_AT_VALUE = 3,       /* of a run that ended */
+    SOVZEDAL_AT_TERMS = 3,       /* of a readable or accepted sheet */
+    SOVZEDAL_AT_CALLS = 4,       /* of a run */
+    SOVZEDAL_AT_PRINCIPALS = 4,  /* of a readable sheet */
+    SOVZEDAL_AT_CELLS = 5,       /* of a run */
+    SOVZEDAL_AT_TYPES = 5,       /* of a readable sheet */
+    SOVZEDAL_AT_POSTS = 6,       /* of a run */
+    SOVZEDAL_AT_NEEDS = 7        /* of an accepted sheet */
 };
+
+enum {
+    SOVZEDAL_BOOLEAN = 0,
+    SOVZEDAL_NUMBER = 1
+};
+
+/* The causes, by the headings of docs/REFUSALS.md. 1 to 8 are told of a sheet that is not readable, 9 to 13 of one that the rules refuse, 14 to 16 of a
+ * request to run one; 17 to 22 are stops. */
+enum {
+    SOVZEDAL_CUT_SHORT = 1,
+    SOVZEDAL_WRONG_TAG = 2,
+    SOVZEDAL_VERSION = 3,
+    SOVZEDAL_LENGTH = 4,
+    SOVZEDAL_TYPE_RECORD = 5,
+    SOVZEDAL_TERM_RECORD = 6,
+    SOVZEDAL_PLACE = 7,
+    SOVZEDAL_NESTING = 8,
+    SOVZEDAL_VARIABLE = 9,
+    SOVZEDAL_TYPE = 10,
+    SOVZEDAL_SIGN_NEEDS = 11,
+    SOVZEDAL_BODY_NEEDS = 12,
+    SOVZEDAL_ROOT_TYPE = 13,
+    SOVZEDAL_START_STACK = 14,
+    SOVZEDAL_BUFFERS = 15,
+    SOVZEDAL_ALLOWANCE = 16,
+    SOVZEDAL_REFUSED_CHECK = 17,
+    SOVZEDAL_STUCK = 18,
+    SOVZEDAL_OPEN_CALLS = 19,
+    SOVZEDAL_CALLS_SPENT = 20,
+    SOVZEDAL_NO_CELL = 21,
+    SOVZEDAL_NO_POST = 22
+};
+
+enum {
+    SOVZEDAL_ANSWER = 8,         /* entries that are written of `answer` */
+    SOVZEDAL_MAX_SHEET = 10894,  /* bytes of the longest readable sheet */
+    SOVZEDAL_MAX_START = 32,     /* numbers of the largest start stack: 16 frames */
+    SOVZEDAL_MAX_CALLS = 4096,   /* the largest allowance of calls */
+    SOVZEDAL_MAX_DEPTH = 100,    /* the largest allowance of open calls */
+    SOVZEDAL_MAX_CELLS = 65536,  /* bytes of the largest cell store */
+    SOVZEDAL_MAX_POSTS = 256,    /* entries of the largest post list */
+    SOVZEDAL_FRAMES = 6496       /* numbers of a lazy run's frame store, exactly */
+};
+
+/* Native stack, in bytes, on x86-64. A run with `depth` open calls needs at most SOVZEDAL_STACK_BASE + depth * SOVZEDAL_STACK_PER_CALL, so a caller
+ * with a small stack picks `depth` by it; SOVZEDAL_STACK is enough for any call. reference/stack measures what runs use and is held to these. */
+enum {
+    SOVZEDAL_STACK_BASE = 36864,
+    SOVZEDAL_STACK_PER_CALL = 4352,
+    SOVZEDAL_STACK = 472064
+};
+
+/* The heading of a cause in docs/REFUSALS.md; "none" for 0 and "unknown" for a number that is no cause. */
+static inline const char *sovzedal_cause_text(uint32_t cause)
+{
+    static const char *const texts[] = {
+        "none",
+        "cut short", "wrong tag", "version", "length",
+        "type record", "term record", "place", "nesting",
+        "variable", "type", "needs of a sign", "needs of a body", "type of the root",
+        "start stack", "buffers", "allowance",
+        "refused check", "stuck",
+        "open calls", "calls spent", "no cell", "no place for a post"
+    };
+    return cause < sizeof texts / sizeof texts[0] ? texts[cause] : "unknown";
+}
 
 /* Whether any bytes are a readable sheet.
  *   sheet, sheet_len    the sheet and its length in bytes; only read
@@ -79,7 +155,7 @@ uint32_t sovzedal_typecheck(const uint8_t *sheet, size_t sheet_len,
  *                       counts numbers, not frames; only read
  *   calls               how many calls may be made, at most 4,096
  *   depth               how many calls may be open at a time, at most 100
- *   enforce             0 passes over the checks; anything else has them in force
+ *   enforce             0 skips the checks; anything else enforces them
  *   cells, cells_len    the cell store and its length in bytes, at most 65,536; a cell takes eight. It may hold anything; after a run that was not
  *                       refused all of it is zero
  *   posts, posts_len    the list for posts and its length in entries, at most 256. After a run that was not refused its first entries are the posts

@@ -15,24 +15,13 @@
 #include "sovzedal.h"
 
 /* One byte more than the longest readable sheet: the library refuses it. */
-static uint8_t sheet[SOVZEDAL_MOST_SHEET + 1];
+static uint8_t sheet[SOVZEDAL_MAX_SHEET + 1];
 
 /* The largest buffers that a run takes. */
-static uint8_t cells[SOVZEDAL_MOST_CELLS];
-static uint16_t posts[SOVZEDAL_MOST_POSTS];
+static uint8_t cells[SOVZEDAL_MAX_CELLS];
+static uint16_t posts[SOVZEDAL_MAX_POSTS];
 
 static uint32_t answer[SOVZEDAL_ANSWER];
-
-/* The headings of docs/REFUSALS.md, by their numbers. */
-static const char *const causes[] = {
-    "none",
-    "cut short", "wrong tag", "version", "length",
-    "type record", "term record", "place", "nesting",
-    "variable", "type", "needs of a sign", "needs of a body", "type of the root",
-    "start stack", "buffers", "allowance",
-    "refused check", "stuck",
-    "open calls", "calls spent", "no cell", "no place for a post"
-};
 
 static const char *const types[] = { "boolean", "number" };
 
@@ -74,7 +63,8 @@ static long read_sheet(FILE *file)
 static void print_cause(const char *what)
 {
     printf("%s, %" PRIu32 " (%s) at %" PRIu32,
-           what, answer[0], causes[answer[0]], answer[1]);
+           what, answer[SOVZEDAL_AT_CAUSE], sovzedal_cause_text(answer[SOVZEDAL_AT_CAUSE]),
+           answer[SOVZEDAL_AT_PLACE]);
 }
 
 /* Says what was found of the sheet. Returns whether it was accepted. */
@@ -85,7 +75,7 @@ static int judge(size_t sheet_len)
     printf("verdict: ");
     if (status == SOVZEDAL_OK) {
         printf("accepted, %" PRIu32 " terms, type %s, needs %08" PRIX32 "\n",
-               answer[3], types[answer[2]], answer[7]);
+               answer[SOVZEDAL_AT_TERMS], types[answer[SOVZEDAL_AT_TYPE]], answer[SOVZEDAL_AT_NEEDS]);
     } else {
         print_cause("refused");
         printf("\n");
@@ -99,9 +89,9 @@ static int run(size_t sheet_len)
 {
     static const uint32_t start[1] = { 0 };  /* lent with length 0 */
     uint32_t status = sovzedal_run_eager(sheet, sheet_len, start, 0,
-                                         SOVZEDAL_MOST_CALLS, SOVZEDAL_MOST_DEPTH, 1,
+                                         SOVZEDAL_MAX_CALLS, SOVZEDAL_MAX_DEPTH, 1,
                                          cells, sizeof cells,
-                                         posts, SOVZEDAL_MOST_POSTS,
+                                         posts, SOVZEDAL_MAX_POSTS,
                                          answer, SOVZEDAL_ANSWER);
 
     printf("answer: ");
@@ -113,16 +103,16 @@ static int run(size_t sheet_len)
     if (status == SOVZEDAL_STOPPED) {
         print_cause("stopped");
     } else {
-        printf("ended in the %s %" PRIu32, types[answer[2]], answer[3]);
+        printf("ended in the %s %" PRIu32, types[answer[SOVZEDAL_AT_TYPE]], answer[SOVZEDAL_AT_VALUE]);
     }
     printf(", calls %" PRIu32 ", cells %" PRIu32 ", posts %" PRIu32 "\n",
-           answer[4], answer[5], answer[6]);
+           answer[SOVZEDAL_AT_CALLS], answer[SOVZEDAL_AT_CELLS], answer[SOVZEDAL_AT_POSTS]);
 
     printf("posts:");
-    for (uint32_t i = 0; i < answer[6]; i++) {
+    for (uint32_t i = 0; i < answer[SOVZEDAL_AT_POSTS]; i++) {
         printf(" %" PRIu16, posts[i]);
     }
-    printf(answer[6] == 0 ? " none\n" : "\n");
+    printf(answer[SOVZEDAL_AT_POSTS] == 0 ? " none\n" : "\n");
     return status == SOVZEDAL_OK;
 }
 

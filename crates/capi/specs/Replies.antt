@@ -50,7 +50,7 @@ runReply (ran o k) = finished o k
 
 -- ---- what a call leaves
 
--- A list shorter than eight: 3, "nothing done, nothing written anywhere".
+-- A list shorter than eight: 3; nothing is done, and nothing is written anywhere.
 abbrev pub short : List ℕ → Bool
 short answer = ltb (length answer) 8
 
@@ -72,7 +72,7 @@ pub record Called : Type 0 where
 abbrev pub called : (answer : List ℕ) → Buffers → After → Called
 called answer b a = cond (short answer) (record { reply = turnedAway answer; buffers = b }) (record { reply = written (runReply (a .answer)) answer; buffers = a .buffers })
 
--- "0 passes over the checks, anything else has them in force"
+-- 0 passes over the checks, and any other number has them in force.
 abbrev pub inForce : (enforce : ℕ) → Bool
 inForce n = not (eqb n 0)
 

@@ -1,11 +1,22 @@
 // The checking program: prints what is told of the sheet on standard input.
+use libc::STDERR_FILENO;
 use libc::STDIN_FILENO;
 use libc::STDOUT_FILENO;
 use report::answer::Reported;
 use report::report;
 
+// Writes a text to standard output. A program has no exit status, so a write that fails is told on standard error.
+fn tell(text: &[u8]) {
+    if !io::write_all(STDOUT_FILENO, text) {
+        io::write_all(
+            STDERR_FILENO,
+            b"sovzedal: the answer could not be written\n",
+        );
+    }
+}
+
 // A sheet has at most 10,894 bytes; of a longer one, one byte more is read, and the reader refuses it. A read error counts as the end of the input.
-// The text is always written: the buffers are the largest, and no text is longer than 183 bytes (report/specs/Theorems.antt: always-written).
+// There is always a text: the buffers are the largest, and no text is longer than 183 bytes (report/specs/Theorems.antt: always-written).
 fn main() {
     let mut sheet = [0u8; 10895];
     let n = io::read_full(STDIN_FILENO, &mut sheet);
@@ -16,5 +27,5 @@ fn main() {
     let Reported::Written(k) = told else {
         return;
     };
-    io::write_all(STDOUT_FILENO, &text[..k]);
+    tell(&text[..k]);
 }

@@ -9,8 +9,8 @@
 mod sovzedal;
 
 use sovzedal::{
-    run_eager, typecheck, Outcome, Refusal, Request, Run, Type, Value, Verdict, MOST_CALLS,
-    MOST_CELLS, MOST_DEPTH, MOST_POSTS, MOST_SHEET,
+    run_eager, typecheck, Outcome, Refusal, Request, Run, Type, Value, Verdict, MAX_CALLS,
+    MAX_CELLS, MAX_DEPTH, MAX_POSTS, MAX_SHEET,
 };
 use std::process::ExitCode;
 use std::{env, fs};
@@ -57,7 +57,7 @@ fn main() -> ExitCode {
     }
 }
 
-/// Every byte of the sheet, or the first `MOST_SHEET + 1`: the library refuses
+/// Every byte of the sheet, or the first `MAX_SHEET + 1`: the library refuses
 /// so many.
 fn read_sheet(path: &str) -> Result<Vec<u8>, String> {
     let text = fs::read_to_string(path).map_err(|error| error.to_string())?;
@@ -71,7 +71,7 @@ fn read_sheet(path: &str) -> Result<Vec<u8>, String> {
         .filter(|digits| digits.len() % 2 == 0)
         .ok_or("not two hexadecimal digits a byte")?;
     let bytes = digits.chunks(2).map(|pair| pair[0] << 4 | pair[1]);
-    Ok(bytes.take(MOST_SHEET + 1).collect())
+    Ok(bytes.take(MAX_SHEET + 1).collect())
 }
 
 fn without_comment(line: &str) -> impl Iterator<Item = char> + '_ {
@@ -88,12 +88,12 @@ fn judge_and_run(sheet: &[u8]) -> ExitCode {
     }
     let request = Request {
         start: &[],
-        calls: MOST_CALLS,
-        depth: MOST_DEPTH,
+        calls: MAX_CALLS,
+        depth: MAX_DEPTH,
         enforce: true,
     };
-    let mut cells = [0; MOST_CELLS];
-    let mut posts = [0; MOST_POSTS];
+    let mut cells = [0; MAX_CELLS];
+    let mut posts = [0; MAX_POSTS];
     match run_eager(sheet, &request, &mut cells, &mut posts) {
         Ok(run) => {
             println!("answer: {}", run_in_words(&run));

@@ -2,15 +2,15 @@
 //! their lengths, and results are enums.
 
 /// Bytes of the longest readable sheet.
-pub const MOST_SHEET: usize = 10_894;
+pub const MAX_SHEET: usize = 10_894;
 /// The largest allowance of calls.
-pub const MOST_CALLS: u32 = 4_096;
+pub const MAX_CALLS: u32 = 4_096;
 /// The largest allowance of open calls.
-pub const MOST_DEPTH: u32 = 100;
+pub const MAX_DEPTH: u32 = 100;
 /// Bytes of the largest cell store.
-pub const MOST_CELLS: usize = 65_536;
+pub const MAX_CELLS: usize = 65_536;
 /// Entries of the largest post list.
-pub const MOST_POSTS: usize = 256;
+pub const MAX_POSTS: usize = 256;
 
 const OK: u32 = 0;
 const STOPPED: u32 = 1;

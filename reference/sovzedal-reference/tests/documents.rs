@@ -1,6 +1,7 @@
 //! What the documents show is what this implementation gives: the prints of
-//! `examples/` and the sheets and prints of `docs/REFUSALS.md`. Where the
-//! repository is not around this workspace, there is nothing to compare.
+//! `examples/`, the sheets and prints of `docs/REFUSALS.md`, and the sheet and
+//! print of `docs/FORMAT.md`. Where the repository is not around this
+//! workspace, there is nothing to compare.
 
 use sheets::smallest::{all, Smallest};
 use sovzedal_reference::{report, run_eager, Checks, Reply, Request};
@@ -41,6 +42,28 @@ fn refusals_are_those_of_the_smallest_sheets() {
         let print = block(section, "text").expect("a print");
         assert_eq!(told(&case), print, "print for {cause}");
     }
+}
+
+#[test]
+fn the_format_shows_an_example() {
+    let path = repository().join("docs/FORMAT.md");
+    if !path.exists() {
+        return;
+    }
+    let shown = read(&path);
+    let section = section(&shown, "An").expect("the example");
+    let listing = block(section, "text").expect("a listing");
+    let mut listed = Vec::new();
+    for line in listing.lines() {
+        let (offset, rest) = line.trim_start().split_once("  ").expect("an offset");
+        assert_eq!(offset.parse(), Ok(listed.len()), "offset of {line}");
+        listed.extend(bytes(rest.split("  ").next().unwrap()));
+    }
+    let sheet = bytes(&read(&repository().join("examples/test.hex")));
+    assert_eq!(listed, sheet, "the bytes listed");
+    let (_, after) = section.split_once(listing).unwrap();
+    let (_, after) = after.split_once("```").unwrap();
+    assert_eq!(block(after, "text"), Some(&*report(&sheet)), "the print");
 }
 
 /// Asked when the test runs: a path compiled in would outlive a move.

@@ -1,11 +1,12 @@
 //! Prints how much native stack the deepest runs use: 100 open calls, each
-//! made from as deep as nesting allows, through terms of one kind.
+//! made from as deep as nesting allows, through terms of one kind; and what
+//! such a run uses with fewer open calls.
 
 mod paint;
 
 use differential::{Asked, Buffers, Entry, Implementation, Library, Reference, ANSWER_NUMBERS};
 use sheets::extremes::{deepest, endless_through};
-use sheets::request::Request;
+use sheets::request::{Request, MAX_OPEN_CALLS};
 use sheets::rng::Rng;
 use sheets::tree::Kind;
 
@@ -33,33 +34,41 @@ fn main() {
     );
     let mut most = [0; 4];
     for kind in KINDS {
-        let used = measure(&endless_through(kind));
+        let used = measure(&endless_through(kind), MAX_OPEN_CALLS);
         print_line(&format!("{kind:?}"), used);
         for (most, used) in most.iter_mut().zip(used) {
             *most = used.max(*most);
         }
     }
     print_line("most", most);
-    print_line("bench", measure(&deepest()));
+    print_line("bench", measure(&deepest(), MAX_OPEN_CALLS));
+    println!("through calls, with so many open");
+    for open_calls in [0, 1, 10, 50, MAX_OPEN_CALLS] {
+        let used = measure(&endless_through(Kind::Call), open_calls);
+        print_line(&open_calls.to_string(), used);
+    }
 }
 
 fn print_line(name: &str, [a, b, c, d]: [usize; 4]) {
     println!("{name:12}{a:12}{b:12}{c:12}{d:12}");
 }
 
-fn measure(sheet: &[u8]) -> [usize; 4] {
+fn measure(sheet: &[u8], open_calls: u32) -> [usize; 4] {
     [
-        used_by::<Library>(sheet, Entry::RunEager),
-        used_by::<Library>(sheet, Entry::RunLazy),
-        used_by::<Reference>(sheet, Entry::RunEager),
-        used_by::<Reference>(sheet, Entry::RunLazy),
+        used_by::<Library>(sheet, Entry::RunEager, open_calls),
+        used_by::<Library>(sheet, Entry::RunLazy, open_calls),
+        used_by::<Reference>(sheet, Entry::RunEager, open_calls),
+        used_by::<Reference>(sheet, Entry::RunLazy, open_calls),
     ]
 }
 
-/// A run with the largest allowances, on a stack that grants what the sheets
-/// check.
-fn used_by<I: Implementation>(sheet: &[u8], entry: Entry) -> usize {
-    let request = Request::largest().with_start(&[0, u32::MAX]);
+/// A run with the largest allowances but for the open calls, on a stack that
+/// grants what the sheets check.
+fn used_by<I: Implementation>(sheet: &[u8], entry: Entry, open_calls: u32) -> usize {
+    let request = Request {
+        open_calls,
+        ..Request::largest().with_start(&[0, u32::MAX])
+    };
     let mut buffers = Buffers::random(&mut Rng::new(0), entry, &request, ANSWER_NUMBERS);
     let asked = Asked {
         entry,
@@ -70,4 +79,42 @@ fn used_by<I: Implementation>(sheet: &[u8], entry: Entry) -> usize {
     paint::stack_used(|| {
         asked.of::<I>(&mut buffers);
     })
+}
+
+#[cfg(test)]
+mod tests {
+    use super::*;
+
+    /// What `include/sovzedal.h` gives for a name.
+    fn header(name: &str) -> usize {
+        let header = concat!(env!("CARGO_MANIFEST_DIR"), "/../../include/sovzedal.h");
+        let text = std::fs::read_to_string(header).unwrap();
+        let line = text
+            .lines()
+            .find_map(|line| line.trim().strip_prefix(name)?.trim().strip_prefix('='))
+            .unwrap();
+        line.trim().trim_end_matches(',').parse().unwrap()
+    }
+
+    #[test]
+    fn runs_stay_within_what_the_header_says() {
+        let (base, per_call) = (
+            header("SOVZEDAL_STACK_BASE "),
+            header("SOVZEDAL_STACK_PER_CALL "),
+        );
+        let most = base + MAX_OPEN_CALLS as usize * per_call;
+        assert_eq!(header("SOVZEDAL_STACK "), most);
+        for kind in KINDS {
+            let sheet = endless_through(kind);
+            for open_calls in [0, 1, 10, MAX_OPEN_CALLS] {
+                for entry in [Entry::RunEager, Entry::RunLazy] {
+                    let used = used_by::<Library>(&sheet, entry, open_calls);
+                    assert!(
+                        used <= base + open_calls as usize * per_call,
+                        "{kind:?} {entry:?} {open_calls}: {used}"
+                    );
+                }
+            }
+        }
+    }
 }

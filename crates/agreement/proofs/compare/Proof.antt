@@ -1,3 +1,5 @@
+-- `compare` gives the definition's verdict and its two runs, by the contracts of `typecheck` and `run_either`. Where the two cell stores have the same
+-- length, and the two lists of posts, demand 3 holds of these answers: it is a theorem about the definition's runs, which they equal (agreed).
 use borrow.Author.Needs.{needs}
 use Rattle.agreement.proofs.AgreementLaws.{agreed}
 use Rattle.agreement.proofs.compare.Statement.{statement}
@@ -31,7 +33,23 @@ same-length-6 : tie.Need-same-length-6
 same-length-6 c = search needs
 
 returns : tie.Need-returns
-returns c = (c .before .before .before .before .before .before .before .before .before .before .before .before .before .before .before .before .before .before .before .before .typecheck .ensures, (c .before .before .before .before .before .before .before .before .before .before .before .before .before .before .before .before .run-either .ensures, (c .before .before .before .before .before .before .run-either2 .ensures, agreed (c .before .before .before .before .before .before .before .before .before .before .before .before .before .before .before .before .before .before .before .before .before .before .before .before .before .before .before .before .before .args .sheet .now) (c .before .before .before .before .before .before .before .before .before .before .before .before .before .before .before .before .before .before .before .before .before .before .before .before .before .before .before .before .before .args .start .now) (c .before .before .before .before .before .before .before .before .before .before .before .before .before .before .before .before .before .before .before .before .before .before .before .before .before .before .before .before .before .args .calls) (c .before .before .before .before .before .before .before .before .before .before .before .before .before .before .before .before .before .before .before .before .before .before .before .before .before .before .before .before .before .args .depth) (c .before .before .before .before .before .before .before .before .before .before .before .before .before .before .before .before .before .before .before .before .before .before .before .before .before .before .before .before .before .args .lazy) (c .before .before .before .before .before .before .before .before .before .before .before .before .before .before .before .before .before .before .before .before .before .before .before .before .before .before .before .before .before .args .lazy2) (c .before .before .before .before .before .before .before .before .before .before .before .before .before .before .before .before .before .before .before .before .before .before .before .before .before .before .before .before .before .args .cells .now) (c .before .before .before .before .before .before .before .before .before .before .before .before .before .before .before .before .before .before .before .before .before .before .before .before .before .before .before .before .before .args .posts .now) (c .before .before .before .before .before .before .before .before .before .before .before .before .before .before .before .before .before .before .before .before .before .before .before .before .before .before .before .before .before .args .frames .now) (c .before .before .before .before .before .before .before .before .before .before .before .before .before .before .before .before .before .before .before .before .before .before .before .before .before .before .before .before .before .args .cells2 .now) (c .before .before .before .before .before .before .before .before .before .before .before .before .before .before .before .before .before .before .before .before .before .before .before .before .before .before .before .before .before .args .posts2 .now) (c .before .before .before .before .before .before .before .before .before .before .before .before .before .before .before .before .before .before .before .before .before .before .before .before .before .before .before .before .before .args .frames2 .now) (c .before .before .before .before .before .before .before .before .before .before .before .before .before .before .before .before .before .before .before .before .typecheck .ensures) (c .before .before .before .before .before .before .before .before .before .before .before .before .before .before .before .before .run-either .ensures) (c .before .before .before .before .before .before .run-either2 .ensures))))
+returns c =
+    let at-run-either2 = c .before .before .before .before .before .before in
+    let at-run-either = at-run-either2 .before .before .before .before .before .before .before .before .before .before in
+    let at-typecheck = at-run-either .before .before .before .before in
+    let start = at-typecheck .before .before .before .before .before .before .before .before .before in (
+      at-typecheck .typecheck .ensures,
+      (
+        at-run-either .run-either .ensures,
+        (
+          at-run-either2 .run-either2 .ensures,
+          agreed (start .args .sheet .now) (start .args .start .now) (start .args .calls) (start .args .depth)
+              (start .args .lazy) (start .args .lazy2) (start .args .cells .now) (start .args .posts .now) (start .args .frames .now) (start .args .cells2 .now)
+              (start .args .posts2 .now) (start .args .frames2 .now) (at-typecheck .typecheck .ensures) (at-run-either .run-either .ensures)
+              (at-run-either2 .run-either2 .ensures),
+        ),
+      ),
+    )
 
 pub compare-spec : {M : Type 1} → statement M
 compare-spec =

@@ -1,3 +1,5 @@
+-- `sovzedal_decode` returns 3 and leaves a list shorter than eight as it was (away). In any other list `put` leaves the reply of `of_decoded` (given),
+-- which is the definition's, since `decode` gives the definition's screening and the sheet's counts (decoded-as).
 use Rattle.capi.specs.Replies.{decodeReply}
 use Rattle.capi.proofs.EntryLaws.{away, given, decoded-as}
 use mathlib.Core.Path.{_∙_}
@@ -6,7 +8,9 @@ use Rattle.capi.proofs.sovzedal_decode.Statement.{statement}
 use Rattle.capi.proofs.sovzedal_decode.Tie as tie
 
 returns : tie.Need-returns
-returns c = away (c .before .before .before .args .answer .now) (c .if1 .taken) (decodeReply (c .before .before .before .args .sheet .now))
+returns c =
+    let start = c .before .before .before in
+    away (start .args .answer .now) (c .if1 .taken) (decodeReply (start .args .sheet .now))
 
 decode-requires : tie.Need-decode-requires
 decode-requires c κs = search needs
@@ -21,7 +25,13 @@ same-length : tie.Need-same-length
 same-length c = search needs
 
 returns-2 : tie.Need-returns-2
-returns-2 c = given (c .before .before .before .before .before .before .before .before .before .args .answer .now) (c .before .before .before .before .before .before .if1 .left) (c .before .before .before .before .of-decoded .ensures ∙ decoded-as (c .before .before .before .before .before .before .before .before .before .args .sheet .now) (c .before .before .before .before .before .decode .result) (c .before .before .before .before .before .decode .ensures .0) (c .before .before .before .before .before .decode .ensures .1)) (c .before .before .put .ensures)
+returns-2 c =
+    let at-of-decoded = c .before .before .before .before in
+    let at-decode = at-of-decoded .before in
+    let at-if1 = at-decode .before in
+    let start = at-if1 .before .before .before in
+    given (start .args .answer .now) (at-if1 .if1 .left) (at-of-decoded .of-decoded .ensures ∙ decoded-as (start .args .sheet .now) (at-decode .decode .result)
+    (at-decode .decode .ensures .0) (at-decode .decode .ensures .1)) (c .before .before .put .ensures)
 
 pub sovzedal-decode-spec : {M : Type 1} → statement M
 sovzedal-decode-spec =

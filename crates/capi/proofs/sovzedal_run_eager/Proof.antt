@@ -1,3 +1,6 @@
+-- `sovzedal_run_eager` returns 3 and leaves a list shorter than eight, and the buffers, as they were (run-away). Else the buffers are as the definition's
+-- run leaves them, by the contract of `run_eager`, and the list holds the reply to its answer (run-given). What `of_run` requires holds, since a run that
+-- is not refused makes at most 4,096 calls, 8,192 cells and 256 posts (small).
 use mathlib.Core.List.{[]}
 use mathlib.Core.Path.{ap}
 use Rattle.semantics.specs.Runs.{eager, After, run}
@@ -9,16 +12,27 @@ use Rattle.capi.proofs.sovzedal_run_eager.Statement.{statement}
 use Rattle.capi.proofs.sovzedal_run_eager.Tie as tie
 
 returns : tie.Need-returns
-returns c = run-away (c .before .before .before .before .before .before .args .answer .now) (c .if1 .taken) (lent (c .before .before .before .before .before .before .args .cells .now) (c .before .before .before .before .before .before .args .posts .now) []) (run (c .before .before .before .before .before .before .args .sheet .now) (asked eager (inForce (c .before .before .before .before .before .before .args .enforce)) (c .before .before .before .before .before .before .args .start .now) (c .before .before .before .before .before .before .args .calls) (c .before .before .before .before .before .before .args .depth)) (lent (c .before .before .before .before .before .before .args .cells .now) (c .before .before .before .before .before .before .args .posts .now) []))
+returns c =
+    let start = c .before .before .before .before .before .before in
+    run-away (start .args .answer .now) (c .if1 .taken) (lent (start .args .cells .now) (start .args .posts .now) [])
+    (run (start .args .sheet .now) (asked eager (inForce (start .args .enforce)) (start .args .start .now) (start .args .calls) (start .args .depth))
+    (lent (start .args .cells .now) (start .args .posts .now) []))
 
 run-eager-requires : tie.Need-run-eager-requires
 run-eager-requires c κs = search needs
 
 of-run-requires : tie.Need-of-run-requires
-of-run-requires c κs = small (c .before .before .before .before .before .before .before .before .before .before .before .before .before .args .sheet .now) (asked eager (inForce (c .before .before .before .before .before .before .before .before .before .before .before .before .before .args .enforce)) (c .before .before .before .before .before .before .before .before .before .before .before .before .before .args .start .now) (c .before .before .before .before .before .before .before .before .before .before .before .before .before .args .calls) (c .before .before .before .before .before .before .before .before .before .before .before .before .before .args .depth)) (lent (c .before .before .before .before .before .before .before .before .before .before .before .before .before .args .cells .now) (c .before .before .before .before .before .before .before .before .before .before .before .before .before .args .posts .now) []) (c .before .before .before .before .run-eager .result) (ap (λ (a : After). a .answer) (c .before .before .before .before .run-eager .ensures))
+of-run-requires c κs =
+    let at-run-eager = c .before .before .before .before in
+    let start = at-run-eager .before .before .before .before .before .before .before .before .before in
+    small (start .args .sheet .now) (asked eager (inForce (start .args .enforce)) (start .args .start .now) (start .args .calls) (start .args .depth))
+    (lent (start .args .cells .now) (start .args .posts .now) []) (at-run-eager .run-eager .result)
+    (ap (λ (a : After). a .answer) (at-run-eager .run-eager .ensures))
 
 put-requires : tie.Need-put-requires
-put-requires c κs = c .before .before .before .before .before .before .before .before .before .if1 .left
+put-requires c κs =
+    let at-if1 = c .before .before .before .before .before .before .before .before .before in
+    at-if1 .if1 .left
 
 same-length : tie.Need-same-length
 same-length c = search needs
@@ -30,7 +44,15 @@ same-length-3 : tie.Need-same-length-3
 same-length-3 c = search needs
 
 returns-2 : tie.Need-returns-2
-returns-2 c = run-given (c .before .before .before .before .before .before .before .before .before .before .before .before .before .before .before .before .before .before .args .answer .now) (c .before .before .before .before .before .before .before .before .before .before .before .before .if1 .left) (lent (c .before .before .before .before .before .before .before .before .before .before .before .before .before .before .before .before .before .before .args .cells .now) (c .before .before .before .before .before .before .before .before .before .before .before .before .before .before .before .before .before .before .args .posts .now) []) _ (run (c .before .before .before .before .before .before .before .before .before .before .before .before .before .before .before .before .before .before .args .sheet .now) (asked eager (inForce (c .before .before .before .before .before .before .before .before .before .before .before .before .before .before .before .before .before .before .args .enforce)) (c .before .before .before .before .before .before .before .before .before .before .before .before .before .before .before .before .before .before .args .start .now) (c .before .before .before .before .before .before .before .before .before .before .before .before .before .before .before .before .before .before .args .calls) (c .before .before .before .before .before .before .before .before .before .before .before .before .before .before .before .before .before .before .args .depth)) (lent (c .before .before .before .before .before .before .before .before .before .before .before .before .before .before .before .before .before .before .args .cells .now) (c .before .before .before .before .before .before .before .before .before .before .before .before .before .before .before .before .before .before .args .posts .now) [])) (c .before .before .before .before .before .before .before .before .before .run-eager .result) (c .before .before .before .before .of-run .ensures) (c .before .before .put .ensures) (c .before .before .before .before .before .before .before .before .before .run-eager .ensures)
+returns-2 c =
+    let at-of-run = c .before .before .before .before in
+    let at-run-eager = at-of-run .before .before .before .before .before in
+    let at-if1 = at-run-eager .before .before .before in
+    let start = at-if1 .before .before .before .before .before .before in
+    run-given (start .args .answer .now) (at-if1 .if1 .left) (lent (start .args .cells .now) (start .args .posts .now) []) _
+    (run (start .args .sheet .now) (asked eager (inForce (start .args .enforce)) (start .args .start .now) (start .args .calls) (start .args .depth))
+    (lent (start .args .cells .now) (start .args .posts .now) [])) (at-run-eager .run-eager .result) (at-of-run .of-run .ensures)
+    (c .before .before .put .ensures) (at-run-eager .run-eager .ensures)
 
 pub sovzedal-run-eager-spec : {M : Type 1} → statement M
 sovzedal-run-eager-spec =

@@ -1,3 +1,6 @@
+-- `sovzedal_run_lazy` returns 3 and leaves a list shorter than eight, and the buffers, as they were (run-away). Else the buffers, with the frame store, are
+-- as the definition's run leaves them, by the contract of `run_lazy`, and the list holds the reply to its answer (run-given). What `of_run` requires holds,
+-- since a run that is not refused makes at most 4,096 calls, 8,192 cells and 256 posts (small).
 use mathlib.Core.Path.{ap}
 use Rattle.semantics.specs.Runs.{lazy, After, run}
 use Rattle.interp.specs.Answers.{asked, lent}
@@ -8,16 +11,27 @@ use Rattle.capi.proofs.sovzedal_run_lazy.Statement.{statement}
 use Rattle.capi.proofs.sovzedal_run_lazy.Tie as tie
 
 returns : tie.Need-returns
-returns c = run-away (c .before .before .before .before .before .before .before .args .answer .now) (c .if1 .taken) (lent (c .before .before .before .before .before .before .before .args .cells .now) (c .before .before .before .before .before .before .before .args .posts .now) (c .before .before .before .before .before .before .before .args .frames .now)) (run (c .before .before .before .before .before .before .before .args .sheet .now) (asked lazy (inForce (c .before .before .before .before .before .before .before .args .enforce)) (c .before .before .before .before .before .before .before .args .start .now) (c .before .before .before .before .before .before .before .args .calls) (c .before .before .before .before .before .before .before .args .depth)) (lent (c .before .before .before .before .before .before .before .args .cells .now) (c .before .before .before .before .before .before .before .args .posts .now) (c .before .before .before .before .before .before .before .args .frames .now)))
+returns c =
+    let start = c .before .before .before .before .before .before .before in
+    run-away (start .args .answer .now) (c .if1 .taken) (lent (start .args .cells .now) (start .args .posts .now) (start .args .frames .now))
+    (run (start .args .sheet .now) (asked lazy (inForce (start .args .enforce)) (start .args .start .now) (start .args .calls) (start .args .depth))
+    (lent (start .args .cells .now) (start .args .posts .now) (start .args .frames .now)))
 
 run-lazy-requires : tie.Need-run-lazy-requires
 run-lazy-requires c κs = search needs
 
 of-run-requires : tie.Need-of-run-requires
-of-run-requires c κs = small (c .before .before .before .before .before .before .before .before .before .before .before .before .before .before .before .before .before .args .sheet .now) (asked lazy (inForce (c .before .before .before .before .before .before .before .before .before .before .before .before .before .before .before .before .before .args .enforce)) (c .before .before .before .before .before .before .before .before .before .before .before .before .before .before .before .before .before .args .start .now) (c .before .before .before .before .before .before .before .before .before .before .before .before .before .before .before .before .before .args .calls) (c .before .before .before .before .before .before .before .before .before .before .before .before .before .before .before .before .before .args .depth)) (lent (c .before .before .before .before .before .before .before .before .before .before .before .before .before .before .before .before .before .args .cells .now) (c .before .before .before .before .before .before .before .before .before .before .before .before .before .before .before .before .before .args .posts .now) (c .before .before .before .before .before .before .before .before .before .before .before .before .before .before .before .before .before .args .frames .now)) (c .before .before .before .before .before .before .run-lazy .result) (ap (λ (a : After). a .answer) (c .before .before .before .before .before .before .run-lazy .ensures))
+of-run-requires c κs =
+    let at-run-lazy = c .before .before .before .before .before .before in
+    let start = at-run-lazy .before .before .before .before .before .before .before .before .before .before .before in
+    small (start .args .sheet .now) (asked lazy (inForce (start .args .enforce)) (start .args .start .now) (start .args .calls) (start .args .depth))
+    (lent (start .args .cells .now) (start .args .posts .now) (start .args .frames .now)) (at-run-lazy .run-lazy .result)
+    (ap (λ (a : After). a .answer) (at-run-lazy .run-lazy .ensures))
 
 put-requires : tie.Need-put-requires
-put-requires c κs = c .before .before .before .before .before .before .before .before .before .before .before .before .if1 .left
+put-requires c κs =
+    let at-if1 = c .before .before .before .before .before .before .before .before .before .before .before .before in
+    at-if1 .if1 .left
 
 same-length : tie.Need-same-length
 same-length c = search needs
@@ -32,7 +46,15 @@ same-length-4 : tie.Need-same-length-4
 same-length-4 c = search needs
 
 returns-2 : tie.Need-returns-2
-returns-2 c = run-given (c .before .before .before .before .before .before .before .before .before .before .before .before .before .before .before .before .before .before .before .before .before .before .args .answer .now) (c .before .before .before .before .before .before .before .before .before .before .before .before .before .before .before .if1 .left) (lent (c .before .before .before .before .before .before .before .before .before .before .before .before .before .before .before .before .before .before .before .before .before .before .args .cells .now) (c .before .before .before .before .before .before .before .before .before .before .before .before .before .before .before .before .before .before .before .before .before .before .args .posts .now) (c .before .before .before .before .before .before .before .before .before .before .before .before .before .before .before .before .before .before .before .before .before .before .args .frames .now)) _ (run (c .before .before .before .before .before .before .before .before .before .before .before .before .before .before .before .before .before .before .before .before .before .before .args .sheet .now) (asked lazy (inForce (c .before .before .before .before .before .before .before .before .before .before .before .before .before .before .before .before .before .before .before .before .before .before .args .enforce)) (c .before .before .before .before .before .before .before .before .before .before .before .before .before .before .before .before .before .before .before .before .before .before .args .start .now) (c .before .before .before .before .before .before .before .before .before .before .before .before .before .before .before .before .before .before .before .before .before .before .args .calls) (c .before .before .before .before .before .before .before .before .before .before .before .before .before .before .before .before .before .before .before .before .before .before .args .depth)) (lent (c .before .before .before .before .before .before .before .before .before .before .before .before .before .before .before .before .before .before .before .before .before .before .args .cells .now) (c .before .before .before .before .before .before .before .before .before .before .before .before .before .before .before .before .before .before .before .before .before .before .args .posts .now) (c .before .before .before .before .before .before .before .before .before .before .before .before .before .before .before .before .before .before .before .before .before .before .args .frames .now))) (c .before .before .before .before .before .before .before .before .before .before .before .run-lazy .result) (c .before .before .before .before .of-run .ensures) (c .before .before .put .ensures) (c .before .before .before .before .before .before .before .before .before .before .before .run-lazy .ensures)
+returns-2 c =
+    let at-of-run = c .before .before .before .before in
+    let at-run-lazy = at-of-run .before .before .before .before .before .before .before in
+    let at-if1 = at-run-lazy .before .before .before .before in
+    let start = at-if1 .before .before .before .before .before .before .before in
+    run-given (start .args .answer .now) (at-if1 .if1 .left) (lent (start .args .cells .now) (start .args .posts .now) (start .args .frames .now)) _
+    (run (start .args .sheet .now) (asked lazy (inForce (start .args .enforce)) (start .args .start .now) (start .args .calls) (start .args .depth))
+    (lent (start .args .cells .now) (start .args .posts .now) (start .args .frames .now))) (at-run-lazy .run-lazy .result) (at-of-run .of-run .ensures)
+    (c .before .before .put .ensures) (at-run-lazy .run-lazy .ensures)
 
 pub sovzedal-run-lazy-spec : {M : Type 1} → statement M
 sovzedal-run-lazy-spec =

@@ -1,3 +1,5 @@
+-- `sovzedal_typecheck` returns 3 and leaves a list shorter than eight as it was (away). In any other list `put` leaves the reply of `of_verdict` (given),
+-- which is the definition's, since `typecheck` gives the definition's verdict.
 use Rattle.capi.specs.Replies.{judged, typecheckReply}
 use Rattle.capi.proofs.EntryLaws.{away, given}
 use mathlib.Core.Path.{_∙_, ap}
@@ -6,7 +8,9 @@ use Rattle.capi.proofs.sovzedal_typecheck.Statement.{statement}
 use Rattle.capi.proofs.sovzedal_typecheck.Tie as tie
 
 returns : tie.Need-returns
-returns c = away (c .before .before .before .args .answer .now) (c .if1 .taken) (typecheckReply (c .before .before .before .args .sheet .now))
+returns c =
+    let start = c .before .before .before in
+    away (start .args .answer .now) (c .if1 .taken) (typecheckReply (start .args .sheet .now))
 
 typecheck-requires : tie.Need-typecheck-requires
 typecheck-requires c κs = search needs
@@ -21,7 +25,13 @@ same-length : tie.Need-same-length
 same-length c = search needs
 
 returns-2 : tie.Need-returns-2
-returns-2 c = given (c .before .before .before .before .before .before .before .before .before .args .answer .now) (c .before .before .before .before .before .before .if1 .left) (c .before .before .before .before .of-verdict .ensures ∙ ap judged (c .before .before .before .before .before .typecheck .ensures)) (c .before .before .put .ensures)
+returns-2 c =
+    let at-of-verdict = c .before .before .before .before in
+    let at-typecheck = at-of-verdict .before in
+    let at-if1 = at-typecheck .before in
+    let start = at-if1 .before .before .before in
+    given (start .args .answer .now) (at-if1 .if1 .left) (at-of-verdict .of-verdict .ensures ∙ ap judged (at-typecheck .typecheck .ensures))
+    (c .before .before .put .ensures)
 
 pub sovzedal-typecheck-spec : {M : Type 1} → statement M
 sovzedal-typecheck-spec =

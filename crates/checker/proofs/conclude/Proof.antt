@@ -1,3 +1,4 @@
+-- The verdict is `concluded`: the fault of the root; accepted with its type and needs, if the type is 0 or 1; refusal 13 if it is a function's.
 use Rattle.checker.proofs.VerdictLaws.{conclude-fault, conclude-base, conclude-function}
 use borrow.Author.Needs.{needs}
 use Rattle.checker.proofs.conclude.Statement.{statement}

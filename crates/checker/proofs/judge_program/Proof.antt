@@ -1,3 +1,5 @@
+-- The root is a term, principal 0 is one of the sheet's, and judging the root adds fewer than 32 bindings (root-room), as `infer` requires. The verdict
+-- that is concluded from its judgement is then the sheet's.
 use mathlib.Core.Path.{refl}
 use native.Mathlib.Omega.{arith}
 use Rattle.checker.proofs.VerdictLaws.{some-terms, root-ready, program-is}

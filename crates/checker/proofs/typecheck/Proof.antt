@@ -1,3 +1,5 @@
+-- A refusal by the reader is the verdict (unreadable-is). A sheet that is read is well-formed and has its own counts, as `judge_program` requires
+-- (readable-sheet), and what that concludes is the verdict (readable-is).
 use Rattle.checker.proofs.VerdictLaws.{unreadable-is, readable-sheet, readable-is}
 use borrow.Author.Needs.{needs}
 use Rattle.checker.proofs.typecheck.Statement.{statement}
@@ -13,13 +15,21 @@ enum-known-d-2 : tie.Need-enum-known-d-2
 enum-known-d-2 c = search needs
 
 judge-program-requires : tie.Need-judge-program-requires
-judge-program-requires c κs = readable-sheet (c .before .before .before .before .before .args .sheet .now) (c .before .before .before .decode .ensures .0) (c .before .d2 .given .1) (c .before .before .before .decode .ensures .1)
+judge-program-requires c κs =
+    let at-decode = c .before .before .before in
+    let start = at-decode .before .before in
+    readable-sheet (start .args .sheet .now) (at-decode .decode .ensures .0) (c .before .d2 .given .1) (at-decode .decode .ensures .1)
 
 returns : tie.Need-returns
-returns c = unreadable-is (c .before .before .before .before .before .args .sheet .now) (c .before .before .before .decode .ensures .0) (c .before .d .given .1)
+returns c =
+    let start = c .before .before .before .before .before in
+    unreadable-is (start .args .sheet .now) (c .before .before .before .decode .ensures .0) (c .before .d .given .1)
 
 returns-2 : tie.Need-returns-2
-returns-2 c = readable-is (c .before .before .before .before .before .before .args .sheet .now) (c .before .before .before .before .decode .ensures .0) (c .before .before .d2 .given .1) (c .judge-program .ensures)
+returns-2 c =
+    let at-decode = c .before .before .before .before in
+    let start = at-decode .before .before in
+    readable-is (start .args .sheet .now) (at-decode .decode .ensures .0) (c .before .before .d2 .given .1) (c .judge-program .ensures)
 
 pub typecheck-spec : {M : Type 1} → statement M
 typecheck-spec =

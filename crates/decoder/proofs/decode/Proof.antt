@@ -1,3 +1,5 @@
+-- A fault of the fields is the first condition that is found (told-header). Where they have none, none of their conditions is found, so that
+-- screening the tables tells what screening the whole sheet tells (told-tables).
 use Rattle.decoder.proofs.DecodeLaws.{told-header, header-laid, told-tables}
 use borrow.Author.Needs.{needs}
 use Rattle.decoder.proofs.decode.Statement.{statement}
@@ -13,13 +15,23 @@ enum-known-c : tie.Need-enum-known-c
 enum-known-c c = search needs
 
 tables-requires : tie.Need-tables-requires
-tables-requires c κs = header-laid (c .before .before .before .before .before .args .sheet .now) (c .before .c .given .1) (c .before .before .before .read-header .ensures)
+tables-requires c κs =
+    let start = c .before .before .before .before .before in
+    header-laid (start .args .sheet .now) (c .before .c .given .1) (c .before .before .before .read-header .ensures)
 
 returns : tie.Need-returns
-returns c = (told-header (c .before .before .before .before .before .args .sheet .now) (c .before .f .given .1) (c .before .before .before .read-header .ensures), tt)
+returns c =
+    let start = c .before .before .before .before .before in
+    (told-header (start .args .sheet .now) (c .before .f .given .1) (c .before .before .before .read-header .ensures), tt)
 
 returns-2 : tie.Need-returns-2
-returns-2 c = (told-tables (c .before .before .before .before .before .before .args .sheet .now) (header-laid (c .before .before .before .before .before .before .args .sheet .now) (c .before .before .c .given .1) (c .before .before .before .before .read-header .ensures)) (c .tables .result) (c .tables .ensures .0), c .tables .ensures .1)
+returns-2 c =
+    let at-read-header = c .before .before .before .before in
+    let start = at-read-header .before .before in (
+      told-tables (start .args .sheet .now) (header-laid (start .args .sheet .now) (c .before .before .c .given .1) (at-read-header .read-header .ensures))
+          (c .tables .result) (c .tables .ensures .0),
+      c .tables .ensures .1,
+    )
 
 pub decode-spec : {M : Type 1} → statement M
 decode-spec =

@@ -1,3 +1,5 @@
+-- Since the places are right, every parent is higher than its child (rising-at), and the search in the list of nestings is the search for the lowest term
+-- nested deeper than 32 (deep-at). A term found is refusal 8; with none found the sheet is readable, and the counts are its own.
 use mathlib.Core.Path.{_∙_}
 use native.Mathlib.Omega.{arith}
 use Rattle.program.specs.Laws.Readable.{fields-ok}
@@ -9,10 +11,22 @@ use Rattle.decoder.proofs.nested.Statement.{statement}
 use Rattle.decoder.proofs.nested.Tie as tie
 
 nestings-requires : tie.Need-nestings-requires
-nestings-requires c κs = ((omega (arith, (fields-ok (c .before .args .s .now) (c .before .pre .0 .none-found)) .terms-low, c .before .pre .0 .counts-are .terms-are), omega (arith, (fields-ok (c .before .args .s .now) (c .before .pre .0 .none-found)) .terms-high, c .before .pre .0 .counts-are .terms-are)), rising-at (c .before .args .s .now) (c .before .args .parents .now) (c .before .pre .1 .1 .0) ((fields-ok (c .before .args .s .now) (c .before .pre .0 .none-found)) .terms-high) (c .before .pre .1 .1 .1) (c .before .pre .0 .counts-are .terms-are))
+nestings-requires c κs =
+    let start = c .before in (
+      (
+        omega (arith, (fields-ok (start .args .s .now) (start .pre .0 .none-found)) .terms-low, start .pre .0 .counts-are .terms-are),
+        omega
+            (arith, (fields-ok (start .args .s .now) (start .pre .0 .none-found)) .terms-high, start .pre .0 .counts-are .terms-are),
+      ),
+      rising-at (start .args .s .now)
+          (start .args .parents .now) (start .pre .1 .1 .0) ((fields-ok (start .args .s .now) (start .pre .0 .none-found)) .terms-high) (start .pre .1 .1 .1)
+          (start .pre .0 .counts-are .terms-are),
+    )
 
 too-deep-requires : tie.Need-too-deep-requires
-too-deep-requires c κs = omega (arith, (fields-ok (c .before .before .before .args .s .now) (c .before .before .before .pre .0 .none-found)) .terms-high, c .before .before .before .pre .0 .counts-are .terms-are)
+too-deep-requires c κs =
+    let start = c .before .before .before in
+    omega (arith, (fields-ok (start .args .s .now) (start .pre .0 .none-found)) .terms-high, start .pre .0 .counts-are .terms-are)
 
 enum-known-t : tie.Need-enum-known-t
 enum-known-t c = search needs
@@ -21,10 +35,26 @@ enum-told : tie.Need-enum-told
 enum-told c = search needs
 
 returns : tie.Need-returns
-returns c = (told-8 (c .before .before .before .before .before .before .before .args .s .now) (c .before .before .before .before .before .before .before .pre .1 .0 .none-found) (c .before .before .before .before .before .before .before .pre .1 .1 .0 .none-found) (c .before .before .before .before .before .before .before .pre .1 .1 .1 .none-found) (found-at (c .before .t .given .1) (c .before .before .before .too-deep .ensures ∙ deep-at (c .before .before .before .before .before .before .before .args .s .now) (c .before .before .before .before .before .before .before .args .parents .now) (c .before .before .before .before .before .before .before .pre .1 .1 .0) ((fields-ok (c .before .before .before .before .before .before .before .args .s .now) (c .before .before .before .before .before .before .before .pre .0 .none-found)) .terms-high) (c .before .before .before .before .before .before .before .pre .1 .1 .1) (c .before .before .before .before .before .before .before .pre .0 .counts-are .terms-are) _ (c .before .before .before .before .before .nestings .ensures))), tt)
+returns c =
+    let at-nestings = c .before .before .before .before .before in
+    let start = at-nestings .before .before in (
+      told-8 (start .args .s .now) (start .pre .1 .0 .none-found) (start .pre .1 .1 .0 .none-found) (start .pre .1 .1 .1 .none-found)
+          (found-at (c .before .t .given .1) (c .before .before .before .too-deep .ensures ∙ deep-at (start .args .s .now) (start .args .parents .now)
+          (start .pre .1 .1 .0) ((fields-ok (start .args .s .now) (start .pre .0 .none-found)) .terms-high) (start .pre .1 .1 .1)
+          (start .pre .0 .counts-are .terms-are) _ (at-nestings .nestings .ensures))),
+      tt,
+    )
 
 returns-2 : tie.Need-returns-2
-returns-2 c = (told-readable (c .before .before .before .before .before .before .args .s .now) (c .before .before .before .before .before .before .pre .1 .0 .none-found) (c .before .before .before .before .before .before .pre .1 .1 .0 .none-found) (c .before .before .before .before .before .before .pre .1 .1 .1 .none-found) (found-none (c .enum-told .given .1) (c .before .before .too-deep .ensures ∙ deep-at (c .before .before .before .before .before .before .args .s .now) (c .before .before .before .before .before .before .args .parents .now) (c .before .before .before .before .before .before .pre .1 .1 .0) ((fields-ok (c .before .before .before .before .before .before .args .s .now) (c .before .before .before .before .before .before .pre .0 .none-found)) .terms-high) (c .before .before .before .before .before .before .pre .1 .1 .1) (c .before .before .before .before .before .before .pre .0 .counts-are .terms-are) _ (c .before .before .before .before .nestings .ensures))), c .before .before .before .before .before .before .pre .0 .counts-are)
+returns-2 c =
+    let at-nestings = c .before .before .before .before in
+    let start = at-nestings .before .before in (
+      told-readable (start .args .s .now) (start .pre .1 .0 .none-found) (start .pre .1 .1 .0 .none-found) (start .pre .1 .1 .1 .none-found)
+          (found-none (c .enum-told .given .1) (c .before .before .too-deep .ensures ∙ deep-at (start .args .s .now) (start .args .parents .now) (start .pre .1 .1 .0)
+          ((fields-ok (start .args .s .now) (start .pre .0 .none-found)) .terms-high) (start .pre .1 .1 .1) (start .pre .0 .counts-are .terms-are) _
+          (at-nestings .nestings .ensures))),
+      start .pre .0 .counts-are,
+    )
 
 pub nested-spec : {M : Type 1} → statement M
 nested-spec =

@@ -1,3 +1,5 @@
+-- A term that is wrongly placed is refusal 7, since types and terms are right (told-7). Where none is found, that and the list of parents is what
+-- `nested` requires, and its answer is the answer.
 use Rattle.program.specs.Laws.Order.{told-7}
 use Rattle.decoder.proofs.DecodeLaws.{found-at, found-none}
 use borrow.Author.Needs.{needs}
@@ -17,10 +19,30 @@ enum-told : tie.Need-enum-told
 enum-told c = search needs
 
 nested-requires : tie.Need-nested-requires
-nested-requires c κs = (c .before .before .before .before .before .before .before .pre .0, (c .before .before .before .before .before .before .before .pre .1 .0, (c .before .before .before .before .before .before .before .pre .1 .1, record { none-found = found-none (c .before .enum-told .given .1) (c .before .before .before .bad-place .ensures); links = c .before .before .before .before .before .parents-of .ensures })))
+nested-requires c κs =
+    let at-parents-of = c .before .before .before .before .before in
+    let start = at-parents-of .before .before in (
+      start .pre .0,
+      (
+        start .pre .1 .0,
+        (
+          start .pre .1 .1,
+          record {
+            none-found = found-none (c .before .enum-told .given .1)
+                (c .before .before .before .bad-place .ensures);
+            links = at-parents-of .parents-of .ensures;
+          },
+        ),
+      ),
+    )
 
 returns : tie.Need-returns
-returns c = (told-7 (c .before .before .before .before .before .before .before .args .s .now) (c .before .before .before .before .before .before .before .pre .1 .0 .none-found) (c .before .before .before .before .before .before .before .pre .1 .1 .none-found) (found-at (c .before .t .given .1) (c .before .before .before .bad-place .ensures)), tt)
+returns c =
+    let start = c .before .before .before .before .before .before .before in (
+      told-7 (start .args .s .now) (start .pre .1 .0 .none-found) (start .pre .1 .1 .none-found)
+          (found-at (c .before .t .given .1) (c .before .before .before .bad-place .ensures)),
+      tt,
+    )
 
 returns-2 : tie.Need-returns-2
 returns-2 c = search needs

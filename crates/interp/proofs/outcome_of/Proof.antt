@@ -1,3 +1,4 @@
+-- A stop, a boolean, a number and a function each give the outcome of the definition; a function is stop 18 at the root.
 use mathlib.Core.Path.{ap, _∙_}
 use borrow.Author.Needs.{needs}
 use Rattle.machine.specs.declared.state.Value.{Value}

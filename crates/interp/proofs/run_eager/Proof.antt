@@ -1,3 +1,5 @@
+-- A run that is not admitted answers the refusal and leaves every buffer as it was (eager-refused); an admitted one is as `eager` requires and answers as it
+-- does. An eager run has no frame store, so that the test of one is `true`.
 use borrow.Author.Needs.{needs}
 use mathlib.Core.Bool.{true}
 use Rattle.interp.proofs.RunLaws.{is-admitted, eager-refused}

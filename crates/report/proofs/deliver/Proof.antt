@@ -1,3 +1,6 @@
+-- `deliver` leaves a place that is shorter than the text as it was (too-short); else it copies the n bytes of the text to the front (fitting).
+-- The invariant: the first i bytes are the draft's, the others as they were, the length is unchanged, and i is at most n; copy-more makes it one byte more.
+-- The measure is n - i, the number of bytes left, and falls since each turn adds 1 to i.
 use mathlib.Core.List.{_++_}
 use mathlib.Core.Path.{_≡_, refl}
 use Prim.Native.Nat.{_-_, _≤_}
@@ -15,7 +18,9 @@ abbrev μ-loop : tie.MeasureT-loop
 μ-loop text₀ d n i₀ text i = n - i
 
 returns : tie.Need-returns Inv-loop μ-loop
-returns c = too-short (c .before .args .t1) (c .before .args .text .now) (sized (c .before .args .t1 .bytes) 192 (c .before .good .0 .1 .1 .0 .1 .0 .1)) (c .before .pre) (c .if1 .taken)
+returns c =
+    let start = c .before in
+    too-short (start .args .t1) (start .args .text .now) (sized (start .args .t1 .bytes) 192 (start .good .0 .1 .1 .0 .1 .0 .1)) (start .pre) (c .if1 .taken)
 
 loop-holds : tie.Need-loop-holds Inv-loop μ-loop
 loop-holds c = (omega arith, (refl, refl))
@@ -27,19 +32,35 @@ slice-write-text : tie.Need-slice-write-text Inv-loop μ-loop
 slice-write-text c = omega (arith, c .before .before .loop .inv .1 .0, c .before .before .before .if1 .left)
 
 add-i : tie.Need-add-i Inv-loop μ-loop
-add-i c = omega (arith, c .before .before .before .before .pre)
+add-i c =
+    let start = c .before .before .before .before in
+    omega (arith, start .pre)
 
 loop-less : tie.Need-loop-less Inv-loop μ-loop
 loop-less c = omega arith
 
 loop-again : tie.Need-loop-again Inv-loop μ-loop
-loop-again c = (omega arith, (simp length-set (c .before .before .loop .inv .1 .0), copy-more (c .before .before .before .before .args .t1 .bytes) (c .before .before .before .before .args .text .now) (c .before .before .loop .text) (c .before .before .loop .i) (omega (arith, sized (c .before .before .before .before .args .t1 .bytes) 192 (c .before .before .before .before .good .0 .1 .1 .0 .1 .0 .1), c .before .before .before .before .pre)) (omega (arith, c .before .before .before .if1 .left)) (c .before .before .loop .inv .1 .1)))
+loop-again c =
+    let at-loop = c .before .before in
+    let start = at-loop .before .before in (
+      omega arith,
+      (
+        simp length-set (at-loop .loop .inv .1 .0),
+        copy-more (start .args .t1 .bytes) (start .args .text .now) (at-loop .loop .text)
+            (at-loop .loop .i) (omega (arith, sized (start .args .t1 .bytes) 192 (start .good .0 .1 .1 .0 .1 .0 .1), start .pre))
+            (omega (arith, c .before .before .before .if1 .left)) (at-loop .loop .inv .1 .1),
+      ),
+    )
 
 same-length : tie.Need-same-length Inv-loop μ-loop
 same-length c = c .before .loop .inv .1 .0
 
 returns-2 : tie.Need-returns-2 Inv-loop μ-loop
-returns-2 c = fitting (c .before .before .before .args .t1) (c .before .before .before .args .text .now) (sized (c .before .before .before .args .t1 .bytes) 192 (c .before .before .before .good .0 .1 .1 .0 .1 .0 .1)) (c .before .before .before .pre) (c .before .loop .i) (c .before .loop .text) (c .before .loop .inv .0) (c .loop-test .left) (c .before .before .if1 .left) (c .before .loop .inv .1 .1)
+returns-2 c =
+    let at-loop = c .before in
+    let start = at-loop .before .before in
+    fitting (start .args .t1) (start .args .text .now) (sized (start .args .t1 .bytes) 192 (start .good .0 .1 .1 .0 .1 .0 .1)) (start .pre) (at-loop .loop .i)
+    (at-loop .loop .text) (at-loop .loop .inv .0) (c .loop-test .left) (c .before .before .if1 .left) (at-loop .loop .inv .1 .1)
 
 pub deliver-spec : {M : Type 1} → statement M
 deliver-spec =

@@ -1,3 +1,6 @@
+-- The draft of `render` holds the printed text, and the buffers are left as `used` says, by the verdict of `typecheck`: a refused sheet is told and not
+-- run (rejected-told), an accepted one is told with its run (accepted-told). The run's answer depends on the lengths of the buffers alone, and these are
+-- the largest, as in the definition of the print, by the precondition (lent-largest).
 use mathlib.Core.Path.{sym, ap, _∙_}
 use Rattle.typing.specs.Answers.{told}
 use Rattle.report.proofs.ReportLaws.{rejected-told, accepted-told, lent-largest}
@@ -33,10 +36,18 @@ run-accepted-requires : tie.Need-run-accepted-requires
 run-accepted-requires c κs = search needs
 
 returns : tie.Need-returns
-returns c = rejected-told (c .before .before .before .before .before .before .before .before .before .args .sheet .now) _ (sym (ap told (c .before .before .before .v .given .1)) ∙ c .before .before .before .before .before .typecheck .ensures) (c .before .of-reader .ensures) (c .refusal .ensures)
+returns c =
+    let at-typecheck = c .before .before .before .before .before in
+    let start = at-typecheck .before .before .before .before in
+    rejected-told (start .args .sheet .now) _ (sym (ap told (c .before .before .before .v .given .1)) ∙ at-typecheck .typecheck .ensures)
+    (c .before .of-reader .ensures) (c .refusal .ensures)
 
 returns-2 : tie.Need-returns-2
-returns-2 c = rejected-told (c .before .before .before .before .before .before .before .before .before .args .sheet .now) _ (sym (ap told (c .before .before .before .v2 .given .1)) ∙ c .before .before .before .before .before .typecheck .ensures) (c .before .of-fault .ensures) (c .refusal2 .ensures)
+returns-2 c =
+    let at-typecheck = c .before .before .before .before .before in
+    let start = at-typecheck .before .before .before .before in
+    rejected-told (start .args .sheet .now) _ (sym (ap told (c .before .before .before .v2 .given .1)) ∙ at-typecheck .typecheck .ensures)
+    (c .before .of-fault .ensures) (c .refusal2 .ensures)
 
 same-length : tie.Need-same-length
 same-length c = search needs
@@ -45,7 +56,13 @@ same-length-2 : tie.Need-same-length-2
 same-length-2 c = search needs
 
 returns-3 : tie.Need-returns-3
-returns-3 c = accepted-told (c .before .before .before .before .before .before .before .before .before .before .before .before .before .before .args .sheet .now) _ (sym (ap told (c .before .before .before .before .before .before .before .before .v3 .given .1)) ∙ c .before .before .before .before .before .before .before .before .before .before .typecheck .ensures) (lent-largest (c .before .before .before .before .before .before .before .before .before .before .before .before .before .before .args .cells .now) (c .before .before .before .before .before .before .before .before .before .before .before .before .before .before .args .posts .now) (c .before .before .before .before .before .before .before .before .before .before .before .before .before .before .pre .0) (c .before .before .before .before .before .before .before .before .before .before .before .before .before .before .pre .1)) (c .before .before .before .before .run-accepted .ensures)
+returns-3 c =
+    let at-run-accepted = c .before .before .before .before in
+    let at-v3 = at-run-accepted .before .before .before .before in
+    let at-typecheck = at-v3 .before .before in
+    let start = at-typecheck .before .before .before .before in
+    accepted-told (start .args .sheet .now) _ (sym (ap told (at-v3 .v3 .given .1)) ∙ at-typecheck .typecheck .ensures)
+    (lent-largest (start .args .cells .now) (start .args .posts .now) (start .pre .0) (start .pre .1)) (at-run-accepted .run-accepted .ensures)
 
 pub render-spec : {M : Type 1} → statement M
 render-spec =

@@ -1,3 +1,5 @@
+-- `main` has no contract. Shown is that the parts of the buffers that it lends are within them: `read_full` reads no more bytes than the sheet's buffer has,
+-- and a text that `report` has written is no longer than the place for it (text-written).
 use mathlib.Core.Path.{sym}
 use lib.Seq.{length-take-le}
 use Rattle.report.specs.Theorems.{text-written}
@@ -36,13 +38,17 @@ returns : tie.Need-returns
 returns c = search needs
 
 array-share-prefix-text : tie.Need-array-share-prefix-text
-array-share-prefix-text c = text-written _ _ _ _ _ _ (c .before .told .given .1) (c .before .before .before .before .before .before .report .ensures) .fits
+array-share-prefix-text c =
+    let at-report = c .before .before .before .before .before .before in
+    text-written _ _ _ _ _ _ (c .before .told .given .1) (at-report .report .ensures) .fits
 
-slice-aggregate-write-all : tie.Need-slice-aggregate-write-all
-slice-aggregate-write-all c = sym (length-take-le _ _ (text-written _ _ _ _ _ _ (c .before .before .told .given .1) (c .before .before .before .before .before .before .before .report .ensures) .fits))
+slice-aggregate-tell : tie.Need-slice-aggregate-tell
+slice-aggregate-tell c =
+    let at-report = c .before .before .before .before .before .before .before in
+    sym (length-take-le _ _ (text-written _ _ _ _ _ _ (c .before .before .told .given .1) (at-report .report .ensures) .fits))
 
-write-all-requires : tie.Need-write-all-requires
-write-all-requires c κs = search needs
+tell-requires : tie.Need-tell-requires
+tell-requires c κs = search needs
 
 returns-2 : tie.Need-returns-2
 returns-2 c = search needs
@@ -62,6 +68,6 @@ main-spec =
     enum-known-told
     returns
     array-share-prefix-text
-    slice-aggregate-write-all
-    write-all-requires
+    slice-aggregate-tell
+    tell-requires
     returns-2)

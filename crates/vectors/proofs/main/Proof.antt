@@ -1,3 +1,5 @@
+-- `main` has no contract. Shown is that the loop ends. The invariant is empty. The measure is `turns`, the turns left of 65,536, and falls by 1 each turn;
+-- the test 0 < turns keeps the subtraction from underflow.
 use native.Mathlib.Omega.{arith}
 use Rattle.vectors.proofs.main.Statement.{statement}
 use Rattle.vectors.proofs.main.Tie as tie

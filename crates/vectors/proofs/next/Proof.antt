@@ -1,3 +1,5 @@
+-- `next` has no contract. Shown is that the parts of the buffers that it lends are within them and as long as the header says (part), since `read_vector`
+-- gives no length above that of the buffer.
 use Rattle.vectors.proofs.PartLaws.{part}
 use borrow.Author.Needs.{needs}
 use Rattle.vectors.proofs.next.Statement.{statement}
@@ -13,31 +15,46 @@ slice-relend-prefix-vector : tie.Need-slice-relend-prefix-vector
 slice-relend-prefix-vector c = search needs
 
 slice-aggregate-vector : tie.Need-slice-aggregate-vector
-slice-aggregate-vector c = part (c .before .before .before .read-vector .result .start) (c .before .before .before .before .before .before .before .before .before .args .start .now) (c .before .before .before .read-vector .ensures .0)
+slice-aggregate-vector c =
+    let at-read-vector = c .before .before .before in
+    let start = at-read-vector .before .before .before .before .before .before in
+    part (at-read-vector .read-vector .result .start) (start .args .start .now) (at-read-vector .read-vector .ensures .0)
 
 slice-relend-prefix-vector-2 : tie.Need-slice-relend-prefix-vector-2
 slice-relend-prefix-vector-2 c = search needs
 
 slice-aggregate-vector-2 : tie.Need-slice-aggregate-vector-2
-slice-aggregate-vector-2 c = part (c .before .before .before .before .read-vector .result .sheet) (c .before .before .before .before .before .before .before .before .before .before .args .sheet .now) (c .before .before .before .before .read-vector .ensures .1 .0)
+slice-aggregate-vector-2 c =
+    let at-read-vector = c .before .before .before .before in
+    let start = at-read-vector .before .before .before .before .before .before in
+    part (at-read-vector .read-vector .result .sheet) (start .args .sheet .now) (at-read-vector .read-vector .ensures .1 .0)
 
 slice-relend-prefix-vector-3 : tie.Need-slice-relend-prefix-vector-3
 slice-relend-prefix-vector-3 c = search needs
 
 slice-aggregate-vector-3 : tie.Need-slice-aggregate-vector-3
-slice-aggregate-vector-3 c = part (c .before .before .before .before .before .read-vector .result .cells) (c .before .before .before .before .before .before .before .before .before .before .before .args .cells .now) (c .before .before .before .before .before .read-vector .ensures .1 .1 .0)
+slice-aggregate-vector-3 c =
+    let at-read-vector = c .before .before .before .before .before in
+    let start = at-read-vector .before .before .before .before .before .before in
+    part (at-read-vector .read-vector .result .cells) (start .args .cells .now) (at-read-vector .read-vector .ensures .1 .1 .0)
 
 slice-relend-prefix-vector-4 : tie.Need-slice-relend-prefix-vector-4
 slice-relend-prefix-vector-4 c = search needs
 
 slice-aggregate-vector-4 : tie.Need-slice-aggregate-vector-4
-slice-aggregate-vector-4 c = part (c .before .before .before .before .before .before .read-vector .result .posts) (c .before .before .before .before .before .before .before .before .before .before .before .before .args .posts .now) (c .before .before .before .before .before .before .read-vector .ensures .1 .1 .1 .0)
+slice-aggregate-vector-4 c =
+    let at-read-vector = c .before .before .before .before .before .before in
+    let start = at-read-vector .before .before .before .before .before .before in
+    part (at-read-vector .read-vector .result .posts) (start .args .posts .now) (at-read-vector .read-vector .ensures .1 .1 .1 .0)
 
 slice-relend-prefix-vector-5 : tie.Need-slice-relend-prefix-vector-5
 slice-relend-prefix-vector-5 c = search needs
 
 slice-aggregate-vector-5 : tie.Need-slice-aggregate-vector-5
-slice-aggregate-vector-5 c = part (c .before .before .before .before .before .before .before .read-vector .result .frames) (c .before .before .before .before .before .before .before .before .before .before .before .before .before .args .frames .now) (c .before .before .before .before .before .before .before .read-vector .ensures .1 .1 .1 .1)
+slice-aggregate-vector-5 c =
+    let at-read-vector = c .before .before .before .before .before .before .before in
+    let start = at-read-vector .before .before .before .before .before .before in
+    part (at-read-vector .read-vector .result .frames) (start .args .frames .now) (at-read-vector .read-vector .ensures .1 .1 .1 .1)
 
 vector-requires : tie.Need-vector-requires
 vector-requires c κs = search needs

@@ -1,3 +1,5 @@
+-- `of_decoded` gives the reply that `ofDecoded` says, by case: a refusal as the cause and place that `of_reader` tells (refused-as), a readable sheet as
+-- its counts, where both replies are the same by computation.
 use Rattle.capi.specs.Internal.{ofDecoded}
 use Rattle.capi.proofs.ReplyLaws.{by, refused-as}
 use mathlib.Core.Path.{refl}
@@ -30,7 +32,9 @@ returns : tie.Need-returns
 returns c = by ofDecoded (c .before .before .before .d .given .1) (refused-as _ _ (c .refused .ensures) (c .before .of-reader .ensures))
 
 returns-2 : tie.Need-returns-2
-returns-2 c = by ofDecoded (c .before .before .before .before .d2 .given .1) refl
+returns-2 c =
+    let at-d2 = c .before .before .before .before in
+    by ofDecoded (at-d2 .d2 .given .1) refl
 
 pub of-decoded-spec : {M : Type 1} → statement M
 of-decoded-spec =

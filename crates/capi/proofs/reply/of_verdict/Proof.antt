@@ -1,3 +1,5 @@
+-- `of_verdict` gives the reply that `judged` says, by case: a refusal of the reader or of the type checker as the cause and place that `of_reader` or
+-- `of_fault` tells (refused-as), an acceptance as its type, terms and needs, where both replies are the same by computation.
 use mathlib.Core.Path.{refl}
 use Rattle.typing.specs.Answers.{told}
 use Rattle.typing.specs.declared.answer.Verdict.{Verdict}
@@ -35,10 +37,12 @@ cast-t11 : tie.Need-cast-t11
 cast-t11 c = search needs
 
 returns : tie.Need-returns
-returns c = by (λ (v : Verdict). judged (told v)) (c .before .before .before .v .given .1) (refused-as _ _ (c .refused .ensures) (c .before .of-reader .ensures))
+returns c = by (λ (v : Verdict). judged (told v)) (c .before .before .before .v .given .1)
+    (refused-as _ _ (c .refused .ensures) (c .before .of-reader .ensures))
 
 returns-2 : tie.Need-returns-2
-returns-2 c = by (λ (v : Verdict). judged (told v)) (c .before .before .before .v2 .given .1) (refused-as _ _ (c .refused2 .ensures) (c .before .of-fault .ensures))
+returns-2 c = by (λ (v : Verdict). judged (told v)) (c .before .before .before .v2 .given .1)
+    (refused-as _ _ (c .refused2 .ensures) (c .before .of-fault .ensures))
 
 returns-3 : tie.Need-returns-3
 returns-3 c = by (λ (v : Verdict). judged (told v)) (c .before .v3 .given .1) refl

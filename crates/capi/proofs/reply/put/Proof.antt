@@ -1,3 +1,6 @@
+-- `put` returns the status, and writes the eight numbers of the reply to the front of the list. The invariant: the first i numbers are the reply's, the
+-- others as they were, and i is at most 8; written-more makes it one number more. The measure is 8 - i, the numbers left, and falls since each turn adds
+-- 1 to i. When the test fails, i is 8 (written-all). The list keeps its length, which is at least 8, so every write is within it (written-length).
 use mathlib.Core.List.{_++_}
 use mathlib.Core.Path.{_≡_, refl}
 use Prim.Native.Nat.{_+_, _≤_, _-_}
@@ -26,7 +29,16 @@ mul-answer-2 : tie.Need-mul-answer-2 Inv-loop μ-loop
 mul-answer-2 c = omega arith
 
 slice-write-answer : tie.Need-slice-write-answer Inv-loop μ-loop
-slice-write-answer c = omega (arith, c .loop-test .taken, c .before .before .before .pre, (written-length (c .before .before .before .args .reply .numbers) (c .before .before .before .args .answer .now) (c .before .loop .i) (sized (c .before .before .before .args .reply .numbers) 8 (c .before .before .before .good .0 .1 .1 .1 .0 .1 .0 .1)) (c .before .before .before .pre) (c .before .loop .inv .0) (c .before .loop .inv .1)))
+slice-write-answer c =
+    let at-loop = c .before in
+    let start = at-loop .before .before in
+    omega (
+      arith,
+      c .loop-test .taken,
+      start .pre,
+      (written-length (start .args .reply .numbers) (start .args .answer .now) (at-loop .loop .i)
+          (sized (start .args .reply .numbers) 8 (start .good .0 .1 .1 .1 .0 .1 .0 .1)) (start .pre) (at-loop .loop .inv .0) (at-loop .loop .inv .1)),
+    )
 
 add-i : tie.Need-add-i Inv-loop μ-loop
 add-i c = omega arith
@@ -35,13 +47,29 @@ loop-less : tie.Need-loop-less Inv-loop μ-loop
 loop-less c = omega arith
 
 loop-again : tie.Need-loop-again Inv-loop μ-loop
-loop-again c = (omega (arith, c .loop-test .taken), written-more (c .before .before .before .args .reply .numbers) (c .before .before .before .args .answer .now) (c .before .loop .i) (sized (c .before .before .before .args .reply .numbers) 8 (c .before .before .before .good .0 .1 .1 .1 .0 .1 .0 .1)) (c .before .before .before .pre) (c .loop-test .taken) (c .before .loop .inv .1))
+loop-again c =
+    let at-loop = c .before in
+    let start = at-loop .before .before in (
+      omega (arith, c .loop-test .taken),
+      written-more (start .args .reply .numbers) (start .args .answer .now) (at-loop .loop .i)
+          (sized (start .args .reply .numbers) 8 (start .good .0 .1 .1 .1 .0 .1 .0 .1)) (start .pre) (c .loop-test .taken) (at-loop .loop .inv .1),
+    )
 
 same-length : tie.Need-same-length Inv-loop μ-loop
-same-length c = (written-length (c .before .before .before .args .reply .numbers) (c .before .before .before .args .answer .now) (c .before .loop .i) (sized (c .before .before .before .args .reply .numbers) 8 (c .before .before .before .good .0 .1 .1 .1 .0 .1 .0 .1)) (c .before .before .before .pre) (c .before .loop .inv .0) (c .before .loop .inv .1))
+same-length c =
+    let at-loop = c .before in
+    let start = at-loop .before .before in
+    (written-length (start .args .reply .numbers) (start .args .answer .now) (at-loop .loop .i)
+    (sized (start .args .reply .numbers) 8 (start .good .0 .1 .1 .1 .0 .1 .0 .1)) (start .pre) (at-loop .loop .inv .0) (at-loop .loop .inv .1))
 
 returns : tie.Need-returns Inv-loop μ-loop
-returns c = (refl, written-all (c .before .before .before .args .reply .numbers) (c .before .before .before .args .answer .now) (c .before .loop .i) (sized (c .before .before .before .args .reply .numbers) 8 (c .before .before .before .good .0 .1 .1 .1 .0 .1 .0 .1)) (c .before .loop .inv .0) (c .loop-test .left) (c .before .loop .inv .1))
+returns c =
+    let at-loop = c .before in
+    let start = at-loop .before .before in (
+      refl,
+      written-all (start .args .reply .numbers) (start .args .answer .now) (at-loop .loop .i)
+          (sized (start .args .reply .numbers) 8 (start .good .0 .1 .1 .1 .0 .1 .0 .1)) (at-loop .loop .inv .0) (c .loop-test .left) (at-loop .loop .inv .1),
+    )
 
 pub put-spec : {M : Type 1} → statement M
 put-spec =

@@ -1,3 +1,6 @@
+-- `infer` and the function of each kind give `termJudgement`: children are judged in order, a fault ends it, and the rest is the kind's step (TermLaws).
+-- There is room for a child's bindings: a function's body has one more, a letrec's body two and its rest one. What falls is 2 * t + 1 for `infer`
+-- and 2 * t for the others: `infer` calls the function of a kind at the same term t, and that calls `infer` at a child, which is lower.
 use borrow.Author.Needs.{needs}
 use mathlib.Core.Path.{refl}
 use Prim.Native.Nat.{_+_, _*_}
@@ -244,17 +247,59 @@ pub +infer+infer-binary+infer-call+infer-check+infer-enable+infer-function+infer
     (infer-at t)
     infer.Post
     (λ c κs. search needs)  -- infer-term-requires
-    (λ c κs. (omega (arith, c .before .before .before .pre .0), (record { ready = c .before .before .before .pre .1; record-is = c .before .term .ensures }, c .match .keys1)))  -- infer-infer-function-requires
-    (λ c κs. (omega (arith, c .before .before .before .pre .0), (record { ready = c .before .before .before .pre .1; record-is = c .before .term .ensures }, c .match .keys2)))  -- infer-infer-letrec-requires
-    (λ c κs. (omega (arith, c .before .before .before .pre .0), (record { ready = c .before .before .before .pre .1; record-is = c .before .term .ensures }, c .match .keys3)))  -- infer-infer-call-requires
-    (λ c κs. (omega (arith, c .before .before .before .pre .0), (record { ready = c .before .before .before .pre .1; record-is = c .before .term .ensures }, c .match .keys4)))  -- infer-infer-if-requires
-    (λ c κs. (omega (arith, c .before .before .before .pre .0), (record { ready = c .before .before .before .pre .1; record-is = c .before .term .ensures }, c .match .keys5)))  -- infer-infer-check-requires
-    (λ c κs. (omega (arith, c .before .before .before .pre .0), (record { ready = c .before .before .before .pre .1; record-is = c .before .term .ensures }, c .match .keys6)))  -- infer-infer-enable-requires
-    (λ c κs. (omega (arith, c .before .before .before .pre .0), (record { ready = c .before .before .before .pre .1; record-is = c .before .term .ensures }, c .match .keys7)))  -- infer-infer-sign-requires
-    (λ c κs. (omega (arith, c .before .before .before .pre .0), (record { ready = c .before .before .before .pre .1; record-is = c .before .term .ensures }, c .match .keys8)))  -- infer-infer-test-requires
+    (λ c κs. (
+      omega (arith, c .before .before .before .pre .0),
+      (record { ready = c .before .before .before .pre .1; record-is = c .before .term .ensures }, c .match .keys1),
+    ))  -- infer-infer-function-requires
+    (λ c κs. (
+      omega (arith, c .before .before .before .pre .0),
+      (record { ready = c .before .before .before .pre .1; record-is = c .before .term .ensures }, c .match .keys2),
+    ))  -- infer-infer-letrec-requires
+    (λ c κs. (
+      omega (arith, c .before .before .before .pre .0),
+      (record { ready = c .before .before .before .pre .1; record-is = c .before .term .ensures }, c .match .keys3),
+    ))  -- infer-infer-call-requires
+    (λ c κs. (
+      omega (arith, c .before .before .before .pre .0),
+      (record { ready = c .before .before .before .pre .1; record-is = c .before .term .ensures }, c .match .keys4),
+    ))  -- infer-infer-if-requires
+    (λ c κs. (
+      omega (arith, c .before .before .before .pre .0),
+      (record { ready = c .before .before .before .pre .1; record-is = c .before .term .ensures }, c .match .keys5),
+    ))  -- infer-infer-check-requires
+    (λ c κs. (
+      omega (arith, c .before .before .before .pre .0),
+      (record { ready = c .before .before .before .pre .1; record-is = c .before .term .ensures }, c .match .keys6),
+    ))  -- infer-infer-enable-requires
+    (λ c κs. (
+      omega (arith, c .before .before .before .pre .0),
+      (record { ready = c .before .before .before .pre .1; record-is = c .before .term .ensures }, c .match .keys7),
+    ))  -- infer-infer-sign-requires
+    (λ c κs. (
+      omega (arith, c .before .before .before .pre .0),
+      (record { ready = c .before .before .before .pre .1; record-is = c .before .term .ensures }, c .match .keys8),
+    ))  -- infer-infer-test-requires
     (λ c κs. omega (arith, c .before .before .before .before .pre .1 .fits))  -- infer-leaf-requires
-    (λ c κs. (omega (arith, c .before .before .before .before .before .pre .0), (record { ready = c .before .before .before .before .before .pre .1; record-is = c .before .before .before .term .ensures }, (past-ten _ (c .before .if1 .left) (c .before .before .match .rest .0 .0 .0 .0 .0 .0 .0 .1) (c .before .before .match .rest .0 .0 .0 .0 .0 .0 .1) (c .before .before .match .rest .0 .0 .0 .0 .0 .1) (c .before .before .match .rest .0 .0 .0 .0 .1) (c .before .before .match .rest .0 .0 .0 .1) (c .before .before .match .rest .0 .0 .1) (c .before .before .match .rest .0 .1) (c .before .before .match .rest .1), c .if2 .taken))))  -- infer-infer-binary-requires
-    (λ c κs. let h = kind-most (record { ready = c .before .before .before .before .before .pre .1; record-is = c .before .before .before .term .ensures }) in (omega (arith, c .before .before .before .before .before .pre .0), (record { ready = c .before .before .before .before .before .pre .1; record-is = c .before .before .before .term .ensures }, omega (arith, h, c .if2 .left))))  -- infer-infer-post-requires
+    (λ c κs. (
+      omega (arith, c .before .before .before .before .before .pre .0),
+      (
+        record { ready = c .before .before .before .before .before .pre .1; record-is = c .before .before .before .term .ensures },
+        (
+          past-ten _ (c .before .if1 .left) (c .before .before .match .rest .0 .0 .0 .0 .0 .0 .0 .1) (c .before .before .match .rest .0 .0 .0 .0 .0 .0 .1)
+              (c .before .before .match .rest .0 .0 .0 .0 .0 .1) (c .before .before .match .rest .0 .0 .0 .0 .1) (c .before .before .match .rest .0 .0 .0 .1)
+              (c .before .before .match .rest .0 .0 .1) (c .before .before .match .rest .0 .1) (c .before .before .match .rest .1),
+          c .if2 .taken,
+        ),
+      ),
+    ))  -- infer-infer-binary-requires
+    (λ c κs. let h = kind-most (record { ready = c .before .before .before .before .before .pre .1; record-is = c .before .before .before .term .ensures }) in (
+      omega (arith, c .before .before .before .before .before .pre .0),
+      (
+        record { ready = c .before .before .before .before .before .pre .1; record-is = c .before .before .before .term .ensures },
+        omega
+            (arith, h, c .if2 .left),
+      ),
+    ))  -- infer-infer-post-requires
     (λ c. c .infer-function .ensures)  -- infer-returns
     (λ c. c .infer-letrec .ensures)  -- infer-returns-2
     (λ c. c .infer-call .ensures)  -- infer-returns-3
@@ -263,7 +308,8 @@ pub +infer+infer-binary+infer-call+infer-check+infer-enable+infer-function+infer
     (λ c. c .infer-enable .ensures)  -- infer-returns-6
     (λ c. c .infer-sign .ensures)  -- infer-returns-7
     (λ c. c .infer-test .ensures)  -- infer-returns-8
-    (λ c. leaf-is (record { ready = c .before .before .before .before .before .pre .1; record-is = c .before .before .before .term .ensures }) _ (omega (arith, c .before .if1 .taken)) (c .leaf .ensures))  -- infer-returns-9
+    (λ c. leaf-is (record { ready = c .before .before .before .before .before .pre .1; record-is = c .before .before .before .term .ensures }) _
+    (omega (arith, c .before .if1 .taken)) (c .leaf .ensures))  -- infer-returns-9
     (λ c. c .infer-binary .ensures)  -- infer-returns-10
     (λ c. c .infer-post .ensures))  -- infer-returns-11
     (λ t. infer-binary-lts.spec (
@@ -276,14 +322,23 @@ pub +infer+infer-binary+infer-call+infer-check+infer-enable+infer-function+infer
     )
     (infer-binary-at t)
     infer-binary.Post
-    (λ c κs. let h = binary-first (c .before .pre .1 .0) (c .before .pre .1 .1 .0) (c .before .pre .1 .1 .1) in (omega (arith, c .before .pre .0, h .lower), h .ready))  -- infer-binary-infer-requires
+    (λ c κs. let h = binary-first (c .before .pre .1 .0) (c .before .pre .1 .1 .0) (c .before .pre .1 .1 .1) in
+    (omega (arith, c .before .pre .0, h .lower), h .ready))  -- infer-binary-infer-requires
     (λ c. search needs)  -- infer-binary-enum-known-j
     (λ c. search needs)  -- infer-binary-enum-told
-    (λ c. binary-stops (c .before .before .before .before .pre .1 .0) _ (c .before .before .before .before .pre .1 .1 .0) (c .before .before .before .before .pre .1 .1 .1) (c .before .before .infer .result) (c .before .before .infer .ensures) (c .before .match .keys2))  -- infer-binary-returns
-    (λ c κs. let h = binary-second (c .before .before .before .before .before .pre .1 .0) (c .before .before .before .before .before .pre .1 .1 .0) (c .before .before .before .before .before .pre .1 .1 .1) in (omega (arith, c .before .before .before .before .before .pre .0, h .lower), h .ready))  -- infer-binary-infer-requires-2
+    (λ c. binary-stops (c .before .before .before .before .pre .1 .0) _ (c .before .before .before .before .pre .1 .1 .0)
+    (c .before .before .before .before .pre .1 .1 .1) (c .before .before .infer .result) (c .before .before .infer .ensures)
+    (c .before .match .keys2))  -- infer-binary-returns
+    (λ c κs. let h = binary-second (c .before .before .before .before .before .pre .1 .0) (c .before .before .before .before .before .pre .1 .1 .0)
+    (c .before .before .before .before .before .pre .1 .1 .1) in
+    (omega (arith, c .before .before .before .before .before .pre .0, h .lower), h .ready))  -- infer-binary-infer-requires-2
     (λ c κs. search needs)  -- infer-binary-result-of-requires
     (λ c κs. search needs)  -- infer-binary-computed-requires
-    (λ c. binary-is (c .before .before .before .before .before .before .before .before .pre .1 .0) _ (c .before .before .before .before .before .before .before .before .pre .1 .1 .0) (c .before .before .before .before .before .before .before .before .pre .1 .1 .1) (c .before .before .before .before .j .given .1) (c .before .before .before .before .before .before .infer .ensures) (c .before .before .infer2 .ensures) (c .before .result-of .ensures) (c .computed .ensures)))  -- infer-binary-returns-2
+    (λ c. binary-is (c .before .before .before .before .before .before .before .before .pre .1 .0) _
+    (c .before .before .before .before .before .before .before .before .pre .1 .1 .0)
+    (c .before .before .before .before .before .before .before .before .pre .1 .1 .1) (c .before .before .before .before .j .given .1)
+    (c .before .before .before .before .before .before .infer .ensures) (c .before .before .infer2 .ensures) (c .before .result-of .ensures)
+    (c .computed .ensures)))  -- infer-binary-returns-2
     (λ t. infer-call-lts.spec (
       infer-below t,
       infer.Post,
@@ -292,13 +347,18 @@ pub +infer+infer-binary+infer-call+infer-check+infer-enable+infer-function+infer
     )
     (infer-call-at t)
     infer-call.Post
-    (λ c κs. let h = call-first (c .before .pre .1 .0) (c .before .pre .1 .1) in (omega (arith, c .before .pre .0, h .lower), h .ready))  -- infer-call-infer-requires
+    (λ c κs. let h = call-first (c .before .pre .1 .0) (c .before .pre .1 .1) in
+    (omega (arith, c .before .pre .0, h .lower), h .ready))  -- infer-call-infer-requires
     (λ c. search needs)  -- infer-call-enum-known-j
     (λ c. search needs)  -- infer-call-enum-told
-    (λ c. call-stops (c .before .before .before .before .pre .1 .0) _ (c .before .before .before .before .pre .1 .1) (c .before .before .infer .result) (c .before .before .infer .ensures) (c .before .match .keys2))  -- infer-call-returns
-    (λ c κs. let h = call-second (c .before .before .before .before .before .pre .1 .0) (c .before .before .before .before .before .pre .1 .1) in (omega (arith, c .before .before .before .before .before .pre .0, h .lower), h .ready))  -- infer-call-infer-requires-2
+    (λ c. call-stops (c .before .before .before .before .pre .1 .0) _ (c .before .before .before .before .pre .1 .1) (c .before .before .infer .result)
+    (c .before .before .infer .ensures) (c .before .match .keys2))  -- infer-call-returns
+    (λ c κs. let h = call-second (c .before .before .before .before .before .pre .1 .0) (c .before .before .before .before .before .pre .1 .1) in
+    (omega (arith, c .before .before .before .before .before .pre .0, h .lower), h .ready))  -- infer-call-infer-requires-2
     (λ c κs. c .before .before .before .before .before .before .pre .1 .0 .ready .sheet)  -- infer-call-call-of-requires
-    (λ c. call-is (c .before .before .before .before .before .before .before .pre .1 .0) _ (c .before .before .before .before .before .before .before .pre .1 .1) (c .before .before .before .j .given .1) (c .before .before .before .before .before .infer .ensures) (c .before .infer2 .ensures) (c .call-of .ensures)))  -- infer-call-returns-2
+    (λ c. call-is (c .before .before .before .before .before .before .before .pre .1 .0) _
+    (c .before .before .before .before .before .before .before .pre .1 .1) (c .before .before .before .j .given .1)
+    (c .before .before .before .before .before .infer .ensures) (c .before .infer2 .ensures) (c .call-of .ensures)))  -- infer-call-returns-2
     (λ t. infer-check-lts.spec (
       infer-below t,
       infer.Post,
@@ -307,9 +367,11 @@ pub +infer+infer-binary+infer-call+infer-check+infer-enable+infer-function+infer
     )
     (infer-check-at t)
     infer-check.Post
-    (λ c κs. let h = check-child (c .before .pre .1 .0) (c .before .pre .1 .1) in (omega (arith, c .before .pre .0, h .lower), h .ready))  -- infer-check-infer-requires
+    (λ c κs. let h = check-child (c .before .pre .1 .0) (c .before .pre .1 .1) in
+    (omega (arith, c .before .pre .0, h .lower), h .ready))  -- infer-check-infer-requires
     (λ c κs. check-privilege (c .before .before .pre .1 .0) (c .before .before .pre .1 .1))  -- infer-check-checked-requires
-    (λ c. check-is (c .before .before .before .pre .1 .0) _ (c .before .before .before .pre .1 .1) (c .before .infer .ensures) (c .checked .ensures)))  -- infer-check-returns
+    (λ c. check-is (c .before .before .before .pre .1 .0) _ (c .before .before .before .pre .1 .1) (c .before .infer .ensures)
+    (c .checked .ensures)))  -- infer-check-returns
     (λ t. infer-enable-lts.spec (
       infer-below t,
       infer.Post,
@@ -320,10 +382,12 @@ pub +infer+infer-binary+infer-call+infer-check+infer-enable+infer-function+infer
     )
     (infer-enable-at t)
     infer-enable.Post
-    (λ c κs. let h = enable-child (c .before .pre .1 .0) (c .before .pre .1 .1) in (omega (arith, c .before .pre .0, h .lower), h .ready))  -- infer-enable-infer-requires
+    (λ c κs. let h = enable-child (c .before .pre .1 .0) (c .before .pre .1 .1) in
+    (omega (arith, c .before .pre .0, h .lower), h .ready))  -- infer-enable-infer-requires
     (λ c κs. search needs)  -- infer-enable-authority-requires
     (λ c κs. enable-privilege (c .before .before .before .pre .1 .0) (c .before .before .before .pre .1 .1))  -- infer-enable-enabled-requires
-    (λ c. enable-is (c .before .before .before .before .pre .1 .0) _ (c .before .before .before .before .pre .1 .1) (c .before .authority .ensures) (c .before .before .infer .ensures) (c .enabled .ensures)))  -- infer-enable-returns
+    (λ c. enable-is (c .before .before .before .before .pre .1 .0) _ (c .before .before .before .before .pre .1 .1) (c .before .authority .ensures)
+    (c .before .before .infer .ensures) (c .enabled .ensures)))  -- infer-enable-returns
     (λ t. infer-function-lts.spec (
       type-record-reads.Asked,
       type-record-reads.Learnt,
@@ -338,9 +402,12 @@ pub +infer+infer-binary+infer-call+infer-check+infer-enable+infer-function+infer
     infer-function.Post
     (λ c κs. search needs)  -- infer-function-type-record-requires
     (λ c κs. function-room (c .before .before .pre .1 .0) (c .before .before .pre .1 .1))  -- infer-function-push-requires
-    (λ c κs. let h = function-child (c .before .before .before .pre .1 .0) (c .before .before .before .pre .1 .1) (c .push .ensures) in (omega (arith, c .before .before .before .pre .0, h .lower), h .ready))  -- infer-function-infer-requires
+    (λ c κs. let h = function-child (c .before .before .before .pre .1 .0) (c .before .before .before .pre .1 .1) (c .push .ensures) in
+    (omega (arith, c .before .before .before .pre .0, h .lower), h .ready))  -- infer-function-infer-requires
     (λ c κs. search needs)  -- infer-function-function-of-requires
-    (λ c. function-is (c .before .before .before .before .before .pre .1 .0) _ _ (c .before .before .before .type-record .ensures) refl (c .before .before .before .before .before .pre .1 .1) (c .before .before .push .ensures) (c .before .infer .ensures) (c .function-of .ensures)))  -- infer-function-returns
+    (λ c. function-is (c .before .before .before .before .before .pre .1 .0) _ _ (c .before .before .before .type-record .ensures) refl
+    (c .before .before .before .before .before .pre .1 .1) (c .before .before .push .ensures) (c .before .infer .ensures)
+    (c .function-of .ensures)))  -- infer-function-returns
     (λ t. infer-if-lts.spec (
       infer-below t,
       infer.Post,
@@ -349,17 +416,29 @@ pub +infer+infer-binary+infer-call+infer-check+infer-enable+infer-function+infer
     )
     (infer-if-at t)
     infer-if.Post
-    (λ c κs. let h = if-first (c .before .pre .1 .0) (c .before .pre .1 .1) in (omega (arith, c .before .pre .0, h .lower), h .ready))  -- infer-if-infer-requires
+    (λ c κs. let h = if-first (c .before .pre .1 .0) (c .before .pre .1 .1) in
+    (omega (arith, c .before .pre .0, h .lower), h .ready))  -- infer-if-infer-requires
     (λ c. search needs)  -- infer-if-enum-known-i
     (λ c. search needs)  -- infer-if-enum-told
-    (λ c. if-stops (c .before .before .before .before .pre .1 .0) _ (c .before .before .before .before .pre .1 .1) (c .before .before .infer .result) (c .before .before .infer .ensures) (c .before .match .keys2))  -- infer-if-returns
-    (λ c κs. let h = if-second (c .before .before .before .before .before .pre .1 .0) (c .before .before .before .before .before .pre .1 .1) in (omega (arith, c .before .before .before .before .before .pre .0, h .lower), h .ready))  -- infer-if-infer-requires-2
+    (λ c. if-stops (c .before .before .before .before .pre .1 .0) _ (c .before .before .before .before .pre .1 .1) (c .before .before .infer .result)
+    (c .before .before .infer .ensures) (c .before .match .keys2))  -- infer-if-returns
+    (λ c κs. let h = if-second (c .before .before .before .before .before .pre .1 .0) (c .before .before .before .before .before .pre .1 .1) in
+    (omega (arith, c .before .before .before .before .before .pre .0, h .lower), h .ready))  -- infer-if-infer-requires-2
     (λ c. search needs)  -- infer-if-enum-known-j
     (λ c. search needs)  -- infer-if-enum-told-2
-    (λ c. branch-stops (c .before .before .before .before .before .before .before .before .pre .1 .0) _ (c .before .before .before .before .before .before .before .before .pre .1 .1) (c .before .before .before .before .i .given .1) (c .before .before .before .before .before .before .infer .ensures) (c .before .before .infer2 .result) (c .before .before .infer2 .ensures) (c .before .match2 .keys2))  -- infer-if-returns-2
-    (λ c κs. let h = if-third (c .before .before .before .before .before .before .before .before .before .pre .1 .0) (c .before .before .before .before .before .before .before .before .before .pre .1 .1) in (omega (arith, c .before .before .before .before .before .before .before .before .before .pre .0, h .lower), h .ready))  -- infer-if-infer-requires-3
+    (λ c. branch-stops (c .before .before .before .before .before .before .before .before .pre .1 .0) _
+    (c .before .before .before .before .before .before .before .before .pre .1 .1) (c .before .before .before .before .i .given .1)
+    (c .before .before .before .before .before .before .infer .ensures) (c .before .before .infer2 .result) (c .before .before .infer2 .ensures)
+    (c .before .match2 .keys2))  -- infer-if-returns-2
+    (λ c κs. let h = if-third (c .before .before .before .before .before .before .before .before .before .pre .1 .0)
+    (c .before .before .before .before .before .before .before .before .before .pre .1 .1) in
+    (omega (arith, c .before .before .before .before .before .before .before .before .before .pre .0, h .lower), h .ready))  -- infer-if-infer-requires-3
     (λ c κs. search needs)  -- infer-if-branched-requires
-    (λ c. if-is (c .before .before .before .before .before .before .before .before .before .before .before .pre .1 .0) _ (c .before .before .before .before .before .before .before .before .before .before .before .pre .1 .1) (c .before .before .before .before .before .before .before .i .given .1) (c .before .before .before .before .before .before .before .before .before .infer .ensures) (c .before .before .before .j .given .1) (c .before .before .before .before .before .infer2 .ensures) (c .before .infer3 .ensures) (c .branched .ensures)))  -- infer-if-returns-3
+    (λ c. if-is (c .before .before .before .before .before .before .before .before .before .before .before .pre .1 .0) _
+    (c .before .before .before .before .before .before .before .before .before .before .before .pre .1 .1)
+    (c .before .before .before .before .before .before .before .i .given .1)
+    (c .before .before .before .before .before .before .before .before .before .infer .ensures) (c .before .before .before .j .given .1)
+    (c .before .before .before .before .before .infer2 .ensures) (c .before .infer3 .ensures) (c .branched .ensures)))  -- infer-if-returns-3
     (λ t. infer-letrec-lts.spec (
       type-record-reads.Asked,
       type-record-reads.Learnt,
@@ -374,21 +453,35 @@ pub +infer+infer-binary+infer-call+infer-check+infer-enable+infer-function+infer
     infer-letrec.Post
     (λ c κs. search needs)  -- infer-letrec-type-record-requires
     (λ c κs. let h = letrec-room (c .before .before .pre .1 .0) (c .before .before .pre .1 .1) in omega arith)  -- infer-letrec-push-requires
-    (λ c κs. let h = letrec-room (c .before .before .before .pre .1 .0) (c .before .before .before .pre .1 .1) in omega (arith, c .push .ensures .len-is))  -- infer-letrec-push-requires-2
-    (λ c κs. let h = letrec-body (c .before .before .before .before .pre .1 .0) (c .before .before .before .before .pre .1 .1) (c .before .push .ensures) (c .push2 .ensures) in (omega (arith, c .before .before .before .before .pre .0, h .lower), h .ready))  -- infer-letrec-infer-requires
+    (λ c κs. let h = letrec-room (c .before .before .before .pre .1 .0) (c .before .before .before .pre .1 .1) in omega
+    (arith, c .push .ensures .len-is))  -- infer-letrec-push-requires-2
+    (λ c κs. let h = letrec-body (c .before .before .before .before .pre .1 .0) (c .before .before .before .before .pre .1 .1) (c .before .push .ensures)
+    (c .push2 .ensures) in (omega (arith, c .before .before .before .before .pre .0, h .lower), h .ready))  -- infer-letrec-infer-requires
     (λ c. search needs)  -- infer-letrec-enum-known-j
     (λ c. search needs)  -- infer-letrec-enum-told
-    (λ c. letrec-stops (c .before .before .before .before .before .before .before .pre .1 .0) _ _ (c .before .before .before .before .before .type-record .ensures) refl (c .before .before .before .before .before .before .before .pre .1 .1) (c .before .before .before .before .push .ensures) (c .before .before .before .push2 .ensures) (c .before .before .infer .result) (c .before .before .infer .ensures) (c .before .match .keys2))  -- infer-letrec-returns
-    (λ c κs. let h = letrec-rest (c .before .before .before .before .before .before .before .before .pre .1 .0) (c .before .before .before .before .before .before .before .before .pre .1 .1) (c .before .before .before .before .before .push .ensures) in (omega (arith, c .before .before .before .before .before .before .before .before .pre .0, h .lower), h .ready))  -- infer-letrec-infer-requires-2
+    (λ c. letrec-stops (c .before .before .before .before .before .before .before .pre .1 .0) _ _
+    (c .before .before .before .before .before .type-record .ensures) refl (c .before .before .before .before .before .before .before .pre .1 .1)
+    (c .before .before .before .before .push .ensures) (c .before .before .before .push2 .ensures) (c .before .before .infer .result)
+    (c .before .before .infer .ensures) (c .before .match .keys2))  -- infer-letrec-returns
+    (λ c κs. let h = letrec-rest (c .before .before .before .before .before .before .before .before .pre .1 .0)
+    (c .before .before .before .before .before .before .before .before .pre .1 .1) (c .before .before .before .before .before .push .ensures) in
+    (omega (arith, c .before .before .before .before .before .before .before .before .pre .0, h .lower), h .ready))  -- infer-letrec-infer-requires-2
     (λ c κs. search needs)  -- infer-letrec-letrec-of-requires
-    (λ c. letrec-is (c .before .before .before .before .before .before .before .before .before .before .pre .1 .0) _ _ (c .before .before .before .before .before .before .before .before .type-record .ensures) refl (c .before .before .before .before .before .before .before .before .before .before .pre .1 .1) (c .before .before .before .before .before .before .before .push .ensures) (c .before .before .before .before .before .before .push2 .ensures) (c .before .before .before .j .given .1) (c .before .before .before .before .before .infer .ensures) (c .before .infer2 .ensures) (c .letrec-of .ensures)))  -- infer-letrec-returns-2
+    (λ c. letrec-is (c .before .before .before .before .before .before .before .before .before .before .pre .1 .0) _ _
+    (c .before .before .before .before .before .before .before .before .type-record .ensures) refl
+    (c .before .before .before .before .before .before .before .before .before .before .pre .1 .1)
+    (c .before .before .before .before .before .before .before .push .ensures) (c .before .before .before .before .before .before .push2 .ensures)
+    (c .before .before .before .j .given .1) (c .before .before .before .before .before .infer .ensures) (c .before .infer2 .ensures)
+    (c .letrec-of .ensures)))  -- infer-letrec-returns-2
     (λ t. infer-post-lts.spec
     (infer-below t, infer.Post, posted-reads.Asked, posted-reads.Learnt)
     (infer-post-at t)
     infer-post.Post
-    (λ c κs. let h = post-child (c .before .pre .1 .0) (c .before .pre .1 .1) in (omega (arith, c .before .pre .0, h .lower), h .ready))  -- infer-post-infer-requires
+    (λ c κs. let h = post-child (c .before .pre .1 .0) (c .before .pre .1 .1) in
+    (omega (arith, c .before .pre .0, h .lower), h .ready))  -- infer-post-infer-requires
     (λ c κs. search needs)  -- infer-post-posted-requires
-    (λ c. post-is (c .before .before .before .pre .1 .0) _ (c .before .before .before .pre .1 .1) (c .before .infer .ensures) (c .posted .ensures)))  -- infer-post-returns
+    (λ c. post-is (c .before .before .before .pre .1 .0) _ (c .before .before .before .pre .1 .1) (c .before .infer .ensures)
+    (c .posted .ensures)))  -- infer-post-returns
     (λ t. infer-sign-lts.spec (
       infer-below t,
       infer.Post,
@@ -399,19 +492,26 @@ pub +infer+infer-binary+infer-call+infer-check+infer-enable+infer-function+infer
     )
     (infer-sign-at t)
     infer-sign.Post
-    (λ c κs. let h = sign-child (c .before .pre .1 .0) (c .before .pre .1 .1) in (omega (arith, c .before .pre .0, h .lower), h .ready))  -- infer-sign-infer-requires
+    (λ c κs. let h = sign-child (c .before .pre .1 .0) (c .before .pre .1 .1) in
+    (omega (arith, c .before .pre .0, h .lower), h .ready))  -- infer-sign-infer-requires
     (λ c. search needs)  -- infer-sign-cast-authority
     (λ c κs. search needs)  -- infer-sign-authority-requires
     (λ c κs. search needs)  -- infer-sign-signed-requires
-    (λ c. sign-is (c .before .before .before .before .before .pre .1 .0) _ (c .before .before .before .before .before .pre .1 .1) (c .before .authority .ensures) (c .before .before .before .infer .ensures) (c .signed .ensures)))  -- infer-sign-returns
+    (λ c. sign-is (c .before .before .before .before .before .pre .1 .0) _ (c .before .before .before .before .before .pre .1 .1)
+    (c .before .authority .ensures) (c .before .before .before .infer .ensures) (c .signed .ensures)))  -- infer-sign-returns
     λ t. infer-test-lts.spec
     (infer-below t, infer.Post, tested-reads.Asked, tested-reads.Learnt)
     (infer-test-at t)
     infer-test.Post
-    (λ c κs. let h = test-first (c .before .pre .1 .0) (c .before .pre .1 .1) in (omega (arith, c .before .pre .0, h .lower), h .ready))  -- infer-test-infer-requires
+    (λ c κs. let h = test-first (c .before .pre .1 .0) (c .before .pre .1 .1) in
+    (omega (arith, c .before .pre .0, h .lower), h .ready))  -- infer-test-infer-requires
     (λ c. search needs)  -- infer-test-enum-known-j
     (λ c. search needs)  -- infer-test-enum-told
-    (λ c. test-stops (c .before .before .before .before .pre .1 .0) _ (c .before .before .before .before .pre .1 .1) (c .before .before .infer .result) (c .before .before .infer .ensures) (c .before .match .keys2))  -- infer-test-returns
-    (λ c κs. let h = test-second (c .before .before .before .before .before .pre .1 .0) (c .before .before .before .before .before .pre .1 .1) in (omega (arith, c .before .before .before .before .before .pre .0, h .lower), h .ready))  -- infer-test-infer-requires-2
+    (λ c. test-stops (c .before .before .before .before .pre .1 .0) _ (c .before .before .before .before .pre .1 .1) (c .before .before .infer .result)
+    (c .before .before .infer .ensures) (c .before .match .keys2))  -- infer-test-returns
+    (λ c κs. let h = test-second (c .before .before .before .before .before .pre .1 .0) (c .before .before .before .before .before .pre .1 .1) in
+    (omega (arith, c .before .before .before .before .before .pre .0, h .lower), h .ready))  -- infer-test-infer-requires-2
     (λ c κs. search needs)  -- infer-test-tested-requires
-    (λ c. test-is (c .before .before .before .before .before .before .before .pre .1 .0) _ (c .before .before .before .before .before .before .before .pre .1 .1) (c .before .before .before .j .given .1) (c .before .before .before .before .before .infer .ensures) (c .before .infer2 .ensures) (c .tested .ensures))  -- infer-test-returns-2
+    (λ c. test-is (c .before .before .before .before .before .before .before .pre .1 .0) _
+    (c .before .before .before .before .before .before .before .pre .1 .1) (c .before .before .before .j .given .1)
+    (c .before .before .before .before .before .infer .ensures) (c .before .infer2 .ensures) (c .tested .ensures))  -- infer-test-returns-2

@@ -1,3 +1,4 @@
+-- The test is the definition's. A quotient times its divisor is at most the dividend, so that the product fits into 16 bits.
 use native.Mathlib.Nat.{div-mul-le-self}
 use native.Mathlib.Omega.{arith}
 use borrow.Author.Needs.{needs}

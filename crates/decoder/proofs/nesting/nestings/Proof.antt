@@ -1,3 +1,5 @@
+-- The list has the nesting of every term from t on, held at 33, one more than is allowed. The parent of t - 1 is t or higher, so that its nesting is in
+-- the list; t - 1 has one more, or 33 if the parent has 33 (nested-more). t falls, from the root to 0.
 use mathlib.Core.Path.{_≡_}
 use Prim.Native.Nat.{_<_, _-_}
 use native.Mathlib.Omega.{arith}
@@ -23,7 +25,14 @@ array-write-deep : tie.Need-array-write-deep Inv-loop μ-loop
 array-write-deep c = omega (arith, c .pre .0)
 
 loop-holds : tie.Need-loop-holds Inv-loop μ-loop
-loop-holds c = (omega (arith, c .pre .0), (length-set (replicate 1024 0) (c .args .n - 1) 1, nested-root (c .args .parents .now) (replicate 1024 0) (c .args .n) (c .pre .0 .0) (c .pre .0 .1)))
+loop-holds c = (
+  omega (arith, c .pre .0),
+  (
+    length-set (replicate 1024 0) (c .args .n - 1) 1,
+    nested-root (c .args .parents .now) (replicate 1024 0) (c .args .n)
+        (c .pre .0 .0) (c .pre .0 .1),
+  ),
+)
 
 sub-t-2 : tie.Need-sub-t-2 Inv-loop μ-loop
 sub-t-2 c = omega arith
@@ -35,31 +44,59 @@ element-copy-out-p : tie.Need-element-copy-out-p Inv-loop μ-loop
 element-copy-out-p c = omega (arith, c .before .before .pre .0)
 
 cast-p : tie.Need-cast-p Inv-loop μ-loop
-cast-p c = omega (arith, c .before .before .before .pre .0, (c .before .before .before .pre .1 .inside (c .before .before .loop .t - 1) (omega arith)))
+cast-p c =
+    let start = c .before .before .before in
+    omega (arith, start .pre .0, (start .pre .1 .inside (c .before .before .loop .t - 1) (omega arith)))
 
 array-read-d : tie.Need-array-read-d Inv-loop μ-loop
-array-read-d c = omega (arith, c .before .before .before .pre .0, (c .before .before .before .pre .1 .inside (c .before .before .loop .t - 1) (omega arith)))
+array-read-d c =
+    let start = c .before .before .before in
+    omega (arith, start .pre .0, (start .pre .1 .inside (c .before .before .loop .t - 1) (omega arith)))
 
 add-deep : tie.Need-add-deep Inv-loop μ-loop
 add-deep c = omega arith
 
 array-write-deep-2 : tie.Need-array-write-deep-2 Inv-loop μ-loop
-array-write-deep-2 c = omega (arith, c .before .before .before .before .pre .0)
+array-write-deep-2 c =
+    let start = c .before .before .before .before in
+    omega (arith, start .pre .0)
 
 loop-less : tie.Need-loop-less Inv-loop μ-loop
 loop-less c = omega arith
 
 loop-again : tie.Need-loop-again Inv-loop μ-loop
-loop-again c = (omega arith, (simp length-set (c .before .before .before .loop .inv .1 .0), nested-more (c .before .before .before .before .args .parents .now) (c .before .before .before .loop .deep) (c .before .before .before .before .args .n) (c .before .before .before .loop .t) _ (c .before .before .before .loop .inv .1 .1) (c .before .before .before .before .pre .1) (omega (arith, c .before .before .before .loop .inv .1 .0, c .before .before .before .before .pre .0)) (c .before .before .loop-test .taken) (c .before .before .before .loop .inv .0) (λ k h. one-more _ k) (omega arith)))
+loop-again c =
+    let at-loop = c .before .before .before in
+    let start = at-loop .before in (
+      omega arith,
+      (
+        simp length-set (at-loop .loop .inv .1 .0),
+        nested-more (start .args .parents .now) (at-loop .loop .deep) (start .args .n)
+            (at-loop .loop .t) _ (at-loop .loop .inv .1 .1) (start .pre .1) (omega (arith, at-loop .loop .inv .1 .0, start .pre .0))
+            (c .before .before .loop-test .taken) (at-loop .loop .inv .0) (λ k h. one-more _ k) (omega arith),
+      ),
+    )
 
 array-write-deep-3 : tie.Need-array-write-deep-3 Inv-loop μ-loop
-array-write-deep-3 c = omega (arith, c .before .before .before .before .pre .0)
+array-write-deep-3 c =
+    let start = c .before .before .before .before in
+    omega (arith, start .pre .0)
 
 loop-less-2 : tie.Need-loop-less-2 Inv-loop μ-loop
 loop-less-2 c = omega arith
 
 loop-again-2 : tie.Need-loop-again-2 Inv-loop μ-loop
-loop-again-2 c = (omega arith, (simp length-set (c .before .before .before .loop .inv .1 .0), nested-more (c .before .before .before .before .args .parents .now) (c .before .before .before .loop .deep) (c .before .before .before .before .args .n) (c .before .before .before .loop .t) 33 (c .before .before .before .loop .inv .1 .1) (c .before .before .before .before .pre .1) (omega (arith, c .before .before .before .loop .inv .1 .0, c .before .before .before .before .pre .0)) (c .before .before .loop-test .taken) (c .before .before .before .loop .inv .0) (λ k h. held _ k (c .if1 .left) h) (omega arith)))
+loop-again-2 c =
+    let at-loop = c .before .before .before in
+    let start = at-loop .before in (
+      omega arith,
+      (
+        simp length-set (at-loop .loop .inv .1 .0),
+        nested-more (start .args .parents .now) (at-loop .loop .deep) (start .args .n)
+            (at-loop .loop .t) 33 (at-loop .loop .inv .1 .1) (start .pre .1) (omega (arith, at-loop .loop .inv .1 .0, start .pre .0))
+            (c .before .before .loop-test .taken) (at-loop .loop .inv .0) (λ k h. held _ k (c .if1 .left) h) (omega arith),
+      ),
+    )
 
 returns : tie.Need-returns Inv-loop μ-loop
 returns c = record { each = λ x h q k m. c .before .loop .inv .1 .1 .each x (omega (arith, c .loop-test .left)) q k m }

@@ -1,3 +1,5 @@
+-- The lowest entry above 32 is found in ascending order. All entries below t are at most 32, so that the search from t on finds what the whole
+-- search finds (Laws/Search). The entries that are left, n - t, fall.
 use mathlib.Core.Path.{_≡_, sym, _∙_}
 use Prim.Native.Nat.{_≤_, _-_}
 use native.Mathlib.Omega.{arith}
@@ -24,16 +26,28 @@ element-copy-out-d : tie.Need-element-copy-out-d Inv-loop μ-loop
 element-copy-out-d c = omega (arith, c .before .before .pre)
 
 returns : tie.Need-returns Inv-loop μ-loop
-returns c = lowest-here (shallowEnough (c .before .before .before .before .args .deep .now)) _ _ (c .before .before .loop-test .taken) (lt-leb _ 32 (c .if1 .taken)) ∙ sym (c .before .before .before .loop .inv .1)
+returns c =
+    let start = c .before .before .before .before in
+    lowest-here (shallowEnough (start .args .deep .now)) _ _ (c .before .before .loop-test .taken) (lt-leb _ 32 (c .if1 .taken)) ∙ sym
+    (c .before .before .before .loop .inv .1)
 
 add-t : tie.Need-add-t Inv-loop μ-loop
-add-t c = omega (arith, c .before .before .before .before .pre)
+add-t c =
+    let start = c .before .before .before .before in
+    omega (arith, start .pre)
 
 loop-less : tie.Need-loop-less Inv-loop μ-loop
-loop-less c = omega (arith, c .before .before .before .before .pre)
+loop-less c =
+    let start = c .before .before .before .before in
+    omega (arith, start .pre)
 
 loop-again : tie.Need-loop-again Inv-loop μ-loop
-loop-again c = (omega arith, c .before .before .before .loop .inv .1 ∙ lowest-more (shallowEnough (c .before .before .before .before .args .deep .now)) _ _ (c .before .before .loop-test .taken) (le-leb _ 32 (c .if1 .left)))
+loop-again c =
+    let start = c .before .before .before .before in (
+      omega arith,
+      c .before .before .before .loop .inv .1 ∙ lowest-more (shallowEnough (start .args .deep .now)) _ _ (c .before .before .loop-test .taken)
+          (le-leb _ 32 (c .if1 .left)),
+    )
 
 returns-2 : tie.Need-returns-2 Inv-loop μ-loop
 returns-2 c = lowest-past (shallowEnough (c .before .before .args .deep .now)) _ _ (c .loop-test .left) ∙ sym (c .before .loop .inv .1)

@@ -1,3 +1,5 @@
+-- The lowest term that is wrongly placed is found in ascending order. All terms below t are placed right, so that the search from t on
+-- finds what the whole search finds (Laws/Search). The terms that are left, n - t, fall.
 use borrow.Author.Tests.{not-true, not-false}
 use mathlib.Core.Path.{_≡_, sym, ap, _∙_}
 use Prim.Native.Nat.{_≤_, _-_}
@@ -17,25 +19,49 @@ abbrev μ-loop : tie.MeasureT-loop
 μ-loop s c parents n t₀ t = n - t
 
 loop-holds : tie.Need-loop-holds Inv-loop μ-loop
-loop-holds c = (omega arith, (c .before .pre .0 .counts-are .terms-are, lowest-starts (placedOk (c .before .args .s .now)) (c .before .args .c .terms)))
+loop-holds c =
+    let start = c .before in
+    (omega arith, (start .pre .0 .counts-are .terms-are, lowest-starts (placedOk (start .args .s .now)) (start .args .c .terms)))
 
 place-ok-requires : tie.Need-place-ok-requires Inv-loop μ-loop
-place-ok-requires c κs = (c .before .before .before .pre .0, (c .before .before .before .pre .1 .0, (omega (arith, c .before .loop .inv .1 .0), c .before .before .before .pre .1 .1)))
+place-ok-requires c κs =
+    let start = c .before .before .before in
+    (start .pre .0, (start .pre .1 .0, (omega (arith, c .before .loop .inv .1 .0), start .pre .1 .1)))
 
 returns : tie.Need-returns Inv-loop μ-loop
-returns c = lowest-here (placedOk (c .before .before .before .before .before .args .s .now)) _ _ (c .before .before .loop-test .taken) (sym (c .before .place-ok .ensures) ∙ not-true _ (c .if1 .taken)) ∙ sym (c .before .before .before .loop .inv .1 .1) ∙ (ap (lowest (placedOk (c .before .before .before .before .before .args .s .now)) 0) (c .before .before .before .loop .inv .1 .0))
+returns c =
+    let at-loop = c .before .before .before in
+    let start = at-loop .before .before in
+    lowest-here (placedOk (start .args .s .now)) _ _ (c .before .before .loop-test .taken)
+    (sym (c .before .place-ok .ensures) ∙ not-true _ (c .if1 .taken)) ∙ sym (at-loop .loop .inv .1 .1) ∙
+    (ap (lowest (placedOk (start .args .s .now)) 0) (at-loop .loop .inv .1 .0))
 
 add-t : tie.Need-add-t Inv-loop μ-loop
-add-t c = omega (arith, fields-ok (c .before .before .before .before .before .args .s .now) (c .before .before .before .before .before .pre .0 .none-found) .terms-high, c .before .before .before .loop .inv .1 .0)
+add-t c =
+    let start = c .before .before .before .before .before in
+    omega (arith, fields-ok (start .args .s .now) (start .pre .0 .none-found) .terms-high, c .before .before .before .loop .inv .1 .0)
 
 loop-less : tie.Need-loop-less Inv-loop μ-loop
 loop-less c = omega arith
 
 loop-again : tie.Need-loop-again Inv-loop μ-loop
-loop-again c = (omega arith, (c .before .before .before .loop .inv .1 .0, c .before .before .before .loop .inv .1 .1 ∙ lowest-more (placedOk (c .before .before .before .before .before .args .s .now)) _ _ (c .before .before .loop-test .taken) (sym (c .before .place-ok .ensures) ∙ not-false _ (c .if1 .left))))
+loop-again c =
+    let at-loop = c .before .before .before in
+    let start = at-loop .before .before in (
+      omega arith,
+      (
+        at-loop .loop .inv .1 .0,
+        at-loop .loop .inv .1 .1 ∙ lowest-more (placedOk (start .args .s .now)) _ _ (c .before .before .loop-test .taken)
+            (sym (c .before .place-ok .ensures) ∙ not-false _ (c .if1 .left)),
+      ),
+    )
 
 returns-2 : tie.Need-returns-2 Inv-loop μ-loop
-returns-2 c = lowest-past (placedOk (c .before .before .before .args .s .now)) _ _ (c .loop-test .left) ∙ sym (c .before .loop .inv .1 .1) ∙ (ap (lowest (placedOk (c .before .before .before .args .s .now)) 0) (c .before .loop .inv .1 .0))
+returns-2 c =
+    let at-loop = c .before in
+    let start = at-loop .before .before in
+    lowest-past (placedOk (start .args .s .now)) _ _ (c .loop-test .left) ∙ sym (at-loop .loop .inv .1 .1) ∙
+    (ap (lowest (placedOk (start .args .s .now)) 0) (at-loop .loop .inv .1 .0))
 
 pub bad-place-spec : {M : Type 1} → statement M
 bad-place-spec =

@@ -1,3 +1,4 @@
+-- Only kinds 3 and 4, functions and letrecs, have a body. It is the second part, and it is asked whether that is a sign; any other kind passes.
 use Rattle.decoder.proofs.PlaceLaws.{body-is, no-body}
 use borrow.Author.Needs.{needs}
 use Rattle.decoder.proofs.places.body_signed.Statement.{statement}
@@ -10,10 +11,15 @@ is-sign-requires : tie.Need-is-sign-requires
 is-sign-requires c κs = search needs
 
 returns : tie.Need-returns
-returns c = body-is (c .before .before .before .before .before .before .args .s .now) (c .before .before .before .before .before .before .args .c) (c .before .before .before .before .before .before .args .t) (c .before .before .before .before .before .before .pre) (c .before .before .before .before .term .ensures) (c .before .if1 .taken) (c .is-sign .ensures)
+returns c =
+    let at-term = c .before .before .before .before in
+    let start = at-term .before .before in
+    body-is (start .args .s .now) (start .args .c) (start .args .t) (start .pre) (at-term .term .ensures) (c .before .if1 .taken) (c .is-sign .ensures)
 
 returns-2 : tie.Need-returns-2
-returns-2 c = no-body (c .before .before .before .before .before .args .s .now) (c .before .before .before .before .before .args .c) (c .before .before .before .before .before .args .t) (c .before .before .before .before .before .pre) (c .before .before .before .term .ensures) (c .if1 .left)
+returns-2 c =
+    let start = c .before .before .before .before .before in
+    no-body (start .args .s .now) (start .args .c) (start .args .t) (start .pre) (c .before .before .before .term .ensures) (c .if1 .left)
 
 pub body-signed-spec : {M : Type 1} → statement M
 body-signed-spec = tie.close (tie.spec term-requires is-sign-requires returns returns-2)

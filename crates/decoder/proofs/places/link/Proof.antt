@@ -1,3 +1,4 @@
+-- One entry is written: t where no parent was noted, and 65535, for more than one, where one was. The other entries are as they were.
 use Rattle.decoder.proofs.PlaceLaws.{linked-first, linked-again}
 use borrow.Author.Needs.{needs}
 use Rattle.decoder.proofs.places.link.Statement.{statement}
@@ -25,13 +26,17 @@ same-length : tie.Need-same-length
 same-length c = search needs
 
 returns : tie.Need-returns
-returns c = linked-first (c .before .before .args .parents .now) (c .before .before .args .x) (c .before .before .args .t) (c .before .before .pre) (c .if1 .taken)
+returns c =
+    let start = c .before .before in
+    linked-first (start .args .parents .now) (start .args .x) (start .args .t) (start .pre) (c .if1 .taken)
 
 same-length-2 : tie.Need-same-length-2
 same-length-2 c = search needs
 
 returns-2 : tie.Need-returns-2
-returns-2 c = linked-again (c .before .before .args .parents .now) (c .before .before .args .x) (c .before .before .args .t) (c .before .before .pre) (c .if1 .left)
+returns-2 c =
+    let start = c .before .before in
+    linked-again (start .args .parents .now) (start .args .x) (start .args .t) (start .pre) (c .if1 .left)
 
 pub link-spec : {M : Type 1} → statement M
 link-spec =

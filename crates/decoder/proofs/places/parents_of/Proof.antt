@@ -1,3 +1,5 @@
+-- The list has what the first t terms note: 0 for no parent, the parent for one, 65535 for several. A child is lower than its parent, so that it is
+-- in the list of 1,024 and a parent is never 0 (links-more). The terms that are left, n - t, fall.
 use mathlib.Core.Path.{_≡_, refl, sym, _∙_, subst}
 use Prim.Native.Nat.{ℕ, _≤_, _-_}
 use native.Mathlib.Omega.{arith}
@@ -16,7 +18,9 @@ abbrev μ-loop : tie.MeasureT-loop
 μ-loop s c parents₀ n t₀ parents t = n - t
 
 loop-holds : tie.Need-loop-holds Inv-loop μ-loop
-loop-holds c = (omega arith, (c .before .pre .0 .counts-are .terms-are, (refl, links-none (c .before .args .s .now))))
+loop-holds c =
+    let start = c .before in
+    (omega arith, (start .pre .0 .counts-are .terms-are, (refl, links-none (start .args .s .now))))
 
 shape-at-requires : tie.Need-shape-at-requires Inv-loop μ-loop
 shape-at-requires c κs = c .before .before .before .pre .0
@@ -25,19 +29,48 @@ slice-aggregate-link-all : tie.Need-slice-aggregate-link-all Inv-loop μ-loop
 slice-aggregate-link-all c = sym (c .before .before .before .loop .inv .1 .1 .0)
 
 link-all-requires : tie.Need-link-all-requires Inv-loop μ-loop
-link-all-requires c κs = subst (λ (k : ℕ). ChildrenBelow (c .before .shape-at .result) k) (sym (c .before .before .before .loop .inv .1 .1 .0)) (shape-below (c .before .before .before .before .before .args .s .now) (c .before .before .before .before .before .pre .1) (fields-ok (c .before .before .before .before .before .args .s .now) (c .before .before .before .before .before .pre .0 .none-found) .terms-high) (c .before .before .before .loop .t) (omega (arith, c .before .before .loop-test .taken, c .before .before .before .loop .inv .1 .0)) (c .before .shape-at .ensures))
+link-all-requires c κs =
+    let at-shape-at = c .before in
+    let at-loop = at-shape-at .before .before in
+    let start = at-loop .before .before in
+    subst (λ (k : ℕ). ChildrenBelow (at-shape-at .shape-at .result) k) (sym (at-loop .loop .inv .1 .1 .0))
+    (shape-below (start .args .s .now) (start .pre .1) (fields-ok (start .args .s .now) (start .pre .0 .none-found) .terms-high) (at-loop .loop .t)
+    (omega (arith, c .before .before .loop-test .taken, at-loop .loop .inv .1 .0)) (at-shape-at .shape-at .ensures))
 
 add-t : tie.Need-add-t Inv-loop μ-loop
-add-t c = omega (arith, (fields-ok (c .before .before .before .before .before .before .before .args .s .now) (c .before .before .before .before .before .before .before .pre .0 .none-found) .terms-high), c .before .before .before .before .before .loop .inv .1 .0)
+add-t c =
+    let at-loop = c .before .before .before .before .before in
+    let start = at-loop .before .before in
+    omega (arith, (fields-ok (start .args .s .now) (start .pre .0 .none-found) .terms-high), at-loop .loop .inv .1 .0)
 
 loop-less : tie.Need-loop-less Inv-loop μ-loop
 loop-less c = omega arith
 
 loop-again : tie.Need-loop-again Inv-loop μ-loop
-loop-again c = (omega arith, (c .before .before .before .before .before .loop .inv .1 .0, (c .before .link-all .kept .0 ∙ c .before .before .before .before .before .loop .inv .1 .1 .0, links-more (c .before .before .before .before .before .before .before .args .s .now) (c .before .before .before .before .before .before .before .pre .1) (fields-ok (c .before .before .before .before .before .before .before .args .s .now) (c .before .before .before .before .before .before .before .pre .0 .none-found) .terms-high) (c .before .before .before .before .before .loop .t) (omega (arith, c .before .before .before .before .loop-test .taken, c .before .before .before .before .before .loop .inv .1 .0)) (c .before .before .before .shape-at .ensures) (c .before .before .before .before .before .loop .parents) (c .before .link-all .last .0) (c .before .before .before .before .before .loop .inv .1 .1 .0) (c .before .before .before .before .before .loop .inv .1 .1 .1) (c .before .link-all .ensures))))
+loop-again c =
+    let at-link-all = c .before in
+    let at-loop-test = at-link-all .before .before .before in
+    let at-loop = at-loop-test .before in
+    let start = at-loop .before .before in (
+      omega arith,
+      (
+        at-loop .loop .inv .1 .0,
+        (
+          at-link-all .link-all .kept .0 ∙ at-loop .loop .inv .1 .1 .0,
+          links-more (start .args .s .now) (start .pre .1)
+              (fields-ok (start .args .s .now) (start .pre .0 .none-found) .terms-high) (at-loop .loop .t)
+              (omega (arith, at-loop-test .loop-test .taken, at-loop .loop .inv .1 .0)) (c .before .before .before .shape-at .ensures) (at-loop .loop .parents)
+              (at-link-all .link-all .last .0) (at-loop .loop .inv .1 .1 .0) (at-loop .loop .inv .1 .1 .1) (at-link-all .link-all .ensures),
+        ),
+      ),
+    )
 
 returns : tie.Need-returns Inv-loop μ-loop
-returns c = let e : c .before .loop .t ≡ terms (c .before .before .before .args .s .now) = omega (arith, c .before .loop .inv .1 .0, c .before .loop .inv .0, c .loop-test .left) in subst (λ (x : ℕ). Links (c .before .before .before .args .s .now) (c .before .loop .parents) x) e (c .before .loop .inv .1 .1 .1)
+returns c =
+    let at-loop = c .before in
+    let start = at-loop .before .before in
+    let e : at-loop .loop .t ≡ terms (start .args .s .now) = omega (arith, at-loop .loop .inv .1 .0, at-loop .loop .inv .0, c .loop-test .left) in subst
+    (λ (x : ℕ). Links (start .args .s .now) (at-loop .loop .parents) x) e (at-loop .loop .inv .1 .1 .1)
 
 pub parents-of-spec : {M : Type 1} → statement M
 parents-of-spec =

@@ -1,3 +1,5 @@
+-- The three tests together are `placedOk`. What is noted for t tells whether it is a child never, once or more often, since a parent that is
+-- noted lies above its child and below 1,024, and so is neither 0 nor 65535 (place-is).
 use mathlib.Core.Bool.{Bool, _&&_}
 use mathlib.Core.Path.{refl, ap, _∙_}
 use native.Mathlib.Omega.{arith}
@@ -8,13 +10,17 @@ use Rattle.decoder.proofs.places.place_ok.Statement.{statement}
 use Rattle.decoder.proofs.places.place_ok.Tie as tie
 
 add-root : tie.Need-add-root
-add-root c = omega (arith, c .before .pre .1 .1 .0, (fields-ok (c .before .args .s .now) (c .before .pre .0 .none-found) .terms-high))
+add-root c =
+    let start = c .before in
+    omega (arith, start .pre .1 .1 .0, (fields-ok (start .args .s .now) (start .pre .0 .none-found) .terms-high))
 
 mul-p : tie.Need-mul-p
 mul-p c = search needs
 
 element-copy-out-p : tie.Need-element-copy-out-p
-element-copy-out-p c = omega (arith, c .before .before .pre .1 .1 .0, (fields-ok (c .before .before .args .s .now) (c .before .before .pre .0 .none-found) .terms-high))
+element-copy-out-p c =
+    let start = c .before .before in
+    omega (arith, start .pre .1 .1 .0, (fields-ok (start .args .s .now) (start .pre .0 .none-found) .terms-high))
 
 parents-ok-requires : tie.Need-parents-ok-requires
 parents-ok-requires c κs = search needs
@@ -26,7 +32,13 @@ root-signed-requires : tie.Need-root-signed-requires
 root-signed-requires c κs = search needs
 
 returns : tie.Need-returns
-returns c = ap (λ (signed : Bool). c .before .before .parents-ok .result && c .before .body-signed .result && signed) (c .root-signed .ensures) ∙ place-is (c .before .before .before .before .before .before .args .s .now) (c .before .before .before .before .before .before .args .c) (c .before .before .before .before .before .before .pre .0) (c .before .before .before .before .before .before .pre .1 .0) (c .before .before .before .before .before .before .args .t) (c .before .before .before .before .before .before .pre .1 .1 .0) (c .before .before .before .before .before .before .args .parents .now) (c .before .before .before .before .before .before .pre .1 .1 .1) (c .before .before .parents-ok .ensures) (c .before .body-signed .ensures) refl
+returns c =
+    let at-body-signed = c .before in
+    let at-parents-ok = at-body-signed .before in
+    let start = at-parents-ok .before .before .before .before in
+    ap (λ (signed : Bool). at-parents-ok .parents-ok .result && at-body-signed .body-signed .result && signed) (c .root-signed .ensures) ∙ place-is
+    (start .args .s .now) (start .args .c) (start .pre .0) (start .pre .1 .0) (start .args .t) (start .pre .1 .1 .0) (start .args .parents .now)
+    (start .pre .1 .1 .1) (at-parents-ok .parents-ok .ensures) (at-body-signed .body-signed .ensures) refl
 
 pub place-ok-spec : {M : Type 1} → statement M
 place-ok-spec =

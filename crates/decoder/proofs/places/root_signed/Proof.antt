@@ -1,3 +1,4 @@
+-- The root is asked whether it is a sign; any other term passes.
 use mathlib.Core.Bool.{Bool, not, _||_}
 use mathlib.Core.Path.{sym, ap, _∙_}
 use Rattle.program.specs.Decoding.{isSign}
@@ -9,7 +10,9 @@ is-sign-requires : tie.Need-is-sign-requires
 is-sign-requires c κs = search needs
 
 returns : tie.Need-returns
-returns c = c .is-sign .ensures ∙ ap (λ (root : Bool). not root || isSign (c .before .before .before .args .s .now) (c .before .before .before .args .t)) (sym (c .before .if1 .taken))
+returns c =
+    let start = c .before .before .before in
+    c .is-sign .ensures ∙ ap (λ (root : Bool). not root || isSign (start .args .s .now) (start .args .t)) (sym (c .before .if1 .taken))
 
 returns-2 : tie.Need-returns-2
 returns-2 c = search needs

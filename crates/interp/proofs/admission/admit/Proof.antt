@@ -1,3 +1,5 @@
+-- A refusal by the reader is what the screening tells (unreadable). A sheet that is read is readable with its own counts, as `admit_readable` requires,
+-- and what that tells is told.
 use borrow.Author.Needs.{needs}
 use Rattle.interp.proofs.AdmissionLaws.{unreadable, readable, counted}
 use Rattle.interp.proofs.admission.admit.Statement.{statement}

@@ -1,3 +1,5 @@
+-- Each turn passes one frame, from the innermost on: the principals before place i are known, so that the frames from i on decide as the whole stack.
+-- i is even, so that a frame is never half. The numbers that are left fall by two.
 use mathlib.Core.Path.{_≡_, refl, sym, _∙_}
 use Prim.Native.Nat.{_-_, _%_, _≤_}
 use native.Mathlib.Omega.{arith}

@@ -1,3 +1,4 @@
+-- A law for each test of refusal 14: more than 32 numbers, which are 16 frames of two; half a frame; and, of whole frames, the principals.
 use mathlib.Core.Path.{_∙_}
 use Rattle.interp.proofs.StartLaws.{start-long, start-half, start-whole}
 use Rattle.interp.proofs.start.start_ok.Statement.{statement}

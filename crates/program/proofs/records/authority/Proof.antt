@@ -1,3 +1,5 @@
+-- One test decides whether the four bytes at 8 + 4 * n lie in the sheet: outside the set is empty (no-authority), inside it is what stands there
+-- (an-authority). Whether n is a principal is not asked. 8 are the first field's 5 bytes and the head of the second, 3.
 use Rattle.program.proofs.RecordLaws.{no-authority, an-authority}
 use borrow.Author.Needs.{needs}
 use Rattle.program.proofs.records.authority.Statement.{statement}

@@ -1,3 +1,4 @@
+-- Two bytes make at most 255 * 256 + 255 = 65535, so that no operation on 16 bits overflows; the sum is then the definition's.
 use native.Mathlib.Omega.{arith}
 use Prim.Native.Nat.{_+_}
 use borrow.Author.Needs.{needs}
@@ -23,7 +24,9 @@ cast-result-2 : tie.Need-cast-result-2
 cast-result-2 c = omega (arith, c .shared-slice-known2 .given (c .before .before .args .at + 1))
 
 add-result-2 : tie.Need-add-result-2
-add-result-2 c = omega (arith, c .before .shared-slice-known .given (c .before .before .args .at), c .shared-slice-known2 .given (c .before .before .args .at + 1))
+add-result-2 c =
+    let start = c .before .before in
+    omega (arith, c .before .shared-slice-known .given (start .args .at), c .shared-slice-known2 .given (start .args .at + 1))
 
 returns : tie.Need-returns
 returns c = search needs

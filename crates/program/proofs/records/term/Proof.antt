@@ -1,3 +1,5 @@
+-- One test decides whether the eight bytes at 14 + 4 * principals + 10 * types + 8 * t lie in the sheet: a record outside is all zeros (no-term), one
+-- inside has what stands there (a-term). 14 are the first field's 5 bytes and the heads of the other three, 3 each.
 use Rattle.program.proofs.RecordLaws.{no-term, a-term}
 use borrow.Author.Needs.{needs}
 use Rattle.program.proofs.records.term.Statement.{statement}
@@ -31,7 +33,9 @@ add-if1 : tie.Need-add-if1
 add-if1 c = search needs
 
 returns : tie.Need-returns
-returns c = no-term _ (c .before .before .before .before .args .c) _ (c .if1 .taken)
+returns c =
+    let start = c .before .before .before .before in
+    no-term _ (start .args .c) _ (c .if1 .taken)
 
 shared-slice-read-t15 : tie.Need-shared-slice-read-t15
 shared-slice-read-t15 c = search needs
@@ -61,7 +65,10 @@ be16-requires-3 : tie.Need-be16-requires-3
 be16-requires-3 c κs = search needs
 
 returns-2 : tie.Need-returns-2
-returns-2 c = a-term _ (c .before .before .before .before .before .before .before .before .before .args .c) _ (c .before .before .before .before .before .if1 .left) (c .before .before .be16 .ensures) (c .before .be162 .ensures) (c .be163 .ensures)
+returns-2 c =
+    let at-if1 = c .before .before .before .before .before in
+    let start = at-if1 .before .before .before .before in
+    a-term _ (start .args .c) _ (at-if1 .if1 .left) (c .before .before .be16 .ensures) (c .before .be162 .ensures) (c .be163 .ensures)
 
 pub term-spec : {M : Type 1} → statement M
 term-spec =

@@ -1,3 +1,5 @@
+-- One test decides whether the ten bytes at 11 + 4 * principals + 10 * t lie in the sheet: a record outside is all zeros (no-type), one inside has
+-- what stands there (a-type). Whether t is in the table is not asked. 11 are the first field's 5 bytes and the heads of the second and third, 3 each.
 use Rattle.program.proofs.RecordLaws.{no-type, a-type}
 use borrow.Author.Needs.{needs}
 use Rattle.program.proofs.records.type_record.Statement.{statement}
@@ -52,7 +54,10 @@ be32-requires : tie.Need-be32-requires
 be32-requires c κs = search needs
 
 returns-2 : tie.Need-returns-2
-returns-2 c = a-type _ (c .before .before .before .before .before .before .before .before .args .c) _ (c .before .before .before .before .before .if1 .left) (c .before .before .be16 .ensures) (c .before .be162 .ensures) (c .be32 .ensures)
+returns-2 c =
+    let at-if1 = c .before .before .before .before .before in
+    let start = at-if1 .before .before .before in
+    a-type _ (start .args .c) _ (at-if1 .if1 .left) (c .before .before .be16 .ensures) (c .before .be162 .ensures) (c .be32 .ensures)
 
 pub type-record-spec : {M : Type 1} → statement M
 type-record-spec =

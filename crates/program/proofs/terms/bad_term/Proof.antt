@@ -1,3 +1,5 @@
+-- The lowest term record at fault is found in ascending order, as a shape is wrong exactly if its record is (wrong-is). All records below t are right,
+-- so that the search from t on finds what the whole search finds (Laws/Search). The terms that are left, n - t, fall.
 use borrow.Author.Needs.{needs}
 use mathlib.Core.Path.{_≡_, sym, ap, _∙_}
 use Prim.Native.Nat.{_≤_, _-_}
@@ -18,7 +20,9 @@ abbrev μ-loop : tie.MeasureT-loop
 μ-loop s c n t₀ t = n - t
 
 loop-holds : tie.Need-loop-holds Inv-loop μ-loop
-loop-holds c = (omega arith, (c .before .pre .counts-are .terms-are, lowest-starts (termOk (c .before .args .s .now)) (c .before .args .c .terms)))
+loop-holds c =
+    let start = c .before in
+    (omega arith, (start .pre .counts-are .terms-are, lowest-starts (termOk (start .args .s .now)) (start .args .c .terms)))
 
 shape-at-requires : tie.Need-shape-at-requires Inv-loop μ-loop
 shape-at-requires c κs = c .before .before .before .pre
@@ -27,19 +31,42 @@ is-wrong-requires : tie.Need-is-wrong-requires Inv-loop μ-loop
 is-wrong-requires c κs = search needs
 
 returns : tie.Need-returns Inv-loop μ-loop
-returns c = lowest-here (termOk (c .before .before .before .before .before .before .args .s .now)) _ _ (c .before .before .before .loop-test .taken) (wrong-bad (c .before .before .before .before .before .before .args .s .now) (c .before .before .before .before .loop .t) (wrong-is (c .before .before .before .before .before .before .args .s .now) (c .before .before .before .before .loop .t) (c .before .before .shape-at .ensures) (c .before .is-wrong .ensures)) (c .if1 .taken)) ∙ sym (c .before .before .before .before .loop .inv .1 .1) ∙ (ap (lowest (termOk (c .before .before .before .before .before .before .args .s .now)) 0) (c .before .before .before .before .loop .inv .1 .0))
+returns c =
+    let at-loop = c .before .before .before .before in
+    let start = at-loop .before .before in
+    lowest-here (termOk (start .args .s .now)) _ _ (c .before .before .before .loop-test .taken)
+    (wrong-bad (start .args .s .now) (at-loop .loop .t) (wrong-is (start .args .s .now) (at-loop .loop .t) (c .before .before .shape-at .ensures)
+    (c .before .is-wrong .ensures)) (c .if1 .taken)) ∙ sym (at-loop .loop .inv .1 .1) ∙
+    (ap (lowest (termOk (start .args .s .now)) 0) (at-loop .loop .inv .1 .0))
 
 add-t : tie.Need-add-t Inv-loop μ-loop
-add-t c = omega (arith, fields-ok (c .before .before .before .before .before .before .args .s .now) (c .before .before .before .before .before .before .pre .none-found) .terms-high, c .before .before .before .before .loop .inv .1 .0)
+add-t c =
+    let at-loop = c .before .before .before .before in
+    let start = at-loop .before .before in
+    omega (arith, fields-ok (start .args .s .now) (start .pre .none-found) .terms-high, at-loop .loop .inv .1 .0)
 
 loop-less : tie.Need-loop-less Inv-loop μ-loop
 loop-less c = omega arith
 
 loop-again : tie.Need-loop-again Inv-loop μ-loop
-loop-again c = (omega arith, (c .before .before .before .before .loop .inv .1 .0, c .before .before .before .before .loop .inv .1 .1 ∙ lowest-more (termOk (c .before .before .before .before .before .before .args .s .now)) _ _ (c .before .before .before .loop-test .taken) (right-good (c .before .before .before .before .before .before .args .s .now) (c .before .before .before .before .loop .t) (wrong-is (c .before .before .before .before .before .before .args .s .now) (c .before .before .before .before .loop .t) (c .before .before .shape-at .ensures) (c .before .is-wrong .ensures)) (c .if1 .left))))
+loop-again c =
+    let at-loop = c .before .before .before .before in
+    let start = at-loop .before .before in (
+      omega arith,
+      (
+        at-loop .loop .inv .1 .0,
+        at-loop .loop .inv .1 .1 ∙ lowest-more (termOk (start .args .s .now)) _ _
+            (c .before .before .before .loop-test .taken) (right-good (start .args .s .now) (at-loop .loop .t)
+            (wrong-is (start .args .s .now) (at-loop .loop .t) (c .before .before .shape-at .ensures) (c .before .is-wrong .ensures)) (c .if1 .left)),
+      ),
+    )
 
 returns-2 : tie.Need-returns-2 Inv-loop μ-loop
-returns-2 c = lowest-past (termOk (c .before .before .before .args .s .now)) _ _ (c .loop-test .left) ∙ sym (c .before .loop .inv .1 .1) ∙ (ap (lowest (termOk (c .before .before .before .args .s .now)) 0) (c .before .loop .inv .1 .0))
+returns-2 c =
+    let at-loop = c .before in
+    let start = at-loop .before .before in
+    lowest-past (termOk (start .args .s .now)) _ _ (c .loop-test .left) ∙ sym (at-loop .loop .inv .1 .1) ∙
+    (ap (lowest (termOk (start .args .s .now)) 0) (at-loop .loop .inv .1 .0))
 
 pub bad-term-spec : {M : Type 1} → statement M
 bad-term-spec =

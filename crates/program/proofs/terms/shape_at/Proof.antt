@@ -1,3 +1,4 @@
+-- Since the fields are right, the counts are the sheet's and the record that is read is that of term t, so that its shape is the definition's (shape-is).
 use Rattle.program.proofs.TermLaws.{shape-is}
 use borrow.Author.Needs.{needs}
 use Rattle.program.proofs.terms.shape_at.Statement.{statement}
@@ -10,7 +11,9 @@ shape-of-requires : tie.Need-shape-of-requires
 shape-of-requires c κs = search needs
 
 returns : tie.Need-returns
-returns c = shape-is (c .before .before .before .args .s .now) (c .before .before .before .args .c) (c .before .before .before .args .t) (c .before .before .before .pre) (c .before .term .ensures) (c .shape-of .ensures)
+returns c =
+    let start = c .before .before .before in
+    shape-is (start .args .s .now) (start .args .c) (start .args .t) (start .pre) (c .before .term .ensures) (c .shape-of .ensures)
 
 pub shape-at-spec : {M : Type 1} → statement M
 shape-at-spec = tie.close (tie.spec term-requires shape-of-requires returns)

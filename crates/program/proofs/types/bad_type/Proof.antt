@@ -1,3 +1,5 @@
+-- The lowest type record at fault is found in ascending order. All types below t are right and their depths stand in the list, which has room for
+-- 256, the most types of a sheet, so that the search from t on finds what the whole search finds (Laws/Search). The types that are left, n - t, fall.
 use borrow.Author.Needs.{needs}
 use mathlib.Core.Path.{_≡_, refl, sym, ap, _∙_, subst}
 use Prim.Native.Nat.{_≤_, _-_}
@@ -14,16 +16,34 @@ use Rattle.program.proofs.types.bad_type.Statement.{statement}
 use Rattle.program.proofs.types.bad_type.Tie as tie
 
 abbrev Inv-loop : tie.InvT-loop
-Inv-loop s c depths₀ n t₀ depths t = (t ≤ n) × ((n ≡ types s) × ((length depths ≡ 256) × (Depths s depths t × (lowest (typeOk s) 0 n ≡ lowest (typeOk s) t (n - t)))))
+Inv-loop s c depths₀ n t₀ depths t = (t ≤ n) × ((n ≡ types s) ×
+    ((length depths ≡ 256) × (Depths s depths t × (lowest (typeOk s) 0 n ≡ lowest (typeOk s) t (n - t)))))
 
 abbrev μ-loop : tie.MeasureT-loop
 μ-loop s c depths₀ n t₀ depths t = n - t
 
 loop-holds : tie.Need-loop-holds Inv-loop μ-loop
-loop-holds c = (omega arith, (c .before .pre .counts-are .types-are, (refl, (depths-none (c .before .args .s .now) _, lowest-starts (typeOk (c .before .args .s .now)) (c .before .args .c .types)))))
+loop-holds c =
+    let start = c .before in (
+      omega arith,
+      (
+        start .pre .counts-are .types-are,
+        (
+          refl,
+          (
+            depths-none (start .args .s .now) _,
+            lowest-starts (typeOk (start .args .s .now))
+                (start .args .c .types),
+          ),
+        ),
+      ),
+    )
 
 type-depth-requires : tie.Need-type-depth-requires Inv-loop μ-loop
-type-depth-requires c κs = (c .before .before .before .before .pre, (omega (arith, c .before .before .loop .inv .1 .0), c .before .before .loop .inv .1 .1 .1 .0))
+type-depth-requires c κs =
+    let at-loop = c .before .before in
+    let start = at-loop .before .before in
+    (start .pre, (omega (arith, at-loop .loop .inv .1 .0), at-loop .loop .inv .1 .1 .1 .0))
 
 enum-known-d : tie.Need-enum-known-d Inv-loop μ-loop
 enum-known-d c = search needs
@@ -32,25 +52,64 @@ enum-told : tie.Need-enum-told Inv-loop μ-loop
 enum-told c = search needs
 
 returns : tie.Need-returns Inv-loop μ-loop
-returns c = lowest-here (typeOk (c .before .before .before .before .before .before .before .args .s .now)) _ _ (c .before .before .before .before .loop-test .taken) (subst (DepthIs (c .before .before .before .before .before .before .before .args .s .now) (c .before .before .before .before .before .loop .t)) (c .enum-told .given .1) (c .before .before .type-depth .ensures)) ∙ sym (c .before .before .before .before .before .loop .inv .1 .1 .1 .1) ∙ (ap (lowest (typeOk (c .before .before .before .before .before .before .before .args .s .now)) 0) (c .before .before .before .before .before .loop .inv .1 .0))
+returns c =
+    let at-loop-test = c .before .before .before .before in
+    let at-loop = at-loop-test .before in
+    let start = at-loop .before .before in
+    lowest-here (typeOk (start .args .s .now)) _ _ (at-loop-test .loop-test .taken)
+    (subst (DepthIs (start .args .s .now) (at-loop .loop .t)) (c .enum-told .given .1) (c .before .before .type-depth .ensures)) ∙ sym
+    (at-loop .loop .inv .1 .1 .1 .1) ∙ (ap (lowest (typeOk (start .args .s .now)) 0) (at-loop .loop .inv .1 .0))
 
 cast-depths : tie.Need-cast-depths Inv-loop μ-loop
-cast-depths c = omega (arith, c .before .before .before .before .before .before .loop .inv .1 .0, (fields-ok (c .before .before .before .before .before .before .before .before .args .s .now) (c .before .before .before .before .before .before .before .before .pre .none-found) .types-high))
+cast-depths c =
+    let at-loop = c .before .before .before .before .before .before in
+    let start = at-loop .before .before in
+    omega (arith, at-loop .loop .inv .1 .0, (fields-ok (start .args .s .now) (start .pre .none-found) .types-high))
 
 array-write-depths : tie.Need-array-write-depths Inv-loop μ-loop
-array-write-depths c = omega (arith, c .before .before .before .before .before .before .loop .inv .1 .0, (fields-ok (c .before .before .before .before .before .before .before .before .args .s .now) (c .before .before .before .before .before .before .before .before .pre .none-found) .types-high))
+array-write-depths c =
+    let at-loop = c .before .before .before .before .before .before in
+    let start = at-loop .before .before in
+    omega (arith, at-loop .loop .inv .1 .0, (fields-ok (start .args .s .now) (start .pre .none-found) .types-high))
 
 add-t : tie.Need-add-t Inv-loop μ-loop
-add-t c = omega (arith, c .before .before .before .before .before .before .loop .inv .1 .0, (fields-ok (c .before .before .before .before .before .before .before .before .args .s .now) (c .before .before .before .before .before .before .before .before .pre .none-found) .types-high))
+add-t c =
+    let at-loop = c .before .before .before .before .before .before in
+    let start = at-loop .before .before in
+    omega (arith, at-loop .loop .inv .1 .0, (fields-ok (start .args .s .now) (start .pre .none-found) .types-high))
 
 loop-less : tie.Need-loop-less Inv-loop μ-loop
 loop-less c = omega arith
 
 loop-again : tie.Need-loop-again Inv-loop μ-loop
-loop-again c = (omega arith, (c .before .before .before .before .before .before .loop .inv .1 .0, (simp length-set (c .before .before .before .before .before .before .loop .inv .1 .1 .0), (depths-more (c .before .before .before .before .before .before .before .before .args .s .now) (c .before .before .before .before .before .before .loop .depths) _ _ (c .before .before .before .before .before .before .loop .inv .1 .1 .1 .0) (omega (arith, c .before .before .before .before .before .before .loop .inv .1 .0, (fields-ok (c .before .before .before .before .before .before .before .before .args .s .now) (c .before .before .before .before .before .before .before .before .pre .none-found) .types-high), c .before .before .before .before .before .before .loop .inv .1 .1 .0)) (subst (DepthIs (c .before .before .before .before .before .before .before .before .args .s .now) (c .before .before .before .before .before .before .loop .t)) (c .before .d .given .1) (c .before .before .before .type-depth .ensures)), c .before .before .before .before .before .before .loop .inv .1 .1 .1 .1 ∙ lowest-more (typeOk (c .before .before .before .before .before .before .before .before .args .s .now)) _ _ (c .before .before .before .before .before .loop-test .taken) ((subst (DepthIs (c .before .before .before .before .before .before .before .before .args .s .now) (c .before .before .before .before .before .before .loop .t)) (c .before .d .given .1) (c .before .before .before .type-depth .ensures)) .right)))))
+loop-again c =
+    let at-d = c .before in
+    let at-type-depth = at-d .before .before in
+    let at-loop-test = at-type-depth .before .before in
+    let at-loop = at-loop-test .before in
+    let start = at-loop .before .before in (
+      omega arith,
+      (
+        at-loop .loop .inv .1 .0,
+        (
+          simp length-set (at-loop .loop .inv .1 .1 .0),
+          (
+            depths-more (start .args .s .now) (at-loop .loop .depths) _ _ (at-loop .loop .inv .1 .1 .1 .0)
+                (omega (arith, at-loop .loop .inv .1 .0, (fields-ok (start .args .s .now) (start .pre .none-found) .types-high), at-loop .loop .inv .1 .1 .0))
+                (subst (DepthIs (start .args .s .now) (at-loop .loop .t)) (at-d .d .given .1) (at-type-depth .type-depth .ensures)),
+            at-loop .loop .inv .1 .1 .1 .1 ∙ lowest-more (typeOk (start .args .s .now)) _ _ (at-loop-test .loop-test .taken)
+                ((subst (DepthIs (start .args .s .now) (at-loop .loop .t)) (at-d .d .given .1) (at-type-depth .type-depth .ensures)) .right),
+          ),
+        ),
+      ),
+    )
 
 returns-2 : tie.Need-returns-2 Inv-loop μ-loop
-returns-2 c = lowest-past (typeOk (c .before .before .before .args .s .now)) _ _ (c .loop-test .left) ∙ sym (c .before .loop .inv .1 .1 .1 .1) ∙ (ap (lowest (typeOk (c .before .before .before .args .s .now)) 0) (c .before .loop .inv .1 .0))
+returns-2 c =
+    let at-loop = c .before in
+    let start = at-loop .before .before in
+    lowest-past (typeOk (start .args .s .now)) _ _ (c .loop-test .left) ∙ sym (at-loop .loop .inv .1 .1 .1 .1) ∙
+    (ap (lowest (typeOk (start .args .s .now)) 0) (at-loop .loop .inv .1 .0))
 
 pub bad-type-spec : {M : Type 1} → statement M
 bad-type-spec =

@@ -1,3 +1,4 @@
+-- The bytes are compared from the last on: those from k on agree, so that the first k decide as all 10. k falls.
 use mathlib.Core.Path.{_≡_, refl, sym, _∙_}
 use Prim.Native.Nat.{_≤_}
 use native.Mathlib.Omega.{arith}
@@ -16,28 +17,46 @@ loop-holds : tie.Need-loop-holds Inv-loop μ-loop
 loop-holds c = (omega arith, refl)
 
 sub-k : tie.Need-sub-k Inv-loop μ-loop
-sub-k c = omega (arith, c .before .before .pre .0, c .before .before .pre .1)
+sub-k c =
+    let start = c .before .before in
+    omega (arith, start .pre .0, start .pre .1)
 
 add-if1 : tie.Need-add-if1 Inv-loop μ-loop
-add-if1 c = omega (arith, c .before .before .pre .0, c .before .before .pre .1)
+add-if1 c =
+    let start = c .before .before in
+    omega (arith, start .pre .0, start .pre .1)
 
 shared-slice-read-if1 : tie.Need-shared-slice-read-if1 Inv-loop μ-loop
-shared-slice-read-if1 c = omega (arith, c .before .before .before .pre .0, c .before .before .before .pre .1)
+shared-slice-read-if1 c =
+    let start = c .before .before .before in
+    omega (arith, start .pre .0, start .pre .1)
 
 add-if1-2 : tie.Need-add-if1-2 Inv-loop μ-loop
-add-if1-2 c = omega (arith, c .before .before .before .pre .0, c .before .before .before .pre .1)
+add-if1-2 c =
+    let start = c .before .before .before in
+    omega (arith, start .pre .0, start .pre .1)
 
 shared-slice-read-if1-2 : tie.Need-shared-slice-read-if1-2 Inv-loop μ-loop
-shared-slice-read-if1-2 c = omega (arith, c .before .before .before .before .pre .0, c .before .before .before .before .pre .1)
+shared-slice-read-if1-2 c =
+    let start = c .before .before .before .before in
+    omega (arith, start .pre .0, start .pre .1)
 
 returns : tie.Need-returns Inv-loop μ-loop
-returns c = same-not (c .before .before .before .before .before .args .s .now) _ _ _ (c .before .before .before .loop-test .taken) (c .if1 .taken) ∙ sym (c .before .before .before .before .loop .inv .1)
+returns c =
+    let at-loop = c .before .before .before .before in
+    let start = at-loop .before in
+    same-not (start .args .s .now) _ _ _ (c .before .before .before .loop-test .taken) (c .if1 .taken) ∙ sym (at-loop .loop .inv .1)
 
 loop-less : tie.Need-loop-less Inv-loop μ-loop
-loop-less c = omega (arith, c .before .before .before .before .before .pre .0, c .before .before .before .before .before .pre .1)
+loop-less c =
+    let start = c .before .before .before .before .before in
+    omega (arith, start .pre .0, start .pre .1)
 
 loop-again : tie.Need-loop-again Inv-loop μ-loop
-loop-again c = (omega arith, c .before .before .before .before .loop .inv .1 ∙ same-more (c .before .before .before .before .before .args .s .now) _ _ _ (c .before .before .before .loop-test .taken) (c .if1 .left))
+loop-again c =
+    let at-loop = c .before .before .before .before in
+    let start = at-loop .before in
+    (omega arith, at-loop .loop .inv .1 ∙ same-more (start .args .s .now) _ _ _ (c .before .before .before .loop-test .taken) (c .if1 .left))
 
 returns-2 : tie.Need-returns-2 Inv-loop μ-loop
 returns-2 c = same-end (c .before .before .args .s .now) _ _ _ (c .loop-test .left) ∙ sym (c .before .loop .inv .1)

@@ -1,3 +1,6 @@
+-- `decimal` appends the decimal digits of n: n itself if it is below 10 (sole), else those of n / 10, then that of n % 10 (followed).
+-- The measure is n itself: the recursive call is on n / 10, which is less, since n is at least 10 there.
+-- The digits of n are at most 20 and one more than those of n / 10, so the last one has room in the 20 bytes that the precondition asks for (fits-more).
 use borrow.Author.Needs.{needs}
 use native.Mathlib.Omega.{arith}
 use Rattle.report.proofs.DraftLaws.{sole, followed, fits-more}
@@ -79,7 +82,9 @@ decimal-put-requires-2 : (t : ℕ) → decimal-lts.Need-put-requires-2 (
   decimal-below t,
   decimal.Post,
 ) (decimal-at t) decimal.Post
-decimal-put-requires-2 t c κs = fits-more (c .before .before .before .args .n) (c .before .if1 .left) (omega arith) (c .before .before .before .pre .1) (c .decimal .ensures)
+decimal-put-requires-2 t c κs =
+    let start = c .before .before .before in
+    fits-more (start .args .n) (c .before .if1 .left) (omega arith) (start .pre .1) (c .decimal .ensures)
 
 decimal-returns-2 : (t : ℕ) → decimal-lts.Need-returns-2 (
   digit-reads.Asked,
@@ -89,7 +94,10 @@ decimal-returns-2 : (t : ℕ) → decimal-lts.Need-returns-2 (
   decimal-below t,
   decimal.Post,
 ) (decimal-at t) decimal.Post
-decimal-returns-2 t c = followed (c .before .before .before .before .args .n) (c .before .before .if1 .left) (omega arith) (c .before .decimal .ensures) (c .before .before .before .digit .ensures) (c .put2 .ensures)
+decimal-returns-2 t c =
+    let start = c .before .before .before .before in
+    followed (start .args .n) (c .before .before .if1 .left) (omega arith) (c .before .decimal .ensures) (c .before .before .before .digit .ensures)
+    (c .put2 .ensures)
 
 pub +decimal-spec : {M : Type 1} → statement M
 +decimal-spec = close μ-decimal λ t. decimal-lts.spec (

@@ -1,3 +1,5 @@
+-- `hexadecimal` appends the last k hexadecimal digits: none for k = 0 (no-digits), else k - 1 of n / 16, then that of n % 16 (one-more-digit).
+-- The measure is k, the number of digits to append: the recursive call asks for one fewer. It adds at most k - 1 bytes, so the last digit has room.
 use borrow.Author.Needs.{needs}
 use native.Mathlib.Omega.{arith}
 use Rattle.report.proofs.DraftLaws.{no-digits, one-more-digit}
@@ -31,7 +33,9 @@ hexadecimal-returns : (t : ℕ) → hexadecimal-lts.Need-returns (
   put-reads.Asked,
   put-reads.Learnt,
 ) (hexadecimal-at t) hexadecimal.Post
-hexadecimal-returns t c = no-digits (c .before .args .d) (c .before .args .k) (c .before .args .n) (c .if1 .taken)
+hexadecimal-returns t c =
+    let start = c .before in
+    no-digits (start .args .d) (start .args .k) (start .args .n) (c .if1 .taken)
 
 hexadecimal-sub-hexadecimal : (t : ℕ) → hexadecimal-lts.Need-sub-hexadecimal (
   hexadecimal-below t,
@@ -91,7 +95,10 @@ hexadecimal-returns-2 : (t : ℕ) → hexadecimal-lts.Need-returns-2 (
   put-reads.Asked,
   put-reads.Learnt,
 ) (hexadecimal-at t) hexadecimal.Post
-hexadecimal-returns-2 t c = one-more-digit (c .before .before .before .before .args .k) (c .before .before .before .before .args .n) (c .before .before .before .if1 .left) (c .before .before .hexadecimal .ensures) (c .before .digit .ensures) (c .put .ensures)
+hexadecimal-returns-2 t c =
+    let start = c .before .before .before .before in
+    one-more-digit (start .args .k) (start .args .n) (c .before .before .before .if1 .left) (c .before .before .hexadecimal .ensures)
+    (c .before .digit .ensures) (c .put .ensures)
 
 pub +hexadecimal-spec : {M : Type 1} → statement M
 +hexadecimal-spec = close μ-hexadecimal λ t. hexadecimal-lts.spec (

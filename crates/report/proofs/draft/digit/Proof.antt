@@ -1,3 +1,4 @@
+-- Below 16, `digit` gives the definition's character: the test n < 10 chooses between the same sums. They are at most 55 + 15, so they fit a byte.
 use borrow.Author.Tests.{lt-ltb, le-ltb}
 use borrow.Author.Needs.{needs}
 use Rattle.report.proofs.draft.digit.Statement.{statement}

@@ -1,3 +1,4 @@
+-- Where `len` is below 192, the length of the array, `put` appends its byte: the byte is set at `len`, and one byte more is then held (put-held).
 use native.Mathlib.Omega.{arith}
 use Rattle.report.proofs.DraftLaws.{put-held, sized}
 use borrow.Author.Needs.{needs}
@@ -11,7 +12,11 @@ add-r : tie.Need-add-r
 add-r c = search needs
 
 returns : tie.Need-returns
-returns c = record { held-is = put-held (c .args .d .bytes) (c .args .d .len) (c .args .b) (omega (arith, sized (c .args .d .bytes) 192 (c .good .0 .1 .1 .0 .1 .0 .1), c .pre)); len-most = omega arith }
+returns c = record {
+  held-is = put-held (c .args .d .bytes) (c .args .d .len) (c .args .b)
+      (omega (arith, sized (c .args .d .bytes) 192 (c .good .0 .1 .1 .0 .1 .0 .1), c .pre));
+  len-most = omega arith;
+}
 
 pub put-spec : {M : Type 1} → statement M
 put-spec = tie.close (tie.spec element-write-r add-r returns)

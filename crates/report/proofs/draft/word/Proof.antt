@@ -1,3 +1,6 @@
+-- `word` appends the bytes of s, one by one. The invariant: the draft is the one that came with the first i bytes of s appended, at most i bytes longer,
+-- and i is at most the length of s. The measure is the number of bytes left, that length less i, and falls since each turn adds 1 to i.
+-- When the test fails, i is the length, and all of s is appended (whole).
 use Prim.Native.Nat.{_-_, _≤_}
 use borrow.Author.Needs.{needs}
 use native.Mathlib.Omega.{arith}
@@ -29,10 +32,18 @@ loop-less : tie.Need-loop-less Inv-loop μ-loop
 loop-less c = search needs
 
 loop-again : tie.Need-loop-again Inv-loop μ-loop
-loop-again c = (omega arith, more (c .before .before .before .before .before .args .s .now) (c .before .before .before .loop .i) (c .before .before .loop-test .taken) (chained _ (omega arith) (c .before .before .before .loop .inv .1) (c .put .ensures)))
+loop-again c =
+    let at-loop = c .before .before .before in
+    let start = at-loop .before .before in (
+      omega arith,
+      more (start .args .s .now) (at-loop .loop .i) (c .before .before .loop-test .taken)
+          (chained _ (omega arith) (at-loop .loop .inv .1) (c .put .ensures)),
+    )
 
 returns : tie.Need-returns Inv-loop μ-loop
-returns c = whole (c .before .before .before .args .s .now) (c .before .loop .i) (c .before .loop .inv .0) (c .loop-test .left) (c .before .loop .inv .1)
+returns c =
+    let at-loop = c .before in
+    whole (c .before .before .before .args .s .now) (at-loop .loop .i) (at-loop .loop .inv .0) (c .loop-test .left) (at-loop .loop .inv .1)
 
 pub word-spec : {M : Type 1} → statement M
 word-spec =

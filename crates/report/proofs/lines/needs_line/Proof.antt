@@ -1,3 +1,4 @@
+-- `needs_line` appends "needs ", eight hexadecimal digits and the newline (chained). At most 15 bytes: 6 and 8, which are 14, and 1 for the newline.
 use native.Mathlib.Omega.{arith}
 use Rattle.report.proofs.DraftLaws.{chained}
 use borrow.Author.Needs.{needs}
@@ -20,7 +21,8 @@ word-requires-2 : tie.Need-word-requires-2
 word-requires-2 c κs = search needs
 
 returns : tie.Need-returns
-returns c = chained 15 (omega arith) (chained 14 (omega arith) (c .before .before .before .word .ensures) (c .before .before .hexadecimal .ensures)) (c .word2 .ensures)
+returns c = chained 15 (omega arith) (chained 14 (omega arith) (c .before .before .before .word .ensures) (c .before .before .hexadecimal .ensures))
+    (c .word2 .ensures)
 
 pub needs-line-spec : {M : Type 1} → statement M
 needs-line-spec =

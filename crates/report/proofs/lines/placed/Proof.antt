@@ -1,3 +1,5 @@
+-- `placed` appends the label with the cause, then " at " with the place (chained). At most the label's length and 44 bytes: 4 for " at ", 20 for each
+-- of the two numbers.
 use native.Mathlib.Omega.{arith}
 use Rattle.report.proofs.DraftLaws.{chained}
 use borrow.Author.Needs.{needs}

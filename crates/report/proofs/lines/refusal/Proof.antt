@@ -1,3 +1,5 @@
+-- The draft of `refusal` holds one line, appended to a blank draft (from-blank): "refused " with cause and place, then the newline (chained).
+-- At most 53 bytes: 8 for the label, 44 for the two numbers and " at ", 1 for the newline.
 use native.Mathlib.Omega.{arith}
 use Rattle.report.proofs.DraftLaws.{chained, from-blank}
 use borrow.Author.Needs.{needs}
@@ -20,7 +22,9 @@ word-requires : tie.Need-word-requires
 word-requires c κs = search needs
 
 returns : tie.Need-returns
-returns c = from-blank (c .before .before .before .before .blank .ensures) (chained 53 (omega arith) (c .before .before .placed .ensures) (c .word .ensures))
+returns c =
+    let at-blank = c .before .before .before .before in
+    from-blank (at-blank .blank .ensures) (chained 53 (omega arith) (c .before .before .placed .ensures) (c .word .ensures))
 
 pub refusal-spec : {M : Type 1} → statement M
 refusal-spec =

@@ -1,3 +1,4 @@
+-- `terms_line` appends "terms " with the number, then the newline (chained). At most 27 bytes: 6 for the label, 20 for the number, 1 for the newline.
 use native.Mathlib.Omega.{arith}
 use Rattle.report.proofs.DraftLaws.{chained}
 use borrow.Author.Needs.{needs}

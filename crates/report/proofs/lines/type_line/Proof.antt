@@ -1,3 +1,5 @@
+-- `type_line` appends "type bool" for type 0 (boolean-line) and "type num" for any other (number-line), each with a newline. At most 10 bytes, the
+-- length of the first.
 use Rattle.report.proofs.LineLaws.{boolean-line, number-line}
 use borrow.Author.Needs.{needs}
 use Rattle.report.proofs.lines.type_line.Statement.{statement}

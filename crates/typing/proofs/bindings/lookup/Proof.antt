@@ -1,3 +1,4 @@
+-- A number past the bindings has no type (bound-out); any other counts backwards from the last of the first `len` (bound-in).
 use Rattle.typing.proofs.BindingLaws.{bound-in, bound-out}
 use borrow.Author.Needs.{needs}
 use Rattle.typing.proofs.bindings.lookup.Statement.{statement}

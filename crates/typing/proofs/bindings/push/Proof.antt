@@ -1,3 +1,5 @@
+-- The type is written behind the first `len` and counted, so that it is the nearest of the context and the others stay (push-context). `len` is below
+-- 32, the array's length.
 use native.Mathlib.Omega.{arith}
 use mathlib.Core.Path.{refl}
 use Rattle.typing.proofs.BindingLaws.{push-context, sized}
@@ -15,7 +17,11 @@ add-r : tie.Need-add-r
 add-r c = search needs
 
 returns : tie.Need-returns
-returns c = record { context-is = push-context (c .args .b .types) (c .args .b .len) (c .args .ty) (omega (arith, sized (c .args .b .types) 32 (c .good .0 .1 .1 .0 .1 .0 .1), c .pre)); len-is = refl }
+returns c = record {
+  context-is = push-context (c .args .b .types) (c .args .b .len) (c .args .ty)
+      (omega (arith, sized (c .args .b .types) 32 (c .good .0 .1 .1 .0 .1 .0 .1), c .pre));
+  len-is = refl;
+}
 
 pub push-spec : {M : Type 1} → statement M
 push-spec = tie.close (tie.spec mul-r element-write-r add-r returns)

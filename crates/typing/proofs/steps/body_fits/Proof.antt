@@ -1,3 +1,4 @@
+-- The judgement is `bodyStep`: fault 10 if the body's type is not the result type, else fault 12 if its needs lie outside the latent set, else `j`.
 use Rattle.typing.proofs.StepLaws.{body-type, body-needs, body-passes}
 use borrow.Author.Needs.{needs}
 use Rattle.typing.proofs.steps.body_fits.Statement.{statement}

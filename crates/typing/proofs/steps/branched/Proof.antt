@@ -1,3 +1,5 @@
+-- The judgement is `ifStep`: the second branch's fault; fault 10 for a condition that is no boolean, type 0, or branches of different types; or their type,
+-- with the union of all three needs.
 use Rattle.typing.specs.Internal.{ifStep}
 use Rattle.typing.proofs.StepLaws.{stop, if-cond, if-same, if-differs}
 use borrow.Author.Needs.{needs}
@@ -24,7 +26,10 @@ union-requires-2 : tie.Need-union-requires-2
 union-requires-2 c κs = search needs
 
 returns-3 : tie.Need-returns-3
-returns-3 c = if-same (c .before .before .before .before .before .j .given .1) _ _ _ _ _ (c .before .before .before .if1 .left) (c .before .before .if2 .taken) (c .before .union .ensures) (c .union2 .ensures)
+returns-3 c =
+    let at-j = c .before .before .before .before .before in
+    if-same (at-j .j .given .1) _ _ _ _ _ (c .before .before .before .if1 .left) (c .before .before .if2 .taken) (c .before .union .ensures)
+    (c .union2 .ensures)
 
 returns-4 : tie.Need-returns-4
 returns-4 c = if-differs (c .before .before .before .j .given .1) _ _ _ _ _ (c .before .if1 .left) (c .if2 .left)

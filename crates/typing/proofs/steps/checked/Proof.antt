@@ -1,3 +1,4 @@
+-- The judgement is `checkStep`: the child's fault; or the child's type, with the privilege added to its needs.
 use Rattle.typing.specs.Internal.{checkStep}
 use Rattle.typing.proofs.StepLaws.{stop, check-typed}
 use borrow.Author.Needs.{needs}

@@ -1,3 +1,5 @@
+-- The judgement is `binaryStep`: the second operand's fault; fault 10 if either operand is no number; or the operation's type, with the union of both
+-- needs.
 use Rattle.typing.specs.Internal.{binaryStep}
 use Rattle.typing.proofs.StepLaws.{stop, binary-numbers, binary-second, binary-first}
 use borrow.Author.Needs.{needs}
@@ -18,7 +20,9 @@ union-requires : tie.Need-union-requires
 union-requires c κs = search needs
 
 returns-2 : tie.Need-returns-2
-returns-2 c = binary-numbers (c .before .before .before .before .j .given .1) _ _ _ _ (c .before .before .if1 .taken) (c .before .if2 .taken) (c .union .ensures)
+returns-2 c =
+    let at-j = c .before .before .before .before in
+    binary-numbers (at-j .j .given .1) _ _ _ _ (c .before .before .if1 .taken) (c .before .if2 .taken) (c .union .ensures)
 
 returns-3 : tie.Need-returns-3
 returns-3 c = binary-second (c .before .before .before .j .given .1) _ _ _ _ (c .before .if1 .taken) (c .if2 .left)

@@ -1,3 +1,5 @@
+-- The judgement is `enableStep`: the child's fault; or its type, with the privilege removed from its needs if the signing principal may use it, and with
+-- the same needs if not.
 use Rattle.typing.specs.Internal.{enableStep}
 use Rattle.typing.proofs.StepLaws.{stop, enable-removes, enable-keeps}
 use borrow.Author.Needs.{needs}
@@ -21,7 +23,9 @@ remove-requires : tie.Need-remove-requires
 remove-requires c κs = search needs
 
 returns-2 : tie.Need-returns-2
-returns-2 c = enable-removes (c .before .before .before .before .j .given .1) _ _ (c .before .before .contains .ensures) (c .before .if1 .taken) (c .remove .ensures)
+returns-2 c =
+    let at-j = c .before .before .before .before in
+    enable-removes (at-j .j .given .1) _ _ (c .before .before .contains .ensures) (c .before .if1 .taken) (c .remove .ensures)
 
 returns-3 : tie.Need-returns-3
 returns-3 c = enable-keeps (c .before .before .before .j .given .1) _ _ (c .before .contains .ensures) (c .if1 .left)

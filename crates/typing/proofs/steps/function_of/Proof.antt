@@ -1,3 +1,4 @@
+-- The judgement is `functionStep`: the body's fault; or what `body_fits` makes of a typed body, which leaves the function its type and no needs.
 use Rattle.typing.specs.Internal.{functionStep}
 use Rattle.typing.proofs.StepLaws.{stop, function-body}
 use borrow.Author.Needs.{needs}

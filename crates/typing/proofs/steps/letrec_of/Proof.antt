@@ -1,3 +1,5 @@
+-- The judgement is `letrecStep`: the rest's fault; or what `body_fits` makes of the body, which leaves the rest's type, with the union of the latent set
+-- and the rest's needs.
 use Rattle.typing.specs.Internal.{letrecStep}
 use Rattle.typing.proofs.StepLaws.{stop, letrec-body}
 use borrow.Author.Needs.{needs}

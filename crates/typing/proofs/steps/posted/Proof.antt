@@ -1,3 +1,4 @@
+-- The judgement is `postStep`: the child's fault; a number, with the child's needs, of a number; fault 10 of any other type.
 use Rattle.typing.specs.Internal.{postStep}
 use Rattle.typing.proofs.StepLaws.{stop, post-number, post-other}
 use borrow.Author.Needs.{needs}

@@ -1,3 +1,4 @@
+-- Kind 13, less, gives a boolean, type 0; any other kind a number, type 1.
 use Rattle.typing.proofs.StepLaws.{result-less, result-number}
 use Rattle.typing.proofs.steps.result_of.Statement.{statement}
 use Rattle.typing.proofs.steps.result_of.Tie as tie

@@ -1,3 +1,4 @@
+-- The judgement is `signStep`: the child's fault; its type and needs, if the needs lie in the principal's set; fault 11 if they do not.
 use Rattle.typing.specs.Internal.{signStep}
 use Rattle.typing.proofs.StepLaws.{stop, sign-inside, sign-outside}
 use borrow.Author.Needs.{needs}

@@ -1,3 +1,4 @@
+-- The judgement is `testStep`: the second branch's fault; fault 10 for branches of different types; or their type, with the union of their needs.
 use Rattle.typing.specs.Internal.{testStep}
 use Rattle.typing.proofs.StepLaws.{stop, test-same, test-differs}
 use borrow.Author.Needs.{needs}

@@ -1,3 +1,6 @@
+-- A law for each way out: equal types, a first or a second that is no function, latent sets, arguments, results. The definition compares arguments
+-- before latent sets; both have to hold, so that the order changes nothing (sub-latent). What falls is the sum of the two types' numbers: a function
+-- type's argument and result have lower numbers than the type (args-fall, results-fall).
 use Prim.Native.Nat.{_+_}
 use borrow.Author.Needs.{needs}
 use borrow.Author.Tests.{not-true, not-false}
@@ -39,14 +42,63 @@ pub +subtype-spec : {M : Type 1} → statement M
     subtype.Post
     (λ c. sub-equal (c .before .before .pre .1) _ _ (c .if1 .taken))  -- subtype-returns
     (λ c κs. search needs)  -- subtype-is-function-requires
-    (λ c. sub-left (c .before .before .before .before .pre .1) _ _ (c .before .before .if1 .left) (c .before .is-function .ensures) (not-true _ (c .if2 .taken)))  -- subtype-returns-2
+    (λ c. sub-left (c .before .before .before .before .pre .1) _ _ (c .before .before .if1 .left) (c .before .is-function .ensures)
+    (not-true _ (c .if2 .taken)))  -- subtype-returns-2
     (λ c κs. search needs)  -- subtype-is-function-requires-2
-    (λ c. sub-right (c .before .before .before .before .before .before .pre .1) _ _ (c .before .before .before .before .if1 .left) (c .before .before .before .is-function .ensures) (not-false _ (c .before .before .if2 .left)) (c .before .is-function2 .ensures) (not-true _ (c .if3 .taken)))  -- subtype-returns-3
+    (λ c. sub-right (c .before .before .before .before .before .before .pre .1) _ _ (c .before .before .before .before .if1 .left)
+    (c .before .before .before .is-function .ensures) (not-false _ (c .before .before .if2 .left)) (c .before .is-function2 .ensures)
+    (not-true _ (c .if3 .taken)))  -- subtype-returns-3
     (λ c κs. search needs)  -- subtype-type-record-requires
     (λ c κs. search needs)  -- subtype-type-record-requires-2
     (λ c κs. search needs)  -- subtype-subset-requires
-    (λ c. sub-latent (c .before .before .before .before .before .before .before .before .before .before .pre .1) _ _ (c .before .before .before .before .before .before .before .before .if1 .left) (c .before .before .before .before .before .before .before .is-function .ensures) (not-false _ (c .before .before .before .before .before .before .if2 .left)) (c .before .before .before .before .before .is-function2 .ensures) (not-false _ (c .before .before .before .before .if3 .left)) (c .before .before .before .type-record .ensures) (c .before .before .type-record2 .ensures) (c .before .subset .ensures) (not-true _ (c .if4 .taken)))  -- subtype-returns-4
-    (λ c κs. (omega (arith, c .before .before .before .before .before .before .before .before .before .before .pre .0, args-fall (c .before .before .before .before .before .before .before .before .before .before .pre .1) _ _ (c .before .before .before .before .before .before .before .before .if1 .left) (c .before .before .before .before .before .before .before .is-function .ensures) (not-false _ (c .before .before .before .before .before .before .if2 .left)) (c .before .before .before .before .before .is-function2 .ensures) (not-false _ (c .before .before .before .before .if3 .left)) (c .before .before .before .type-record .ensures) (c .before .before .type-record2 .ensures)), c .before .before .before .before .before .before .before .before .before .before .pre .1))  -- subtype-subtype-requires
-    (λ c. sub-args (c .before .before .before .before .before .before .before .before .before .before .before .before .pre .1) _ _ (c .before .before .before .before .before .before .before .before .before .before .if1 .left) (c .before .before .before .before .before .before .before .before .before .is-function .ensures) (not-false _ (c .before .before .before .before .before .before .before .before .if2 .left)) (c .before .before .before .before .before .before .before .is-function2 .ensures) (not-false _ (c .before .before .before .before .before .before .if3 .left)) (c .before .before .before .before .before .type-record .ensures) (c .before .before .before .before .type-record2 .ensures) (c .before .before .before .subset .ensures) (not-false _ (c .before .before .if4 .left)) (c .before .subtype .ensures) (not-true _ (c .if5 .taken)))  -- subtype-returns-5
-    (λ c κs. (omega (arith, c .before .before .before .before .before .before .before .before .before .before .before .before .pre .0, results-fall (c .before .before .before .before .before .before .before .before .before .before .before .before .pre .1) _ _ (c .before .before .before .before .before .before .before .before .before .before .if1 .left) (c .before .before .before .before .before .before .before .before .before .is-function .ensures) (not-false _ (c .before .before .before .before .before .before .before .before .if2 .left)) (c .before .before .before .before .before .before .before .is-function2 .ensures) (not-false _ (c .before .before .before .before .before .before .if3 .left)) (c .before .before .before .before .before .type-record .ensures) (c .before .before .before .before .type-record2 .ensures)), c .before .before .before .before .before .before .before .before .before .before .before .before .pre .1))  -- subtype-subtype-requires-2
-    (λ c. sub-results (c .before .before .before .before .before .before .before .before .before .before .before .before .before .pre .1) _ _ (c .before .before .before .before .before .before .before .before .before .before .before .if1 .left) (c .before .before .before .before .before .before .before .before .before .before .is-function .ensures) (not-false _ (c .before .before .before .before .before .before .before .before .before .if2 .left)) (c .before .before .before .before .before .before .before .before .is-function2 .ensures) (not-false _ (c .before .before .before .before .before .before .before .if3 .left)) (c .before .before .before .before .before .before .type-record .ensures) (c .before .before .before .before .before .type-record2 .ensures) (c .before .before .before .before .subset .ensures) (not-false _ (c .before .before .before .if4 .left)) (c .before .before .subtype .ensures) (not-false _ (c .before .if5 .left)) (c .subtype2 .ensures))  -- subtype-returns-6
+    (λ c. sub-latent (c .before .before .before .before .before .before .before .before .before .before .pre .1) _ _
+    (c .before .before .before .before .before .before .before .before .if1 .left)
+    (c .before .before .before .before .before .before .before .is-function .ensures)
+    (not-false _ (c .before .before .before .before .before .before .if2 .left)) (c .before .before .before .before .before .is-function2 .ensures)
+    (not-false _ (c .before .before .before .before .if3 .left)) (c .before .before .before .type-record .ensures) (c .before .before .type-record2 .ensures)
+    (c .before .subset .ensures) (not-true _ (c .if4 .taken)))  -- subtype-returns-4
+    (λ c κs. (
+      omega (
+        arith,
+        c .before .before .before .before .before .before .before .before .before .before .pre .0,
+        args-fall
+            (c .before .before .before .before .before .before .before .before .before .before .pre .1) _ _
+            (c .before .before .before .before .before .before .before .before .if1 .left)
+            (c .before .before .before .before .before .before .before .is-function .ensures)
+            (not-false _ (c .before .before .before .before .before .before .if2 .left)) (c .before .before .before .before .before .is-function2 .ensures)
+            (not-false _ (c .before .before .before .before .if3 .left)) (c .before .before .before .type-record .ensures) (c .before .before .type-record2 .ensures),
+      ),
+      c .before .before .before .before .before .before .before .before .before .before .pre .1,
+    ))  -- subtype-subtype-requires
+    (λ c. sub-args (c .before .before .before .before .before .before .before .before .before .before .before .before .pre .1) _ _
+    (c .before .before .before .before .before .before .before .before .before .before .if1 .left)
+    (c .before .before .before .before .before .before .before .before .before .is-function .ensures)
+    (not-false _ (c .before .before .before .before .before .before .before .before .if2 .left))
+    (c .before .before .before .before .before .before .before .is-function2 .ensures)
+    (not-false _ (c .before .before .before .before .before .before .if3 .left)) (c .before .before .before .before .before .type-record .ensures)
+    (c .before .before .before .before .type-record2 .ensures) (c .before .before .before .subset .ensures) (not-false _ (c .before .before .if4 .left))
+    (c .before .subtype .ensures) (not-true _ (c .if5 .taken)))  -- subtype-returns-5
+    (λ c κs. (
+      omega (
+        arith,
+        c .before .before .before .before .before .before .before .before .before .before .before .before .pre .0,
+        results-fall
+            (c .before .before .before .before .before .before .before .before .before .before .before .before .pre .1) _ _
+            (c .before .before .before .before .before .before .before .before .before .before .if1 .left)
+            (c .before .before .before .before .before .before .before .before .before .is-function .ensures)
+            (not-false _ (c .before .before .before .before .before .before .before .before .if2 .left))
+            (c .before .before .before .before .before .before .before .is-function2 .ensures)
+            (not-false _ (c .before .before .before .before .before .before .if3 .left)) (c .before .before .before .before .before .type-record .ensures)
+            (c .before .before .before .before .type-record2 .ensures),
+      ),
+      c .before .before .before .before .before .before .before .before .before .before .before .before .pre .1,
+    ))  -- subtype-subtype-requires-2
+    (λ c. sub-results (c .before .before .before .before .before .before .before .before .before .before .before .before .before .pre .1) _ _
+    (c .before .before .before .before .before .before .before .before .before .before .before .if1 .left)
+    (c .before .before .before .before .before .before .before .before .before .before .is-function .ensures)
+    (not-false _ (c .before .before .before .before .before .before .before .before .before .if2 .left))
+    (c .before .before .before .before .before .before .before .before .is-function2 .ensures)
+    (not-false _ (c .before .before .before .before .before .before .before .if3 .left))
+    (c .before .before .before .before .before .before .type-record .ensures) (c .before .before .before .before .before .type-record2 .ensures)
+    (c .before .before .before .before .subset .ensures) (not-false _ (c .before .before .before .if4 .left)) (c .before .before .subtype .ensures)
+    (not-false _ (c .before .if5 .left)) (c .subtype2 .ensures))  -- subtype-returns-6

@@ -1,3 +1,4 @@
+-- Types 0 and 1 are no functions; of any other the comparison with the number of types decides.
 use Rattle.typing.proofs.SubtypeLaws.{function-low, function-high}
 use Rattle.typing.proofs.subtypes.is_function.Statement.{statement}
 use Rattle.typing.proofs.subtypes.is_function.Tie as tie

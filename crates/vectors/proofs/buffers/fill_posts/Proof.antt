@@ -1,3 +1,5 @@
+-- `fill_posts` has no contract. Shown is that no index is out of bounds, that nothing overflows, and that the loop ends. The invariant: `a` keeps its length.
+-- The measure is the number of places left, that length less i, and falls since each turn adds 1 to i.
 use mathlib.Core.Path.{_≡_, refl, _∙_}
 use Prim.Native.Nat.{ℕ, _-_}
 use native.Mathlib.Omega.{arith}
@@ -30,7 +32,9 @@ loop-less : tie.Need-loop-less Inv-loop μ-loop
 loop-less c = omega (arith, c .before .before .loop .inv, c .before .loop-test .taken)
 
 loop-again : tie.Need-loop-again Inv-loop μ-loop
-loop-again c = length-set {A = ℕ} (c .before .before .loop .a) (c .before .before .loop .i) (c .before .before .loop .v) ∙ c .before .before .loop .inv
+loop-again c =
+    let at-loop = c .before .before in
+    length-set {A = ℕ} (at-loop .loop .a) (at-loop .loop .i) (at-loop .loop .v) ∙ at-loop .loop .inv
 
 same-length : tie.Need-same-length Inv-loop μ-loop
 same-length c = c .before .loop .inv

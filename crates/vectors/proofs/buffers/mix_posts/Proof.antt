@@ -1,3 +1,5 @@
+-- `mix_posts` has no contract. Shown is that no index is out of bounds, that nothing overflows, and that the loop ends. The invariant is empty: the test
+-- bounds the index. The measure is the count of numbers left, the length of `a` less i, and falls since each turn adds 1 to i.
 use Prim.Native.Nat.{_-_}
 use native.Mathlib.Omega.{arith}
 use lib.ListN.{length}

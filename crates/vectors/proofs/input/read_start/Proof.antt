@@ -1,3 +1,5 @@
+-- `read_start` has no contract. Shown is that no index is out of bounds, that nothing overflows, and that the loop ends. The invariant: `start` keeps its
+-- length. The measure is the number of places left, that length less i, and falls since each turn adds 1 to i.
 use mathlib.Core.Path.{_≡_, refl, _∙_}
 use Prim.Native.Nat.{ℕ, _-_}
 use native.Mathlib.Omega.{arith}
@@ -36,19 +38,30 @@ quad-requires : tie.Need-quad-requires Inv-loop μ-loop
 quad-requires c κs = tt
 
 mul-start : tie.Need-mul-start Inv-loop μ-loop
-mul-start c = omega (arith, c .before .before .before .before .loop-test .taken)
+mul-start c =
+    let at-loop-test = c .before .before .before .before in
+    omega (arith, at-loop-test .loop-test .taken)
 
 slice-write-start : tie.Need-slice-write-start Inv-loop μ-loop
-slice-write-start c = omega (arith, c .before .before .before .before .loop-test .taken)
+slice-write-start c =
+    let at-loop-test = c .before .before .before .before in
+    omega (arith, at-loop-test .loop-test .taken)
 
 add-i : tie.Need-add-i Inv-loop μ-loop
-add-i c = omega (arith, c .before .before .before .before .loop-test .taken)
+add-i c =
+    let at-loop-test = c .before .before .before .before in
+    omega (arith, at-loop-test .loop-test .taken)
 
 loop-less : tie.Need-loop-less Inv-loop μ-loop
-loop-less c = omega (arith, c .before .before .before .before .before .loop .inv, c .before .before .before .before .loop-test .taken)
+loop-less c =
+    let at-loop-test = c .before .before .before .before in
+    let at-loop = at-loop-test .before in
+    omega (arith, at-loop .loop .inv, at-loop-test .loop-test .taken)
 
 loop-again : tie.Need-loop-again Inv-loop μ-loop
-loop-again c = length-set {A = ℕ} (c .before .before .before .before .before .loop .start) (c .before .before .before .before .before .loop .i) (c .quad .result) ∙ c .before .before .before .before .before .loop .inv
+loop-again c =
+    let at-loop = c .before .before .before .before .before in
+    length-set {A = ℕ} (at-loop .loop .start) (at-loop .loop .i) (c .quad .result) ∙ at-loop .loop .inv
 
 same-length : tie.Need-same-length Inv-loop μ-loop
 same-length c = c .before .loop .inv

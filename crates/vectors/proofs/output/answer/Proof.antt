@@ -1,3 +1,5 @@
+-- `answer` has no contract. Shown is that no index is out of bounds, that nothing overflows, and that the loop ends. The invariant is empty: the test
+-- i < 8 bounds the index. The measure is 8 - i, of the eight numbers of an answer those left to print, and falls since each turn adds 1 to i.
 use Prim.Native.Nat.{_-_}
 use native.Mathlib.Omega.{arith}
 use Rattle.vectors.proofs.output.answer.Statement.{statement}
