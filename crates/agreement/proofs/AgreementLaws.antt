@@ -5,15 +5,15 @@ use mathlib.Core.Path.{_≡_, refl, sym, ap, _∙_, subst, subst₂}
 use Prim.Native.Nat.{ℕ}
 use lib.ListN.{length}
 use Rattle.typing.specs.Verdicts.{verdict}
-use Rattle.typing.specs.Answers.{told}
+use Rattle.typing.specs.Answers.{verdictModel}
 use Rattle.typing.specs.declared.answer.Verdict.{Verdict}
 use Rattle.semantics.specs.Values.{Budget, budget}
-use Rattle.semantics.specs.Runs.{eager, Request, Buffers, sizes, Course, turnedBack, started, course, Answer, ran, outcome, left, counts, answerOf, buffersAfter, After, run}
+use Rattle.semantics.specs.Runs.{eager, Request, Buffers, sizes, Course, rejected, started, course, Answer, ran, outcome, left, counts, answerOf, buffersAfter, After, run}
 use Rattle.semantics.specs.Theorems.{Starts, run-course}
 use Rattle.program.specs.Layout.{root}
 use Rattle.soundness.specs.Claims.{SameRun, Proper}
 use Rattle.soundness.specs.Theorems.{demand-3}
-use Rattle.interp.specs.Answers.{told as toldRun, asked, lent, after}
+use Rattle.interp.specs.Answers.{runModel, requestOf, buffersOf, after}
 use Rattle.interp.specs.declared.answer.Run.{Run}
 use Rattle.agreement.specs.Runners.{runnerOf}
 use Rattle.agreement.specs.Agreement.{NotRefused, Agreement}
@@ -26,22 +26,22 @@ starts s q b {a = a} e n = go (a .answer) refl n
     go (ran o k) h n = (o, k, ap (λ (x : After). x .answer) (sym e) ∙ h)
 
 pub agreed : (s start : List ℕ) (calls depth : ℕ) (first second : Bool) (cells posts frames cells′ posts′ frames′ : List ℕ) {v : Verdict} {a b : After}
-    → told v ≡ verdict s
-    → a ≡ run s (asked (runnerOf first) true start calls depth) (lent cells posts frames)
-    → b ≡ run s (asked (runnerOf second) false start calls depth) (lent cells′ posts′ frames′)
+    → verdictModel v ≡ verdict s
+    → a ≡ run s (requestOf (runnerOf first) true start calls depth) (buffersOf cells posts frames)
+    → b ≡ run s (requestOf (runnerOf second) false start calls depth) (buffersOf cells′ posts′ frames′)
     → length cells ≡ length cells′ → length posts ≡ length posts′ → Agreement s start v a b
 agreed s start calls depth first second cells posts frames cells′ posts′ frames′ e p q c l = record {
   demand-3 = λ n τ N h g x y.
-      let X = asked (runnerOf first) true start calls depth in
-      let Y = asked (runnerOf second) false start calls depth in
-      let B = lent cells posts frames in
-      let D = lent cells′ posts′ frames′ in
+      let X = requestOf (runnerOf first) true start calls depth in
+      let Y = requestOf (runnerOf second) false start calls depth in
+      let B = buffersOf cells posts frames in
+      let D = buffersOf cells′ posts′ frames′ in
       subst₂ (λ (a b : After). SameRun a b × Proper τ (a .answer)) (sym p) (sym q)
       (demand-3 s n τ N X Y B D (sym e ∙ h)
       record {
         comparable = record { same-start = refl; same-calls = refl; same-depth = refl; same-cells = c; same-posts = l };
-        in-force = refl;
-        passed-over = refl;
+        enforced = refl;
+        skipped = refl;
         first-starts = starts s X B p x;
         second-starts = starts s Y D q y;
       }
@@ -51,34 +51,38 @@ agreed s start calls depth first second cells posts frames cells′ posts′ fra
 -- ---- one run, by the runner that is asked for
 module _ (s start : List ℕ) (e : Bool) (calls depth : ℕ) (cells posts frames : List ℕ) where
   abbrev Q : Request
-  Q = asked eager e start calls depth
+  Q = requestOf eager e start calls depth
 
   -- an eager run takes the same course whatever the frame store, which it leaves as it is
-  same-course : course s Q (sizes (lent cells posts frames)) ≡ course s Q (sizes (lent cells posts []))
+  same-course : course s Q (sizes (buffersOf cells posts frames)) ≡ course s Q (sizes (buffersOf cells posts []))
   unfolding course
   same-course = refl
 
   abbrev whole : Answer → Buffers → After
   whole a b = record { answer = a; buffers = b }
 
-  told-counts : (u : Budget) → counts Q (sizes (lent cells posts [])) u ≡ counts Q (sizes (lent cells posts frames)) u
-  told-counts (budget c d r ps) = refl
+  same-counts-made : (u : Budget) → counts Q (sizes (buffersOf cells posts [])) u ≡ counts Q (sizes (buffersOf cells posts frames)) u
+  same-counts-made (budget c d r ps) = refl
 
   kept-frames : (x : Course) (a : Answer) (cells′ posts′ : List ℕ)
-      → whole a (lent cells′ posts′ []) ≡ whole (answerOf (root s) Q (sizes (lent cells posts [])) x) (buffersAfter eager (lent cells posts []) x)
-      → whole a (lent cells′ posts′ frames) ≡ whole (answerOf (root s) Q (sizes (lent cells posts frames)) x) (buffersAfter eager (lent cells posts frames) x)
-  kept-frames (turnedBack c p) a cells′ posts′ h = λ i. whole (h i .answer) (lent (h i .buffers .cells) (h i .buffers .posts) frames)
+      → whole a (buffersOf cells′ posts′ []) ≡ whole (answerOf (root s) Q (sizes (buffersOf cells posts [])) x)
+      (buffersAfter eager (buffersOf cells posts []) x)
+      → whole a (buffersOf cells′ posts′ frames) ≡ whole (answerOf (root s) Q (sizes (buffersOf cells posts frames)) x)
+      (buffersAfter eager (buffersOf cells posts frames) x)
+  kept-frames (rejected c p) a cells′ posts′ h = λ i. whole (h i .answer) (buffersOf (h i .buffers .cells) (h i .buffers .posts) frames)
   kept-frames (started x) a cells′ posts′ h = λ i.
-      whole ((ap (λ (z : After). z .answer) h ∙ ap (ran (outcome (root s) x)) (told-counts (left x))) i) (lent (h i .buffers .cells) (h i .buffers .posts) frames)
+      whole ((ap (λ (z : After). z .answer) h ∙ ap (ran (outcome (root s) x)) (same-counts-made (left x))) i)
+      (buffersOf (h i .buffers .cells) (h i .buffers .posts) frames)
 
-  pub by-eager : (r : Run) {cells′ posts′ : List ℕ} → after r cells′ posts′ [] ≡ run s Q (lent cells posts []) → after r cells′ posts′ frames ≡ run s Q (lent cells posts frames)
+  pub by-eager : (r : Run) {cells′ posts′ : List ℕ} → after r cells′ posts′ [] ≡ run s Q (buffersOf cells posts []) → after r cells′ posts′ frames
+      ≡ run s Q (buffersOf cells posts frames)
   by-eager r {cells′ = cells′} {posts′ = posts′} h =
-      kept-frames (course s Q (sizes (lent cells posts []))) (toldRun r) cells′ posts′ (h ∙ run-course s Q (lent cells posts []) _ refl)
-      ∙ sym (run-course s Q (lent cells posts frames) _ same-course)
+      kept-frames (course s Q (sizes (buffersOf cells posts []))) (runModel r) cells′ posts′ (h ∙ run-course s Q (buffersOf cells posts []) _ refl)
+      ∙ sym (run-course s Q (buffersOf cells posts frames) _ same-course)
 
   module _ (r : Run) (cells′ posts′ frames′ : List ℕ) where
     abbrev Answers : Bool → Type 0
-    Answers l = after r cells′ posts′ frames′ ≡ run s (asked (runnerOf l) e start calls depth) (lent cells posts frames)
+    Answers l = after r cells′ posts′ frames′ ≡ run s (requestOf (runnerOf l) e start calls depth) (buffersOf cells posts frames)
 
     pub by-either : {isLazy : Bool} (l : Bool) → isLazy ≡ l → Answers l → Answers isLazy
     by-either l h p = subst Answers (sym h) p

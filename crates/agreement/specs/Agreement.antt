@@ -3,7 +3,7 @@ use mathlib.Core.List.{List}
 use mathlib.Core.Path.{_≡_}
 use Prim.Native.Nat.{ℕ}
 use Rattle.typing.specs.Verdicts.{accepted}
-use Rattle.typing.specs.Answers.{told}
+use Rattle.typing.specs.Answers.{verdictModel}
 use Rattle.typing.specs.declared.answer.Verdict.{Verdict}
 use Rattle.semantics.specs.Runs.{Answer, refused, ran, After}
 use Rattle.soundness.specs.Claims.{GrantsSet, SameRun, Proper}
@@ -15,5 +15,5 @@ NotRefused (ran o k) = Unit {0}
 -- If the verdict is acceptance, of type τ and with needs N, the start stack grants N and neither run was refused, then both gave the same answer and
 -- posts, and the answer is an end of type τ or a stop by 19 to 22.
 pub record Agreement (s start : List ℕ) (v : Verdict) (a b : After) : Type 0 where
-  pub demand-3 : (terms τ N : ℕ) → told v ≡ accepted terms τ N → GrantsSet s start N → NotRefused (a .answer) → NotRefused (b .answer)
+  pub demand-3 : (terms τ N : ℕ) → verdictModel v ≡ accepted terms τ N → GrantsSet s start N → NotRefused (a .answer) → NotRefused (b .answer)
       → SameRun a b × Proper τ (a .answer)

@@ -3,9 +3,9 @@ ghost use mathlib.Core.Bool.{true, false};
 ghost use mathlib.Core.Path.{_≡_};
 ghost use lib.ListN.{length};
 ghost use Rattle.typing.specs.Verdicts.{verdict};
-ghost use Rattle.typing.specs.Answers.{told};
+ghost use Rattle.typing.specs.Answers.{verdictModel};
 ghost use Rattle.semantics.specs.Runs.{run};
-ghost use Rattle.interp.specs.Answers.{asked, lent, after};
+ghost use Rattle.interp.specs.Answers.{requestOf, buffersOf, after};
 ghost use Rattle.agreement.specs.Agreement.{Agreement};
 ghost use Rattle.agreement.specs.Runners.{runnerOf};
 use interp::answer::Run;
@@ -15,8 +15,8 @@ use typing::answer::Verdict;
 
 pub struct Compared {
     pub verdict: Verdict,
-    pub in_force: Run,
-    pub passed_over: Run,
+    pub enforced: Run,
+    pub skipped: Run,
 }
 
 // A run of either runner. An eager one leaves the frame store as it is.
@@ -31,7 +31,9 @@ fn run_either(
     posts: &mut [u16],
     frames: &mut [u32],
 ) -> Run
-    ensures { λ r. ⌜ after r (now (cells .exit)) (now (posts .exit)) (now (frames .exit)) ≡ run (now (sheet .entry)) (asked (runnerOf lazy) enforce (now (start .entry)) calls depth) (lent (now (cells .entry)) (now (posts .entry)) (now (frames .entry))) ⌝ }
+    ensures { λ r. ⌜ after r (now (cells .exit)) (now (posts .exit)) (now (frames .exit))
+        ≡ run (now (sheet .entry)) (requestOf (runnerOf lazy) enforce (now (start .entry)) calls depth)
+        (buffersOf (now (cells .entry)) (now (posts .entry)) (now (frames .entry))) ⌝ }
 {
     if lazy {
         return run_lazy(sheet, start, calls, depth, enforce, cells, posts, frames);
@@ -54,10 +56,16 @@ pub fn compare(
     posts2: &mut [u16],
     frames2: &mut [u32],
 ) -> Compared
-    ensures { λ r. ⌜ told (r .verdict) ≡ verdict (now (sheet .entry)) ⌝ }
-    ensures { λ r. ⌜ after (r .«in_force») (now (cells .exit)) (now (posts .exit)) (now (frames .exit)) ≡ run (now (sheet .entry)) (asked (runnerOf lazy) true (now (start .entry)) calls depth) (lent (now (cells .entry)) (now (posts .entry)) (now (frames .entry))) ⌝ }
-    ensures { λ r. ⌜ after (r .«passed_over») (now (cells2 .exit)) (now (posts2 .exit)) (now (frames2 .exit)) ≡ run (now (sheet .entry)) (asked (runnerOf lazy2) false (now (start .entry)) calls depth) (lent (now (cells2 .entry)) (now (posts2 .entry)) (now (frames2 .entry))) ⌝ }
-    ensures { λ r. ⌜ (length (now (cells .entry)) ≡ length (now (cells2 .entry)) → length (now (posts .entry)) ≡ length (now (posts2 .entry)) → Agreement (now (sheet .entry)) (now (start .entry)) (r .verdict) (after (r .«in_force») (now (cells .exit)) (now (posts .exit)) (now (frames .exit))) (after (r .«passed_over») (now (cells2 .exit)) (now (posts2 .exit)) (now (frames2 .exit)))) ⌝ }
+    ensures { λ r. ⌜ verdictModel (r .verdict) ≡ verdict (now (sheet .entry)) ⌝ }
+    ensures { λ r. ⌜ after (r .«enforced») (now (cells .exit)) (now (posts .exit)) (now (frames .exit))
+        ≡ run (now (sheet .entry)) (requestOf (runnerOf lazy) true (now (start .entry)) calls depth)
+        (buffersOf (now (cells .entry)) (now (posts .entry)) (now (frames .entry))) ⌝ }
+    ensures { λ r. ⌜ after (r .«skipped») (now (cells2 .exit)) (now (posts2 .exit)) (now (frames2 .exit))
+        ≡ run (now (sheet .entry)) (requestOf (runnerOf lazy2) false (now (start .entry)) calls depth)
+        (buffersOf (now (cells2 .entry)) (now (posts2 .entry)) (now (frames2 .entry))) ⌝ }
+    ensures { λ r. ⌜ (length (now (cells .entry)) ≡ length (now (cells2 .entry)) → length (now (posts .entry)) ≡ length (now (posts2 .entry))
+        → Agreement (now (sheet .entry)) (now (start .entry)) (r .verdict) (after (r .«enforced») (now (cells .exit)) (now (posts .exit)) (now (frames .exit)))
+        (after (r .«skipped») (now (cells2 .exit)) (now (posts2 .exit)) (now (frames2 .exit)))) ⌝ }
 {
     let verdict = checker::typecheck(sheet);
     let first = run_either(lazy, sheet, start, calls, depth, true, cells, posts, frames);
@@ -74,7 +82,7 @@ pub fn compare(
     );
     Compared {
         verdict: verdict,
-        in_force: first,
-        passed_over: second,
+        enforced: first,
+        skipped: second,
     }
 }

@@ -1,17 +1,17 @@
 -- From the numbers that the code puts together to the replies of specs/Replies.antt.
 use mathlib.Core.Bool.{Bool, true, false}
-use mathlib.Core.List.{List, [], _∷_, _++_, map}
+use mathlib.Core.List.{List, [], _∷_, _++_}
 use mathlib.Core.Path.{_≡_, refl, sym, ap, _∙_}
 use Prim.Native.Nat.{ℕ, zero, suc, _+_, _<_, _≤_}
 use native.Mathlib.Omega.{arith}
-use lib.ListN.{length, getD, set, take, drop, length-map, length-append, length-take, length-drop}
-use native.Mathlib.Numerals.{add-one}
+use lib.ListN.{length, getD, set, take, drop, length-append, length-take, length-drop}
 use mir.Val.{boolByte}
+use Rattle.program.specs.Laws.Lists.{copy-more}
 use Rattle.semantics.specs.Runs.{ground-bool, ended, stopped}
-use Rattle.interp.specs.Answers.{countsTold}
+use Rattle.interp.specs.Answers.{countsModel}
 use Rattle.interp.specs.declared.answer.Made.{Made}
-use Rattle.numbers.specs.Telling.{Tells}
-use Rattle.numbers.specs.declared.Told.{Told}
+use Rattle.numbers.specs.Codes.{CodeIs}
+use Rattle.numbers.specs.declared.Code.{Code}
 use Rattle.capi.specs.Replies.{Reply, refusal, finished}
 use Rattle.capi.specs.Internal.{withCounts}
 
@@ -19,40 +19,33 @@ use Rattle.capi.specs.Internal.{withCounts}
 pub by : {A : Type 0} (f : A → Reply) {x y : A} {r : Reply} → x ≡ y → r ≡ f y → r ≡ f x
 by f e h = h ∙ sym (ap f e)
 
-pub refused-as : {r : Reply} {x : Told} (cause place : ℕ) → r ≡ refusal (x .cause) (x .place) → Tells cause place x → r ≡ refusal cause place
+pub refused-as : {r : Reply} {x : Code} (cause place : ℕ) → r ≡ refusal (x .cause) (x .place) → CodeIs cause place x → r ≡ refusal cause place
 refused-as cause place h e = h ∙ (λ i. refusal (e .cause-is i) (e .place-is i))
 
--- ---- writing the eight numbers
-pub copied : (xs ys : List ℕ) (i : ℕ) → i < length xs → i < length ys → set (take i xs ++ drop i ys) i (getD xs i 0) ≡ take (suc i) xs ++ drop (suc i) ys
-copied [] ys i h k = absurd (omega (arith, h))
-copied (x ∷ xs) [] i h k = absurd (omega (arith, k))
-copied (x ∷ xs) (y ∷ ys) zero h k = refl
-copied (x ∷ xs) (y ∷ ys) (suc i) h k = ap (λ (l : List ℕ). x ∷ l) (copied xs ys i (omega arith) (omega arith))
+-- ---- a stop
+pub stopped-as : (m : Made) {r : Reply} {x : Code} (cause term : ℕ) → r ≡ withCounts 1 (x .cause) (x .place) 0 0 m → CodeIs cause term x → r
+    ≡ finished (stopped cause term) (countsModel m)
+stopped-as m cause term h e = h ∙ (λ i. withCounts 1 (e .cause-is i) (e .place-is i) 0 0 m)
 
+pub ended-bool : (m : Made) {r : Reply} (b : Bool) → r ≡ withCounts 0 0 0 0 (boolByte b) m → r ≡ finished (ended (ground-bool b)) (countsModel m)
+ended-bool m true h = h
+ended-bool m false h = h
+
+-- ---- writing the eight numbers
 pub take-whole : (xs : List ℕ) (n : ℕ) → length xs ≡ n → take n xs ≡ xs
 take-whole [] zero h = refl
 take-whole [] (suc n) h = refl
 take-whole (x ∷ xs) zero h = absurd (omega (arith, h))
 take-whole (x ∷ xs) (suc n) h = ap (λ (l : List ℕ). x ∷ l) (take-whole xs n (omega arith))
 
--- ---- a stop
-pub stopped-as : (m : Made) {r : Reply} {x : Told} (cause term : ℕ) → r ≡ withCounts 1 (x .cause) (x .place) 0 0 m → Tells cause term x → r ≡ finished (stopped cause term) (countsTold m)
-stopped-as m cause term h e = h ∙ (λ i. withCounts 1 (e .cause-is i) (e .place-is i) 0 0 m)
-
-pub ended-bool : (m : Made) {r : Reply} (b : Bool) → r ≡ withCounts 0 0 0 0 (boolByte b) m → r ≡ finished (ended (ground-bool b)) (countsTold m)
-ended-bool m true h = h
-ended-bool m false h = h
-
--- ---- an array's length, and what is written of it
-pub sized : (l : List ℕ) (n : ℕ) → length (map (λ (v : ℕ). v) l) ≡ n → length l ≡ n
-sized l n e = simp length-map at e
-
 module _ (numbers before : List ℕ) (i : ℕ) {now : List ℕ} (eight : length numbers ≡ 8) where
   pub written-length : 8 ≤ length before → i ≤ 8 → now ≡ take i numbers ++ drop i before → length now ≡ length before
-  written-length h k e = ap (λ (l : List ℕ). length l) e ∙ length-append (take i numbers) (drop i before) ∙ omega (arith, length-take i numbers, length-drop i before, eight)
+  written-length h k e = ap (λ (l : List ℕ). length l) e ∙ length-append (take i numbers) (drop i before)
+      ∙ omega (arith, length-take i numbers, length-drop i before, eight)
 
-  pub written-more : 8 ≤ length before → i < 8 → now ≡ take i numbers ++ drop i before → set now i (getD numbers i 0) ≡ take (i + 1) numbers ++ drop (i + 1) before
-  written-more h k e = ap (λ (l : List ℕ). set l i (getD numbers i 0)) e ∙ rw add-one (copied numbers before i (omega (arith, eight)) (omega arith))
+  pub written-more : 8 ≤ length before → i < 8 → now ≡ take i numbers ++ drop i before → set now i (getD numbers i 0) ≡ take (i + 1) numbers
+      ++ drop (i + 1) before
+  written-more h k e = copy-more numbers before now i (omega (arith, eight)) (omega arith) e
 
   pub written-all : i ≤ 8 → 8 ≤ i → now ≡ take i numbers ++ drop i before → now ≡ numbers ++ drop 8 before
   written-all h k e =

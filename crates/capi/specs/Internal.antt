@@ -3,11 +3,11 @@ use mathlib.Core.List.{List, [], _∷_}
 use mathlib.Core.Path.{_≡_}
 use Prim.Native.Nat.{ℕ}
 use lib.ListN.{length}
-use Rattle.program.specs.Answers.{causeOf, placeOf}
+use Rattle.program.specs.Answers.{decodingCause, decodingPlace}
 use Rattle.program.specs.declared.answer.Decoded.{Decoded}
 use Rattle.program.specs.declared.answer.Decoded.the-variants.{Readable, Refused as Unreadable}
 use Rattle.semantics.specs.Theorems.{Few}
-use Rattle.interp.specs.Answers.{countsTold}
+use Rattle.interp.specs.Answers.{countsModel}
 use Rattle.interp.specs.declared.answer.Made.{Made}
 use Rattle.interp.specs.declared.answer.Run.{Run}
 use Rattle.interp.specs.declared.answer.Run.the-variants.{Refused, Ran}
@@ -21,7 +21,7 @@ replyOf r = record { status = r .status; numbers = r .numbers }
 
 abbrev pub ofDecoded : Decoded → replies.Reply
 ofDecoded (Readable c) = record { status = 0; numbers = 0 ∷ 0 ∷ 0 ∷ c .terms ∷ c .principals ∷ c .types ∷ 0 ∷ 0 ∷ [] }
-ofDecoded (Unreadable f) = refusal (causeOf f) (placeOf f)
+ofDecoded (Unreadable f) = refusal (decodingCause f) (decodingPlace f)
 
 -- what is told with the counts of a run
 abbrev pub withCounts : (status cause place sort value : ℕ) → Made → replies.Reply
@@ -30,4 +30,4 @@ withCounts status c p k v m = record { status = status; numbers = c ∷ p ∷ k 
 -- the counts of a run that was not refused fit into 32 bits
 abbrev pub Small : Run → Type 0
 Small (Refused f) = Unit {0}
-Small (Ran o m) = Few (countsTold m)
+Small (Ran o m) = Few (countsModel m)

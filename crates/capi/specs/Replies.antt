@@ -5,9 +5,9 @@ use Prim.Native.Nat.{ℕ}
 use lib.Dec.{ltb, eqb}
 use lib.ListN.{length, drop}
 use Rattle.program.specs.Layout.{principals, types, terms}
-use Rattle.program.specs.Screening.{Screening, clear, refused as found}
+use Rattle.program.specs.Screening.{Screening, clear, found}
 use Rattle.program.specs.Decoding.{decoding}
-use Rattle.typing.specs.Verdicts.{Verdict, accepted, refused as rejected, verdict}
+use Rattle.typing.specs.Verdicts.{Verdict, accepted, rejected, verdict}
 use Rattle.semantics.specs.Runs.{Buffers, ground-bool, ground-num, Outcome, ended, stopped, Counts, Answer, refused, ran, After}
 
 -- 0: readable, accepted or ended; 1: stopped; 2: refused
@@ -27,12 +27,12 @@ abbrev pub decodeReply : List ℕ → Reply
 decodeReply s = screened s (decoding s)
 
 -- an accepted sheet: its root's type, its terms and its needs
-abbrev pub judged : Verdict → Reply
-judged (accepted n τ N) = record { status = 0; numbers = 0 ∷ 0 ∷ τ ∷ n ∷ 0 ∷ 0 ∷ 0 ∷ N ∷ [] }
-judged (rejected c p) = refusal c p
+abbrev pub verdictReply : Verdict → Reply
+verdictReply (accepted n τ N) = record { status = 0; numbers = 0 ∷ 0 ∷ τ ∷ n ∷ 0 ∷ 0 ∷ 0 ∷ N ∷ [] }
+verdictReply (rejected c p) = refusal c p
 
 abbrev pub typecheckReply : List ℕ → Reply
-typecheckReply s = judged (verdict s)
+typecheckReply s = verdictReply (verdict s)
 
 -- a boolean's number
 abbrev pub bit : Bool → ℕ
@@ -57,12 +57,12 @@ short answer = ltb (length answer) 8
 abbrev pub written : Reply → List ℕ → Reply
 written r answer = record { status = r .status; numbers = r .numbers ++ drop 8 answer }
 
-abbrev pub turnedAway : List ℕ → Reply
-turnedAway answer = record { status = 3; numbers = answer }
+abbrev pub notDone : List ℕ → Reply
+notDone answer = record { status = 3; numbers = answer }
 
 -- the status and the list afterwards
 abbrev pub replied : (answer : List ℕ) → Reply → Reply
-replied answer r = cond (short answer) (turnedAway answer) (written r answer)
+replied answer r = cond (short answer) (notDone answer) (written r answer)
 
 -- the same of a run, with its buffers
 pub record Called : Type 0 where
@@ -70,11 +70,12 @@ pub record Called : Type 0 where
   pub buffers : Buffers
 
 abbrev pub called : (answer : List ℕ) → Buffers → After → Called
-called answer b a = cond (short answer) (record { reply = turnedAway answer; buffers = b }) (record { reply = written (runReply (a .answer)) answer; buffers = a .buffers })
+called answer b a = cond (short answer) (record { reply = notDone answer; buffers = b })
+    (record { reply = written (runReply (a .answer)) answer; buffers = a .buffers })
 
 -- 0 passes over the checks, and any other number has them in force.
-abbrev pub inForce : (enforce : ℕ) → Bool
-inForce n = not (eqb n 0)
+abbrev pub enforces : (enforce : ℕ) → Bool
+enforces n = not (eqb n 0)
 
 -- what a C function returned and left, in these words
 abbrev pub left : (status : ℕ) (answer : List ℕ) → Reply

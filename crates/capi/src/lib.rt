@@ -2,8 +2,8 @@
 ghost use mathlib.Core.List.{[]};
 ghost use mathlib.Core.Path.{_≡_};
 ghost use Rattle.semantics.specs.Runs.{eager as eagerRunner, lazy as lazyRunner, run};
-ghost use Rattle.interp.specs.Answers.{asked, lent};
-ghost use Rattle.capi.specs.Replies.{decodeReply, typecheckReply, replied, called, inForce, left, leftAll};
+ghost use Rattle.interp.specs.Answers.{requestOf, buffersOf};
+ghost use Rattle.capi.specs.Replies.{decodeReply, typecheckReply, replied, called, enforces, left, leftAll};
 
 mod reply;
 
@@ -46,7 +46,10 @@ pub extern "C" fn sovzedal_run_eager(
     posts: &mut [u16],
     answer: &mut [u32],
 ) -> u32
-    ensures { λ r. ⌜ leftAll r (now (answer .exit)) (lent (now (cells .exit)) (now (posts .exit)) []) ≡ called (now (answer .entry)) (lent (now (cells .entry)) (now (posts .entry)) []) (run (now (sheet .entry)) (asked eagerRunner (inForce enforce) (now (start .entry)) calls depth) (lent (now (cells .entry)) (now (posts .entry)) [])) ⌝ }
+    ensures { λ r. ⌜ leftAll r (now (answer .exit)) (buffersOf (now (cells .exit)) (now (posts .exit)) [])
+        ≡ called (now (answer .entry)) (buffersOf (now (cells .entry)) (now (posts .entry)) [])
+        (run (now (sheet .entry)) (requestOf eagerRunner (enforces enforce) (now (start .entry)) calls depth)
+        (buffersOf (now (cells .entry)) (now (posts .entry)) [])) ⌝ }
 {
     if answer.len() < 8 {
         return 3;
@@ -68,7 +71,10 @@ pub extern "C" fn sovzedal_run_lazy(
     frames: &mut [u32],
     answer: &mut [u32],
 ) -> u32
-    ensures { λ r. ⌜ leftAll r (now (answer .exit)) (lent (now (cells .exit)) (now (posts .exit)) (now (frames .exit))) ≡ called (now (answer .entry)) (lent (now (cells .entry)) (now (posts .entry)) (now (frames .entry))) (run (now (sheet .entry)) (asked lazyRunner (inForce enforce) (now (start .entry)) calls depth) (lent (now (cells .entry)) (now (posts .entry)) (now (frames .entry)))) ⌝ }
+    ensures { λ r. ⌜ leftAll r (now (answer .exit)) (buffersOf (now (cells .exit)) (now (posts .exit)) (now (frames .exit)))
+        ≡ called (now (answer .entry)) (buffersOf (now (cells .entry)) (now (posts .entry)) (now (frames .entry)))
+        (run (now (sheet .entry)) (requestOf lazyRunner (enforces enforce) (now (start .entry)) calls depth)
+        (buffersOf (now (cells .entry)) (now (posts .entry)) (now (frames .entry)))) ⌝ }
 {
     if answer.len() < 8 {
         return 3;

@@ -3,16 +3,16 @@ ghost use mathlib.Core.List.{_++_};
 ghost use mathlib.Core.Path.{_≡_};
 ghost use Prim.Native.Nat.{_≤_};
 ghost use lib.ListN.{length, drop};
-ghost use Rattle.typing.specs.Answers.{told as toldVerdict};
-ghost use Rattle.interp.specs.Answers.{told as toldRun, outcomeTold, countsTold};
+ghost use Rattle.typing.specs.Answers.{verdictModel};
+ghost use Rattle.interp.specs.Answers.{runModel, outcomeModel, countsModel};
 ghost use Rattle.semantics.specs.Theorems.{Few};
-ghost use Rattle.capi.specs.Replies.{refusal, judged, finished, runReply};
+ghost use Rattle.capi.specs.Replies.{refusal, verdictReply, finished, runReply};
 ghost use Rattle.capi.specs.Internal.{replyOf, ofDecoded, withCounts, Small};
 use interp::answer::Made;
 use interp::answer::Outcome;
 use interp::answer::Run;
 use interp::answer::Value;
-use numbers::Told;
+use numbers::Code;
 use program::answer::Decoded;
 use typing::answer::Verdict;
 
@@ -21,7 +21,7 @@ pub struct Reply {
     pub numbers: [u32; 8],
 }
 
-fn refused(x: Told) -> Reply
+fn refused(x: Code) -> Reply
     ensures { λ r. ⌜ replyOf r ≡ refusal (x .cause) (x .place) ⌝ }
 {
     Reply {
@@ -52,7 +52,7 @@ pub fn of_decoded(d: Decoded) -> Reply
 }
 
 pub fn of_verdict(v: Verdict) -> Reply
-    ensures { λ r. ⌜ replyOf r ≡ judged (toldVerdict v) ⌝ }
+    ensures { λ r. ⌜ replyOf r ≡ verdictReply (verdictModel v) ⌝ }
 {
     match v {
         Verdict::Unreadable(f) => refused(numbers::of_reader(f)),
@@ -65,8 +65,8 @@ pub fn of_verdict(v: Verdict) -> Reply
 }
 
 // What a run tells, with its counts.
-fn counted(status: u32, first: Told, sort: u32, value: u32, m: Made) -> Reply
-    requires { ⌜ Few (countsTold m) ⌝ }
+fn counted(status: u32, first: Code, sort: u32, value: u32, m: Made) -> Reply
+    requires { ⌜ Few (countsModel m) ⌝ }
     ensures { λ r. ⌜ replyOf r ≡ withCounts status (first .cause) (first .place) sort value m ⌝ }
 {
     Reply {
@@ -85,10 +85,10 @@ fn counted(status: u32, first: Told, sort: u32, value: u32, m: Made) -> Reply
 }
 
 fn of_outcome(o: Outcome, m: Made) -> Reply
-    requires { ⌜ Few (countsTold m) ⌝ }
-    ensures { λ r. ⌜ replyOf r ≡ finished (outcomeTold o) (countsTold m) ⌝ }
+    requires { ⌜ Few (countsModel m) ⌝ }
+    ensures { λ r. ⌜ replyOf r ≡ finished (outcomeModel o) (countsModel m) ⌝ }
 {
-    let none = Told { cause: 0, place: 0 };
+    let none = Code { cause: 0, place: 0 };
     match o {
         Outcome::Stop(x) => counted(1, numbers::of_stop(x), 0, 0, m),
         Outcome::End(v) => match v {
@@ -100,7 +100,7 @@ fn of_outcome(o: Outcome, m: Made) -> Reply
 
 pub fn of_run(x: Run) -> Reply
     requires { ⌜ Small x ⌝ }
-    ensures { λ r. ⌜ replyOf r ≡ runReply (toldRun x) ⌝ }
+    ensures { λ r. ⌜ replyOf r ≡ runReply (runModel x) ⌝ }
 {
     match x {
         Run::Refused(f) => refused(numbers::of_refusal(f)),

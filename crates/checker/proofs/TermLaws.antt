@@ -9,7 +9,7 @@ use native.Mathlib.Omega.{arith}
 use lib.Dec.{eqb}
 use borrow.Author.Tests.{leb-true, ltb-true}
 use denote.Enum.Declared.{tagOf}
-use Rattle.typing.proofs.answer.Judged.{the-type}
+use Rattle.typing.proofs.answer.Inferred.{the-type}
 use Rattle.privileges.specs.Sets.{union, subset}
 use Rattle.program.specs.Layout.{principals, termAt, authority, typesOf}
 use Rattle.program.specs.Formats.{Kind, Boolean, Number, Variable, Function, Letrec, Call, If, Check, Enable, Sign, Test, Sum, Difference, Less, Post, kindOf, format}
@@ -24,14 +24,14 @@ use Rattle.program.specs.Laws.Records.{term-is, authority-is}
 use Rattle.program.specs.Laws.Trees.{Below, below, parts, tree-node}
 use Rattle.typing.specs.Rules.{removeAuthorised}
 use Rattle.typing.specs.Checking.{Judgement, typed, _next_, require, bodyFits, infer}
-use Rattle.typing.specs.Judging.{judged, context, room, roomAt, termJudgement, Ready}
-use Rattle.typing.specs.Internal.{Pushed, leafStep, checkStep, enableStep, signStep, postStep, testStep, ifStep, binaryStep, bodyStep, functionStep, letrecStep, callStep, resultOf}
+use Rattle.rules.specs.Inference.{inferredModel, context, room, roomAt, termJudgement, Ready}
+use Rattle.rules.specs.Steps.{Pushed, leafStep, checkStep, enableStep, signStep, postStep, testStep, ifStep, binaryStep, bodyStep, functionStep, letrecStep, callStep, resultOf}
 use Rattle.checker.specs.Internal.{ReadyAt}
-use Rattle.typing.specs.declared.answer.Judged.{Judged}
-use Rattle.typing.specs.declared.answer.Judged.the-variants.{Typed}
-use Rattle.typing.specs.declared.bindings.Bindings.{Bindings}
-use Rattle.typing.specs.Laws.Records.{TypeParts, type-parts}
-use Rattle.typing.proofs.StepLaws.{stop}
+use Rattle.typing.specs.declared.answer.Inferred.{Inferred}
+use Rattle.typing.specs.declared.answer.Inferred.the-variants.{Typed}
+use Rattle.rules.specs.declared.bindings.Bindings.{Bindings}
+use Rattle.rules.specs.Laws.Records.{TypeParts, type-parts}
+use Rattle.rules.proofs.StepLaws.{stop}
 
 up : {m k : ℕ} → (k ≡ m → ⊥) → m ≤ k → suc m ≤ k
 up n h = omega (arith, n)
@@ -43,15 +43,16 @@ past-ten k h n3 n4 n5 n6 n7 n8 n9 n10 = up n10 (up n9 (up n8 (up n7 (up n6 (up n
 -- one of three numbers from m on
 three-of : (m k : ℕ) → m ≤ k → k < m + 3 → (k ≡ m) ⊎ ((k ≡ m + 1) ⊎ (k ≡ m + 2))
 three-of m k h g =
-    ⊎-elim (λ e. inl (sym e)) (λ l. inr (⊎-elim (λ e. inl (omega arith)) (λ l2. inr (omega arith)) (eq-or-lt-of-le {n = m + 1} {m = k} (omega arith)))) (eq-or-lt-of-le {n = m} {m = k} h)
+    ⊎-elim (λ e. inl (sym e)) (λ l. inr (⊎-elim (λ e. inl (omega arith)) (λ l2. inr (omega arith)) (eq-or-lt-of-le {n = m + 1} {m = k} (omega arith))))
+    (eq-or-lt-of-le {n = m} {m = k} h)
 
 -- ---- judgements in a row
 module _ (k : ℕ → ℕ → Judgement) {J G : Judgement} (q : G ≡ (J next k)) where
-  stops : (j : Judged) → judged j ≡ J → tagOf the-type j ≡ 1 → judged j ≡ G
+  stops : (j : Inferred) → inferredModel j ≡ J → tagOf the-type j ≡ 1 → inferredModel j ≡ G
   stops j p h = stop k j h ∙ ap (λ (z : Judgement). z next k) p ∙ sym q
 
-  goes : {j : Judged} {τ N : ℕ} → j ≡ Typed τ N → judged j ≡ J → G ≡ k τ N
-  goes e p = q ∙ ap (λ (z : Judgement). z next k) (sym p ∙ ap judged e)
+  goes : {j : Inferred} {τ N : ℕ} → j ≡ Typed τ N → inferredModel j ≡ J → G ≡ k τ N
+  goes e p = q ∙ ap (λ (z : Judgement). z next k) (sym p ∙ ap inferredModel e)
 
 ends : (f : Judgement → Judgement) {J G j r : Judgement} → j ≡ J → G ≡ f J → r ≡ f j → r ≡ G
 ends f p q h = h ∙ ap f p ∙ sym q
@@ -79,23 +80,27 @@ module _ {s : List ℕ} {c : Counts} {t : ℕ} {b : Bindings} {n : ℕ} {x : Ter
 
     small-as : partOk s t (format K .small) (x .small) ≡ true
     small-as = subst (λ (k : Kind). partOk s t (format k .small) (x .small) ≡ true) e
-        (subst (λ (x : TermRecord). partOk s t (format (kindOf (x .kind)) .small) (x .small) ≡ true) (sym parts-are) (parts s well t (W .ready .inside) .small-ok))
+        (subst (λ (x : TermRecord). partOk s t (format (kindOf (x .kind)) .small) (x .small) ≡ true) (sym parts-are)
+        (parts s well t (W .ready .inside) .small-ok))
 
     first-as : partOk s t (format K .first) (x .first) ≡ true
     first-as = subst (λ (k : Kind). partOk s t (format k .first) (x .first) ≡ true) e
-        (subst (λ (x : TermRecord). partOk s t (format (kindOf (x .kind)) .first) (x .first) ≡ true) (sym parts-are) (parts s well t (W .ready .inside) .first-ok))
+        (subst (λ (x : TermRecord). partOk s t (format (kindOf (x .kind)) .first) (x .first) ≡ true) (sym parts-are)
+        (parts s well t (W .ready .inside) .first-ok))
 
     tree-as : tree s t ≡ node K t (x .small) (x .first) (x .second) (x .third) (tree s)
-    tree-as = subst (λ (x : TermRecord). tree s t ≡ node (kindOf (x .kind)) t (x .small) (x .first) (x .second) (x .third) (tree s)) (sym parts-are) (tree-node s well t (W .ready .inside))
+    tree-as = subst (λ (x : TermRecord). tree s t ≡ node (kindOf (x .kind)) t (x .small) (x .first) (x .second) (x .third) (tree s)) (sym parts-are)
+        (tree-node s well t (W .ready .inside))
         ∙ ap (λ (k : Kind). node k t (x .small) (x .first) (x .second) (x .third) (tree s)) e
 
     room-as : roomAt s t ≡ room (node K t (x .small) (x .first) (x .second) (x .third) (tree s))
     unfolding roomAt
     room-as = ap room tree-as
 
-    judged-as : (Γ : List ℕ) (n : ℕ) → termJudgement s Γ n t ≡ infer (typesOf s) (authority s) Γ n (node K t (x .small) (x .first) (x .second) (x .third) (tree s))
+    inferred-as : (Γ : List ℕ) (n : ℕ) → termJudgement s Γ n t
+        ≡ infer (typesOf s) (authority s) Γ n (node K t (x .small) (x .first) (x .second) (x .third) (tree s))
     unfolding termJudgement
-    judged-as Γ n = ap (infer (typesOf s) (authority s) Γ n) tree-as
+    inferred-as Γ n = ap (infer (typesOf s) (authority s) Γ n) tree-as
 
   named : {k : ℕ} → x .kind ≡ k → kindOf (x .kind) ≡ kindOf k
   named e = ap kindOf e
@@ -120,7 +125,8 @@ module _ {s : List ℕ} {c : Counts} {t : ℕ} {b : Bindings} {n : ℕ} {x : Ter
 
   pub sign-child : x .kind ≡ 9 → Child s c t (x .first) b (x .small)
   unfolding roomAt
-  sign-child e = child (x .first) b (x .small) (sign-principal e) (lower-as Sign (named e) .first-below refl) (omega (arith, room-as Sign (named e), W .ready .fits))
+  sign-child e = child (x .first) b (x .small) (sign-principal e) (lower-as Sign (named e) .first-below refl)
+      (omega (arith, room-as Sign (named e), W .ready .fits))
 
   pub post-child : x .kind ≡ 14 → Child s c t (x .first) b n
   unfolding roomAt
@@ -164,9 +170,24 @@ module _ {s : List ℕ} {c : Counts} {t : ℕ} {b : Bindings} {n : ℕ} {x : Ter
   operands h g = go (three-of 11 (x .kind) h g)
     where
       go : (x .kind ≡ 11) ⊎ ((x .kind ≡ 12) ⊎ (x .kind ≡ 13)) → Operands
-      go (inl e) = record { first-lower = lower-as Sum (named e) .first-below refl; second-lower = lower-as Sum (named e) .second-below refl; most = room-as Sum (named e) }
-      go (inr (inl e)) = record { first-lower = lower-as Difference (named e) .first-below refl; second-lower = lower-as Difference (named e) .second-below refl; most = room-as Difference (named e) }
-      go (inr (inr e)) = record { first-lower = lower-as Less (named e) .first-below refl; second-lower = lower-as Less (named e) .second-below refl; most = room-as Less (named e) }
+      go (inl e) = record {
+        first-lower = lower-as Sum (named e) .first-below refl;
+        second-lower = lower-as Sum
+            (named e) .second-below refl;
+        most = room-as Sum (named e);
+      }
+      go (inr (inl e)) = record {
+        first-lower = lower-as Difference (named e) .first-below refl;
+        second-lower = lower-as Difference
+            (named e) .second-below refl;
+        most = room-as Difference (named e);
+      }
+      go (inr (inr e)) = record {
+        first-lower = lower-as Less (named e) .first-below refl;
+        second-lower = lower-as Less
+            (named e) .second-below refl;
+        most = room-as Less (named e);
+      }
 
   pub binary-first : 11 ≤ x .kind → x .kind < 14 → Child s c t (x .first) b n
   binary-first h g = let w = operands h g in left (x .first) (x .second) (w .first-lower) (w .most)
@@ -176,15 +197,30 @@ module _ {s : List ℕ} {c : Counts} {t : ℕ} {b : Bindings} {n : ℕ} {x : Ter
 
   pub if-first : x .kind ≡ 6 → Child s c t (x .first) b n
   unfolding roomAt
-  if-first e = plain (x .first) (lower-as If (named e) .first-below refl) (omega (arith, room-as If (named e), le-max-left (roomAt s (x .first)) (max (roomAt s (x .second)) (roomAt s (x .third)))))
+  if-first e = plain (x .first) (lower-as If (named e) .first-below refl)
+      (omega (arith, room-as If (named e), le-max-left (roomAt s (x .first)) (max (roomAt s (x .second)) (roomAt s (x .third)))))
 
   pub if-second : x .kind ≡ 6 → Child s c t (x .second) b n
   unfolding roomAt
-  if-second e = plain (x .second) (lower-as If (named e) .second-below refl) (omega (arith, room-as If (named e), le-max-right (roomAt s (x .first)) (max (roomAt s (x .second)) (roomAt s (x .third))), le-max-left (roomAt s (x .second)) (roomAt s (x .third))))
+  if-second e = plain (x .second) (lower-as If (named e) .second-below refl)
+      (omega (
+        arith,
+        room-as If (named e),
+        le-max-right (roomAt s (x .first)) (max (roomAt s (x .second)) (roomAt s (x .third))),
+        le-max-left
+            (roomAt s (x .second)) (roomAt s (x .third)),
+      ))
 
   pub if-third : x .kind ≡ 6 → Child s c t (x .third) b n
   unfolding roomAt
-  if-third e = plain (x .third) (lower-as If (named e) .third-below refl) (omega (arith, room-as If (named e), le-max-right (roomAt s (x .first)) (max (roomAt s (x .second)) (roomAt s (x .third))), le-max-right (roomAt s (x .second)) (roomAt s (x .third))))
+  if-third e = plain (x .third) (lower-as If (named e) .third-below refl)
+      (omega (
+        arith,
+        room-as If (named e),
+        le-max-right (roomAt s (x .first)) (max (roomAt s (x .second)) (roomAt s (x .third))),
+        le-max-right
+            (roomAt s (x .second)) (roomAt s (x .third)),
+      ))
 
   -- a function's body has one binding more
   pub function-room : x .kind ≡ 3 → b .len < 32
@@ -193,7 +229,8 @@ module _ {s : List ℕ} {c : Counts} {t : ℕ} {b : Bindings} {n : ℕ} {x : Ter
 
   pub function-child : x .kind ≡ 3 → {ty : ℕ} {d : Bindings} → Pushed b ty d → Child s c t (x .second) d n
   unfolding roomAt
-  function-child e {d = d} p = child (x .second) d n (W .ready .principal) (lower-as Function (named e) .second-below refl) (omega (arith, room-as Function (named e), W .ready .fits, p .len-is))
+  function-child e {d = d} p = child (x .second) d n (W .ready .principal) (lower-as Function (named e) .second-below refl)
+      (omega (arith, room-as Function (named e), W .ready .fits, p .len-is))
 
   -- a letrec's has two, and the rest one
   body-room : x .kind ≡ 4 → 2 + roomAt s (x .second) ≤ roomAt s t
@@ -208,126 +245,130 @@ module _ {s : List ℕ} {c : Counts} {t : ℕ} {b : Bindings} {n : ℕ} {x : Ter
   letrec-room e = omega (arith, body-room e, W .ready .fits)
 
   pub letrec-body : x .kind ≡ 4 → {ty arg : ℕ} {d g : Bindings} → Pushed b ty d → Pushed d arg g → Child s c t (x .second) g n
-  letrec-body e {g = g} p q = child (x .second) g n (W .ready .principal) (lower-as Letrec (named e) .second-below refl) (omega (arith, body-room e, W .ready .fits, p .len-is, q .len-is))
+  letrec-body e {g = g} p q = child (x .second) g n (W .ready .principal) (lower-as Letrec (named e) .second-below refl)
+      (omega (arith, body-room e, W .ready .fits, p .len-is, q .len-is))
 
   pub letrec-rest : x .kind ≡ 4 → {ty : ℕ} {d : Bindings} → Pushed b ty d → Child s c t (x .third) d n
-  letrec-rest e {d = d} p = child (x .third) d n (W .ready .principal) (lower-as Letrec (named e) .third-below refl) (omega (arith, rest-room e, W .ready .fits, p .len-is))
+  letrec-rest e {d = d} p = child (x .third) d n (W .ready .principal) (lower-as Letrec (named e) .third-below refl)
+      (omega (arith, rest-room e, W .ready .fits, p .len-is))
 
   -- ---- what judging gives
   module _ (Γ : List ℕ) where
-    abbrev Judge : ℕ → Judgement
-    Judge y = termJudgement s Γ n y
+    abbrev J : ℕ → Judgement
+    J y = termJudgement s Γ n y
 
-    pub leaf-is : {r : Judgement} → x .kind < 3 → r ≡ leafStep x t Γ → r ≡ Judge t
+    pub leaf-is : {r : Judgement} → x .kind < 3 → r ≡ leafStep x t Γ → r ≡ J t
     unfolding leafStep infer
     leaf-is h q = q ∙ go (three-of 0 (x .kind) (omega arith) h)
       where
-        go : (x .kind ≡ 0) ⊎ ((x .kind ≡ 1) ⊎ (x .kind ≡ 2)) → leafStep x t Γ ≡ Judge t
-        go (inl e) = rw e (sym (judged-as Boolean (named e) Γ n))
-        go (inr (inl e)) = rw e (sym (judged-as Number (named e) Γ n))
-        go (inr (inr e)) = rw e (sym (judged-as Variable (named e) Γ n))
+        go : (x .kind ≡ 0) ⊎ ((x .kind ≡ 1) ⊎ (x .kind ≡ 2)) → leafStep x t Γ ≡ J t
+        go (inl e) = rw e (sym (inferred-as Boolean (named e) Γ n))
+        go (inr (inl e)) = rw e (sym (inferred-as Number (named e) Γ n))
+        go (inr (inr e)) = rw e (sym (inferred-as Variable (named e) Γ n))
 
-    check-as : x .kind ≡ 7 → Judge t ≡ checkStep (x .small) (Judge (x .first))
+    check-as : x .kind ≡ 7 → J t ≡ checkStep (x .small) (J (x .first))
     unfolding termJudgement infer checkStep
-    check-as e = judged-as Check (named e) Γ n
+    check-as e = inferred-as Check (named e) Γ n
 
-    pub check-is : x .kind ≡ 7 → {j r : Judgement} → j ≡ Judge (x .first) → r ≡ checkStep (x .small) j → r ≡ Judge t
+    pub check-is : x .kind ≡ 7 → {j r : Judgement} → j ≡ J (x .first) → r ≡ checkStep (x .small) j → r ≡ J t
     check-is e p q = ends (checkStep (x .small)) p (check-as e) q
 
-    enable-as : x .kind ≡ 8 → {may : ℕ} → may ≡ authorityRecord s n → Judge t ≡ enableStep may (x .small) (Judge (x .first))
+    enable-as : x .kind ≡ 8 → {may : ℕ} → may ≡ authorityRecord s n → J t ≡ enableStep may (x .small) (J (x .first))
     unfolding termJudgement infer enableStep removeAuthorised
     enable-as e a =
-        judged-as Enable (named e) Γ n
-        ∙ ap (λ (m : ℕ). enableStep m (x .small) (Judge (x .first))) (sym (a ∙ authority-is s well n (W .ready .principal)))
+        inferred-as Enable (named e) Γ n
+        ∙ ap (λ (m : ℕ). enableStep m (x .small) (J (x .first))) (sym (a ∙ authority-is s well n (W .ready .principal)))
 
-    pub enable-is : x .kind ≡ 8 → {may : ℕ} → may ≡ authorityRecord s n → {j r : Judgement} → j ≡ Judge (x .first) → r ≡ enableStep may (x .small) j → r ≡ Judge t
+    pub enable-is : x .kind ≡ 8 → {may : ℕ} → may ≡ authorityRecord s n → {j r : Judgement} → j ≡ J (x .first) → r ≡ enableStep may (x .small) j → r ≡ J t
     enable-is e {may} a p q = ends (enableStep may (x .small)) p (enable-as e a) q
 
-    sign-as : x .kind ≡ 9 → {may : ℕ} → may ≡ authorityRecord s (x .small) → Judge t ≡ signStep may t (termJudgement s Γ (x .small) (x .first))
+    sign-as : x .kind ≡ 9 → {may : ℕ} → may ≡ authorityRecord s (x .small) → J t ≡ signStep may t (termJudgement s Γ (x .small) (x .first))
     unfolding termJudgement infer signStep
     sign-as e a =
-        judged-as Sign (named e) Γ n
+        inferred-as Sign (named e) Γ n
         ∙ ap (λ (m : ℕ). signStep m t (termJudgement s Γ (x .small) (x .first))) (sym (a ∙ authority-is s well (x .small) (sign-principal e)))
 
-    pub sign-is : x .kind ≡ 9 → {may : ℕ} → may ≡ authorityRecord s (x .small) → {j r : Judgement} → j ≡ termJudgement s Γ (x .small) (x .first) → r ≡ signStep may t j → r ≡ Judge t
+    pub sign-is : x .kind ≡ 9 → {may : ℕ} → may ≡ authorityRecord s (x .small) → {j r : Judgement} → j ≡ termJudgement s Γ (x .small) (x .first) → r
+        ≡ signStep may t j → r ≡ J t
     sign-is e {may} a p q = ends (signStep may t) p (sign-as e a) q
 
-    post-as : x .kind ≡ 14 → Judge t ≡ postStep t (Judge (x .first))
+    post-as : x .kind ≡ 14 → J t ≡ postStep t (J (x .first))
     unfolding termJudgement infer postStep
-    post-as e = judged-as Post (named e) Γ n
+    post-as e = inferred-as Post (named e) Γ n
 
-    pub post-is : x .kind ≡ 14 → {j r : Judgement} → j ≡ Judge (x .first) → r ≡ postStep t j → r ≡ Judge t
+    pub post-is : x .kind ≡ 14 → {j r : Judgement} → j ≡ J (x .first) → r ≡ postStep t j → r ≡ J t
     post-is e p q = ends (postStep t) p (post-as e) q
 
     -- ---- two children
     abbrev test-rest : (τ N : ℕ) → Judgement
-    test-rest τ N = testStep t τ N (Judge (x .second))
+    test-rest τ N = testStep t τ N (J (x .second))
 
-    test-as : x .kind ≡ 10 → Judge t ≡ (Judge (x .first) next test-rest)
+    test-as : x .kind ≡ 10 → J t ≡ (J (x .first) next test-rest)
     unfolding termJudgement infer testStep
-    test-as e = judged-as Test (named e) Γ n
+    test-as e = inferred-as Test (named e) Γ n
 
-    pub test-stops : x .kind ≡ 10 → (j : Judged) → judged j ≡ Judge (x .first) → tagOf the-type j ≡ 1 → judged j ≡ Judge t
+    pub test-stops : x .kind ≡ 10 → (j : Inferred) → inferredModel j ≡ J (x .first) → tagOf the-type j ≡ 1 → inferredModel j ≡ J t
     test-stops e j p h = stops test-rest (test-as e) j p h
 
-    pub test-is : x .kind ≡ 10 → {j : Judged} {τ N : ℕ} → j ≡ Typed τ N → judged j ≡ Judge (x .first) → {k r : Judgement} → k ≡ Judge (x .second)
-        → r ≡ testStep t τ N k → r ≡ Judge t
+    pub test-is : x .kind ≡ 10 → {j : Inferred} {τ N : ℕ} → j ≡ Typed τ N → inferredModel j ≡ J (x .first) → {k r : Judgement} → k ≡ J (x .second)
+        → r ≡ testStep t τ N k → r ≡ J t
     test-is e {τ = τ} {N = N} h p q r = ends (testStep t τ N) q (goes test-rest (test-as e) h p) r
 
     abbrev call-rest : (φ N : ℕ) → Judgement
-    call-rest φ N = callStep (typesOf s) t φ N (Judge (x .second))
+    call-rest φ N = callStep (typesOf s) t φ N (J (x .second))
 
-    call-as : x .kind ≡ 5 → Judge t ≡ (Judge (x .first) next call-rest)
+    call-as : x .kind ≡ 5 → J t ≡ (J (x .first) next call-rest)
     unfolding termJudgement infer callStep
-    call-as e = judged-as Call (named e) Γ n
+    call-as e = inferred-as Call (named e) Γ n
 
-    pub call-stops : x .kind ≡ 5 → (j : Judged) → judged j ≡ Judge (x .first) → tagOf the-type j ≡ 1 → judged j ≡ Judge t
+    pub call-stops : x .kind ≡ 5 → (j : Inferred) → inferredModel j ≡ J (x .first) → tagOf the-type j ≡ 1 → inferredModel j ≡ J t
     call-stops e j p h = stops call-rest (call-as e) j p h
 
-    pub call-is : x .kind ≡ 5 → {j : Judged} {φ N : ℕ} → j ≡ Typed φ N → judged j ≡ Judge (x .first) → {k r : Judgement} → k ≡ Judge (x .second)
-        → r ≡ callStep (typesOf s) t φ N k → r ≡ Judge t
+    pub call-is : x .kind ≡ 5 → {j : Inferred} {φ N : ℕ} → j ≡ Typed φ N → inferredModel j ≡ J (x .first) → {k r : Judgement} → k ≡ J (x .second)
+        → r ≡ callStep (typesOf s) t φ N k → r ≡ J t
     call-is e {φ = φ} {N = N} h p q r = ends (callStep (typesOf s) t φ N) q (goes call-rest (call-as e) h p) r
 
     abbrev binary-rest : (τ N : ℕ) → Judgement
-    binary-rest τ N = binaryStep (resultOf (x .kind)) t τ N (Judge (x .second))
+    binary-rest τ N = binaryStep (resultOf (x .kind)) t τ N (J (x .second))
 
-    binary-as : 11 ≤ x .kind → x .kind < 14 → Judge t ≡ (Judge (x .first) next binary-rest)
+    binary-as : 11 ≤ x .kind → x .kind < 14 → J t ≡ (J (x .first) next binary-rest)
     unfolding termJudgement infer binaryStep resultOf
     binary-as l u = go (three-of 11 (x .kind) l u)
       where
-        go : (x .kind ≡ 11) ⊎ ((x .kind ≡ 12) ⊎ (x .kind ≡ 13)) → Judge t ≡ (Judge (x .first) next binary-rest)
-        go (inl e) = rw e (judged-as Sum (named e) Γ n)
-        go (inr (inl e)) = rw e (judged-as Difference (named e) Γ n)
-        go (inr (inr e)) = rw e (judged-as Less (named e) Γ n)
+        go : (x .kind ≡ 11) ⊎ ((x .kind ≡ 12) ⊎ (x .kind ≡ 13)) → J t ≡ (J (x .first) next binary-rest)
+        go (inl e) = rw e (inferred-as Sum (named e) Γ n)
+        go (inr (inl e)) = rw e (inferred-as Difference (named e) Γ n)
+        go (inr (inr e)) = rw e (inferred-as Less (named e) Γ n)
 
-    pub binary-stops : 11 ≤ x .kind → x .kind < 14 → (j : Judged) → judged j ≡ Judge (x .first) → tagOf the-type j ≡ 1 → judged j ≡ Judge t
+    pub binary-stops : 11 ≤ x .kind → x .kind < 14 → (j : Inferred) → inferredModel j ≡ J (x .first) → tagOf the-type j ≡ 1 → inferredModel j ≡ J t
     binary-stops l u j p h = stops binary-rest (binary-as l u) j p h
 
-    pub binary-is : 11 ≤ x .kind → x .kind < 14 → {j : Judged} {τ N : ℕ} → j ≡ Typed τ N → judged j ≡ Judge (x .first) → {k r : Judgement} → k ≡ Judge (x .second)
-        → {σ : ℕ} → σ ≡ resultOf (x .kind) → r ≡ binaryStep σ t τ N k → r ≡ Judge t
+    pub binary-is : 11 ≤ x .kind → x .kind < 14 → {j : Inferred} {τ N : ℕ} → j ≡ Typed τ N → inferredModel j ≡ J (x .first) → {k r : Judgement} → k
+        ≡ J (x .second)
+        → {σ : ℕ} → σ ≡ resultOf (x .kind) → r ≡ binaryStep σ t τ N k → r ≡ J t
     binary-is l u {τ = τ} {N = N} h p {k} q m r =
         ends (binaryStep (resultOf (x .kind)) t τ N) q (goes binary-rest (binary-as l u) h p) (r ∙ ap (λ (z : ℕ). binaryStep z t τ N k) m)
 
     -- ---- three children
     abbrev branch-rest : (σ N τ M : ℕ) → Judgement
-    branch-rest σ N τ M = ifStep t σ N τ M (Judge (x .third))
+    branch-rest σ N τ M = ifStep t σ N τ M (J (x .third))
 
     abbrev if-rest : (σ N : ℕ) → Judgement
-    if-rest σ N = Judge (x .second) next branch-rest σ N
+    if-rest σ N = J (x .second) next branch-rest σ N
 
-    if-as : x .kind ≡ 6 → Judge t ≡ (Judge (x .first) next if-rest)
+    if-as : x .kind ≡ 6 → J t ≡ (J (x .first) next if-rest)
     unfolding termJudgement infer ifStep
-    if-as e = judged-as If (named e) Γ n
+    if-as e = inferred-as If (named e) Γ n
 
-    pub if-stops : x .kind ≡ 6 → (i : Judged) → judged i ≡ Judge (x .first) → tagOf the-type i ≡ 1 → judged i ≡ Judge t
+    pub if-stops : x .kind ≡ 6 → (i : Inferred) → inferredModel i ≡ J (x .first) → tagOf the-type i ≡ 1 → inferredModel i ≡ J t
     if-stops e i p h = stops if-rest (if-as e) i p h
 
-    module _ (e : x .kind ≡ 6) {i : Judged} {σ N : ℕ} (h : i ≡ Typed σ N) (p : judged i ≡ Judge (x .first)) where
-      pub branch-stops : (j : Judged) → judged j ≡ Judge (x .second) → tagOf the-type j ≡ 1 → judged j ≡ Judge t
+    module _ (e : x .kind ≡ 6) {i : Inferred} {σ N : ℕ} (h : i ≡ Typed σ N) (p : inferredModel i ≡ J (x .first)) where
+      pub branch-stops : (j : Inferred) → inferredModel j ≡ J (x .second) → tagOf the-type j ≡ 1 → inferredModel j ≡ J t
       branch-stops j q g = stops (branch-rest σ N) (goes if-rest (if-as e) h p) j q g
 
-      pub if-is : {j : Judged} {τ M : ℕ} → j ≡ Typed τ M → judged j ≡ Judge (x .second) → {k r : Judgement} → k ≡ Judge (x .third)
-          → r ≡ ifStep t σ N τ M k → r ≡ Judge t
+      pub if-is : {j : Inferred} {τ M : ℕ} → j ≡ Typed τ M → inferredModel j ≡ J (x .second) → {k r : Judgement} → k ≡ J (x .third)
+          → r ≡ ifStep t σ N τ M k → r ≡ J t
       if-is {τ = τ} {M = M} g q v r = ends (ifStep t σ N τ M) v (goes (branch-rest σ N) (goes if-rest (if-as e) h p) g q) r
 
     -- ---- binders; `inner` and `outer` are the bindings of the body and of the rest
@@ -345,15 +386,16 @@ module _ {s : List ℕ} {c : Counts} {t : ℕ} {b : Bindings} {n : ℕ} {x : Ter
           → typesOf s .arg (x .first) ∷ Δ ≡ context inner
       argument-is h p q = sym (p .context-is ∙ λ i. parts-of h .arg-is i ∷ q i)
 
-      function-as : x .kind ≡ 3 → {inner : Bindings} → Pushed b (f .arg) inner → Judge t ≡ functionStep f (x .first) t (termJudgement s (context inner) n (x .second))
+      function-as : x .kind ≡ 3 → {inner : Bindings} → Pushed b (f .arg) inner → J t
+          ≡ functionStep f (x .first) t (termJudgement s (context inner) n (x .second))
       unfolding termJudgement infer functionStep
       function-as e p =
           let h : typesOf s .isFun (x .first) ≡ true = first-as Function (named e) in
-          judged-as Function (named e) Γ n
+          inferred-as Function (named e) Γ n
           ∙ λ i. termJudgement s (argument-is h p same i) n (x .second) next λ τ N. body-as h τ N (typed (x .first) 0) i
 
       pub function-is : x .kind ≡ 3 → {inner : Bindings} → Pushed b (f .arg) inner → {j r : Judgement} → j ≡ termJudgement s (context inner) n (x .second)
-          → r ≡ functionStep f (x .first) t j → r ≡ Judge t
+          → r ≡ functionStep f (x .first) t j → r ≡ J t
       function-is e p q r = ends (functionStep f (x .first) t) q (function-as e p) r
 
       module _ (e : x .kind ≡ 4) {outer inner : Bindings} (po : Pushed b (x .first) outer) (pi : Pushed outer (f .arg) inner) where
@@ -366,16 +408,16 @@ module _ {s : List ℕ} {c : Counts} {t : ℕ} {b : Bindings} {n : ℕ} {x : Ter
         abbrev letrec-after : (τ N : ℕ) → Judgement
         letrec-after τ N = letrecStep f t τ N (termJudgement s (context outer) n (x .third))
 
-        letrec-as : Judge t ≡ (termJudgement s (context inner) n (x .second) next letrec-after)
+        letrec-as : J t ≡ (termJudgement s (context inner) n (x .second) next letrec-after)
         unfolding termJudgement infer letrecStep
         letrec-as =
-            judged-as Letrec (named e) Γ n
+            inferred-as Letrec (named e) Γ n
             ∙ λ i. termJudgement s (argument-is function-type pi outer-is i) n (x .second) next λ τ N. termJudgement s (sym outer-is i) n (x .third) next λ ρ M.
             body-as function-type τ N (typed ρ (union (sym (parts-of function-type .latent-is) i) M)) i
 
-        pub letrec-stops : (j : Judged) → judged j ≡ termJudgement s (context inner) n (x .second) → tagOf the-type j ≡ 1 → judged j ≡ Judge t
+        pub letrec-stops : (j : Inferred) → inferredModel j ≡ termJudgement s (context inner) n (x .second) → tagOf the-type j ≡ 1 → inferredModel j ≡ J t
         letrec-stops j p h = stops letrec-after letrec-as j p h
 
-        pub letrec-is : {j : Judged} {τ N : ℕ} → j ≡ Typed τ N → judged j ≡ termJudgement s (context inner) n (x .second) → {k r : Judgement}
-            → k ≡ termJudgement s (context outer) n (x .third) → r ≡ letrecStep f t τ N k → r ≡ Judge t
+        pub letrec-is : {j : Inferred} {τ N : ℕ} → j ≡ Typed τ N → inferredModel j ≡ termJudgement s (context inner) n (x .second) → {k r : Judgement}
+            → k ≡ termJudgement s (context outer) n (x .third) → r ≡ letrecStep f t τ N k → r ≡ J t
         letrec-is {τ = τ} {N = N} h p q r = ends (letrecStep f t τ N) q (goes letrec-after letrec-as h p) r

@@ -7,31 +7,31 @@ use borrow.Author.Tests.{lt-ltb, le-ltb}
 use Rattle.program.specs.Layout.{terms, root}
 use Rattle.program.specs.Screening.{Screening, clear}
 use Rattle.program.specs.Decoding.{decoding}
-use Rattle.program.specs.Answers.{causeOf as refusalCause, placeOf as refusalPlace, told as toldDecoded, Counted}
+use Rattle.program.specs.Answers.{decodingCause, decodingPlace, decodedModel, Counted}
 use Rattle.program.specs.declared.answer.Refusal.{Refusal}
 use Rattle.program.specs.declared.answer.Decoded.{Decoded}
 use Rattle.program.specs.declared.answer.Decoded.the-variants.{Readable, Refused}
 use Rattle.program.specs.declared.records.Counts.{Counts}
 use Rattle.program.specs.Laws.Readable.{well-formed}
 use Rattle.typing.specs.Checking.{Judgement}
-use Rattle.typing.specs.Verdicts.{Verdict, accepted, refused, concluded, ifReadable, judgement, verdict}
-use Rattle.typing.specs.Answers.{causeOf, placeOf}
-use Rattle.typing.specs.Judging.{judged, Sheet, termJudgement, Ready}
-use Rattle.typing.specs.Laws.Room.{root-room}
+use Rattle.typing.specs.Verdicts.{Verdict, accepted, rejected, concluded, ifReadable, judgement, verdict}
+use Rattle.typing.specs.Answers.{faultCause, faultPlace}
+use Rattle.rules.specs.Inference.{inferredModel, Sheet, termJudgement, Ready}
+use Rattle.rules.specs.Laws.Room.{root-room}
 use Rattle.typing.specs.declared.answer.Fault.{Fault}
-use Rattle.typing.specs.declared.answer.Judged.{Judged}
-use Rattle.typing.specs.declared.answer.Judged.the-variants.{Typed, Faulty}
-use Rattle.typing.specs.declared.bindings.Bindings.{Bindings}
+use Rattle.typing.specs.declared.answer.Inferred.{Inferred}
+use Rattle.typing.specs.declared.answer.Inferred.the-variants.{Typed, Faulty}
+use Rattle.rules.specs.declared.bindings.Bindings.{Bindings}
 
 -- ---- the root's judgement
-pub conclude-fault : (n r : ℕ) {j : Judged} {f : Fault} → j ≡ Faulty f → refused (causeOf f) (placeOf f) ≡ concluded n r (judged j)
-conclude-fault n r e = ap (λ (j : Judged). concluded n r (judged j)) (sym e)
+pub conclude-fault : (n r : ℕ) {j : Inferred} {f : Fault} → j ≡ Faulty f → rejected (faultCause f) (faultPlace f) ≡ concluded n r (inferredModel j)
+conclude-fault n r e = ap (λ (j : Inferred). concluded n r (inferredModel j)) (sym e)
 
-module _ (n r : ℕ) {j : Judged} {τ N : ℕ} (e : j ≡ Typed τ N) where
-  pub conclude-base : τ < 2 → accepted n τ N ≡ concluded n r (judged j)
+module _ (n r : ℕ) {j : Inferred} {τ N : ℕ} (e : j ≡ Typed τ N) where
+  pub conclude-base : τ < 2 → accepted n τ N ≡ concluded n r (inferredModel j)
   conclude-base h = rw (e, lt-ltb τ 2 h) refl
 
-  pub conclude-function : 2 ≤ τ → refused 13 r ≡ concluded n r (judged j)
+  pub conclude-function : 2 ≤ τ → rejected 13 r ≡ concluded n r (inferredModel j)
   conclude-function h = rw (e, le-ltb τ 2 h) refl
 
 -- ---- a readable sheet
@@ -56,14 +56,14 @@ module _ {s : List ℕ} {c : Counts} (S : Sheet s c) where
   program-is p q = q ∙ (λ i. concluded (S .counts .terms-are i) (root-is i) ((p ∙ ap (termJudgement s [] 0) root-is) i))
 
 -- ---- the reader's answer
-module _ (s : List ℕ) {d : Decoded} (p : toldDecoded d ≡ decoding s) where
-  pub unreadable-is : {f : Refusal} → d ≡ Refused f → refused (refusalCause f) (refusalPlace f) ≡ verdict s
+module _ (s : List ℕ) {d : Decoded} (p : decodedModel d ≡ decoding s) where
+  pub unreadable-is : {f : Refusal} → d ≡ Refused f → rejected (decodingCause f) (decodingPlace f) ≡ verdict s
   unfolding verdict
-  unreadable-is e = ap (λ (x : Screening). ifReadable x λ _. concluded (terms s) (root s) (judgement s)) (sym (ap toldDecoded e) ∙ p)
+  unreadable-is e = ap (λ (x : Screening). ifReadable x λ _. concluded (terms s) (root s) (judgement s)) (sym (ap decodedModel e) ∙ p)
 
   module _ {c : Counts} (e : d ≡ Readable c) where
     readable : decoding s ≡ clear
-    readable = sym p ∙ ap toldDecoded e
+    readable = sym p ∙ ap decodedModel e
 
     pub readable-sheet : Counted s d → Sheet s c
     readable-sheet k = record { well-formed = well-formed s readable; counts = subst (Counted s) e k }

@@ -5,8 +5,8 @@ use Prim.Native.Nat.{ℕ}
 use Rattle.program.specs.Records.{termRecord}
 use Rattle.program.specs.declared.records.Counts.{Counts}
 use Rattle.program.specs.declared.records.TermRecord.{TermRecord}
-use Rattle.typing.specs.Judging.{Ready}
-use Rattle.typing.specs.declared.bindings.Bindings.{Bindings}
+use Rattle.rules.specs.Inference.{Ready}
+use Rattle.rules.specs.declared.bindings.Bindings.{Bindings}
 
 -- a term whose record has been read
 pub record ReadyAt (s : List ℕ) (c : Counts) (t : ℕ) (b : Bindings) (n : ℕ) (x : TermRecord) : Type 0 where

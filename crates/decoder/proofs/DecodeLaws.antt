@@ -3,19 +3,19 @@ use mathlib.Core.List.{List}
 use mathlib.Core.Option.{Option, none, some}
 use mathlib.Core.Path.{_≡_, sym, ap, _∙_, subst}
 use Prim.Native.Nat.{ℕ}
-use Rattle.program.specs.Screening.{refused, screen}
+use Rattle.program.specs.Screening.{found, screen}
 use Rattle.program.specs.Decoding.{tableConditions, decoding}
-use Rattle.program.specs.Laws.Screening.{first-told, none-screen, first-left}
-use Rattle.program.specs.Answers.{causeOf, placeOf, told}
-use Rattle.program.specs.Internal.{Laid, foundOf}
-use Rattle.decoder.specs.Internal.{HeaderIs}
+use Rattle.program.specs.Laws.Screening.{first-found, none-screen, first-left}
+use Rattle.program.specs.Answers.{decodingCause, decodingPlace, decodedModel}
+use Rattle.tables.specs.Internal.{Laid, foundOf}
+use Rattle.tables.specs.Internal.{HeaderIs}
 use Rattle.program.specs.declared.answer.Decoded.{Decoded}
-use Rattle.program.specs.declared.answer.Found.{Found}
-use Rattle.program.specs.declared.answer.Found.the-variants.{At, Nothing}
+use Rattle.tables.specs.declared.search.Found.{Found}
+use Rattle.tables.specs.declared.search.Found.the-variants.{At, Nothing}
 use Rattle.program.specs.declared.answer.Refusal.{Refusal}
 use Rattle.program.specs.declared.records.Counts.{Counts}
-use Rattle.decoder.specs.declared.header.Header.{Header}
-use Rattle.decoder.specs.declared.header.Header.the-variants.{Laid as HeaderLaid, Fault as HeaderFault}
+use Rattle.tables.specs.declared.header.Header.{Header}
+use Rattle.tables.specs.declared.header.Header.the-variants.{Laid as HeaderLaid, Fault as HeaderFault}
 
 -- ---- a search's answer, by its cases
 pub found-at : {r : Found} {t : ℕ} {o : Option ℕ} → r ≡ At t → foundOf r ≡ o → o ≡ some t
@@ -26,13 +26,13 @@ found-none e h = sym h ∙ ap foundOf e
 
 -- ---- the fields, and then the tables
 module _ (s : List ℕ) where
-  pub told-header : {h : Header} {f : Refusal} → h ≡ HeaderFault f → HeaderIs s h → refused (causeOf f) (placeOf f) ≡ decoding s
+  pub header-found : {h : Header} {f : Refusal} → h ≡ HeaderFault f → HeaderIs s h → found (decodingCause f) (decodingPlace f) ≡ decoding s
   unfolding decoding
-  told-header e g = sym (first-told (first-left (tableConditions s) (subst (HeaderIs s) e g)))
+  header-found e g = sym (first-found (first-left (tableConditions s) (subst (HeaderIs s) e g)))
 
   pub header-laid : {h : Header} {c : Counts} → h ≡ HeaderLaid c → HeaderIs s h → Laid s c
   header-laid e g = subst (HeaderIs s) e g
 
-  pub told-tables : {c : Counts} → Laid s c → (r : Decoded) → told r ≡ screen (tableConditions s) → told r ≡ decoding s
+  pub tables-found : {c : Counts} → Laid s c → (r : Decoded) → decodedModel r ≡ screen (tableConditions s) → decodedModel r ≡ decoding s
   unfolding decoding
-  told-tables L r e = e ∙ sym (none-screen (L .none-found) (tableConditions s))
+  tables-found L r e = e ∙ sym (none-screen (L .none-found) (tableConditions s))

@@ -1,4 +1,3 @@
-pub mod FieldLaws
 pub mod PlaceLaws
 pub mod NestingLaws
 pub mod DecodeLaws

@@ -51,7 +51,8 @@ module _ (l d : List ℕ) (n t v : ℕ) (w : Nested l d n t) (r : Rising l n) (l
   pub nested-more : Nested l (set d (t - 1) v) n (t - 1)
   nested-more = record {
     each = λ x p q k m. elim (ℕ-discrete x (t - 1)) [
-      | yes e ↦ ap (nestedBy l n k) e ∙ here k m ∙ ap (λ (z : ℕ). leb z k) (sym (getD-set-same d (t - 1) v 0 (omega arith)) ∙ ap (λ (z : ℕ). getD (set d (t - 1) v) z 0) (sym e))
+      | yes e ↦ ap (nestedBy l n k) e ∙ here k m ∙ ap (λ (z : ℕ). leb z k)
+          (sym (getD-set-same d (t - 1) v 0 (omega arith)) ∙ ap (λ (z : ℕ). getD (set d (t - 1) v) z 0) (sym e))
       | no g ↦ w .each x (omega arith) q k m ∙ ap (λ (z : ℕ). leb z k) (sym (getD-set-other d (t - 1) x v 0 g))
     ];
   }

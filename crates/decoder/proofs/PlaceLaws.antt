@@ -12,7 +12,7 @@ use borrow.Author.Tests.{eqb-true, eqb-false, eq-eqb, ne-eqb}
 use Rattle.program.specs.Layout.{terms, root, kindByte, first, second, third}
 use Rattle.program.specs.Formats.{Part, isChild, Kind, Boolean, Number, Variable, Function, Letrec, Call, If, Check, Enable, Sign, Test, Sum, Difference, Less, Post, kindOf, format}
 use Rattle.program.specs.Decoding.{formatAt, termOk, counts, timesIn, timesBelow, isSign, signedBody, placedOk, parent}
-use Rattle.program.specs.Internal.{Laid, childrenOf, shapeIf, shapeAt}
+use Rattle.tables.specs.Internal.{Laid, childrenOf, shapeIf, shapeAt}
 use Rattle.decoder.specs.Internal.{TermsOk, linkStep, Linked, linkTimes, one, among, LinkedAll, ChildrenBelow, linkOf, Links}
 use Rattle.program.specs.Records.{termRecord}
 use Rattle.program.specs.Laws.Screening.{lowest-none}
@@ -21,8 +21,8 @@ use Rattle.program.specs.Laws.Records.{term-laid}
 use Rattle.program.specs.Laws.Trees.{Below, below-of}
 use Rattle.program.specs.declared.records.Counts.{Counts as TableCounts}
 use Rattle.program.specs.declared.records.TermRecord.{TermRecord}
-use Rattle.program.specs.declared.terms.Shape.{Shape}
-use Rattle.program.specs.declared.terms.Shape.the-variants.{Leaf, One, Two, Three, Function as FunctionShape, Letrec as LetrecShape, Wrong}
+use Rattle.tables.specs.declared.terms.Shape.{Shape}
+use Rattle.tables.specs.declared.terms.Shape.the-variants.{Leaf, One, Two, Three, Function as FunctionShape, Letrec as LetrecShape, Wrong}
 
 -- ---- one store
 stored : (l : List ℕ) (x v : ℕ) → x < length l → (y : ℕ) → getD (set l x v) y 0 ≡ cond (eqb x y) v (getD l y 0)
@@ -96,7 +96,8 @@ module _ (l : List ℕ) (t : ℕ) where
   pub links-two : (l₁ l₂ : List ℕ) {x : Shape} (a b : ℕ) → x ≡ Two a b → length l₁ ≡ length l → Linked l l₁ a t → Linked l₁ l₂ b t → LinkedAll l l₂ x t
   links-two l₁ l₂ a b e k w v = shape-of l₂ e (λ y h. both l₁ l₂ a b k w v y h ∙ two-steps (eqb a y) (eqb b y) (getD l y 0) t)
 
-  pub links-letrec : (l₁ l₂ : List ℕ) {x : Shape} (a b : ℕ) → x ≡ LetrecShape a b → length l₁ ≡ length l → Linked l l₁ a t → Linked l₁ l₂ b t → LinkedAll l l₂ x t
+  pub links-letrec : (l₁ l₂ : List ℕ) {x : Shape} (a b : ℕ) → x ≡ LetrecShape a b → length l₁ ≡ length l → Linked l l₁ a t → Linked l₁ l₂ b t
+      → LinkedAll l l₂ x t
   links-letrec l₁ l₂ a b e k w v = shape-of l₂ e (λ y h. both l₁ l₂ a b k w v y h ∙ two-steps (eqb a y) (eqb b y) (getD l y 0) t)
 
   pub links-three : (l₁ l₂ l₃ : List ℕ) {x : Shape} (a b d : ℕ) → x ≡ Three a b d → length l₁ ≡ length l → length l₂ ≡ length l₁
@@ -126,7 +127,8 @@ children-below Difference t a b d n w l = (omega (arith, w .first-below refl), o
 children-below Less t a b d n w l = (omega (arith, w .first-below refl), omega (arith, w .second-below refl))
 children-below Post t a b d n w l = omega (arith, w .first-below refl)
 
-among-times : (k : Kind) (y a b d : ℕ) → among y (childrenOf k a b d) ≡ counts (format k .first) a y + counts (format k .second) b y + counts (format k .third) d y
+among-times : (k : Kind) (y a b d : ℕ) → among y (childrenOf k a b d)
+    ≡ counts (format k .first) a y + counts (format k .second) b y + counts (format k .third) d y
 among-times Boolean y a b d = refl
 among-times Number y a b d = refl
 among-times Variable y a b d = refl
@@ -280,7 +282,8 @@ body-kind s (suc (suc (suc (suc (suc (suc (suc (suc (suc (suc (suc (suc (suc (su
 module _ (s : List ℕ) (c : TableCounts) (t : ℕ) (L : Laid s c) {r : TermRecord} (e : r ≡ termRecord s c t) where
   body-record : signedBody s (formatAt s t .second) (second s t) ≡ cond (eqb (r .kind) 3 || eqb (r .kind) 4) (isSign s (r .second)) true
   body-record =
-      ap (λ (x : TermRecord). signedBody s (format (kindOf (x .kind)) .second) (x .second)) (sym (e ∙ term-laid s (fields-ok s (L .none-found) .ends) c (L .counts-are) t))
+      ap (λ (x : TermRecord). signedBody s (format (kindOf (x .kind)) .second) (x .second))
+      (sym (e ∙ term-laid s (fields-ok s (L .none-found) .ends) c (L .counts-are) t))
       ∙ body-kind s (r .kind) (r .second)
 
   pub body-is : {b : Bool} → (eqb (r .kind) 3 || eqb (r .kind) 4) ≡ true → b ≡ isSign s (r .second) → b ≡ signedBody s (formatAt s t .second) (second s t)
@@ -308,7 +311,9 @@ module _ (s : List ℕ) (c : TableCounts) (L : Laid s c) (T : TermsOk s) (t : �
       let some : 1 ≤ terms s = fields-ok s (L .none-found) .terms-low in
       let r : eqb (t + 1) (c .terms) ≡ eqb t (root s) = ap (eqb (t + 1)) (L .counts-are .terms-are) ∙ root-is t (terms s) some in
       let p : n ≡ eqb (timesBelow s t (terms s)) (cond (eqb t (root s)) 0 1) =
-      en ∙ (λ i. cond (r i) (eqb (w .each t (omega (arith, few)) i) 0) (not (eqb (w .each t (omega (arith, few)) i) 0) && not (eqb (w .each t (omega (arith, few)) i) 65535)))
-      ∙ parents-due (timesBelow s t (terms s)) (parent s t (terms s)) (eqb t (root s)) (λ g. omega (arith, parent-higher s T t (terms s) (omega arith) g .above))
+      en ∙ (λ i. cond (r i) (eqb (w .each t (omega (arith, few)) i) 0)
+      (not (eqb (w .each t (omega (arith, few)) i) 0) && not (eqb (w .each t (omega (arith, few)) i) 65535)))
+      ∙ parents-due (timesBelow s t (terms s)) (parent s t (terms s)) (eqb t (root s))
+      (λ g. omega (arith, parent-higher s T t (terms s) (omega arith) g .above))
       (λ g. omega (arith, few, parent-higher s T t (terms s) (omega arith) g .inside)) in
       λ i. p i && eb i && (not (r i) || es i)

@@ -3,38 +3,18 @@ use mathlib.Core.Bool.{Bool, false, cond}
 use mathlib.Core.List.{List}
 use mathlib.Core.Option.{none}
 use mathlib.Core.Path.{_≡_}
-use Prim.Native.Nat.{ℕ, zero, suc, _+_, _*_, _-_, _/_, _<_, _≤_}
+use Prim.Native.Nat.{ℕ, zero, suc, _+_, _-_, _<_, _≤_}
 use lib.Dec.{leb, eqb}
 use lib.ListN.{length, getD}
-use Rattle.program.specs.Bytes.{word16}
+use Rattle.program.specs.Limits.{maxTerms, maxNesting}
 use Rattle.program.specs.Layout.{types, terms}
 use Rattle.program.specs.Tests.{orElse}
-use Rattle.program.specs.Screening.{First, None, lowest}
-use Rattle.program.specs.Decoding.{holds, field, fieldConditions, typeOk, termOk, timesBelow, placedOk, parent}
-use Rattle.program.specs.Answers.{causeOf, placeOf}
-use Rattle.program.specs.Internal.{Laid}
-use Rattle.program.specs.declared.terms.Shape.{Shape}
-use Rattle.program.specs.declared.terms.Shape.the-variants.{Leaf, One, Two, Three, Function as FunctionShape, Letrec as LetrecShape, Wrong}
-use Rattle.decoder.specs.declared.header.Field.{Field}
-use Rattle.decoder.specs.declared.header.Field.the-variants.{Records, Fault as FieldFault}
-use Rattle.decoder.specs.declared.header.Header.{Header}
-use Rattle.decoder.specs.declared.header.Header.the-variants.{Laid as HeaderLaid, Fault as HeaderFault}
-
--- ---- the fields
-pub record FieldHolds (s : List ℕ) (at tag size least most n : ℕ) : Type 0 where
-  pub count : n ≡ word16 s (at + 1) / size
-  pub least-are : least ≤ n
-  pub most-are : n ≤ most
-  pub inside : at + 3 + n * size ≤ length s
-  pub none-found : None (field s at tag (holds size least most))
-
-abbrev pub FieldIs : List ℕ → (at tag size least most : ℕ) → Field → Type 0
-FieldIs s at tag size least most (Records n) = FieldHolds s at tag size least most n
-FieldIs s at tag size least most (FieldFault f) = First (causeOf f) (placeOf f) (field s at tag (holds size least most))
-
-abbrev pub HeaderIs : List ℕ → Header → Type 0
-HeaderIs s (HeaderLaid c) = Laid s c
-HeaderIs s (HeaderFault f) = First (causeOf f) (placeOf f) (fieldConditions s)
+use Rattle.program.specs.Screening.{lowest}
+use Rattle.program.specs.Decoding.{typeOk, termOk, timesBelow, placedOk, parent}
+use Rattle.program.specs.declared.records.Counts.{Counts}
+use Rattle.tables.specs.Internal.{Laid}
+use Rattle.tables.specs.declared.terms.Shape.{Shape}
+use Rattle.tables.specs.declared.terms.Shape.the-variants.{Leaf, One, Two, Three, Function as FunctionShape, Letrec as LetrecShape, Wrong}
 
 -- ---- what has been sought and not found
 pub record TypesOk (s : List ℕ) : Type 0 where
@@ -42,6 +22,12 @@ pub record TypesOk (s : List ℕ) : Type 0 where
 
 pub record TermsOk (s : List ℕ) : Type 0 where
   pub none-found : lowest (termOk s) 0 (terms s) ≡ none
+
+-- what the search for places may rely on: the fields are laid, and no record of the tables is at fault
+pub record Tables (s : List ℕ) (c : Counts) : Type 0 where
+  pub laid : Laid s c
+  pub types-ok : TypesOk s
+  pub terms-ok : TermsOk s
 
 -- ---- parents
 -- one more parent is noted for x, and the other entries are as they were
@@ -89,17 +75,39 @@ linkOf (suc (suc n)) p = 65535
 
 -- the list has what the first so many terms note
 pub record Links (s l : List ℕ) (t : ℕ) : Type 0 where
-  pub each : (x : ℕ) → x < 1024 → getD l x 0 ≡ linkOf (timesBelow s x t) (parent s x t)
+  pub each : (x : ℕ) → x < maxTerms → getD l x 0 ≡ linkOf (timesBelow s x t) (parent s x t)
 
 pub record PlacesOk (s l : List ℕ) : Type 0 where
   pub none-found : lowest (placedOk s) 0 (terms s) ≡ none
   pub links : Links s l (terms s)
+
+-- the tables, and the list of parents
+pub record LinkedTables (s : List ℕ) (c : Counts) (l : List ℕ) : Type 0 where
+  pub tables : Tables s c
+  pub links : Links s l (terms s)
+
+-- and a term
+pub record LinkedTerm (s : List ℕ) (c : Counts) (l : List ℕ) (t : ℕ) : Type 0 where
+  pub tables : Tables s c
+  pub links : Links s l (terms s)
+  pub inside : t < terms s
+
+-- the tables, with every term in its place
+pub record PlacedTables (s : List ℕ) (c : Counts) (l : List ℕ) : Type 0 where
+  pub tables : Tables s c
+  pub places-ok : PlacesOk s l
 
 -- ---- nesting
 -- every term but the root has its parent above it
 pub record Rising (l : List ℕ) (n : ℕ) : Type 0 where
   pub above : (x : ℕ) → suc x < n → x < getD l x 0
   pub inside : (x : ℕ) → suc x < n → getD l x 0 < n
+
+-- a table of so many terms, with its list of parents
+pub record ParentList (l : List ℕ) (n : ℕ) : Type 0 where
+  pub low : 1 ≤ n
+  pub high : n ≤ maxTerms
+  pub rising : Rising l n
 
 -- `nestedIn`, by a list of parents
 abbrev pub nestedBy : (l : List ℕ) (n deep t : ℕ) → Bool
@@ -108,7 +116,7 @@ nestedBy l n (suc k) t = orElse (eqb t (n - 1)) λ _. nestedBy l n k (getD l t 0
 
 -- from t on, d has the nesting, held at 33
 pub record Nested (l d : List ℕ) (n t : ℕ) : Type 0 where
-  pub each : (x : ℕ) → t ≤ x → x < n → (k : ℕ) → k ≤ 32 → nestedBy l n k x ≡ leb (getD d x 0) k
+  pub each : (x : ℕ) → t ≤ x → x < n → (k : ℕ) → k ≤ maxNesting → nestedBy l n k x ≡ leb (getD d x 0) k
 
 abbrev pub shallowEnough : List ℕ → ℕ → Bool
-shallowEnough d x = leb (getD d x 0) 32
+shallowEnough d x = leb (getD d x 0) maxNesting

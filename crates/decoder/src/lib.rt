@@ -2,27 +2,24 @@
 ghost use mathlib.Core.Path.{_≡_};
 ghost use Rattle.program.specs.Screening.{screen};
 ghost use Rattle.program.specs.Decoding.{tableConditions, decoding};
-ghost use Rattle.program.specs.Answers.{told, Counted};
-ghost use Rattle.program.specs.Internal.{Laid};
-ghost use Rattle.decoder.specs.Internal.{TypesOk, TermsOk, PlacesOk};
+ghost use Rattle.program.specs.Answers.{decodedModel, Counted};
+ghost use Rattle.tables.specs.Internal.{Laid};
+ghost use Rattle.decoder.specs.Internal.{Tables, PlacedTables};
 
-pub mod header;
 pub mod nesting;
 pub mod places;
 
-use header::Header;
 use program::answer::Decoded;
-use program::answer::Found;
 use program::answer::Refusal;
+use program::limits::TERM_PLACES;
 use program::records::Counts;
+use tables::header::Header;
+use tables::search::Found;
 
 // The nesting of a sheet whose records and places are right.
-fn nested(s: &[u8], c: Counts, parents: &[u16; 1024]) -> Decoded
-    requires { ⌜ Laid (now s) c ⌝ }
-    requires { ⌜ TypesOk (now s) ⌝ }
-    requires { ⌜ TermsOk (now s) ⌝ }
-    requires { ⌜ PlacesOk (now s) (now parents) ⌝ }
-    ensures { λ r. ⌜ (told r ≡ screen (tableConditions (now (s .entry)))) × Counted (now (s .entry)) r ⌝ }
+fn nested(s: &[u8], c: Counts, parents: &[u16; TERM_PLACES]) -> Decoded
+    requires { ⌜ PlacedTables (now s) c (now parents) ⌝ }
+    ensures { λ r. ⌜ (decodedModel r ≡ screen (tableConditions (now (s .entry)))) × Counted (now (s .entry)) r ⌝ }
 {
     let n = c.terms;
     let deep = nesting::nestings(parents, n);
@@ -34,10 +31,8 @@ fn nested(s: &[u8], c: Counts, parents: &[u16; 1024]) -> Decoded
 
 // The places of a sheet whose records are right.
 fn placed(s: &[u8], c: Counts) -> Decoded
-    requires { ⌜ Laid (now s) c ⌝ }
-    requires { ⌜ TypesOk (now s) ⌝ }
-    requires { ⌜ TermsOk (now s) ⌝ }
-    ensures { λ r. ⌜ (told r ≡ screen (tableConditions (now (s .entry)))) × Counted (now (s .entry)) r ⌝ }
+    requires { ⌜ Tables (now s) c ⌝ }
+    ensures { λ r. ⌜ (decodedModel r ≡ screen (tableConditions (now (s .entry)))) × Counted (now (s .entry)) r ⌝ }
 {
     let parents = places::parents_of(s, c);
     match places::bad_place(s, c, &parents) {
@@ -49,11 +44,11 @@ fn placed(s: &[u8], c: Counts) -> Decoded
 // The two tables of a sheet whose fields are right.
 fn tables(s: &[u8], c: Counts) -> Decoded
     requires { ⌜ Laid (now s) c ⌝ }
-    ensures { λ r. ⌜ (told r ≡ screen (tableConditions (now (s .entry)))) × Counted (now (s .entry)) r ⌝ }
+    ensures { λ r. ⌜ (decodedModel r ≡ screen (tableConditions (now (s .entry)))) × Counted (now (s .entry)) r ⌝ }
 {
-    match program::types::bad_type(s, c) {
+    match tables::types::bad_type(s, c) {
         Found::At(t) => Decoded::Refused(Refusal::BadType(t)),
-        Found::Nothing => match program::terms::bad_term(s, c) {
+        Found::Nothing => match tables::terms::bad_term(s, c) {
             Found::At(t) => Decoded::Refused(Refusal::BadTerm(t)),
             Found::Nothing => placed(s, c),
         },
@@ -62,10 +57,10 @@ fn tables(s: &[u8], c: Counts) -> Decoded
 
 // What any bytes are as a sheet: 01's reader.
 pub fn decode(sheet: &[u8]) -> Decoded
-    ensures { λ r. ⌜ told r ≡ decoding (now (sheet .entry)) ⌝ }
+    ensures { λ r. ⌜ decodedModel r ≡ decoding (now (sheet .entry)) ⌝ }
     ensures { λ r. ⌜ Counted (now (sheet .entry)) r ⌝ }
 {
-    match header::read_header(sheet) {
+    match tables::header::read_header(sheet) {
         Header::Fault(f) => Decoded::Refused(f),
         Header::Laid(c) => tables(sheet, c),
     }

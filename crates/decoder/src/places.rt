@@ -7,13 +7,14 @@ ghost use lib.ListN.{length};
 ghost use Rattle.program.specs.Layout.{second, terms};
 ghost use Rattle.program.specs.Screening.{lowest};
 ghost use Rattle.program.specs.Decoding.{formatAt, isSign, signedBody, placedOk};
-ghost use Rattle.program.specs.Internal.{Laid, foundOf};
-ghost use Rattle.decoder.specs.Internal.{TermsOk, Linked, ChildrenBelow, LinkedAll, Links};
-use program::answer::Found;
+ghost use Rattle.tables.specs.Internal.{Laid, foundOf};
+ghost use Rattle.decoder.specs.Internal.{Tables, Linked, ChildrenBelow, LinkedAll, Links, LinkedTables, LinkedTerm};
+use accessors::term;
+use program::limits::TERM_PLACES;
 use program::records::Counts;
-use program::records::term;
-use program::terms::Shape;
-use program::terms::shape_at;
+use tables::search::Found;
+use tables::terms::Shape;
+use tables::terms::shape_at;
 
 // Notes t as the parent of x. A parent has a higher number than its child, so that 0 stands for none, and 65535 for more than one.
 fn link(parents: &mut [u16], x: u16, t: u16)
@@ -55,12 +56,11 @@ fn link_all(parents: &mut [u16], x: Shape, t: u16)
 }
 
 // Each term's parent, 0 where there is none and 65535 where there are several.
-pub fn parents_of(s: &[u8], c: Counts) -> [u16; 1024]
-    requires { ⌜ Laid (now s) c ⌝ }
-    requires { ⌜ TermsOk (now s) ⌝ }
+pub fn parents_of(s: &[u8], c: Counts) -> [u16; TERM_PLACES]
+    requires { ⌜ Tables (now s) c ⌝ }
     ensures { λ r. ⌜ Links (now (s .entry)) r (terms (now (s .entry))) ⌝ }
 {
-    let mut parents = [0u16; 1024];
+    let mut parents = [0u16; TERM_PLACES];
     let n = c.terms;
     let mut t = 0;
     while t < n {
@@ -114,11 +114,8 @@ fn root_signed(s: &[u8], c: Counts, t: u16, root: bool) -> bool
 }
 
 // Whether term t has its parents and its signs.
-fn place_ok(s: &[u8], c: Counts, parents: &[u16; 1024], t: u16) -> bool
-    requires { ⌜ Laid (now s) c ⌝ }
-    requires { ⌜ TermsOk (now s) ⌝ }
-    requires { ⌜ t < terms (now s) ⌝ }
-    requires { ⌜ Links (now s) (now parents) (terms (now s)) ⌝ }
+fn place_ok(s: &[u8], c: Counts, parents: &[u16; TERM_PLACES], t: u16) -> bool
+    requires { ⌜ LinkedTerm (now s) c (now parents) t ⌝ }
     ensures { λ r. ⌜ r ≡ placedOk (now (s .entry)) t ⌝ }
 {
     let root = t + 1 == c.terms;
@@ -128,10 +125,8 @@ fn place_ok(s: &[u8], c: Counts, parents: &[u16; 1024], t: u16) -> bool
 }
 
 // The lowest term with a wrong number of parents, whose body is unsigned, or which is the root and unsigned.
-pub fn bad_place(s: &[u8], c: Counts, parents: &[u16; 1024]) -> Found
-    requires { ⌜ Laid (now s) c ⌝ }
-    requires { ⌜ TermsOk (now s) ⌝ }
-    requires { ⌜ Links (now s) (now parents) (terms (now s)) ⌝ }
+pub fn bad_place(s: &[u8], c: Counts, parents: &[u16; TERM_PLACES]) -> Found
+    requires { ⌜ LinkedTables (now s) c (now parents) ⌝ }
     ensures { λ r. ⌜ foundOf r ≡ lowest (placedOk (now (s .entry))) 0 (terms (now (s .entry))) ⌝ }
 {
     let n = c.terms;

@@ -7,7 +7,7 @@ use Prim.Native.Nat.{ℕ, _≤_}
 use native.Mathlib.Nat.{le-refl}
 use native.Mathlib.Omega.{arith}
 use denote.Ref.{RefT}
-use Rattle.machine.specs.Words.{isStop}
+use Rattle.stores.specs.Words.{isStop}
 use Rattle.machine.specs.Steps.{callsLeft}
 use Rattle.machine.specs.Store.{Store, Done, storeOf, doneOf, andThen}
 use Rattle.evaluator.specs.Contracts.{namesOf, stateOf, Evaluated}
@@ -28,7 +28,8 @@ module _ {run : Store → Done} {n : List ℕ} {c p f : RefT (List ℕ)} where
 
   module _ {run₂ : Store → Done} {r : ℕ} {n₁ : List ℕ} {c₁ p₁ f₁ : RefT (List ℕ)} where
     -- the run goes on as another one, from a later state
-    pub goes-on : {n₂ : List ℕ} {c₂ p₂ f₂ : RefT (List ℕ)} → run (stateOf n c p f) ≡ run₂ (stateOf n₂ c₂ p₂ f₂) → callsLeft n₂ ≤ callsLeft n → namesOf c₂ p₂ f₂ ≡ namesOf c p f
+    pub goes-on : {n₂ : List ℕ} {c₂ p₂ f₂ : RefT (List ℕ)} → run (stateOf n c p f) ≡ run₂ (stateOf n₂ c₂ p₂ f₂) → callsLeft n₂ ≤ callsLeft n → namesOf c₂ p₂ f₂
+        ≡ namesOf c p f
         → Evaluated run₂ n₂ c₂ p₂ f₂ r n₁ c₁ p₁ f₁ → Evaluated run n c p f r n₁ c₁ p₁ f₁
     goes-on e l s h = record { done = h .done ∙ sym e; calls = omega (arith, l, h .calls); names = h .names ∙ s }
 
@@ -41,7 +42,8 @@ module _ {run : Store → Done} {n : List ℕ} {c p f : RefT (List ℕ)} where
       unfolding andThen
       stays e = record { done = sym (is _ ∙ ap (λ (d : Done). andThen d k) (sym (h .done)) ∙ rw e refl); calls = h .calls; names = h .names }
 
-      pub follows : {r₂ : ℕ} {n₂ : List ℕ} {c₂ p₂ f₂ : RefT (List ℕ)} → isStop r ≡ false → Evaluated (k r) n₁ c₁ p₁ f₁ r₂ n₂ c₂ p₂ f₂ → Evaluated run n c p f r₂ n₂ c₂ p₂ f₂
+      pub follows : {r₂ : ℕ} {n₂ : List ℕ} {c₂ p₂ f₂ : RefT (List ℕ)} → isStop r ≡ false → Evaluated (k r) n₁ c₁ p₁ f₁ r₂ n₂ c₂ p₂ f₂
+          → Evaluated run n c p f r₂ n₂ c₂ p₂ f₂
       unfolding andThen
       follows e g = record {
         done = g .done ∙ sym (is _ ∙ ap (λ (d : Done). andThen d k) (sym (h .done)) ∙ rw e refl);
@@ -51,7 +53,8 @@ module _ {run : Store → Done} {n : List ℕ} {c p f : RefT (List ℕ)} where
 
 -- the same run on slices that were lent on under other names: they came with the same lists and are back with the same lists
 pub renamed : {run : Store → Done} {r : ℕ} {n n′ : List ℕ} {c p f c′ p′ f′ c₀ p₀ f₀ c₁ p₁ f₁ : RefT (List ℕ)} → stateOf n c₀ p₀ f₀ ≡ stateOf n c p f
-    → stateOf n′ c₁ p₁ f₁ ≡ stateOf n′ c′ p′ f′ → namesOf c₁ p₁ f₁ ≡ namesOf c₀ p₀ f₀ → Evaluated run n c p f r n′ c′ p′ f′ → Evaluated run n c₀ p₀ f₀ r n′ c₁ p₁ f₁
+    → stateOf n′ c₁ p₁ f₁ ≡ stateOf n′ c′ p′ f′ → namesOf c₁ p₁ f₁ ≡ namesOf c₀ p₀ f₀ → Evaluated run n c p f r n′ c′ p′ f′
+    → Evaluated run n c₀ p₀ f₀ r n′ c₁ p₁ f₁
 renamed {run} {r} a b k e = record { done = ap (λ (st : Store). doneOf r st) b ∙ e .done ∙ ap run (sym a); calls = e .calls; names = k }
 
 -- a word that another one is

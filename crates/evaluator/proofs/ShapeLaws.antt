@@ -12,16 +12,16 @@ use lib.Dec.{leb, ltb, eqb}
 use lib.ListN.{length, getD, set, List·getD-eq-default}
 use lib.Seq.{getD-set-same, getD-set-other}
 use borrow.Author.Tests.{eq-eqb, ne-eqb, le-leb, lt-leb, lt-ltb, le-ltb, ltb-true, ltb-false}
-use Rattle.machine.specs.Words.{pick, booleanWord, numberWord, functionWord, stopWord, sortOf, payloadOf, envOf, isStop}
+use Rattle.stores.specs.Words.{pick, booleanWord, numberWord, functionWord, stopWord, sortOf, payloadOf, envOf, isStop}
 use Rattle.machine.specs.Table.{wordKind, wordSmall, wordFirst, wordSecond, wordThird, wordAuthority}
-use Rattle.machine.specs.Cells.{lookOf, cellSet, madeWith, storeWith, Bound}
-use Rattle.machine.specs.Access.{grantedOf, allowedOf, signAccess, signFrames, enableAccess, enableFrames, enabledNow, restoreFrames}
+use Rattle.stores.specs.Cells.{lookOf, cellSet, madeWith, storeWith, Bound}
+use Rattle.stores.specs.Access.{grantedOf, allowedOf, signAccess, signFrames, enableAccess, enableFrames, enabledNow, restoreFrames}
 use Rattle.machine.specs.Steps.{callsLeft, cellsMade, postsMade, modeOf, operateOf, postCounters, Appended}
 use Rattle.machine.specs.Store.{Store, Done, storeOf, doneOf, withFrames, andThen, Runs, Applier, Shape, childless, letrec, call, if, check, enable, sign, test, binary, post, shapeOf, leafOf, hasRoom, ownCell, bound, called, letrecS, callS, branchS, ifS, checkS, testS, signS, restored, enableS, binaryS, postDone, postS, byShape, begin, step, below, applyAt, evalAt}
 use Rattle.machine.specs.Lower.{evaluatesFirst, evaluatesSecond, evaluatesThird, readsPrivilege, Lower}
 use Rattle.machine.specs.Enter.{Enterable, goesTo, Enters}
 use Rattle.machine.specs.declared.enter.Entered.{Entered}
-use Rattle.machine.proofs.CellLaws.{bound-room}
+use Rattle.stores.proofs.CellLaws.{bound-room}
 use Rattle.evaluator.specs.Contracts.{Table, Node, Tail, Pair}
 
 module _ (terms : List ℕ) where
@@ -30,7 +30,8 @@ module _ (terms : List ℕ) where
   unfolding below
   below-top f zero t env acc st h = absurd (omega arith)
   below-top f (suc n) t env acc st h =
-      ⊎-elim (λ e. rw (eq-eqb t n e, e) refl) (λ lt. rw (ne-eqb t n (λ e. absurd (omega arith))) (below-top f n t env acc st lt)) (eq-or-lt-of-le {n = t} {m = n} (omega arith))
+      ⊎-elim (λ e. rw (eq-eqb t n e, e) refl) (λ lt. rw (ne-eqb t n (λ e. absurd (omega arith))) (below-top f n t env acc st lt))
+      (eq-or-lt-of-le {n = t} {m = n} (omega arith))
 
   below-same : (f : Applier) (m n t : ℕ) → t < m → t < n → below terms f m t ≡ below terms f n t
   below-same f m n t h g = fun-ext λ env. fun-ext λ acc. fun-ext λ st. below-top f m t env acc st h ∙ sym (below-top f n t env acc st g)
@@ -173,7 +174,8 @@ module _ {terms : List ℕ} {t x : ℕ} (k env acc : ℕ) where
     unfolding ifS
     if-is st =
         top N k env acc st
-        ∙ ap₂ (λ (f g : Runs). ifS f g (below terms (applyAt terms k) t (wordThird x)) t env acc st) (child N k p (first-below N refl p)) (child N k q (second-below N refl q))
+        ∙ ap₂ (λ (f g : Runs). ifS f g (below terms (applyAt terms k) t (wordThird x)) t env acc st) (child N k p (first-below N refl p))
+        (child N k q (second-below N refl q))
         ∙ ap (λ (g : Runs). ifS (evalAt terms k u) (evalAt terms k v) g t env acc st) (child N k r (third-below N refl r))
 
   module _ (N : Node terms t x enable) (st : Store) where
@@ -190,10 +192,12 @@ module _ {terms : List ℕ} {t x : ℕ} (k env acc : ℕ) where
 -- ---- a letrec, check, sign or test
 module _ {terms : List ℕ} {t x : ℕ} (T : Tail terms t x) (k env acc : ℕ) {n cells frames n′ cells′ frames′ : List ℕ} {e : Entered}
     (E : Enters t x env acc n cells frames e n′ cells′ frames′) where
-  tail-is : (posts : List ℕ) → evalAt terms k t env acc (storeOf n cells posts frames) ≡ goesTo e (below terms (applyAt terms k) t) (storeOf n′ cells′ posts frames′)
+  tail-is : (posts : List ℕ) → evalAt terms k t env acc (storeOf n cells posts frames)
+      ≡ goesTo e (below terms (applyAt terms k) t) (storeOf n′ cells′ posts frames′)
   tail-is posts = top (T .node) k env acc (storeOf n cells posts frames) ∙ E .goes (below terms (applyAt terms k) t) (applyAt terms k) posts
 
-  pub tail-stops : (posts : List ℕ) → isStop (e .stop) ≡ true → evalAt terms k t env acc (storeOf n cells posts frames) ≡ doneOf (e .stop) (storeOf n′ cells′ posts frames′)
+  pub tail-stops : (posts : List ℕ) → isStop (e .stop) ≡ true → evalAt terms k t env acc (storeOf n cells posts frames)
+      ≡ doneOf (e .stop) (storeOf n′ cells′ posts frames′)
   tail-stops posts h = tail-is posts ∙ rw h refl
 
   pub next-below : e .next < t
@@ -215,7 +219,8 @@ module _ {terms : List ℕ} {t x : ℕ} (P : Pair terms t x) where
 
   pub operand-below : {u v : ℕ} → u ≡ wordFirst x → v ≡ wordSecond x → (u < t) × (v < t)
   operand-below p q =
-      ⊎-elim (λ e. (first-below (call-node e) refl p, second-below (call-node e) refl q)) (λ h. (first-below (binary-node h) refl p, second-below (binary-node h) refl q))
+      ⊎-elim (λ e. (first-below (call-node e) refl p, second-below (call-node e) refl q))
+      (λ h. (first-below (binary-node h) refl p, second-below (binary-node h) refl q))
       (P .kind-is)
 
   -- how it ends: an application, or a word
@@ -231,16 +236,20 @@ module _ {terms : List ℕ} {t x : ℕ} (P : Pair terms t x) where
       ending c = andThen (evalAt terms k u env acc st)
           (λ a st₁. andThen (evalAt terms k v env acc st₁) (λ b st₂. pick c (applyAt terms k t a b acc st₂) (doneOf (operateOf (wordKind x) t a b) st₂)))
 
-      applied : wordKind x ≡ 5 → callS (below terms (applyAt terms k) t (wordFirst x)) (below terms (applyAt terms k) t (wordSecond x)) (applyAt terms k) t env acc st
+      applied : wordKind x ≡ 5 → callS (below terms (applyAt terms k) t (wordFirst x)) (below terms (applyAt terms k) t (wordSecond x))
+          (applyAt terms k) t env acc st
           ≡ ending (eqb (wordKind x) 5)
       applied e =
-          ap₂ (λ (f g : Runs). callS f g (applyAt terms k) t env acc st) (child (call-node e) k p (first-below (call-node e) refl p)) (child (call-node e) k q (second-below (call-node e) refl q))
+          ap₂ (λ (f g : Runs). callS f g (applyAt terms k) t env acc st) (child (call-node e) k p (first-below (call-node e) refl p))
+          (child (call-node e) k q (second-below (call-node e) refl q))
           ∙ ap ending (sym (eq-eqb (wordKind x) 5 e))
 
-      operated : (h : (11 ≤ wordKind x) × (wordKind x ≤ 13)) → binaryS (below terms (applyAt terms k) t (wordFirst x)) (below terms (applyAt terms k) t (wordSecond x)) (wordKind x) t env acc st
+      operated : (h : (11 ≤ wordKind x) × (wordKind x ≤ 13))
+          → binaryS (below terms (applyAt terms k) t (wordFirst x)) (below terms (applyAt terms k) t (wordSecond x)) (wordKind x) t env acc st
           ≡ ending (eqb (wordKind x) 5)
       operated h =
-          ap₂ (λ (f g : Runs). binaryS f g (wordKind x) t env acc st) (child (binary-node h) k p (first-below (binary-node h) refl p)) (child (binary-node h) k q (second-below (binary-node h) refl q))
+          ap₂ (λ (f g : Runs). binaryS f g (wordKind x) t env acc st) (child (binary-node h) k p (first-below (binary-node h) refl p))
+          (child (binary-node h) k q (second-below (binary-node h) refl q))
           ∙ ap ending (sym (ne-eqb (wordKind x) 5 (λ e. omega (arith, e, h .0))))
 
   pub pair-applies : (k acc a b : ℕ) (st : Store) {o : ℕ} → o ≡ wordKind x → o ≡ 5 → pairEnd k acc a b st ≡ applyAt terms k t a b acc st
@@ -260,7 +269,8 @@ pub branch-to : (terms : List ℕ) (k env acc t w u v : ℕ) (st : Store) {s n o
     → branchS t w (evalAt terms k u env acc st) (evalAt terms k v env acc st) st ≡ evalAt terms k o env acc st
 unfolding branchS
 branch-to terms k env acc t w u v st {n = n} e z g o =
-    simp (eq-eqb (sortOf w) 0 (sym e ∙ z)) (rw (← g) (picked (ltb 0 n) u v (λ (x : ℕ). evalAt terms k x env acc st))) ∙ ap (λ (x : ℕ). evalAt terms k x env acc st) (sym o)
+    simp (eq-eqb (sortOf w) 0 (sym e ∙ z)) (rw (← g) (picked (ltb 0 n) u v (λ (x : ℕ). evalAt terms k x env acc st)))
+    ∙ ap (λ (x : ℕ). evalAt terms k x env acc st) (sym o)
 
 -- ---- an application
 module _ (terms : List ℕ) (k t f v acc : ℕ) (st : Store) where
@@ -293,9 +303,11 @@ module _ (terms : List ℕ) (k t f v acc : ℕ) (st : Store) where
       module _ (calls : callsLeft (st .n) ≡ 0 → ⊥) where
         pub apply-full : {r : ℕ} → length (st .cells) / 8 ≤ cellsMade (st .n) → r ≡ stopWord 21 t → applyAt terms k t f v acc st ≡ doneOf r st
         unfolding begin hasRoom
-        apply-full h r = apply-begin ∙ simp (ne-eqb (callsLeft (st .n)) 0 calls, le-ltb (cellsMade (st .n)) (length (st .cells) / 8) h) (ap (λ (x : ℕ). doneOf x st) (sym r))
+        apply-full h r = apply-begin ∙ simp (ne-eqb (callsLeft (st .n)) 0 calls, le-ltb (cellsMade (st .n)) (length (st .cells) / 8) h)
+            (ap (λ (x : ℕ). doneOf x st) (sym r))
 
-        pub apply-runs : {b e o m : ℕ} {l : List ℕ} → Bound (cellsMade (st .n)) v e (st .cells) m l → (m ≡ 0 → ⊥) → b ≡ payloadOf f → e ≡ envOf f → o ≡ ownCell st
+        pub apply-runs : {b e o m : ℕ} {l : List ℕ} → Bound (cellsMade (st .n)) v e (st .cells) m l → (m ≡ 0 → ⊥) → b ≡ payloadOf f → e ≡ envOf f → o
+            ≡ ownCell st
             → applyAt terms k t f v acc st ≡ evalAt terms (k - 1) b o acc (storeOf (set (set (st .n) 0 (callsLeft (st .n) - 1)) 1 m) l (st .posts) (st .frames))
         unfolding begin hasRoom
         apply-runs c n b e o =

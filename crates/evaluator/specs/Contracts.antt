@@ -5,6 +5,7 @@ use mathlib.Core.Path.{_≡_}
 use Prim.Native.Nat.{ℕ, _+_, _*_, _<_, _≤_}
 use lib.ListN.{length, getD}
 use denote.Ref.{RefT}
+use Rattle.program.specs.Limits.{maxTerms}
 use Rattle.machine.specs.Table.{wordKind}
 use Rattle.machine.specs.Lower.{Lower}
 use Rattle.machine.specs.Steps.{callsLeft}
@@ -13,7 +14,7 @@ use Rattle.machine.specs.Store.{Store, Done, storeOf, doneOf, Shape, shapeOf}
 
 -- ---- what is asked: of the words, and of a function for one shape
 pub record Table (terms : List ℕ) : Type 0 where
-  pub long : length terms ≡ 1024
+  pub long : length terms ≡ maxTerms
   pub lower : (t : ℕ) → Lower (shapeOf (wordKind (getD terms t 0))) t (getD terms t 0)
 
 pub record Node (terms : List ℕ) (t x : ℕ) (h : Shape) : Type 0 where
@@ -47,7 +48,8 @@ abbrev pub stateOf : (n : List ℕ) (cells posts frames : RefT (List ℕ)) → S
 stateOf n c p f = storeOf n (c .now) (p .now) (f .now)
 
 -- result, counters and stores are as the interpreter's run gives them, and the calls left did not rise
-pub record Evaluated (run : Store → Done) (n : List ℕ) (cells posts frames : RefT (List ℕ)) (r : ℕ) (n′ : List ℕ) (cells′ posts′ frames′ : RefT (List ℕ)) : Type 0 where
+pub record Evaluated (run : Store → Done) (n : List ℕ) (cells posts frames : RefT (List ℕ)) (r : ℕ) (n′ : List ℕ)
+    (cells′ posts′ frames′ : RefT (List ℕ)) : Type 0 where
   pub done : doneOf r (stateOf n′ cells′ posts′ frames′) ≡ run (stateOf n cells posts frames)
   pub calls : callsLeft n′ ≤ callsLeft n
   pub names : namesOf cells′ posts′ frames′ ≡ namesOf cells posts frames

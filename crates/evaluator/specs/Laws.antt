@@ -15,7 +15,7 @@ use Rattle.program.specs.declared.records.Counts.{Counts}
 use Rattle.program.specs.Laws.Readable.{WellFormed}
 use Rattle.program.specs.Laws.Records.{term-is}
 use Rattle.program.specs.Laws.Trees.{below, parts}
-use Rattle.machine.specs.Words.{pick}
+use Rattle.stores.specs.Words.{pick}
 use Rattle.machine.specs.Table.{wordKind, Holds, Decoded}
 use Rattle.machine.specs.Store.{shapeOf}
 use Rattle.machine.specs.Lower.{evaluatesFirst, evaluatesSecond, evaluatesThird, readsPrivilege, Lower}

@@ -3,9 +3,10 @@
 ghost use Rattle.machine.specs.Store.{evalAt};
 ghost use Rattle.evaluator.specs.Contracts.{Table, Evaluated};
 use crate::eval;
+use program::limits::TERM_PLACES;
 
 fn lend_cells<'a>(
-    terms: &[u64; 1024],
+    terms: &[u64; TERM_PLACES],
     cells: &'a mut [u8],
     posts: &mut &mut [u16],
     frames: &mut &mut [u32],
@@ -16,16 +17,17 @@ fn lend_cells<'a>(
     word: &mut u64,
 ) -> &'a mut [u8]
     requires { ⌜ Table (now terms) ⌝ }
-    ensures { λ r. ⌜ Evaluated (evalAt (now (terms .entry)) depth t 0 acc) (now (n .entry)) (cells .entry) (now (posts .entry)) (now (frames .entry)) (now (word .exit)) (now (n .exit)) r (now (posts .exit)) (now (frames .exit)) ⌝ }
+    ensures { λ r. ⌜ Evaluated (evalAt (now (terms .entry)) depth t 0 acc) (now (n .entry)) (cells .entry) (now (posts .entry)) (now (frames .entry))
+        (now (word .exit)) (now (n .exit)) r (now (posts .exit)) (now (frames .exit)) ⌝ }
 {
-    let mut lent = cells;
-    *word = eval(terms, &mut lent, posts, frames, n, t, 0, acc, depth);
-    let back = lent;
+    let mut slice = cells;
+    *word = eval(terms, &mut slice, posts, frames, n, t, 0, acc, depth);
+    let back = slice;
     back
 }
 
 fn lend_posts<'a>(
-    terms: &[u64; 1024],
+    terms: &[u64; TERM_PLACES],
     cells: &mut [u8],
     posts: &'a mut [u16],
     frames: &mut &mut [u32],
@@ -36,17 +38,18 @@ fn lend_posts<'a>(
     word: &mut u64,
 ) -> &'a mut [u16]
     requires { ⌜ Table (now terms) ⌝ }
-    ensures { λ r. ⌜ Evaluated (evalAt (now (terms .entry)) depth t 0 acc) (now (n .entry)) (cells .entry) (posts .entry) (now (frames .entry)) (now (word .exit)) (now (n .exit)) (cells .exit) r (now (frames .exit)) ⌝ }
+    ensures { λ r. ⌜ Evaluated (evalAt (now (terms .entry)) depth t 0 acc) (now (n .entry)) (cells .entry) (posts .entry) (now (frames .entry))
+        (now (word .exit)) (now (n .exit)) (cells .exit) r (now (frames .exit)) ⌝ }
 {
-    let mut lent = posts;
-    lend_cells(terms, cells, &mut lent, frames, n, t, acc, depth, word);
-    let back = lent;
+    let mut slice = posts;
+    lend_cells(terms, cells, &mut slice, frames, n, t, acc, depth, word);
+    let back = slice;
     back
 }
 
 // Evaluates term t in the empty environment, and says in `word` what it gives.
 pub fn run<'a>(
-    terms: &[u64; 1024],
+    terms: &[u64; TERM_PLACES],
     cells: &mut [u8],
     posts: &mut [u16],
     frames: &'a mut [u32],
@@ -57,10 +60,11 @@ pub fn run<'a>(
     word: &mut u64,
 ) -> &'a mut [u32]
     requires { ⌜ Table (now terms) ⌝ }
-    ensures { λ r. ⌜ Evaluated (evalAt (now (terms .entry)) depth t 0 acc) (now (n .entry)) (cells .entry) (posts .entry) (frames .entry) (now (word .exit)) (now (n .exit)) (cells .exit) (posts .exit) r ⌝ }
+    ensures { λ r. ⌜ Evaluated (evalAt (now (terms .entry)) depth t 0 acc) (now (n .entry)) (cells .entry) (posts .entry) (frames .entry) (now (word .exit))
+        (now (n .exit)) (cells .exit) (posts .exit) r ⌝ }
 {
-    let mut lent = frames;
-    lend_posts(terms, cells, posts, &mut lent, n, t, acc, depth, word);
-    let back = lent;
+    let mut slice = frames;
+    lend_posts(terms, cells, posts, &mut slice, n, t, acc, depth, word);
+    let back = slice;
     back
 }

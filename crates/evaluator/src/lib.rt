@@ -6,10 +6,6 @@ ghost use Rattle.evaluator.specs.Contracts.{Table, Node, Tail, Pair, Eva
 
 pub mod entry;
 
-use machine::access;
-use machine::cells::bind;
-use machine::cells::look;
-use machine::cells::next_cell;
 use machine::enter::enter;
 use machine::steps::append;
 use machine::steps::choose;
@@ -20,11 +16,16 @@ use machine::table::second_of;
 use machine::table::small_of;
 use machine::table::third_of;
 use machine::table::word_at;
-use machine::words;
+use program::limits::TERM_PLACES;
+use stores::access;
+use stores::cells::bind;
+use stores::cells::look;
+use stores::cells::next_cell;
+use stores::words;
 
 // Evaluates term t.
 pub fn eval(
-    terms: &[u64; 1024],
+    terms: &[u64; TERM_PLACES],
     cells: &mut &mut [u8],
     posts: &mut &mut [u16],
     frames: &mut &mut [u32],
@@ -35,7 +36,8 @@ pub fn eval(
     depth: usize,
 ) -> u64
     requires { ⌜ Table (now terms) ⌝ }
-    ensures { λ r. ⌜ Evaluated (evalAt (now (terms .entry)) depth t env acc) (now (n .entry)) (now (cells .entry)) (now (posts .entry)) (now (frames .entry)) r (now (n .exit)) (now (cells .exit)) (now (posts .exit)) (now (frames .exit)) ⌝ }
+    ensures { λ r. ⌜ Evaluated (evalAt (now (terms .entry)) depth t env acc) (now (n .entry)) (now (cells .entry)) (now (posts .entry)) (now (frames .entry)) r
+        (now (n .exit)) (now (cells .exit)) (now (posts .exit)) (now (frames .exit)) ⌝ }
 {
     let x = word_at(terms, t);
     let kind = kind_of(x);
@@ -54,7 +56,7 @@ pub fn eval(
 
 // A letrec, check, sign or test ends as one child, after a step of its own.
 fn eval_tail(
-    terms: &[u64; 1024],
+    terms: &[u64; TERM_PLACES],
     cells: &mut &mut [u8],
     posts: &mut &mut [u16],
     frames: &mut &mut [u32],
@@ -66,7 +68,8 @@ fn eval_tail(
     depth: usize,
 ) -> u64
     requires { ⌜ Tail (now terms) t x ⌝ }
-    ensures { λ r. ⌜ Evaluated (evalAt (now (terms .entry)) depth t env acc) (now (n .entry)) (now (cells .entry)) (now (posts .entry)) (now (frames .entry)) r (now (n .exit)) (now (cells .exit)) (now (posts .exit)) (now (frames .exit)) ⌝ }
+    ensures { λ r. ⌜ Evaluated (evalAt (now (terms .entry)) depth t env acc) (now (n .entry)) (now (cells .entry)) (now (posts .entry)) (now (frames .entry)) r
+        (now (n .exit)) (now (cells .exit)) (now (posts .exit)) (now (frames .exit)) ⌝ }
 {
     let e = enter(*cells, *frames, n, t, x, env, acc);
     if words::is_stop(e.stop) {
@@ -77,7 +80,7 @@ fn eval_tail(
 
 // Two operands, from left to right: function and argument of a call, or two numbers.
 fn eval_pair(
-    terms: &[u64; 1024],
+    terms: &[u64; TERM_PLACES],
     cells: &mut &mut [u8],
     posts: &mut &mut [u16],
     frames: &mut &mut [u32],
@@ -89,7 +92,8 @@ fn eval_pair(
     depth: usize,
 ) -> u64
     requires { ⌜ Pair (now terms) t x ⌝ }
-    ensures { λ r. ⌜ Evaluated (evalAt (now (terms .entry)) depth t env acc) (now (n .entry)) (now (cells .entry)) (now (posts .entry)) (now (frames .entry)) r (now (n .exit)) (now (cells .exit)) (now (posts .exit)) (now (frames .exit)) ⌝ }
+    ensures { λ r. ⌜ Evaluated (evalAt (now (terms .entry)) depth t env acc) (now (n .entry)) (now (cells .entry)) (now (posts .entry)) (now (frames .entry)) r
+        (now (n .exit)) (now (cells .exit)) (now (posts .exit)) (now (frames .exit)) ⌝ }
 {
     let a = eval(terms, cells, posts, frames, n, first_of(x), env, acc, depth);
     if words::is_stop(a) {
@@ -118,7 +122,7 @@ fn eval_pair(
 
 // A condition and one of two branches.
 fn eval_if(
-    terms: &[u64; 1024],
+    terms: &[u64; TERM_PLACES],
     cells: &mut &mut [u8],
     posts: &mut &mut [u16],
     frames: &mut &mut [u32],
@@ -130,7 +134,8 @@ fn eval_if(
     depth: usize,
 ) -> u64
     requires { ⌜ Node (now terms) t x if ⌝ }
-    ensures { λ r. ⌜ Evaluated (evalAt (now (terms .entry)) depth t env acc) (now (n .entry)) (now (cells .entry)) (now (posts .entry)) (now (frames .entry)) r (now (n .exit)) (now (cells .exit)) (now (posts .exit)) (now (frames .exit)) ⌝ }
+    ensures { λ r. ⌜ Evaluated (evalAt (now (terms .entry)) depth t env acc) (now (n .entry)) (now (cells .entry)) (now (posts .entry)) (now (frames .entry)) r
+        (now (n .exit)) (now (cells .exit)) (now (posts .exit)) (now (frames .exit)) ⌝ }
 {
     let b = eval(terms, cells, posts, frames, n, first_of(x), env, acc, depth);
     if words::is_stop(b) {
@@ -145,7 +150,7 @@ fn eval_if(
 
 // Enables a privilege while the inner term runs.
 fn eval_enable(
-    terms: &[u64; 1024],
+    terms: &[u64; TERM_PLACES],
     cells: &mut &mut [u8],
     posts: &mut &mut [u16],
     frames: &mut &mut [u32],
@@ -157,7 +162,8 @@ fn eval_enable(
     depth: usize,
 ) -> u64
     requires { ⌜ Node (now terms) t x enable ⌝ }
-    ensures { λ r. ⌜ Evaluated (evalAt (now (terms .entry)) depth t env acc) (now (n .entry)) (now (cells .entry)) (now (posts .entry)) (now (frames .entry)) r (now (n .exit)) (now (cells .exit)) (now (posts .exit)) (now (frames .exit)) ⌝ }
+    ensures { λ r. ⌜ Evaluated (evalAt (now (terms .entry)) depth t env acc) (now (n .entry)) (now (cells .entry)) (now (posts .entry)) (now (frames .entry)) r
+        (now (n .exit)) (now (cells .exit)) (now (posts .exit)) (now (frames .exit)) ⌝ }
 {
     let mode = n[3];
     let old = access::enabled_now(*frames, mode, acc);
@@ -179,7 +185,7 @@ fn eval_enable(
 
 // Appends a number.
 fn eval_post(
-    terms: &[u64; 1024],
+    terms: &[u64; TERM_PLACES],
     cells: &mut &mut [u8],
     posts: &mut &mut [u16],
     frames: &mut &mut [u32],
@@ -191,7 +197,8 @@ fn eval_post(
     depth: usize,
 ) -> u64
     requires { ⌜ Node (now terms) t x post ⌝ }
-    ensures { λ r. ⌜ Evaluated (evalAt (now (terms .entry)) depth t env acc) (now (n .entry)) (now (cells .entry)) (now (posts .entry)) (now (frames .entry)) r (now (n .exit)) (now (cells .exit)) (now (posts .exit)) (now (frames .exit)) ⌝ }
+    ensures { λ r. ⌜ Evaluated (evalAt (now (terms .entry)) depth t env acc) (now (n .entry)) (now (cells .entry)) (now (posts .entry)) (now (frames .entry)) r
+        (now (n .exit)) (now (cells .exit)) (now (posts .exit)) (now (frames .exit)) ⌝ }
 {
     let w = eval(terms, cells, posts, frames, n, first_of(x), env, acc, depth);
     if words::is_stop(w) {
@@ -202,7 +209,7 @@ fn eval_post(
 
 // Applies f to v at the call t: 18, 19, 20, 21, or its body runs in the caller's access, with its argument in a new cell.
 fn apply(
-    terms: &[u64; 1024],
+    terms: &[u64; TERM_PLACES],
     cells: &mut &mut [u8],
     posts: &mut &mut [u16],
     frames: &mut &mut [u32],
@@ -214,7 +221,8 @@ fn apply(
     depth: usize,
 ) -> u64
     requires { ⌜ Table (now terms) ⌝ }
-    ensures { λ r. ⌜ Evaluated (applyAt (now (terms .entry)) depth t f v acc) (now (n .entry)) (now (cells .entry)) (now (posts .entry)) (now (frames .entry)) r (now (n .exit)) (now (cells .exit)) (now (posts .exit)) (now (frames .exit)) ⌝ }
+    ensures { λ r. ⌜ Evaluated (applyAt (now (terms .entry)) depth t f v acc) (now (n .entry)) (now (cells .entry)) (now (posts .entry))
+        (now (frames .entry)) r (now (n .exit)) (now (cells .exit)) (now (posts .exit)) (now (frames .exit)) ⌝ }
 {
     if words::sort(f) != 2 {
         return words::stop(18, t);

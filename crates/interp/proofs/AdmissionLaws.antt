@@ -9,10 +9,10 @@ use borrow.Author.Tests.{leb-true, eqb-true}
 use Rattle.privileges.specs.Booleans.{and-left, and-right}
 use Rattle.program.specs.Layout.{principals}
 use Rattle.program.specs.Records.{CountsOf}
-use Rattle.program.specs.Screening.{Condition, Screening, refused, tell, screen, unless}
+use Rattle.program.specs.Screening.{Condition, Screening, found, tell, screen, unless}
 use Rattle.program.specs.Decoding.{decodingConditions, decoding, Readable}
-use Rattle.program.specs.Answers.{causeOf as readerCause, placeOf as readerPlace, told as toldDecoded, Counted}
-use Rattle.program.specs.Laws.Screening.{screen-clear, screen-refused}
+use Rattle.program.specs.Answers.{decodingCause, decodingPlace, decodedModel, Counted}
+use Rattle.program.specs.Laws.Screening.{screen-clear, screen-found}
 use Rattle.program.specs.Laws.Readable.{well-formed}
 use Rattle.program.specs.declared.answer.Refusal.{Refusal}
 use Rattle.program.specs.declared.answer.Decoded.{Decoded}
@@ -29,13 +29,13 @@ module _ (s start : List ℕ) (cells posts : ℕ) (frames : Bool) (calls depth :
   outcome = screen (conditions s start cells posts frames calls depth)
 
   -- ---- a sheet that cannot be read
-  module _ {d : Decoded} (p : toldDecoded d ≡ decoding s) where
-    pub unreadable : {f : Refusal} → d ≡ IsRefused f → outcome ≡ refused (readerCause f) (readerPlace f)
+  module _ {d : Decoded} (p : decodedModel d ≡ decoding s) where
+    pub unreadable : {f : Refusal} → d ≡ IsRefused f → outcome ≡ found (decodingCause f) (decodingPlace f)
     unfolding decoding
-    unreadable {f = f} e = screen-refused (decodingConditions s) _ (readerCause f) (readerPlace f) (sym p ∙ ap toldDecoded e)
+    unreadable {f = f} e = screen-found (decodingConditions s) _ (decodingCause f) (decodingPlace f) (sym p ∙ ap decodedModel e)
 
     pub readable : {c : Counts} → d ≡ IsReadable c → Readable s
-    readable e = sym p ∙ ap toldDecoded e
+    readable e = sym p ∙ ap decodedModel e
 
   pub counted : {d : Decoded} {c : Counts} → d ≡ IsReadable c → Counted s d → CountsOf s c
   counted e k = subst (Counted s) e k
@@ -46,21 +46,21 @@ module _ (s start : List ℕ) (cells posts : ℕ) (frames : Bool) (calls depth :
     start-is : startRight (principals s) start ≡ a
     start-is = sym (at-start ∙ ap (λ (n : ℕ). startRight n start) (k .principals-are))
 
-    told-by : outcome ≡ screen (callers a b d)
+    answered-by : outcome ≡ screen (callers a b d)
     unfolding decoding
-    told-by = screen-clear (decodingConditions s) _ r ∙ (λ i. screen (callers (start-is i) (sym of-buffers i) (sym of-limits i)))
+    answered-by = screen-clear (decodingConditions s) _ r ∙ (λ i. screen (callers (start-is i) (sym of-buffers i) (sym of-limits i)))
 
-    pub start-refused : a ≡ false → outcome ≡ refused 14 0
+    pub start-refused : a ≡ false → outcome ≡ found 14 0
     unfolding screen tell
-    start-refused e = told-by ∙ (λ i. screen (callers (e i) b d))
+    start-refused e = answered-by ∙ (λ i. screen (callers (e i) b d))
 
-    pub buffers-refused : a ≡ true → b ≡ false → outcome ≡ refused 15 0
+    pub buffers-refused : a ≡ true → b ≡ false → outcome ≡ found 15 0
     unfolding screen tell
-    buffers-refused e f = told-by ∙ (λ i. screen (callers (e i) (f i) d))
+    buffers-refused e f = answered-by ∙ (λ i. screen (callers (e i) (f i) d))
 
-    pub limits-refused : a ≡ true → b ≡ true → d ≡ false → outcome ≡ refused 16 0
+    pub limits-refused : a ≡ true → b ≡ true → d ≡ false → outcome ≡ found 16 0
     unfolding screen tell
-    limits-refused e f g = told-by ∙ (λ i. screen (callers (e i) (f i) (g i)))
+    limits-refused e f g = answered-by ∙ (λ i. screen (callers (e i) (f i) (g i)))
 
     pub admitted : a ≡ true → b ≡ true → d ≡ true → Cleared s start cells posts frames calls depth c
     unfolding screen tell
@@ -69,7 +69,7 @@ module _ (s start : List ℕ) (cells posts : ℕ) (frames : Bool) (calls depth :
         let buffers-right : (leb cells 65536 && leb posts 256 && frames) ≡ true = sym of-buffers ∙ f in
         let limits-right : (leb calls 4096 && leb depth 100) ≡ true = sym of-limits ∙ g in
         record {
-          none-found = told-by ∙ (λ i. screen (callers (e i) (f i) (g i)));
+          none-found = answered-by ∙ (λ i. screen (callers (e i) (f i) (g i)));
           well-formed = well-formed s r;
           counts-are = k;
           whole = record {

@@ -59,7 +59,8 @@ two-set [] (x ∷ []) zero a b e h = absurd (omega (arith, h))
 two-set [] (x ∷ y ∷ f) zero a b e h = refl
 two-set [] (x ∷ f) (suc n) a b e h = absurd (omega (arith, e))
 two-set (x ∷ L) (y ∷ f) zero a b e h = absurd (omega (arith, e))
-two-set (x ∷ L) (y ∷ f) (suc n) a b e h = simp unary-clauses (simp unary-clauses at (ap (λ (r : List ℕ). x ∷ r) (two-set L f n a b (omega (arith, e)) (omega (arith, h)))))
+two-set (x ∷ L) (y ∷ f) (suc n) a b e h = simp unary-clauses
+    (simp unary-clauses at (ap (λ (r : List ℕ). x ∷ r) (two-set L f n a b (omega (arith, e)) (omega (arith, h)))))
 
 -- a whole number of frames lies behind a place; A gives the set that a frame's principal may use
 pub laid-length : (A : ℕ → ℕ) (l : List ℕ) → length l % 2 ≡ 0 → length (laidOut A (stack l)) ≡ length l

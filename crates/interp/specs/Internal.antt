@@ -5,19 +5,20 @@ use mathlib.Core.Path.{_≡_}
 use Prim.Native.Nat.{ℕ, _-_, _%_, _≤_}
 use lib.Dec.{leb, eqb}
 use lib.ListN.{length}
+use Rattle.program.specs.Limits.{maxStart, maxCells, maxPosts, maxCalls, maxDepth}
 use Rattle.program.specs.Layout.{principals}
 use Rattle.program.specs.Records.{CountsOf}
-use Rattle.program.specs.Screening.{Condition, clear, refused, screen, unless}
+use Rattle.program.specs.Screening.{Condition, clear, found, screen, unless}
 use Rattle.program.specs.Decoding.{decodingConditions}
 use Rattle.program.specs.Laws.Readable.{WellFormed}
 use Rattle.program.specs.declared.records.Counts.{Counts}
 use Rattle.semantics.specs.Runs.{stack, known, ran, Buffers}
-use Rattle.machine.specs.Words.{outOf}
+use Rattle.stores.specs.Words.{outOf}
 use Rattle.machine.specs.Table.{Decoded}
-use Rattle.machine.specs.Cells.{zerosLike}
+use Rattle.stores.specs.Cells.{zerosLike}
 use Rattle.machine.specs.Store.{Done, storeOf, evalAt}
 use Rattle.refinement.specs.Claims.{outcomeOf, countsOf}
-use Rattle.interp.specs.Answers.{causeOf, placeOf, told}
+use Rattle.interp.specs.Answers.{refusalCause, refusalPlace, runModel}
 use Rattle.interp.specs.declared.answer.Admission.{Admission}
 use Rattle.interp.specs.declared.answer.Admission.the-variants.{Admitted, Refused}
 use Rattle.interp.specs.declared.answer.Run.{Run}
@@ -25,18 +26,23 @@ use Rattle.interp.specs.declared.answer.Run.{Run}
 -- ---- the start stack
 -- at most 16 frames, none of them half
 pub record Whole (start : List ℕ) : Type 0 where
-  pub few : length start ≤ 32
+  pub few : length start ≤ maxStart
   pub even : length start % 2 ≡ 0
+
+-- and a frame store that has room for them
+pub record Layable (start frames : List ℕ) : Type 0 where
+  pub whole : Whole start
+  pub room : maxStart ≤ length frames
 
 -- ---- admission
 abbrev pub startRight : (count : ℕ) (start : List ℕ) → Bool
-startRight count start = leb (length start) 32 && eqb (length start % 2) 0 && known count (stack start)
+startRight count start = leb (length start) maxStart && eqb (length start % 2) 0 && known count (stack start)
 
 -- the conditions of a run by what they depend on; whether the frame store is right is a test of its own
 abbrev pub conditions : (s start : List ℕ) (cells posts : ℕ) (frames : Bool) (calls depth : ℕ) → List Condition
 conditions s start cells posts frames calls depth =
-    decodingConditions s ++ unless 14 (startRight (principals s) start) ∷ unless 15 (leb cells 65536 && leb posts 256 && frames)
-    ∷ unless 16 (leb calls 4096 && leb depth 100) ∷ []
+    decodingConditions s ++ unless 14 (startRight (principals s) start) ∷ unless 15 (leb cells maxCells && leb posts maxPosts && frames)
+    ∷ unless 16 (leb calls maxCalls && leb depth maxDepth) ∷ []
 
 pub record Cleared (s start : List ℕ) (cells posts : ℕ) (frames : Bool) (calls depth : ℕ) (c : Counts) : Type 0 where
   pub none-found : screen (conditions s start cells posts frames calls depth) ≡ clear
@@ -44,13 +50,13 @@ pub record Cleared (s start : List ℕ) (cells posts : ℕ) (frames : Bool) (cal
   pub counts-are : CountsOf s c
   pub whole : Whole start
   pub all-known : known (principals s) (stack start) ≡ true
-  pub cells-most : cells ≤ 65536
+  pub cells-most : cells ≤ maxCells
   pub frames-right : frames ≡ true
-  pub depth-most : depth ≤ 100
+  pub depth-most : depth ≤ maxDepth
 
 abbrev pub Admits : (s start : List ℕ) (cells posts : ℕ) (frames : Bool) (calls depth : ℕ) → Admission → Type 0
 Admits s start cells posts frames calls depth (Admitted c) = Cleared s start cells posts frames calls depth c
-Admits s start cells posts frames calls depth (Refused f) = screen (conditions s start cells posts frames calls depth) ≡ refused (causeOf f) (placeOf f)
+Admits s start cells posts frames calls depth (Refused f) = screen (conditions s start cells posts frames calls depth) ≡ found (refusalCause f) (refusalPlace f)
 
 -- ---- evaluation
 -- what the interpreter comes to at the root, with the terms' words in `terms`
@@ -58,8 +64,8 @@ abbrev pub rootDone : (terms : List ℕ) → Counts → (mode acc calls depth : 
 rootDone terms c mode acc calls depth b = evalAt terms depth (c .terms - 1) 0 acc (storeOf (calls ∷ 0 ∷ 0 ∷ mode ∷ []) (b .cells) (b .posts) (b .frames))
 
 -- the answer from what it comes to, and the stores: cells cleared, posts and frames as it leaves them
-pub record Told (root calls : ℕ) (d : Done) (r : Run) (b : Buffers) : Type 0 where
-  pub answer-is : told r ≡ ran (outcomeOf root (outOf (d .out))) (countsOf calls (d .store .n))
+pub record Answered (root calls : ℕ) (d : Done) (r : Run) (b : Buffers) : Type 0 where
+  pub answer-is : runModel r ≡ ran (outcomeOf root (outOf (d .out))) (countsOf calls (d .store .n))
   pub cells-are : b .cells ≡ zerosLike (d .store .cells)
   pub posts-are : b .posts ≡ d .store .posts
   pub frames-are : b .frames ≡ d .store .frames
@@ -67,4 +73,4 @@ pub record Told (root calls : ℕ) (d : Done) (r : Run) (b : Buffers) : Type 0 w
 pub record Evaluated (s : List ℕ) (c : Counts) (mode acc calls depth : ℕ) (b : Buffers) (r : Run) (b′ : Buffers) : Type 0 where
   pub terms : List ℕ
   pub table : Decoded s c terms
-  pub tells : Told (c .terms - 1) calls (rootDone terms c mode acc calls depth b) r b′
+  pub answered : Answered (c .terms - 1) calls (rootDone terms c mode acc calls depth b) r b′

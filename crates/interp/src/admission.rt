@@ -2,6 +2,7 @@
 ghost use mathlib.Core.Bool.{_&&_};
 ghost use mathlib.Core.Path.{_≡_};
 ghost use lib.Dec.{leb};
+ghost use Rattle.program.specs.Limits.{maxCells, maxPosts, maxCalls, maxDepth};
 ghost use Rattle.program.specs.Records.{CountsOf};
 ghost use Rattle.program.specs.Decoding.{Readable};
 ghost use Rattle.interp.specs.Internal.{Admits};
@@ -9,18 +10,22 @@ use crate::answer::Admission;
 use crate::answer::Refusal;
 use crate::start::start_ok;
 use program::answer::Decoded;
+use program::limits::MAX_CALLS;
+use program::limits::MAX_CELLS;
+use program::limits::MAX_DEPTH;
+use program::limits::MAX_POSTS;
 use program::records::Counts;
 
 fn buffers_ok(cells: usize, posts: usize, frames: bool) -> bool
-    ensures { λ r. ⌜ r ≡ (leb cells 65536 && leb posts 256 && frames) ⌝ }
+    ensures { λ r. ⌜ r ≡ (leb cells maxCells && leb posts maxPosts && frames) ⌝ }
 {
-    (cells <= 65536) & (posts <= 256) & frames
+    (cells <= MAX_CELLS) & (posts <= MAX_POSTS) & frames
 }
 
 fn limits_ok(calls: u32, depth: u32) -> bool
-    ensures { λ r. ⌜ r ≡ (leb calls 4096 && leb depth 100) ⌝ }
+    ensures { λ r. ⌜ r ≡ (leb calls maxCalls && leb depth maxDepth) ⌝ }
 {
-    (calls <= 4096) & (depth <= 100)
+    (calls <= MAX_CALLS) & (depth <= MAX_DEPTH)
 }
 
 // 14 to 16 on a readable sheet with these counts. The caller says whether the frame store is right.

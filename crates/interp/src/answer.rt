@@ -1,6 +1,6 @@
 // The answer of a run. specs/Answers.antt gives the paper's number and values of each case.
-use machine::state::Stop;
 use program::records::Counts;
+use stores::state::Stop;
 
 // 1 to 8 are the reader's; 14 to 16 follow in this order.
 pub enum Refusal {

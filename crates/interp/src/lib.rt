@@ -5,10 +5,11 @@ ghost use mathlib.Core.Path.{_≡_};
 ghost use lib.Dec.{eqb};
 ghost use lib.ListN.{length};
 ghost use Rattle.semantics.specs.Runs.{eager as eagerRunner, lazy as lazyRunner, run};
+ghost use Rattle.program.specs.Limits.{frameNumbers};
 ghost use Rattle.program.specs.Records.{CountsOf};
 ghost use Rattle.program.specs.Laws.Readable.{WellFormed};
 ghost use Rattle.refinement.specs.Claims.{outcomeOf};
-ghost use Rattle.interp.specs.Answers.{outcomeTold, asked, lent, after};
+ghost use Rattle.interp.specs.Answers.{outcomeModel, requestOf, buffersOf, after};
 ghost use Rattle.interp.specs.Internal.{Cleared, Evaluated};
 
 pub mod admission;
@@ -20,27 +21,29 @@ use answer::Admission;
 use answer::Made;
 use answer::Outcome;
 use answer::Run;
-use machine::access::clear_frames;
-use machine::access::mode_of;
-use machine::access::pair;
-use machine::state::Out;
-use machine::state::Stop;
 use machine::table::decode_terms;
-use machine::words::out_of;
+use program::limits::FRAME_NUMBERS;
+use program::limits::TERM_PLACES;
 use program::records::Counts;
 use start::lay_frames;
 use start::start_grants;
+use stores::access::clear_frames;
+use stores::access::mode_of;
+use stores::access::pair;
+use stores::state::Out;
+use stores::state::Stop;
+use stores::words::out_of;
 
 // A root that gives a function is stuck.
 fn outcome_of(root: u16, out: Out) -> Outcome
-    ensures { λ r. ⌜ outcomeTold r ≡ outcomeOf root out ⌝ }
+    ensures { λ r. ⌜ outcomeModel r ≡ outcomeOf root out ⌝ }
 {
     match out {
         Out::Stop(x) => Outcome::Stop(x),
         Out::Val(v) => match v {
-            machine::state::Value::Bool(b) => Outcome::End(answer::Value::Bool(b)),
-            machine::state::Value::Num(n) => Outcome::End(answer::Value::Num(n)),
-            machine::state::Value::Fun { body, env } => Outcome::Stop(Stop::Stuck(root)),
+            stores::state::Value::Bool(b) => Outcome::End(answer::Value::Bool(b)),
+            stores::state::Value::Num(n) => Outcome::End(answer::Value::Num(n)),
+            stores::state::Value::Fun { body, env } => Outcome::Stop(Stop::Stuck(root)),
         },
     }
 }
@@ -59,10 +62,11 @@ fn evaluate(
 ) -> Run
     requires { ⌜ WellFormed (now s) ⌝ }
     requires { ⌜ CountsOf (now s) c ⌝ }
-    ensures { λ r. ⌜ Evaluated (now (s .entry)) c mode acc calls depth (lent (now (cells .entry)) (now (posts .entry)) (now (frames .entry))) r (lent (now (cells .exit)) (now (posts .exit)) (now (frames .exit))) ⌝ }
+    ensures { λ r. ⌜ Evaluated (now (s .entry)) c mode acc calls depth (buffersOf (now (cells .entry)) (now (posts .entry)) (now (frames .entry))) r
+        (buffersOf (now (cells .exit)) (now (posts .exit)) (now (frames .exit))) ⌝ }
 {
     let root = c.terms - 1;
-    let mut terms = [0; 1024];
+    let mut terms = [0; TERM_PLACES];
     decode_terms(s, c, &mut terms);
     let allowed = calls as usize;
     let mut n = [allowed, 0, 0, mode];
@@ -78,7 +82,7 @@ fn evaluate(
         depth as usize,
         &mut word,
     );
-    machine::cells::clear(cells);
+    stores::cells::clear(cells);
     let made = Made {
         calls: allowed - n[0],
         cells: n[1],
@@ -103,9 +107,10 @@ fn eager(
     posts: &mut [u16],
 ) -> Run
     requires { ⌜ Cleared (now s) (now start) (length (now cells)) (length (now posts)) true calls depth c ⌝ }
-    ensures { λ r. ⌜ after r (now (cells .exit)) (now (posts .exit)) [] ≡ run (now (s .entry)) (asked eagerRunner enforce (now (start .entry)) calls depth) (lent (now (cells .entry)) (now (posts .entry)) []) ⌝ }
+    ensures { λ r. ⌜ after r (now (cells .exit)) (now (posts .exit)) []
+        ≡ run (now (s .entry)) (requestOf eagerRunner enforce (now (start .entry)) calls depth) (buffersOf (now (cells .entry)) (now (posts .entry)) []) ⌝ }
 {
-    let acc = pair(program::records::authority(s, 0), start_grants(s, start));
+    let acc = pair(accessors::authority(s, 0), start_grants(s, start));
     let mut frames = [0; 1];
     evaluate(
         s,
@@ -132,8 +137,10 @@ fn lazy(
     posts: &mut [u16],
     frames: &mut [u32],
 ) -> Run
-    requires { ⌜ Cleared (now s) (now start) (length (now cells)) (length (now posts)) (eqb (length (now frames)) 6496) calls depth c ⌝ }
-    ensures { λ r. ⌜ after r (now (cells .exit)) (now (posts .exit)) (now (frames .exit)) ≡ run (now (s .entry)) (asked lazyRunner enforce (now (start .entry)) calls depth) (lent (now (cells .entry)) (now (posts .entry)) (now (frames .entry))) ⌝ }
+    requires { ⌜ Cleared (now s) (now start) (length (now cells)) (length (now posts)) (eqb (length (now frames)) frameNumbers) calls depth c ⌝ }
+    ensures { λ r. ⌜ after r (now (cells .exit)) (now (posts .exit)) (now (frames .exit))
+        ≡ run (now (s .entry)) (requestOf lazyRunner enforce (now (start .entry)) calls depth)
+        (buffersOf (now (cells .entry)) (now (posts .entry)) (now (frames .entry))) ⌝ }
 {
     lay_frames(s, start, frames);
     let r = evaluate(
@@ -161,7 +168,8 @@ pub fn run_eager(
     cells: &mut [u8],
     posts: &mut [u16],
 ) -> Run
-    ensures { λ r. ⌜ after r (now (cells .exit)) (now (posts .exit)) [] ≡ run (now (sheet .entry)) (asked eagerRunner enforce (now (start .entry)) calls depth) (lent (now (cells .entry)) (now (posts .entry)) []) ⌝ }
+    ensures { λ r. ⌜ after r (now (cells .exit)) (now (posts .exit)) []
+        ≡ run (now (sheet .entry)) (requestOf eagerRunner enforce (now (start .entry)) calls depth) (buffersOf (now (cells .entry)) (now (posts .entry)) []) ⌝ }
 {
     let a = admit(sheet, start, cells.len(), posts.len(), true, calls, depth);
     match a {
@@ -181,14 +189,16 @@ pub fn run_lazy(
     posts: &mut [u16],
     frames: &mut [u32],
 ) -> Run
-    ensures { λ r. ⌜ after r (now (cells .exit)) (now (posts .exit)) (now (frames .exit)) ≡ run (now (sheet .entry)) (asked lazyRunner enforce (now (start .entry)) calls depth) (lent (now (cells .entry)) (now (posts .entry)) (now (frames .entry))) ⌝ }
+    ensures { λ r. ⌜ after r (now (cells .exit)) (now (posts .exit)) (now (frames .exit))
+        ≡ run (now (sheet .entry)) (requestOf lazyRunner enforce (now (start .entry)) calls depth)
+        (buffersOf (now (cells .entry)) (now (posts .entry)) (now (frames .entry))) ⌝ }
 {
     let a = admit(
         sheet,
         start,
         cells.len(),
         posts.len(),
-        frames.len() == 6496,
+        frames.len() == FRAME_NUMBERS,
         calls,
         depth,
     );

@@ -1,13 +1,13 @@
 // The caller's start stack: a principal and a set of enabled privileges for each frame, innermost first.
 ghost use mathlib.Core.List.{_++_};
 ghost use mathlib.Core.Path.{_≡_};
-ghost use Prim.Native.Nat.{_≤_};
 ghost use lib.ListN.{length, drop};
 ghost use Rattle.program.specs.Records.{authorityRecord};
 ghost use Rattle.semantics.specs.Access.{privs};
 ghost use Rattle.semantics.specs.Runs.{stack, known};
 ghost use Rattle.refinement.specs.Claims.{laidOut};
-ghost use Rattle.interp.specs.Internal.{Whole, startRight};
+ghost use Rattle.interp.specs.Internal.{Whole, Layable, startRight};
+use program::limits::MAX_START;
 
 // Whether every frame's principal is one of so many.
 fn principals_known(start: &[u32], count: u8) -> bool
@@ -28,7 +28,7 @@ fn principals_known(start: &[u32], count: u8) -> bool
 pub fn start_ok(start: &[u32], count: u8) -> bool
     ensures { λ r. ⌜ r ≡ startRight count (now (start .entry)) ⌝ }
 {
-    if 32 < start.len() {
+    if MAX_START < start.len() {
         return false;
     }
     if start.len() % 2 != 0 {
@@ -46,7 +46,7 @@ pub fn start_grants(s: &[u8], start: &[u32]) -> u32
     let mut i = start.len();
     while 0 < i {
         i -= 2;
-        let may = program::records::authority(s, start[i]);
+        let may = accessors::authority(s, start[i]);
         set = privileges::meet(may, privileges::union(start[i + 1], set));
     }
     set
@@ -54,15 +54,15 @@ pub fn start_grants(s: &[u8], start: &[u32]) -> u32
 
 // Lays the stack into the frame store, the outermost frame first: the set that each frame's principal may use, and the enabled set.
 pub fn lay_frames(s: &[u8], start: &[u32], frames: &mut [u32])
-    requires { ⌜ Whole (now start) ⌝ }
-    requires { ⌜ 32 ≤ length (now frames) ⌝ }
-    ensures { λ _. ⌜ now (frames .exit) ≡ laidOut (authorityRecord (now (s .entry))) (stack (now (start .entry))) ++ drop (length (now (start .entry))) (now (frames .entry)) ⌝ }
+    requires { ⌜ Layable (now start) (now frames) ⌝ }
+    ensures { λ _. ⌜ now (frames .exit) ≡ laidOut (authorityRecord (now (s .entry))) (stack (now (start .entry)))
+        ++ drop (length (now (start .entry))) (now (frames .entry)) ⌝ }
 {
     let mut at = 0;
     let mut i = start.len();
     while 0 < i {
         i -= 2;
-        frames[at] = program::records::authority(s, start[i]);
+        frames[at] = accessors::authority(s, start[i]);
         frames[at + 1] = start[i + 1];
         at += 2;
     }

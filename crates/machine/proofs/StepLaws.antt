@@ -8,7 +8,7 @@ use lib.Dec.{ltb}
 use lib.ListN.{length, set}
 use lib.Seq.{set-out}
 use borrow.Author.Tests.{eq-eqb, ne-eqb, le-leb, lt-leb}
-use Rattle.machine.specs.Words.{booleanWord, numberWord, stopWord, sortOf, payloadOf}
+use Rattle.stores.specs.Words.{booleanWord, numberWord, stopWord, sortOf, payloadOf}
 use Rattle.machine.specs.Steps.{postsMade, resultOf, operateOf, postWord, postCounters, postList, Appended}
 
 -- ---- what two numbers give, by the kind

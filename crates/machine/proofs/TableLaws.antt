@@ -15,7 +15,8 @@ use Rattle.program.specs.declared.records.Counts.{Counts}
 use Rattle.program.specs.declared.records.TermRecord.{TermRecord}
 use Rattle.machine.specs.Table.{Holds, Empty, Decoded}
 
-module _ {s : List ℕ} {c : Counts} {t : ℕ} {x : TermRecord} (q : x ≡ termRecord s c t) (kind : x .kind < 256) (small : x .small < 256) (first : x .first < 65536) where
+module _ {s : List ℕ} {c : Counts} {t : ℕ} {x : TermRecord} (q : x ≡ termRecord s c t) (kind : x .kind < 256) (small : x .small < 256)
+    (first : x .first < 65536) where
   pub sign-holds : {a : ℕ} → x .kind ≡ 9 → a ≡ authorityRecord s (x .small) → a < 4294967296
       → Holds s c t (x .kind + 256 * x .small + 65536 * x .first + 4294967296 * a)
   sign-holds e p h = record {

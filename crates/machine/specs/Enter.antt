@@ -1,18 +1,24 @@
 -- The shapes that end as one child of theirs: letrec, check, sign and test. What they do before that child is a step that evaluates no other term.
+use mathlib.Core.Bool.{true}
 use mathlib.Core.List.{List}
 use mathlib.Core.Logic.{_⊎_}
 use mathlib.Core.Path.{_≡_}
 use Prim.Native.Nat.{ℕ, _<_}
 use Rattle.machine.specs.declared.enter.Entered.{Entered}
-use Rattle.machine.specs.Words.{pick, isStop}
-use Rattle.machine.specs.Table.{wordKind}
+use Rattle.stores.specs.Words.{pick, isStop}
+use Rattle.machine.specs.Table.{wordKind, wordSmall}
 use Rattle.machine.specs.Steps.{callsLeft}
 use Rattle.machine.specs.Store.{Store, Done, storeOf, doneOf, Runs, Applier, shapeOf, byShape}
-use Rattle.machine.specs.Lower.{Lower}
+use Rattle.machine.specs.Lower.{readsPrivilege, Lower}
 
 -- the kinds of letrec, check, sign and test
 abbrev pub Enterable : (kind : ℕ) → Type 0
 Enterable k = (k ≡ 4) ⊎ ((k ≡ 7) ⊎ ((k ≡ 9) ⊎ (k ≡ 10)))
+
+-- the word of such a term
+pub record EntersWord (x : ℕ) : Type 0 where
+  pub kind : Enterable (wordKind x)
+  pub privilege : readsPrivilege (shapeOf (wordKind x)) ≡ true → wordSmall x < 32
 
 abbrev pub going : (next env acc : ℕ) → Entered
 going u env acc = record { stop = 0; next = u; env = env; acc = acc }

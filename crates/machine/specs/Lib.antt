@@ -1,9 +1,5 @@
-pub mod Words
 pub mod Table
-pub mod Cells
-pub mod Access
 pub mod Steps
 pub mod Store
 pub mod Lower
 pub mod Enter
-pub mod Stops

@@ -4,7 +4,7 @@ use mathlib.Core.Path.{_≡_}
 use Prim.Native.Nat.{ℕ, _+_, _-_, min}
 use lib.Dec.{leb, ltb, eqb}
 use lib.ListN.{length, getD, set}
-use Rattle.machine.specs.Words.{pick, booleanWord, numberWord, stopWord, sortOf, payloadOf}
+use Rattle.stores.specs.Words.{pick, booleanWord, numberWord, stopWord, sortOf, payloadOf}
 
 abbrev pub callsLeft : (counters : List ℕ) → ℕ
 callsLeft n = getD n 0 0

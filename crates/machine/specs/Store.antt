@@ -5,10 +5,10 @@ use mathlib.Core.List.{List}
 use Prim.Native.Nat.{ℕ, zero, suc, _+_, _-_, _/_}
 use lib.Dec.{leb, ltb, eqb}
 use lib.ListN.{length, getD, set}
-use Rattle.machine.specs.Words.{pick, booleanWord, numberWord, functionWord, stopWord, sortOf, payloadOf, envOf, isStop}
+use Rattle.stores.specs.Words.{pick, booleanWord, numberWord, functionWord, stopWord, sortOf, payloadOf, envOf, isStop}
 use Rattle.machine.specs.Table.{wordKind, wordSmall, wordFirst, wordSecond, wordThird, wordAuthority}
-use Rattle.machine.specs.Cells.{lookOf, cellSet, nextCell}
-use Rattle.machine.specs.Access.{grantedOf, allowedOf, signAccess, signFrames, enableAccess, enableFrames, enabledNow, restoreFrames}
+use Rattle.stores.specs.Cells.{lookOf, cellSet, nextCell}
+use Rattle.stores.specs.Access.{grantedOf, allowedOf, signAccess, signFrames, enableAccess, enableFrames, enabledNow, restoreFrames}
 use Rattle.machine.specs.Steps.{callsLeft, cellsMade, modeOf, operateOf, postWord, postCounters, postList}
 
 -- ---- the state of a run between two steps: its counters and the lent stores
@@ -106,7 +106,8 @@ unfoldable pub binaryS : Runs → Runs → (kind t : ℕ) → Runs
 binaryS p q kind t env acc st = andThen (p env acc st) (λ a st₁. andThen (q env acc st₁) (λ b st₂. doneOf (operateOf kind t a b) st₂))
 
 unfoldable pub postDone : (t word : ℕ) → Store → Done
-postDone t w st = doneOf (postWord t w (st .n) (st .posts)) (storeOf (postCounters w (st .n) (st .posts)) (st .cells) (postList w (st .n) (st .posts)) (st .frames))
+postDone t w st = doneOf (postWord t w (st .n) (st .posts)) (storeOf (postCounters w (st .n) (st .posts)) (st .cells) (postList w (st .n) (st .posts))
+    (st .frames))
 
 unfoldable pub postS : Runs → (t : ℕ) → Runs
 postS p t env acc st = andThen (p env acc st) (λ w st₁. postDone t w st₁)

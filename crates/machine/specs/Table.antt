@@ -3,7 +3,9 @@ use mathlib.Core.List.{List}
 use mathlib.Core.Path.{_≡_}
 use Prim.Native.Nat.{ℕ, _/_, _%_}
 use lib.ListN.{length, getD}
-use Rattle.program.specs.Records.{termRecord, authorityRecord}
+use Rattle.program.specs.Limits.{maxTerms}
+use Rattle.program.specs.Records.{CountsOf, termRecord, authorityRecord}
+use Rattle.program.specs.Laws.Readable.{WellFormed}
 use Rattle.program.specs.declared.records.Counts.{Counts}
 
 abbrev pub wordKind : ℕ → ℕ
@@ -35,10 +37,16 @@ pub record Holds (s : List ℕ) (c : Counts) (t x : ℕ) : Type 0 where
 
 -- a table that is empty still
 pub record Empty (terms : List ℕ) : Type 0 where
-  pub long : length terms ≡ 1024
+  pub long : length terms ≡ maxTerms
   pub zero-at : (t : ℕ) → getD terms t 0 ≡ 0
+
+-- a well-formed sheet with its own counts, and such a table for its terms
+pub record Decodable (s : List ℕ) (c : Counts) (terms : List ℕ) : Type 0 where
+  pub well-formed : WellFormed s
+  pub counts : CountsOf s c
+  pub empty : Empty terms
 
 -- the words of all terms; a number past the table has the word 0
 pub record Decoded (s : List ℕ) (c : Counts) (terms : List ℕ) : Type 0 where
-  pub long : length terms ≡ 1024
+  pub long : length terms ≡ maxTerms
   pub holds : (t : ℕ) → Holds s c t (getD terms t 0)

@@ -1,16 +1,6 @@
 // What a letrec, a check, a sign and a test do before the one child that they end as.
-ghost use mathlib.Core.Bool.{true};
 ghost use mathlib.Core.Path.{_≡_};
-ghost use Prim.Native.Nat.{_<_};
-ghost use Rattle.machine.specs.Table.{wordKind, wordSmall};
-ghost use Rattle.machine.specs.Store.{shapeOf};
-ghost use Rattle.machine.specs.Lower.{readsPrivilege};
-ghost use Rattle.machine.specs.Enter.{Enterable, going, halting, Enters};
-use crate::access::allowed;
-use crate::access::granted;
-use crate::access::sign;
-use crate::cells::bind;
-use crate::cells::next_cell;
+ghost use Rattle.machine.specs.Enter.{EntersWord, going, halting, Enters};
 use crate::steps::choose;
 use crate::table::authority_of;
 use crate::table::first_of;
@@ -18,7 +8,12 @@ use crate::table::kind_of;
 use crate::table::second_of;
 use crate::table::small_of;
 use crate::table::third_of;
-use crate::words;
+use stores::access::allowed;
+use stores::access::granted;
+use stores::access::sign;
+use stores::cells::bind;
+use stores::cells::next_cell;
+use stores::words;
 
 // The child to evaluate, with its environment and access; or a stop, where 0 is none.
 pub struct Entered {
@@ -59,9 +54,9 @@ pub fn enter(
     env: u16,
     acc: u64,
 ) -> Entered
-    requires { ⌜ Enterable (wordKind x) ⌝ }
-    requires { ⌜ (readsPrivilege (shapeOf (wordKind x)) ≡ true → wordSmall x < 32) ⌝ }
-    ensures { λ r. ⌜ Enters t x env acc (now (n .entry)) (now (cells .entry)) (now (frames .entry)) r (now (n .exit)) (now (cells .exit)) (now (frames .exit)) ⌝ }
+    requires { ⌜ EntersWord x ⌝ }
+    ensures { λ r. ⌜ Enters t x env acc (now (n .entry)) (now (cells .entry)) (now (frames .entry)) r (now (n .exit)) (now (cells .exit))
+        (now (frames .exit)) ⌝ }
 {
     let kind = kind_of(x);
     if kind == 4 {

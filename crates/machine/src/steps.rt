@@ -1,8 +1,8 @@
 // The steps of a run that evaluate no other term.
 ghost use mathlib.Core.Path.{_≡_};
-ghost use Rattle.machine.specs.Words.{pick};
+ghost use Rattle.stores.specs.Words.{pick};
 ghost use Rattle.machine.specs.Steps.{operateOf, Appended};
-use crate::words;
+use stores::words;
 
 // One of two terms.
 pub fn choose(yes: bool, a: u16, b: u16) -> u16

@@ -2,9 +2,10 @@
 // on. A sign has the set that its principal may use in the place of second and third, which it does not use.
 ghost use mathlib.Core.Path.{_≡_};
 ghost use lib.ListN.{length, getD};
-ghost use Rattle.program.specs.Records.{CountsOf};
-ghost use Rattle.program.specs.Laws.Readable.{WellFormed};
-ghost use Rattle.machine.specs.Table.{wordKind, wordSmall, wordFirst, wordSecond, wordThird, wordAuthority, Holds, Empty, Decoded};
+ghost use Rattle.program.specs.Limits.{maxTerms};
+ghost use Rattle.machine.specs.Table.{wordKind, wordSmall, wordFirst, wordSecond, wordThird, wordAuthority, Holds, Decodable, Decoded};
+use program::limits::MAX_TERMS;
+use program::limits::TERM_PLACES;
 use program::records::Counts;
 
 pub fn kind_of(x: u64) -> u8
@@ -47,19 +48,17 @@ pub fn authority_of(x: u64) -> u32
 fn term_word(s: &[u8], c: Counts, t: u16) -> u64
     ensures { λ r. ⌜ Holds (now (s .entry)) c t r ⌝ }
 {
-    let x = program::records::term(s, c, t);
+    let x = accessors::term(s, c, t);
     let low = (x.kind as u64) + 256 * (x.small as u64) + 65536 * (x.first as u64);
     if x.kind == 9 {
-        return low + 4294967296 * (program::records::authority(s, x.small as u32) as u64);
+        return low + 4294967296 * (accessors::authority(s, x.small as u32) as u64);
     }
     low + 4294967296 * (x.second as u64) + 281474976710656 * (x.third as u64)
 }
 
 // Fills the table. Past the sheet's terms it stays zero.
-pub fn decode_terms(s: &[u8], c: Counts, terms: &mut [u64; 1024])
-    requires { ⌜ WellFormed (now s) ⌝ }
-    requires { ⌜ CountsOf (now s) c ⌝ }
-    requires { ⌜ Empty (now terms) ⌝ }
+pub fn decode_terms(s: &[u8], c: Counts, terms: &mut [u64; TERM_PLACES])
+    requires { ⌜ Decodable (now s) c (now terms) ⌝ }
     ensures { λ _. ⌜ Decoded (now (s .entry)) c (now (terms .exit)) ⌝ }
 {
     let count = c.terms;
@@ -71,9 +70,9 @@ pub fn decode_terms(s: &[u8], c: Counts, terms: &mut [u64; 1024])
 }
 
 // The word of term t; past the table, 0, which is a boolean's.
-pub fn word_at(terms: &[u64; 1024], t: u16) -> u64
-    requires { ⌜ length (now terms) ≡ 1024 ⌝ }
+pub fn word_at(terms: &[u64; TERM_PLACES], t: u16) -> u64
+    requires { ⌜ length (now terms) ≡ maxTerms ⌝ }
     ensures { λ r. ⌜ r ≡ getD (now (terms .entry)) t 0 ⌝ }
 {
-    if t < 1024 { terms[t as usize] } else { 0 }
+    if t < MAX_TERMS { terms[t as usize] } else { 0 }
 }

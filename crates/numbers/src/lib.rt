@@ -1,52 +1,52 @@
 // 01's number and place of each refusal and stop, for whoever tells them as numbers.
-ghost use Rattle.program.specs.Answers.{causeOf as readerCause, placeOf as readerPlace};
-ghost use Rattle.typing.specs.Answers.{causeOf as faultCause, placeOf as faultPlace};
-ghost use Rattle.machine.specs.Stops.{causeOf as stopCause, placeOf as stopPlace};
-ghost use Rattle.interp.specs.Answers.{causeOf as refusalCause, placeOf as refusalPlace};
-ghost use Rattle.numbers.specs.Telling.{Tells};
-use machine::state::Stop;
+ghost use Rattle.program.specs.Answers.{decodingCause, decodingPlace};
+ghost use Rattle.typing.specs.Answers.{faultCause, faultPlace};
+ghost use Rattle.stores.specs.Stops.{stopCause, stopPlace};
+ghost use Rattle.interp.specs.Answers.{refusalCause, refusalPlace};
+ghost use Rattle.numbers.specs.Codes.{CodeIs};
+use stores::state::Stop;
 use typing::answer::Fault;
 
-pub struct Told {
+pub struct Code {
     pub cause: u8,
     pub place: u16,
 }
 
 // 1 to 8.
-pub fn of_reader(f: program::answer::Refusal) -> Told
-    ensures { λ r. ⌜ Tells (readerCause f) (readerPlace f) r ⌝ }
+pub fn of_reader(f: program::answer::Refusal) -> Code
+    ensures { λ r. ⌜ CodeIs (decodingCause f) (decodingPlace f) r ⌝ }
 {
     match f {
-        program::answer::Refusal::CutShort => Told { cause: 1, place: 0 },
-        program::answer::Refusal::Tag => Told { cause: 2, place: 0 },
-        program::answer::Refusal::Version => Told { cause: 3, place: 0 },
-        program::answer::Refusal::Length => Told { cause: 4, place: 0 },
-        program::answer::Refusal::BadType(t) => Told { cause: 5, place: t },
-        program::answer::Refusal::BadTerm(t) => Told { cause: 6, place: t },
-        program::answer::Refusal::BadPlace(t) => Told { cause: 7, place: t },
-        program::answer::Refusal::TooDeep(t) => Told { cause: 8, place: t },
+        program::answer::Refusal::CutShort => Code { cause: 1, place: 0 },
+        program::answer::Refusal::Tag => Code { cause: 2, place: 0 },
+        program::answer::Refusal::Version => Code { cause: 3, place: 0 },
+        program::answer::Refusal::Length => Code { cause: 4, place: 0 },
+        program::answer::Refusal::BadType(t) => Code { cause: 5, place: t },
+        program::answer::Refusal::BadTerm(t) => Code { cause: 6, place: t },
+        program::answer::Refusal::BadPlace(t) => Code { cause: 7, place: t },
+        program::answer::Refusal::TooDeep(t) => Code { cause: 8, place: t },
     }
 }
 
 // 9 to 13.
-pub fn of_fault(f: Fault) -> Told
-    ensures { λ r. ⌜ Tells (faultCause f) (faultPlace f) r ⌝ }
+pub fn of_fault(f: Fault) -> Code
+    ensures { λ r. ⌜ CodeIs (faultCause f) (faultPlace f) r ⌝ }
 {
     match f {
-        Fault::Variable(t) => Told { cause: 9, place: t },
-        Fault::Type(t) => Told {
+        Fault::Variable(t) => Code { cause: 9, place: t },
+        Fault::Type(t) => Code {
             cause: 10,
             place: t,
         },
-        Fault::SignNeeds(t) => Told {
+        Fault::SignNeeds(t) => Code {
             cause: 11,
             place: t,
         },
-        Fault::BodyNeeds(t) => Told {
+        Fault::BodyNeeds(t) => Code {
             cause: 12,
             place: t,
         },
-        Fault::RootType(t) => Told {
+        Fault::RootType(t) => Code {
             cause: 13,
             place: t,
         },
@@ -54,20 +54,20 @@ pub fn of_fault(f: Fault) -> Told
 }
 
 // 1 to 8, and 14 to 16.
-pub fn of_refusal(f: interp::answer::Refusal) -> Told
-    ensures { λ r. ⌜ Tells (refusalCause f) (refusalPlace f) r ⌝ }
+pub fn of_refusal(f: interp::answer::Refusal) -> Code
+    ensures { λ r. ⌜ CodeIs (refusalCause f) (refusalPlace f) r ⌝ }
 {
     match f {
         interp::answer::Refusal::Unreadable(x) => of_reader(x),
-        interp::answer::Refusal::Start => Told {
+        interp::answer::Refusal::Start => Code {
             cause: 14,
             place: 0,
         },
-        interp::answer::Refusal::Buffers => Told {
+        interp::answer::Refusal::Buffers => Code {
             cause: 15,
             place: 0,
         },
-        interp::answer::Refusal::Allowance => Told {
+        interp::answer::Refusal::Allowance => Code {
             cause: 16,
             place: 0,
         },
@@ -75,31 +75,31 @@ pub fn of_refusal(f: interp::answer::Refusal) -> Told
 }
 
 // 17 to 22.
-pub fn of_stop(x: Stop) -> Told
-    ensures { λ r. ⌜ Tells (stopCause x) (stopPlace x) r ⌝ }
+pub fn of_stop(x: Stop) -> Code
+    ensures { λ r. ⌜ CodeIs (stopCause x) (stopPlace x) r ⌝ }
 {
     match x {
-        Stop::Check(t) => Told {
+        Stop::Check(t) => Code {
             cause: 17,
             place: t,
         },
-        Stop::Stuck(t) => Told {
+        Stop::Stuck(t) => Code {
             cause: 18,
             place: t,
         },
-        Stop::OpenCalls(t) => Told {
+        Stop::OpenCalls(t) => Code {
             cause: 19,
             place: t,
         },
-        Stop::Calls(t) => Told {
+        Stop::Calls(t) => Code {
             cause: 20,
             place: t,
         },
-        Stop::Cells(t) => Told {
+        Stop::Cells(t) => Code {
             cause: 21,
             place: t,
         },
-        Stop::Posts(t) => Told {
+        Stop::Posts(t) => Code {
             cause: 22,
             place: t,
         },

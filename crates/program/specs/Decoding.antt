@@ -5,6 +5,7 @@ use mathlib.Core.Path.{_≡_}
 use Prim.Native.Nat.{ℕ, zero, suc, _+_, _*_, _/_}
 use lib.Dec.{leb, ltb, eqb}
 use lib.ListN.{length}
+use Rattle.program.specs.Limits.{maxPrincipals, maxTypes, maxTerms, maxTypeDepth, maxNesting}
 use Rattle.program.specs.Tests.{also, orElse}
 use Rattle.program.specs.Bytes.{byte, word16}
 use Rattle.program.specs.Layout.{principals, typeField, types, typeAt, termField, terms, termAt, root, kindByte, small, first, second, third, typesOf}
@@ -51,7 +52,7 @@ fresh s t zero = true
 fresh s t (suc u) = not (sameBytes s (typeAt s u) (typeAt s t) 10) && fresh s t u
 
 abbrev pub typeOk : List ℕ → (t : ℕ) → Bool
-typeOk s t = cond (ltb t 2) (baseOk s t) (functionOk s t && shallow s 12 t && fresh s t t)
+typeOk s t = cond (ltb t 2) (baseOk s t) (functionOk s t && shallow s maxTypeDepth t && fresh s t t)
 
 -- ---- 6: term records
 
@@ -126,13 +127,13 @@ nestedIn s (suc k) t = orElse (eqb t (root s)) λ _. nestedIn s k (parent s t (t
 abbrev pub fieldConditions : List ℕ → List Condition
 fieldConditions s =
     field s 0 1 (holds 2 1 1) ++ unless 3 (eqb (word16 s 3) 1)
-    ∷ field s 5 2 (holds 4 1 32) ++ field s (typeField s) 3 (holds 10 2 256) ++ field s (termField s) 4 (holds 8 1 1024)
+    ∷ field s 5 2 (holds 4 1 maxPrincipals) ++ field s (typeField s) 3 (holds 10 2 maxTypes) ++ field s (termField s) 4 (holds 8 1 maxTerms)
     ++ unless 2 (eqb (termAt s (terms s)) (length s)) ∷ []
 
 -- "Each is sought over the whole table in ascending order before the next."
 abbrev pub tableConditions : List ℕ → List Condition
 tableConditions s =
-    seek 5 (typeOk s) (types s) ∷ seek 6 (termOk s) (terms s) ∷ seek 7 (placedOk s) (terms s) ∷ seek 8 (nestedIn s 32) (terms s) ∷ []
+    seek 5 (typeOk s) (types s) ∷ seek 6 (termOk s) (terms s) ∷ seek 7 (placedOk s) (terms s) ∷ seek 8 (nestedIn s maxNesting) (terms s) ∷ []
 
 abbrev pub decodingConditions : List ℕ → List Condition
 decodingConditions s = fieldConditions s ++ tableConditions s

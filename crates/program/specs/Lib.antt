@@ -1,5 +1,6 @@
 pub mod Tests
 pub mod Bytes
+pub mod Limits
 pub mod Layout
 pub mod Formats
 pub mod Terms
@@ -7,5 +8,4 @@ pub mod Screening
 pub mod Decoding
 pub mod Records
 pub mod Answers
-pub mod Internal
 pub mod Laws

@@ -12,11 +12,11 @@ pub record Condition : Type 0 where
 
 pub data Screening : Type 0 where
   clear : Screening
-  refused : (cause place : ℕ) → Screening
+  found : (cause place : ℕ) → Screening
 
 unfoldable pub tell : (cause : ℕ) → Option ℕ → (Unit {0} → Screening) → Screening
 tell cause none later = later tt
-tell cause (some place) later = refused cause place
+tell cause (some place) later = found cause place
 
 unfoldable pub screen : List Condition → Screening
 unfolding tell

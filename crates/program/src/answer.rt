@@ -17,9 +17,3 @@ pub enum Decoded {
     Readable(Counts),
     Refused(Refusal),
 }
-
-// The lowest record at fault, where a table is searched.
-pub enum Found {
-    At(u16),
-    Nothing,
-}

@@ -1,5 +1,4 @@
-// The bytes of a sheet: its records, which the other crates read, and the search for a type or a term record at fault.
+// The bytes of a sheet: what its records hold, and what the decoder answers. The definitions are in specs/; no function stands here.
 pub mod answer;
+pub mod limits;
 pub mod records;
-pub mod terms;
-pub mod types;

@@ -6,20 +6,20 @@ use lib.ListN.{length, drop}
 use Rattle.semantics.specs.Values.{Result}
 use Rattle.semantics.specs.Access.{Frame}
 use Rattle.semantics.specs.Runs.{Request, Buffers, Sizes, sizes, ground-bool, ground-num, Outcome, ended, stopped, Counts, outcome, left, counts, inOrder}
-use Rattle.machine.specs.declared.state.Value.the-variants.{Bool as VBool, Num, Fun}
-use Rattle.machine.specs.declared.state.Out.{Out}
-use Rattle.machine.specs.declared.state.Out.the-variants.{Val, Stop as Stopped}
-use Rattle.machine.specs.Words.{outOf}
+use Rattle.stores.specs.declared.state.Value.the-variants.{Bool as VBool, Num, Fun}
+use Rattle.stores.specs.declared.state.Out.{Out}
+use Rattle.stores.specs.declared.state.Out.the-variants.{Val, Stop as Stopped}
+use Rattle.stores.specs.Words.{outOf}
 use Rattle.machine.specs.Steps.{callsLeft, cellsMade, postsMade}
 use Rattle.machine.specs.Store.{Store, Done, storeOf}
-use Rattle.machine.specs.Stops.{causeOf, placeOf}
+use Rattle.stores.specs.Stops.{stopCause, stopPlace}
 
 -- 18 also for "a root that gives a function"
 abbrev pub outcomeOf : (root : ℕ) → Out → Outcome
 outcomeOf r (Val (VBool b)) = ended (ground-bool b)
 outcomeOf r (Val (Num n)) = ended (ground-num n)
 outcomeOf r (Val (Fun body env)) = stopped 18 r
-outcomeOf r (Stopped x) = stopped (causeOf x) (placeOf x)
+outcomeOf r (Stopped x) = stopped (stopCause x) (stopPlace x)
 
 -- what was made, of so many calls allowed: the counters hold the calls that are left
 abbrev pub countsOf : (calls : ℕ) → (counters : List ℕ) → Counts

@@ -6,6 +6,7 @@ use mathlib.Core.Path.{_≡_, refl, sym, subst}
 use Prim.Native.Nat.{ℕ, _*_, _<_, _≤_}
 use native.Mathlib.Omega.{arith}
 use lib.ListN.{length}
+use Rattle.program.specs.Limits.{maxDepth, maxCells, maxStartFrames, frameNumbers}
 use Rattle.program.specs.Layout.{authority, root}
 use Rattle.program.specs.Terms.{program}
 use Rattle.program.specs.Records.{CountsOf}
@@ -16,7 +17,7 @@ use Rattle.semantics.specs.Meaning.{eval}
 use Rattle.semantics.specs.Access.{Frame, lazyControl, rights, eagerControl}
 use Rattle.semantics.specs.Runs.{Request, Buffers, sizes, initial}
 use Rattle.machine.specs.Table.{Decoded}
-use Rattle.machine.specs.Access.{pairOf, enforced, lazyMode}
+use Rattle.stores.specs.Access.{pairOf, enforced, lazyMode}
 use Rattle.machine.specs.Store.{evalAt}
 use Rattle.refinement.specs.Claims.{laidOut, startOf, Refined}
 use Rattle.refinement.specs.Laws.Controls.{EagerMode, pair-mode, eager-models, Frames, LazyMode, lazy-models}
@@ -25,7 +26,7 @@ use Rattle.refinement.specs.Laws.Runs.{laid-frames, refined}
 
 -- Whatever the buffers hold, with at most 100 open calls and 65,536 bytes of cells, checks in force or passed over.
 module _ (s : List ℕ) (w : WellFormed s) (c : Counts) (h : CountsOf s c) (terms : List ℕ) (table : Decoded s c terms) (q : Request) (b : Buffers)
-    (few : q .depth ≤ 100) (most : length (b .cells) ≤ 65536) (mode : ℕ) (checks : enforced mode ≡ q .enforce) where
+    (few : q .depth ≤ maxDepth) (most : length (b .cells) ≤ maxCells) (mode : ℕ) (checks : enforced mode ≡ q .enforce) where
   -- an eager run, that holds any set, with any frame store
   pub eager-refined : (may P : ℕ) → lazyMode mode ≡ false → may < 4294967296 → may ≡ authority s 0
       → Refined (root s) q b (evalAt terms (q .depth) (root s) 0 (pairOf may P) (startOf mode q b))
@@ -36,8 +37,8 @@ module _ (s : List ℕ) (w : WellFormed s) (c : Counts) (h : CountsOf s c) (term
       (pairOf may P) 0 (rights 0 P) (omega arith) (pair-mode (authority s) 0 may P P e i refl)
 
   -- A lazy run, on any stack of at most 16 frames that lies in a frame store of 6,496 numbers. The store never overflows.
-  pub lazy-refined : lazyMode mode ≡ true → (fs : List Frame) (rest : List ℕ) → length fs ≤ 16 → b .frames ≡ laidOut (authority s) fs ++ rest
-      → length (b .frames) ≡ 6496
+  pub lazy-refined : lazyMode mode ≡ true → (fs : List Frame) (rest : List ℕ) → length fs ≤ maxStartFrames → b .frames ≡ laidOut (authority s) fs ++ rest
+      → length (b .frames) ≡ frameNumbers
       → Refined (root s) q b (evalAt terms (q .depth) (root s) 0 (length fs * 2) (startOf mode q b))
       (eval (lazyControl (authority s)) (q .enforce) (q .depth) (program s) fs empty (initial q (sizes b)))
   lazy-refined style fs rest l e long =

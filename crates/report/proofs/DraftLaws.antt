@@ -1,10 +1,10 @@
 -- A draft that grows piece by piece.
-use mathlib.Core.List.{List, [], _∷_, _++_, map, append-nil, append-assoc}
+use mathlib.Core.List.{List, [], _∷_, _++_, append-nil, append-assoc}
 use mathlib.Core.Path.{_≡_, refl, sym, ap, _∙_, subst}
 use Prim.Native.Nat.{ℕ, zero, suc, _+_, _-_, _/_, _%_, _^_, _<_, _≤_}
 use native.Mathlib.Numerals.{add-one}
 use native.Mathlib.Omega.{arith}
-use lib.ListN.{length, take, getD, set, length-append, length-map}
+use lib.ListN.{length, take, getD, set, length-append}
 use lib.Seq.{take-suc, take-all, take-suc-set}
 use Rattle.report.specs.Text.{digit, decimal, hexadecimal}
 use Rattle.report.specs.Theorems.{decimal-most, one-digit, tenth}
@@ -12,10 +12,6 @@ use Rattle.report.specs.Internal.{held, Appended, Holds, Blank}
 use Rattle.report.specs.declared.draft.Draft.{Draft}
 
 -- ---- pieces
--- what owning a struct with an array says of the array's length
-pub sized : (l : List ℕ) (n : ℕ) → length (map (λ (v : ℕ). v) l) ≡ n → length l ≡ n
-sized l n e = simp length-map at e
-
 pub put-held : (l : List ℕ) (n b : ℕ) → n < length l → take (n + 1) (set l n b) ≡ take n l ++ (b ∷ [])
 put-held l n b h = rw add-one (take-suc-set l n b h)
 
@@ -55,11 +51,13 @@ pub no-digits : (d : Draft) (k n : ℕ) → k ≡ 0 → Appended d (hexadecimal 
 unfolding hexadecimal
 no-digits d k n e = subst (λ (j : ℕ). Appended d (hexadecimal j n) j d) (sym e) (none-more d)
 
-hexadecimal-next : {d u r : Draft} {x : ℕ} (k n : ℕ) → Appended d (hexadecimal k (n / 16)) k u → x ≡ digit (n % 16) → Appended u (x ∷ []) 1 r → Appended d (hexadecimal (suc k) n) (suc k) r
+hexadecimal-next : {d u r : Draft} {x : ℕ} (k n : ℕ) → Appended d (hexadecimal k (n / 16)) k u → x ≡ digit (n % 16) → Appended u (x ∷ []) 1 r
+    → Appended d (hexadecimal (suc k) n) (suc k) r
 unfolding hexadecimal
 hexadecimal-next {u = u} {r = r} k n p e q = chained (suc k) (omega arith) p (subst (λ (y : ℕ). Appended u (y ∷ []) 1 r) e q)
 
-pub one-more-digit : {d u r : Draft} {x : ℕ} (k n : ℕ) → (k ≡ 0 → ⊥) → Appended d (hexadecimal (k - 1) (n / 16)) (k - 1) u → x ≡ digit (n % 16) → Appended u (x ∷ []) 1 r → Appended d (hexadecimal k n) k r
+pub one-more-digit : {d u r : Draft} {x : ℕ} (k n : ℕ) → (k ≡ 0 → ⊥) → Appended d (hexadecimal (k - 1) (n / 16)) (k - 1) u → x ≡ digit (n % 16)
+    → Appended u (x ∷ []) 1 r → Appended d (hexadecimal k n) k r
 one-more-digit zero n h p e q = absurd (h refl)
 one-more-digit {d = d} {u = u} (suc k) n h p e q =
     hexadecimal-next k n (subst (λ (j : ℕ). Appended d (hexadecimal j (n / 16)) j u) {x = suc k - 1} {y = k} (omega arith) p) e q
@@ -67,7 +65,8 @@ one-more-digit {d = d} {u = u} (suc k) n h p e q =
 pub sole : {d r : Draft} {x : ℕ} (n : ℕ) → n < 10 → x ≡ digit (n % 10) → Appended d (x ∷ []) 1 r → Appended d (decimal n) (length (decimal n)) r
 sole {d = d} {r = r} n h e p = subst (λ (xs : List ℕ). Appended d xs (length xs) r) (ap (λ (y : ℕ). y ∷ []) e ∙ sym (one-digit n h)) p
 
-pub followed : {d u r : Draft} {x : ℕ} (n : ℕ) → 10 ≤ n → n < 2 ^ 64 → Appended d (decimal (n / 10)) (length (decimal (n / 10))) u → x ≡ digit (n % 10) → Appended u (x ∷ []) 1 r → Appended d (decimal n) (length (decimal n)) r
+pub followed : {d u r : Draft} {x : ℕ} (n : ℕ) → 10 ≤ n → n < 2 ^ 64 → Appended d (decimal (n / 10)) (length (decimal (n / 10))) u → x ≡ digit (n % 10)
+    → Appended u (x ∷ []) 1 r → Appended d (decimal n) (length (decimal n)) r
 followed {d = d} {u = u} {r = r} n g h p e q = subst (λ (xs : List ℕ). Appended d xs (length xs) r) (sym (tenth n g h))
     (chained _ (omega (arith, length-append (decimal (n / 10)) (digit (n % 10) ∷ []))) p (subst (λ (y : ℕ). Appended u (y ∷ []) 1 r) e q))
 

@@ -6,7 +6,7 @@ use lib.Dec.{leb}
 use lib.ListN.{length, take}
 use Rattle.typing.specs.Verdicts.{verdict}
 use Rattle.semantics.specs.Runs.{Buffers, run}
-use Rattle.interp.specs.Answers.{lent}
+use Rattle.interp.specs.Answers.{buffersOf}
 use Rattle.report.specs.Text.{acceptance, request, ofRun, printed}
 use Rattle.report.specs.Reports.{leaving, delivered, used}
 use Rattle.report.specs.declared.answer.Reported.{Reported}
@@ -32,7 +32,7 @@ pub record Holds (text : List ℕ) (most : ℕ) (r : Draft) : Type 0 where
 
 -- ---- the report's steps
 -- the text of an accepted sheet and its run, which leaves the buffers so
-pub record RunTold (s : List ℕ) (terms type needs : ℕ) (b b′ : Buffers) (r : Draft) : Type 0 where
+pub record RunReported (s : List ℕ) (terms type needs : ℕ) (b b′ : Buffers) (r : Draft) : Type 0 where
   pub held-is : held r ≡ ofRun (acceptance terms type needs) (run s request b .answer)
   pub len-most : r .len ≤ 192
   pub buffers-are : b′ ≡ run s request b .buffers
@@ -44,4 +44,4 @@ pub record Rendered (s : List ℕ) (b b′ : Buffers) (r : Draft) : Type 0 where
 
 -- whatever the other buffers hold
 pub record Delivered (p text : List ℕ) (r : Reported) (text′ : List ℕ) : Type 0 where
-  pub leaves : (cells posts : List ℕ) → leaving r cells posts text′ ≡ delivered (leb (length p) (length text)) p text (lent cells posts [])
+  pub leaves : (cells posts : List ℕ) → leaving r cells posts text′ ≡ delivered (leb (length p) (length text)) p text (buffersOf cells posts [])

@@ -4,9 +4,10 @@ use mathlib.Core.List.{List, [], _++_}
 use Prim.Native.Nat.{ℕ}
 use lib.Dec.{leb, eqb}
 use lib.ListN.{length, drop}
-use Rattle.typing.specs.Verdicts.{Verdict, accepted, refused, verdict}
+use Rattle.program.specs.Limits.{maxCells, maxPosts}
+use Rattle.typing.specs.Verdicts.{Verdict, accepted, rejected, verdict}
 use Rattle.semantics.specs.Runs.{Buffers, run}
-use Rattle.interp.specs.Answers.{lent}
+use Rattle.interp.specs.Answers.{buffersOf}
 use Rattle.report.specs.Text.{request, printed}
 use Rattle.report.specs.declared.answer.Reported.{Reported}
 use Rattle.report.specs.declared.answer.Reported.the-variants.{Written, TooShort, Unfit}
@@ -16,10 +17,10 @@ pub data Fate : Type 0 where
   written tooShort : (length : ℕ) → Fate
   unfit : Fate
 
-abbrev pub told : Reported → Fate
-told (Written n) = written n
-told (TooShort n) = tooShort n
-told Unfit = unfit
+abbrev pub reportedModel : Reported → Fate
+reportedModel (Written n) = written n
+reportedModel (TooShort n) = tooShort n
+reportedModel Unfit = unfit
 
 -- the answer, with the cell store, the list of posts and the place for the text as they are left
 pub record Report : Type 0 where
@@ -28,7 +29,7 @@ pub record Report : Type 0 where
   pub text : List ℕ
 
 abbrev pub leaving : Reported → (cells posts text : List ℕ) → Report
-leaving r cells posts text = record { fate = told r; buffers = lent cells posts []; text = text }
+leaving r cells posts text = record { fate = reportedModel r; buffers = buffersOf cells posts []; text = text }
 
 -- a text stands at the front of the place for it, whose rest is untouched; where it does not fit, all of it is
 abbrev pub delivered : (fits : Bool) (p text : List ℕ) → Buffers → Report
@@ -38,11 +39,11 @@ delivered false p text b = record { fate = tooShort (length p); buffers = b; tex
 -- the buffers after a sheet with this verdict: a refused one is not run
 abbrev pub used : Verdict → List ℕ → Buffers → Buffers
 used (accepted n τ N) s b = run s request b .buffers
-used (refused c p) s b = b
+used (rejected c p) s b = b
 
 -- "with the largest … buffers": 65,536 bytes of cells and 256 posts
 abbrev pub areLargest : Buffers → Bool
-areLargest b = eqb (length (b .cells)) 65536 && eqb (length (b .posts)) 256
+areLargest b = eqb (length (b .cells)) maxCells && eqb (length (b .posts)) maxPosts
 
 unfoldable pub reported : (s : List ℕ) → Buffers → (text : List ℕ) → Report
 reported s b text =

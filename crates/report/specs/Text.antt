@@ -5,10 +5,11 @@ use Prim.Native.Char.{code}
 use Prim.Native.Nat.{ℕ, zero, suc, _+_, _/_, _%_}
 use Prim.Native.String.{String, [] as ended-text, _∷_ as _then_}
 use lib.Dec.{ltb, eqb}
+use Rattle.program.specs.Limits.{maxCalls, maxDepth, maxCells, maxPosts}
 use Rattle.program.specs.Layout.{root}
-use Rattle.typing.specs.Verdicts.{Verdict, accepted, refused as rejected, verdict}
+use Rattle.typing.specs.Verdicts.{Verdict, accepted, rejected, verdict}
 use Rattle.semantics.specs.Runs.{eager, Request, Sizes, course, ground-bool, ground-num, Outcome, ended, stopped, Counts, Answer, refused, ran, answerOf}
-use Rattle.interp.specs.Answers.{asked}
+use Rattle.interp.specs.Answers.{requestOf}
 
 -- ---- characters and numbers
 
@@ -76,16 +77,16 @@ refusal c t = line (labelled "refused " c ++ at t)
 
 -- "judges it and runs it eagerly, checks in force, on an empty stack with the largest allowances and buffers"; an eager run has no frame store
 abbrev pub request : Request
-request = asked eager true [] 4096 100
+request = requestOf eager true [] maxCalls maxDepth
 
 abbrev pub largest : Sizes
-largest = record { cells = 65536; posts = 256; frames = 0 }
+largest = record { cells = maxCells; posts = maxPosts; frames = 0 }
 
 abbrev pub answer : List ℕ → Answer
 answer s = answerOf (root s) request largest (course s request largest)
 
 -- The run of an accepted sheet is never turned back (Theorems: accepted-runs).
-abbrev pub ofRun : (judged : List ℕ) → Answer → List ℕ
+abbrev pub ofRun : (accepted : List ℕ) → Answer → List ℕ
 ofRun xs (ran o k) = xs ++ line (outcomeText o ++ countsText k)
 ofRun xs (refused c p) = refusal c p
 

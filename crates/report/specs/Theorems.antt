@@ -14,7 +14,7 @@ use Rattle.program.specs.Layout.{root}
 use Rattle.program.specs.Screening.{clear, tell, screen, unless}
 use Rattle.program.specs.Decoding.{decodingConditions, decoding, Readable}
 use Rattle.program.specs.Laws.Screening.{screen-clear}
-use Rattle.typing.specs.Verdicts.{Verdict, accepted, refused as rejected, verdict}
+use Rattle.typing.specs.Verdicts.{Verdict, accepted, rejected, verdict}
 use Rattle.typing.specs.Theorems.{acceptance as acceptance-theorem}
 use Rattle.semantics.specs.Runs.{eager, Buffers, startOk, buffersOk, limitsOk, runConditions, evaluation, settled, course, ground-bool, ground-num, Outcome, ended, stopped, Counts, Answer, refused, ran, answerOf}
 use Rattle.report.specs.Text.{ascii, digit, hexadecimal, decimalIn, decimal, line, labelled, typeLine, acceptance, at, outcomeText, countsText, refusal, request, largest, answer, ofRun, ofVerdict, printed}
@@ -26,7 +26,8 @@ use Rattle.report.specs.declared.answer.Reported.the-variants.{Written}
 -- a number below 10 ^ k has no more than k digits
 enough : (k n : ℕ) → n < 10 ^ suc k → decimalIn (suc k) n ≡ decimalIn (suc (suc k)) n
 unfolding decimalIn
-enough zero n h = ap (λ (b : Bool). cond b [] [] ++ (digit (n % 10) ∷ [])) (lt-ltb n 10 h) ∙ sym (ap (λ (b : Bool). cond b [] (decimalIn 1 (n / 10)) ++ (digit (n % 10) ∷ [])) (lt-ltb n 10 h))
+enough zero n h = ap (λ (b : Bool). cond b [] [] ++ (digit (n % 10) ∷ [])) (lt-ltb n 10 h)
+    ∙ sym (ap (λ (b : Bool). cond b [] (decimalIn 1 (n / 10)) ++ (digit (n % 10) ∷ [])) (lt-ltb n 10 h))
 enough (suc k) n h = ap (λ (xs : List ℕ). cond (ltb n 10) [] xs ++ (digit (n % 10) ∷ []))
     (enough k (n / 10) (div-lt-iff-lt-mul {k = 10} {x = n} {y = 10 ^ suc k} (lit< tt) .1 (omega (arith, h, pow-succ' 10 (suc k)))))
 
@@ -140,7 +141,8 @@ abbrev by : (s text : List ℕ) (after before : Buffers) (large fits : Bool) →
 by s text u b large fits = cond large (delivered fits (printed s) text u) (record { fate = unfit; buffers = b; text = text })
 
 -- so 183 bytes of place are enough for every sheet
-pub always-written : (s : List ℕ) (b : Buffers) (text : List ℕ) → areLargest b ≡ true → 183 ≤ length text → reported s b text .fate ≡ written (length (printed s))
+pub always-written : (s : List ℕ) (b : Buffers) (text : List ℕ) → areLargest b ≡ true → 183 ≤ length text → reported s b text .fate
+    ≡ written (length (printed s))
 unfolding reported
 always-written s b text e h = λ i. by s text (used (verdict s) s b) b (e i) (le-leb (length (printed s)) (length text) (omega (arith, text-most s)) i) .fate
 
@@ -169,7 +171,8 @@ by-cases s u b text cells posts text′ {n = n} false fits e =
     let f : written n ≡ unfit = ap (λ (r : Report). r .fate) e in
     absurd (let z : _≡_ {A = ℕ} 0 1 = cc in omega arith)
 
-pub text-written : (s : List ℕ) (b : Buffers) (text cells posts text′ : List ℕ) {r : Reported} {n : ℕ} → r ≡ Written n → leaving r cells posts text′ ≡ reported s b text → TextWritten s n text′
+pub text-written : (s : List ℕ) (b : Buffers) (text cells posts text′ : List ℕ) {r : Reported} {n : ℕ} → r ≡ Written n → leaving r cells posts text′
+    ≡ reported s b text → TextWritten s n text′
 unfolding reported
 text-written s b text cells posts text′ e h =
     by-cases s (used (verdict s) s b) b text cells posts text′ (areLargest b) (leb (length (printed s)) (length text))

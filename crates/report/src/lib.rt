@@ -11,24 +11,30 @@ use interp::run_eager;
 use numbers::of_fault;
 use numbers::of_reader;
 use numbers::of_refusal;
+use program::limits::MAX_CALLS;
+use program::limits::MAX_CELLS;
+use program::limits::MAX_DEPTH;
+use program::limits::MAX_POSTS;
 use typing::answer::Verdict;
 ghost use mathlib.Core.List.{[]};
 ghost use mathlib.Core.Path.{_≡_};
 ghost use Prim.Native.Nat.{_≤_};
 ghost use lib.ListN.{length};
-ghost use Rattle.interp.specs.Answers.{lent};
+ghost use Rattle.program.specs.Limits.{maxCells, maxPosts};
+ghost use Rattle.interp.specs.Answers.{buffersOf};
 ghost use Rattle.report.specs.Reports.{leaving, reported};
-ghost use Rattle.report.specs.Internal.{held, RunTold, Rendered, Delivered};
+ghost use Rattle.report.specs.Internal.{held, RunReported, Rendered, Delivered};
 
 // Judges the sheet and, if it is accepted, runs it eagerly, checks in force, on an empty stack with the largest allowances, in the lent cell store
 // and list of posts, which must be the largest. The text goes to the front of `text`, if it fits there.
 pub fn report(sheet: &[u8], cells: &mut [u8], posts: &mut [u16], text: &mut [u8]) -> Reported
-    ensures { λ r. ⌜ leaving r (now (cells .exit)) (now (posts .exit)) (now (text .exit)) ≡ reported (now (sheet .entry)) (lent (now (cells .entry)) (now (posts .entry)) []) (now (text .entry)) ⌝ }
+    ensures { λ r. ⌜ leaving r (now (cells .exit)) (now (posts .exit)) (now (text .exit))
+        ≡ reported (now (sheet .entry)) (buffersOf (now (cells .entry)) (now (posts .entry)) []) (now (text .entry)) ⌝ }
 {
-    if cells.len() != 65536 {
+    if cells.len() != MAX_CELLS {
         return Reported::Unfit;
     }
-    if posts.len() != 256 {
+    if posts.len() != MAX_POSTS {
         return Reported::Unfit;
     }
     let d = render(sheet, cells, posts);
@@ -37,8 +43,9 @@ pub fn report(sheet: &[u8], cells: &mut [u8], posts: &mut [u16], text: &mut [u8]
 
 // The whole text, and the run behind it.
 fn render(sheet: &[u8], cells: &mut [u8], posts: &mut [u16]) -> Draft
-    requires { ⌜ (length (now cells) ≡ 65536) × (length (now posts) ≡ 256) ⌝ }
-    ensures { λ r. ⌜ Rendered (now (sheet .entry)) (lent (now (cells .entry)) (now (posts .entry)) []) (lent (now (cells .exit)) (now (posts .exit)) []) r ⌝ }
+    requires { ⌜ (length (now cells) ≡ maxCells) × (length (now posts) ≡ maxPosts) ⌝ }
+    ensures { λ r. ⌜ Rendered (now (sheet .entry)) (buffersOf (now (cells .entry)) (now (posts .entry)) [])
+        (buffersOf (now (cells .exit)) (now (posts .exit)) []) r ⌝ }
 {
     let v = typecheck(sheet);
     match v {
@@ -64,9 +71,10 @@ fn run_accepted(
     ty: u16,
     needs: u32,
 ) -> Draft
-    ensures { λ r. ⌜ RunTold (now (sheet .entry)) terms ty needs (lent (now (cells .entry)) (now (posts .entry)) []) (lent (now (cells .exit)) (now (posts .exit)) []) r ⌝ }
+    ensures { λ r. ⌜ RunReported (now (sheet .entry)) terms ty needs (buffersOf (now (cells .entry)) (now (posts .entry)) [])
+        (buffersOf (now (cells .exit)) (now (posts .exit)) []) r ⌝ }
 {
-    let r = run_eager(sheet, &[], 4096, 100, true, cells, posts);
+    let r = run_eager(sheet, &[], MAX_CALLS, MAX_DEPTH, true, cells, posts);
     match r {
         Run::Refused(f) => lines::refusal(of_refusal(f)),
         Run::Ran { outcome, made } => lines::accepted(terms, ty, needs, outcome, made),

@@ -2,7 +2,7 @@
 ghost use mathlib.Core.List.{_++_};
 ghost use Prim.Native.Nat.{_+_, _≤_};
 ghost use lib.ListN.{length};
-ghost use Rattle.interp.specs.Answers.{outcomeTold, countsTold};
+ghost use Rattle.interp.specs.Answers.{outcomeModel, countsModel};
 ghost use Rattle.report.specs.Text.{at as placeText, decimal as decimalOf, line, termsLine, needsLine, typeLine, acceptance as acceptanceOf, outcomeText, countsText, refusal as refusalOf};
 ghost use Rattle.report.specs.Internal.{Appended, Holds};
 use crate::draft::Draft;
@@ -13,7 +13,7 @@ use crate::draft::word;
 use interp::answer::Made;
 use interp::answer::Outcome;
 use interp::answer::Value;
-use numbers::Told;
+use numbers::Code;
 use numbers::of_stop;
 
 // A number behind its label.
@@ -62,7 +62,7 @@ fn acceptance(terms: u16, ty: u16, needs: u32) -> Draft
 }
 
 // A cause behind its label, and the place.
-fn placed(d: Draft, label: &[u8], n: Told) -> Draft
+fn placed(d: Draft, label: &[u8], n: Code) -> Draft
     requires { ⌜ d .len + (length (now label) + 44) ≤ 192 ⌝ }
     ensures { λ r. ⌜ Appended d (now (label .entry) ++ decimalOf (n .cause) ++ placeText (n .place)) (length (now (label .entry)) + 44) r ⌝ }
 {
@@ -72,7 +72,7 @@ fn placed(d: Draft, label: &[u8], n: Told) -> Draft
 
 fn outcome(d: Draft, o: Outcome) -> Draft
     requires { ⌜ d .len + 49 ≤ 192 ⌝ }
-    ensures { λ r. ⌜ Appended d (outcomeText (outcomeTold o)) 49 r ⌝ }
+    ensures { λ r. ⌜ Appended d (outcomeText (outcomeModel o)) 49 r ⌝ }
 {
     match o {
         Outcome::Stop(x) => placed(d, b"stop ", of_stop(x)),
@@ -90,7 +90,7 @@ fn outcome(d: Draft, o: Outcome) -> Draft
 
 fn counts(d: Draft, m: Made) -> Draft
     requires { ⌜ d .len + 81 ≤ 192 ⌝ }
-    ensures { λ r. ⌜ Appended d (countsText (countsTold m)) 81 r ⌝ }
+    ensures { λ r. ⌜ Appended d (countsText (countsModel m)) 81 r ⌝ }
 {
     let calls = labelled(d, b" calls ", m.calls);
     let cells = labelled(calls, b" cells ", m.cells);
@@ -99,18 +99,18 @@ fn counts(d: Draft, m: Made) -> Draft
 
 // The whole print of an accepted sheet and its run.
 pub fn accepted(terms: u16, ty: u16, needs: u32, o: Outcome, m: Made) -> Draft
-    ensures { λ r. ⌜ Holds (acceptanceOf terms ty needs ++ line (outcomeText (outcomeTold o) ++ countsText (countsTold m))) 183 r ⌝ }
+    ensures { λ r. ⌜ Holds (acceptanceOf terms ty needs ++ line (outcomeText (outcomeModel o) ++ countsText (countsModel m))) 183 r ⌝ }
 {
-    let judged = acceptance(terms, ty, needs);
-    let ended = outcome(judged, o);
+    let accepted = acceptance(terms, ty, needs);
+    let ended = outcome(accepted, o);
     let counted = counts(ended, m);
     word(counted, b"\n")
 }
 
 // The whole print of a refusal.
-pub fn refusal(n: Told) -> Draft
+pub fn refusal(n: Code) -> Draft
     ensures { λ r. ⌜ Holds (refusalOf (n .cause) (n .place)) 53 r ⌝ }
 {
-    let told = placed(blank(), b"refused ", n);
-    word(told, b"\n")
+    let refused = placed(blank(), b"refused ", n);
+    word(refused, b"\n")
 }

@@ -45,15 +45,16 @@ examples =
 
 pub eagerly : Example → Result
 eagerly x =
-    eval (eagerControl authority) true (x .depth) (x .term) (rights 0 (privs authority (map (λ f. frame (f .0) (f .1)) (x .start)))) empty (budget (x .calls) 9 9 [])
+    eval (eagerControl authority) true (x .depth) (x .term) (rights 0 (privs authority (map (λ f. frame (f .0) (f .1)) (x .start)))) empty
+    (budget (x .calls) 9 9 [])
 
 pub lazily : Example → Result
 lazily x = eval (lazyControl authority) true (x .depth) (x .term) (map (λ f. frame (f .0) (f .1)) (x .start)) empty (budget (x .calls) 9 9 [])
 
-pub record Told : Type 0 where
+pub record Refuted : Type 0 where
   pub by-eager : map eagerly examples ≡ map (λ x. x .result) examples
   pub by-lazy : map lazily examples ≡ map (λ x. x .result) examples
 
-pub told : Told
+pub refuted : Refuted
 unfolding examples eagerly lazily eval apply evalWith addAuthorised has meet union insert
-told = record { by-eager = refl; by-lazy = refl }
+refuted = record { by-eager = refl; by-lazy = refl }

@@ -4,9 +4,10 @@ use mathlib.Core.List.{List, [], _∷_, _++_, reverse}
 use Prim.Native.Nat.{ℕ, _-_, _/_, _%_}
 use lib.Dec.{leb, ltb, eqb}
 use lib.ListN.{length, drop, replicate}
+use Rattle.program.specs.Limits.{maxStart, maxCells, maxPosts, frameNumbers, maxCalls, maxDepth}
 use Rattle.program.specs.Layout.{principals, authority, root}
 use Rattle.program.specs.Terms.{program}
-use Rattle.program.specs.Screening.{Condition, Screening, clear, refused as found, screen, unless}
+use Rattle.program.specs.Screening.{Condition, Screening, clear, found, screen, unless}
 use Rattle.program.specs.Decoding.{decodingConditions}
 use Rattle.semantics.specs.Values.{bool, num, closure, empty, Budget, budget, Result, ends, stops}
 use Rattle.semantics.specs.Meaning.{eval}
@@ -52,20 +53,20 @@ known count (f ∷ fs) = ltb (f .principal) count && known count fs
 
 -- "14 start stack: more than 16 frames, half a frame, or an unknown principal"
 abbrev pub startOk : List ℕ → Request → Bool
-startOk s q = leb (length (q .start)) 32 && eqb (length (q .start) % 2) 0 && known (principals s) (stack (q .start))
+startOk s q = leb (length (q .start)) maxStart && eqb (length (q .start) % 2) 0 && known (principals s) (stack (q .start))
 
 -- "a lazy run's frame store not of 6,496 32-bit numbers"
 abbrev pub framesOk : Runner → ℕ → Bool
 framesOk eager n = true
-framesOk lazy n = eqb n 6496
+framesOk lazy n = eqb n frameNumbers
 
 -- "15 buffers: cell store over 65,536 bytes, more than 256 posts lent", or the frame store
 abbrev pub buffersOk : Runner → Sizes → Bool
-buffersOk r z = leb (z .cells) 65536 && leb (z .posts) 256 && framesOk r (z .frames)
+buffersOk r z = leb (z .cells) maxCells && leb (z .posts) maxPosts && framesOk r (z .frames)
 
 -- "16 allowance: calls over 4,096 or open calls over 100"
 abbrev pub limitsOk : Request → Bool
-limitsOk q = leb (q .calls) 4096 && leb (q .depth) 100
+limitsOk q = leb (q .calls) maxCalls && leb (q .depth) maxDepth
 
 abbrev pub runConditions : List ℕ → Request → Sizes → List Condition
 runConditions s q z = decodingConditions s ++ unless 14 (startOk s q) ∷ unless 15 (buffersOk (q .runner) z) ∷ unless 16 (limitsOk q) ∷ []
@@ -79,17 +80,18 @@ initial q z = budget (q .calls) (z .cells / 8) (z .posts) []
 -- The eager runner starts with the set that the start stack grants, the lazy one with the stack. The program is a sign, so that the signer named
 -- here is never looked at.
 abbrev pub evaluation : Runner → List ℕ → Request → Sizes → Result
-evaluation eager s q z = eval (eagerControl (authority s)) (q .enforce) (q .depth) (program s) (rights 0 (privs (authority s) (stack (q .start)))) empty (initial q z)
+evaluation eager s q z = eval (eagerControl (authority s)) (q .enforce) (q .depth) (program s) (rights 0 (privs (authority s) (stack (q .start)))) empty
+    (initial q z)
 evaluation lazy s q z = eval (lazyControl (authority s)) (q .enforce) (q .depth) (program s) (stack (q .start)) empty (initial q z)
 
 -- a run is turned back, or it comes to a result
 pub data Course : Type 0 where
-  turnedBack : (cause place : ℕ) → Course
+  rejected : (cause place : ℕ) → Course
   started : Result → Course
 
 abbrev pub settled : Screening → (Unit {0} → Result) → Course
 settled clear k = started (k tt)
-settled (found c p) k = turnedBack c p
+settled (found c p) k = rejected c p
 
 unfoldable pub course : List ℕ → Request → Sizes → Course
 course s q z = settled (screen (runConditions s q z)) λ _. evaluation (q .runner) s q z
@@ -131,7 +133,7 @@ counts q z (budget c d r ps) = record { calls = q .calls - c; cells = z .cells /
 
 -- "After 1 to 16 … no count is told."
 abbrev pub answerOf : (root : ℕ) → Request → Sizes → Course → Answer
-answerOf r q z (turnedBack c p) = refused c p
+answerOf r q z (rejected c p) = refused c p
 answerOf r q z (started x) = ran (outcome r x) (counts q z (left x))
 
 -- ---- the buffers afterwards
@@ -141,7 +143,7 @@ inOrder (budget c d r ps) = reverse ps
 
 -- the posts made, in order
 abbrev pub postsMade : Course → List ℕ
-postsMade (turnedBack c p) = []
+postsMade (rejected c p) = []
 postsMade (started x) = inOrder (left x)
 
 abbrev pub zeros : ℕ → List ℕ
@@ -154,7 +156,7 @@ clearedFrames lazy fs = zeros (length fs)
 -- "Posts made so far stand in the lent list and its other entries are untouched; cell and frame stores are all zero. After 1 to 16 every buffer is
 -- untouched".
 abbrev pub buffersAfter : Runner → Buffers → Course → Buffers
-buffersAfter r b (turnedBack c p) = b
+buffersAfter r b (rejected c p) = b
 buffersAfter r b (started x) = record {
   cells = zeros (length (b .cells));
   posts = inOrder (left x) ++ drop (length (inOrder (left x))) (b .posts);

@@ -9,16 +9,17 @@ use native.Mathlib.Omega.{arith}
 use lib.Dec.{leb}
 use lib.ListN.{length, drop, length-replicate, length-append, length-drop, length-reverse}
 use borrow.Author.Tests.{leb-true}
+use Rattle.program.specs.Limits.{maxCells, maxPosts, maxCalls, maxDepth}
 use Rattle.privileges.specs.Sets.{has}
 use Rattle.privileges.specs.Booleans.{and-left, and-right}
 use Rattle.program.specs.Layout.{root, authority}
 use Rattle.program.specs.Terms.{program}
-use Rattle.program.specs.Screening.{Screening, clear, refused as found, screen, First, None}
+use Rattle.program.specs.Screening.{Screening, clear, found, screen, First, None}
 use Rattle.program.specs.Decoding.{decodingConditions}
-use Rattle.program.specs.Laws.Screening.{told-first, first-told, clear-none, none-clear, none-append, none-cons, unless-none}
+use Rattle.program.specs.Laws.Screening.{found-first, first-found, clear-none, none-clear, none-append, none-cons, unless-none}
 use Rattle.semantics.specs.Values.{empty, Budget, budget}
 use Rattle.semantics.specs.Access.{Frame, chk, privs, lazyControl, rights, eagerControl}
-use Rattle.semantics.specs.Runs.{Runner, eager, lazy, Request, Buffers, Sizes, sizes, stack, framesOk, runConditions, initial, evaluation, Course, turnedBack, started, settled, course, Outcome, Counts, Answer, refused, ran, left, counts, answerOf, inOrder, clearedFrames, buffersAfter, After, run}
+use Rattle.semantics.specs.Runs.{Runner, eager, lazy, Request, Buffers, Sizes, sizes, stack, framesOk, runConditions, initial, evaluation, Course, rejected, started, settled, course, Outcome, Counts, Answer, refused, ran, left, counts, answerOf, inOrder, clearedFrames, buffersAfter, After, run}
 use Rattle.semantics.specs.Laws.Access.{privs-chk}
 use Rattle.semantics.specs.Laws.Budgets.{places, Spent, spends}
 
@@ -40,11 +41,12 @@ module _ (s : List ℕ) (q : Request) (b : Buffers) where
   unfolding course
   course-clear e = λ i. settled (e i) (λ _. evaluation (q .runner) s q (sizes b))
 
-  pub course-found : (c p : ℕ) → conditions ≡ found c p → course s q (sizes b) ≡ turnedBack c p
+  pub course-found : (c p : ℕ) → conditions ≡ found c p → course s q (sizes b) ≡ rejected c p
   unfolding course
   course-found c p e = λ i. settled (e i) (λ _. evaluation (q .runner) s q (sizes b))
 
-  pub run-course : (x : Course) → course s q (sizes b) ≡ x → run s q b ≡ record { answer = answerOf (root s) q (sizes b) x; buffers = buffersAfter (q .runner) b x }
+  pub run-course : (x : Course) → course s q (sizes b) ≡ x → run s q b
+      ≡ record { answer = answerOf (root s) q (sizes b) x; buffers = buffersAfter (q .runner) b x }
   unfolding run
   run-course x e = λ i. record { answer = answerOf (root s) q (sizes b) (e i); buffers = buffersAfter (q .runner) b (e i) }
 
@@ -60,8 +62,8 @@ module _ (s : List ℕ) (q : Request) (b : Buffers) where
   -- A run is refused exactly when one of 1 to 8 or 14 to 16 is found, and the first of them, in 01's order, is told.
   pub refused-exactly : (c p : ℕ) → (run s q b .answer ≡ refused c p) ↔ First c p (runConditions s q (sizes b))
   refused-exactly c p = (
-    λ e. told-first (runConditions s q (sizes b)) c p (refused-found c p conditions refl e),
-    λ f. answer-course _ (course-found c p (first-told f)),
+    λ e. found-first (runConditions s q (sizes b)) c p (refused-found c p conditions refl e),
+    λ f. answer-course _ (course-found c p (first-found f)),
   )
 
   -- Then "every buffer is untouched and no count is told".
@@ -98,7 +100,8 @@ posts-length (budget c d r qs) ps e =
     length-append (reverse qs) _ ∙ ap (λ (n : ℕ). length (reverse qs) + n) (length-drop (length (reverse qs)) ps)
     ∙ omega (arith, length-reverse qs)
 
-after-sizes : (s : List ℕ) (q : Request) (b : Buffers) (x : Screening) → sizes (buffersAfter (q .runner) b (settled x (λ _. evaluation (q .runner) s q (sizes b)))) ≡ sizes b
+after-sizes : (s : List ℕ) (q : Request) (b : Buffers) (x : Screening)
+    → sizes (buffersAfter (q .runner) b (settled x (λ _. evaluation (q .runner) s q (sizes b)))) ≡ sizes b
 after-sizes s q b (found c p) = refl
 after-sizes s q b clear = λ i. record {
   cells = length-replicate {A = ℕ} (length (b .cells)) 0 i;
@@ -112,11 +115,11 @@ lengths-kept s q b = after-sizes s q b (screen (runConditions s q (sizes b)))
 
 -- How large the counts are that a run tells.
 pub record Few (k : Counts) : Type 0 where
-  pub calls-most : k .calls ≤ 4096
+  pub calls-most : k .calls ≤ maxCalls
   pub cells-most : k .cells ≤ 8192
-  pub posts-most : k .posts ≤ 256
+  pub posts-most : k .posts ≤ maxPosts
 
-few : (q : Request) (z : Sizes) (u : Budget) → q .calls ≤ 4096 → z .cells ≤ 65536 → z .posts ≤ 256 → Spent (initial q z) u → Few (counts q z u)
+few : (q : Request) (z : Sizes) (u : Budget) → q .calls ≤ maxCalls → z .cells ≤ maxCells → z .posts ≤ maxPosts → Spent (initial q z) u → Few (counts q z u)
 few q z (budget c d r ps) calls cells posts h = record {
   calls-most = omega (arith, calls);
   cells-most = omega (arith, cells);
@@ -132,12 +135,13 @@ counts-few s q b o k e =
     let clear-of = starts-screened s q b (o, k, e) in
     let callers = none-append (decodingConditions s) _ (clear-none (runConditions s q (sizes b)) clear-of) .1 in
     let buffers = none-cons callers .1 in
-    let fits : (leb (length (b .cells)) 65536 && leb (length (b .posts)) 256 && framesOk (q .runner) (length (b .frames))) ≡ true = unless-none 15 _ (none-cons buffers .0) in
-    let within : (leb (q .calls) 4096 && leb (q .depth) 100) ≡ true = unless-none 16 _ (none-cons (none-cons buffers .1) .0) in
+    let fits : (leb (length (b .cells)) maxCells && leb (length (b .posts)) maxPosts && framesOk (q .runner) (length (b .frames)))
+    ≡ true = unless-none 15 _ (none-cons buffers .0) in
+    let within : (leb (q .calls) maxCalls && leb (q .depth) maxDepth) ≡ true = unless-none 16 _ (none-cons (none-cons buffers .1) .0) in
     subst Few
     (ap (countsIn k) (sym (answer-course s q b _ (course-clear s q b clear-of)) ∙ e))
     (few q (sizes b) (left (evaluation (q .runner) s q (sizes b)))
-    (leb-true (q .calls) 4096 (search (within, and-left)))
-    (leb-true (length (b .cells)) 65536 (search (fits, and-left, and-right)))
-    (leb-true (length (b .posts)) 256 (search (fits, and-left, and-right)))
+    (leb-true (q .calls) maxCalls (search (within, and-left)))
+    (leb-true (length (b .cells)) maxCells (search (fits, and-left, and-right)))
+    (leb-true (length (b .posts)) maxPosts (search (fits, and-left, and-right)))
     (evaluation-spends (q .runner) s q (sizes b)))

@@ -3,6 +3,7 @@ use mathlib.Core.Bool.{true}
 use mathlib.Core.List.{List, [], _∷_, _++_, map}
 use mathlib.Core.Path.{_≡_, refl, ap, _∙_}
 use Prim.Native.Nat.{ℕ}
+use Rattle.program.specs.Limits.{maxCalls, maxDepth, maxCells, maxPosts, frameNumbers}
 use Rattle.privileges.specs.Sets.{has, meet, union, insert, remove, subset}
 use Rattle.program.specs.Layout.{authority, root}
 use Rattle.program.specs.Screening.{tell, screen}
@@ -10,12 +11,12 @@ use Rattle.program.specs.Decoding.{decoding}
 use Rattle.typing.specs.Subtyping.{subtypeIn, subtype}
 use Rattle.typing.specs.Rules.{removeAuthorised}
 use Rattle.typing.specs.Checking.{infer}
-use Rattle.typing.specs.Verdicts.{Verdict, accepted, refused, verdict}
+use Rattle.typing.specs.Verdicts.{Verdict, accepted, rejected, verdict}
 use Rattle.semantics.specs.Meaning.{evalWith, apply, eval}
 use Rattle.semantics.specs.Access.{privs, addAuthorised}
 use Rattle.semantics.specs.Runs.{Runner, eager, lazy, Request, Buffers, Sizes, sizes, stack, course, ended, stopped, ground-num, Counts, Answer, ran, answerOf, postsMade, run}
 use Rattle.soundness.specs.Claims.{postsOf}
-use Rattle.soundness.specs.Laws.Runs.{posts-told}
+use Rattle.soundness.specs.Laws.Runs.{posts-listed}
 
 -- ---- the sheets, a line for each field's header and each record
 -- 01's sheet of 78 bytes: sign 0 (enable 1 (check 1 (post 7)))
@@ -129,25 +130,25 @@ tested =
 -- ---- the table
 
 -- what is told: a verdict, a run's answer with its posts, or the set that a stack grants
-pub data Told : Type 0 where
-  judged : Verdict → Told
-  answered : Answer → (posts : List ℕ) → Told
-  grants : (set : ℕ) → Told
+pub data Observed : Type 0 where
+  decided : Verdict → Observed
+  answered : Answer → (posts : List ℕ) → Observed
+  grants : (set : ℕ) → Observed
 
 -- a row: what is asked, and what is due
 pub data Case : Type 0 where
-  judging : (sheet : List ℕ) → Verdict → Case
+  deciding : (sheet : List ℕ) → Verdict → Case
   running : (sheet : List ℕ) → Request → Answer → (posts : List ℕ) → Case
   granting : (sheet start : List ℕ) → (set : ℕ) → Case
 
-abbrev pub due : Case → Told
-due (judging s v) = judged v
+abbrev pub due : Case → Observed
+due (deciding s v) = decided v
 due (running s q a ps) = answered a ps
 due (granting s start set) = grants set
 
 -- "Unless named, the stack is empty and allowances and buffers are the largest." Checks are in force; a run is asked of both runners.
-abbrev asked : (start : List ℕ) (calls depth : ℕ) → Runner → Request
-asked start calls depth r = record { runner = r; enforce = true; start = start; calls = calls; depth = depth }
+abbrev request : (start : List ℕ) (calls depth : ℕ) → Runner → Request
+request start calls depth r = record { runner = r; enforce = true; start = start; calls = calls; depth = depth }
 
 abbrev counted : (calls cells posts : ℕ) → Counts
 counted c d p = record { calls = c; cells = d; posts = p }
@@ -159,17 +160,17 @@ unfoldable pub cases : List Case
 unfolding printed unauthorised unenabled two identity endless tested
 cases =
     -- "The sheet above."
-    judging printed (accepted 5 1 0)
-    ∷ both printed (asked [] 4096 100) (ran (ended (ground-num 7)) (counted 0 0 1)) (7 ∷ [])
+    deciding printed (accepted 5 1 0)
+    ∷ both printed (request [] maxCalls maxDepth) (ran (ended (ground-num 7)) (counted 0 0 1)) (7 ∷ [])
     -- "With A(0) empty: refused 11 at 4; run, stop 17 at 2, posts 0."
-    ++ judging unauthorised (refused 11 4)
-    ∷ both unauthorised (asked [] 4096 100) (ran (stopped 17 2) (counted 0 0 0)) []
+    ++ deciding unauthorised (rejected 11 4)
+    ∷ both unauthorised (request [] maxCalls maxDepth) (ran (stopped 17 2) (counted 0 0 0)) []
     -- "Without its enable: needs 00000002; stop 17 on an empty stack, 7 on the one frame (0, {1})."
-    ++ judging unenabled (accepted 4 1 2)
-    ∷ both unenabled (asked [] 4096 100) (ran (stopped 17 2) (counted 0 0 0)) []
-    ++ both unenabled (asked (0 ∷ 2 ∷ []) 4096 100) (ran (ended (ground-num 7)) (counted 0 0 1)) (7 ∷ [])
+    ++ deciding unenabled (accepted 4 1 2)
+    ∷ both unenabled (request [] maxCalls maxDepth) (ran (stopped 17 2) (counted 0 0 0)) []
+    ++ both unenabled (request (0 ∷ 2 ∷ []) maxCalls maxDepth) (ran (ended (ground-num 7)) (counted 0 0 1)) (7 ∷ [])
     -- "Empty file: 1."
-    ++ judging [] (refused 1 0)
+    ++ deciding [] (rejected 1 0)
     -- "A(0) = {1}, A(1) empty: frames (1, {}), (0, {1}) grant nothing"
     ∷ granting two (1 ∷ 0 ∷ 0 ∷ 2 ∷ []) 0
     -- "(0, {1}), (1, {}) grant 1"
@@ -177,46 +178,46 @@ cases =
     -- "(1, {1}) grants nothing"
     ∷ granting two (1 ∷ 2 ∷ []) 0
     -- "Identity on numbers called with 5: calls 1, cells 1."
-    ∷ both identity (asked [] 4096 100) (ran (ended (ground-num 5)) (counted 1 1 0)) []
+    ∷ both identity (request [] maxCalls maxDepth) (ran (ended (ground-num 5)) (counted 1 1 0)) []
     -- "Calls 0: stop 20."
-    ++ both identity (asked [] 0 100) (ran (stopped 20 4) (counted 0 0 0)) []
+    ++ both identity (request [] 0 maxDepth) (ran (stopped 20 4) (counted 0 0 0)) []
     -- "Calls and open calls both 0: stop 19."
-    ++ both identity (asked [] 0 0) (ran (stopped 19 4) (counted 0 0 0)) []
+    ++ both identity (request [] 0 0) (ran (stopped 19 4) (counted 0 0 0)) []
     -- "f(x) = f x, called on 0, open calls 100, calls 4,096: stop 19, calls 100, cells 101. With calls 99: stop 20."
-    ++ both endless (asked [] 4096 100) (ran (stopped 19 2) (counted 100 101 0)) []
-    ++ both endless (asked [] 99 100) (ran (stopped 20 2) (counted 99 100 0)) []
+    ++ both endless (request [] maxCalls maxDepth) (ran (stopped 19 2) (counted 100 101 0)) []
+    ++ both endless (request [] 99 maxDepth) (ran (stopped 20 2) (counted 99 100 0)) []
     -- "Test 1, yes check 1 for 7, no 0: needs 00000002."
-    ++ judging tested (accepted 5 1 2) ∷ []
+    ++ deciding tested (accepted 5 1 2) ∷ []
 
 -- ---- what the definitions tell, in whatever buffers
-abbrev pub told : Buffers → Case → Told
-told b (judging s v) = judged (verdict s)
-told b (running s q a ps) = answered (run s q b .answer) (postsOf (run s q b))
-told b (granting s start set) = grants (privs (authority s) (stack start))
+abbrev pub observed : Buffers → Case → Observed
+observed b (deciding s v) = decided (verdict s)
+observed b (running s q a ps) = answered (run s q b .answer) (postsOf (run s q b))
+observed b (granting s start set) = grants (privs (authority s) (stack start))
 
 -- the same from the buffers' lengths alone
-toldOf : Sizes → Case → Told
-toldOf z (judging s v) = judged (verdict s)
-toldOf z (running s q a ps) = answered (answerOf (root s) q z (course s q z)) (postsMade (course s q z))
-toldOf z (granting s start set) = grants (privs (authority s) (stack start))
+observedBy : Sizes → Case → Observed
+observedBy z (deciding s v) = decided (verdict s)
+observedBy z (running s q a ps) = answered (answerOf (root s) q z (course s q z)) (postsMade (course s q z))
+observedBy z (granting s start set) = grants (privs (authority s) (stack start))
 
-told-sizes : (b : Buffers) (c : Case) → told b c ≡ toldOf (sizes b) c
-unfolding toldOf run
-told-sizes b (judging s v) = refl
-told-sizes b (running s q a ps) = ap (answered (answerOf (root s) q (sizes b) (course s q (sizes b)))) (posts-told (root s) q b (course s q (sizes b)))
-told-sizes b (granting s start set) = refl
+observed-sizes : (b : Buffers) (c : Case) → observed b c ≡ observedBy (sizes b) c
+unfolding observedBy run
+observed-sizes b (deciding s v) = refl
+observed-sizes b (running s q a ps) = ap (answered (answerOf (root s) q (sizes b) (course s q (sizes b)))) (posts-listed (root s) q b (course s q (sizes b)))
+observed-sizes b (granting s start set) = refl
 
-tellings : (b : Buffers) (cs : List Case) → map (told b) cs ≡ map (toldOf (sizes b)) cs
-tellings b [] = refl
-tellings b (c ∷ cs) = λ i. told-sizes b c i ∷ tellings b cs i
+observations : (b : Buffers) (cs : List Case) → map (observed b) cs ≡ map (observedBy (sizes b)) cs
+observations b [] = refl
+observations b (c ∷ cs) = λ i. observed-sizes b c i ∷ observations b cs i
 
 abbrev pub largest : Sizes
-largest = record { cells = 65536; posts = 256; frames = 6496 }
+largest = record { cells = maxCells; posts = maxPosts; frames = frameNumbers }
 
-computed : map (toldOf largest) cases ≡ map due cases
-unfolding cases toldOf verdict decoding screen tell infer subtype subtypeIn removeAuthorised course eval apply evalWith addAuthorised has meet union insert remove subset
+computed : map (observedBy largest) cases ≡ map due cases
+unfolding cases observedBy verdict decoding screen tell infer subtype subtypeIn removeAuthorised course eval apply evalWith addAuthorised has meet union insert remove subset
 computed = refl
 
 -- The starred cases hold of the definitions, with buffers of the largest lengths, whatever they hold.
-pub starred : (b : Buffers) → sizes b ≡ largest → map (told b) cases ≡ map due cases
-starred b e = tellings b cases ∙ ap (λ (z : Sizes). map (toldOf z) cases) e ∙ computed
+pub starred : (b : Buffers) → sizes b ≡ largest → map (observed b) cases ≡ map due cases
+starred b e = observations b cases ∙ ap (λ (z : Sizes). map (observedBy z) cases) e ∙ computed

@@ -25,8 +25,8 @@ pub record Comparable (x y : Request) (b d : Buffers) : Type 0 where
 -- The two runs of demand 3: one with checks in force, one with checks passed over, and neither "turned back".
 pub record TwoRuns (s : List ℕ) (x y : Request) (b d : Buffers) : Type 0 where
   pub comparable : Comparable x y b d
-  pub in-force : x .enforce ≡ true
-  pub passed-over : y .enforce ≡ false
+  pub enforced : x .enforce ≡ true
+  pub skipped : y .enforce ≡ false
   pub first-starts : Starts s x b
   pub second-starts : Starts s y d
 

@@ -5,14 +5,14 @@ use mathlib.Core.Path.{_≡_, refl, sym, ap, _∙_, subst, subst₂}
 use Prim.Native.Nat.{ℕ}
 use lib.ListN.{length}
 use Rattle.program.specs.Layout.{root}
-use Rattle.program.specs.Screening.{Screening, clear, refused as found, screen}
+use Rattle.program.specs.Screening.{Screening, clear, found, screen}
 use Rattle.program.specs.Laws.Readable.{well-formed}
 use Rattle.typing.specs.Verdicts.{accepted, verdict}
 use Rattle.typing.specs.Theorems.{acceptance}
 use Rattle.semantics.specs.Runs.{Request, Buffers, sizes, framesOk, runConditions, After, run}
 use Rattle.semantics.specs.Theorems.{course-clear, course-found, run-course, starts-screened}
 use Rattle.soundness.specs.Claims.{GrantsSet, Comparable, TwoRuns, SameRun, Proper}
-use Rattle.soundness.specs.Laws.Runs.{same-conditions, same-evaluation, same-told, clear-readable, removed}
+use Rattle.soundness.specs.Laws.Runs.{same-conditions, same-evaluation, same-whole, clear-readable, removed}
 
 -- ---- Theorem 3: both runners give the same answer and posts
 -- For every bytes, readable or not, accepted or not; every start stack, the empty one too, allowances, lengths and contents of buffers; checks in
@@ -27,7 +27,7 @@ runners-agree s x y b d c e fx fy = go (screen (runConditions s x (sizes b))) re
     go : (z : Screening) → screen (runConditions s x (sizes b)) ≡ z → SameRun (run s x b) (run s y d)
     go clear h =
         subst₂ SameRun (sym (run-course s x b _ (course-clear s x b h))) (sym (run-course s y d _ (course-clear s y d (sym same ∙ h))))
-        (same-told (root s) x y b d c _ _ (same-evaluation s (well-formed s (clear-readable s x (sizes b) h)) x y b d c e))
+        (same-whole (root s) x y b d c _ _ (same-evaluation s (well-formed s (clear-readable s x (sizes b) h)) x y b d c e))
     go (found k p) h =
         subst₂ SameRun (sym (run-course s x b _ (course-found s x b k p h))) (sym (run-course s y d _ (course-found s y d k p (sym same ∙ h))))
         (record { same-answer = refl; same-posts = refl })
@@ -41,9 +41,9 @@ pub demand-3 : (s : List ℕ) (terms τ N : ℕ) (x y : Request) (b d : Buffers)
 demand-3 s n τ N x y b d e t g =
     let a = acceptance s n τ N e in
     let c = t .comparable in
-    let r = removed s (well-formed s (a .readable)) τ N (a .root-type) (a .needs .derivation) x y b d c (t .in-force) (t .passed-over) g in
+    let r = removed s (well-formed s (a .readable)) τ N (a .root-type) (a .needs .derivation) x y b d c (t .enforced) (t .skipped) g in
     let rx = run-course s x b _ (course-clear s x b (starts-screened s x b (t .first-starts))) in
     let ry = run-course s y d _ (course-clear s y d (starts-screened s y d (t .second-starts))) in (
-      subst₂ SameRun (sym rx) (sym ry) (same-told (root s) x y b d c _ _ (r .same-result)),
+      subst₂ SameRun (sym rx) (sym ry) (same-whole (root s) x y b d c _ _ (r .same-result)),
       subst (λ (z : After). Proper τ (z .answer)) (sym rx) (r .proper),
     )

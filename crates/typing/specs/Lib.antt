@@ -3,7 +3,5 @@ pub mod Rules
 pub mod Checking
 pub mod Verdicts
 pub mod Answers
-pub mod Judging
-pub mod Internal
 pub mod Laws
 pub mod Theorems

@@ -11,14 +11,14 @@ use borrow.Author.Tests.{ltb-true, lt-ltb}
 use Rattle.privileges.specs.Sets.{_⊆_}
 use Rattle.program.specs.Bytes.{Bytes}
 use Rattle.program.specs.Layout.{authority, terms, root, typesOf}
-use Rattle.program.specs.Screening.{Screening, clear, refused as unreadable}
+use Rattle.program.specs.Screening.{Screening, clear, found}
 use Rattle.program.specs.Decoding.{decoding, Readable}
 use Rattle.program.specs.Laws.Readable.{well-formed}
 use Rattle.program.specs.Laws.Types.{lower-types, distinct-types}
 use Rattle.program.specs.Laws.Trees.{program-standard}
 use Rattle.typing.specs.Subtyping.{Subtype, sub-same, subtype}
 use Rattle.typing.specs.Checking.{Judgement, typed, fault}
-use Rattle.typing.specs.Verdicts.{accepted, refused, concluded, ifReadable, judgement, verdict, SheetDerives}
+use Rattle.typing.specs.Verdicts.{accepted, rejected, concluded, ifReadable, judgement, verdict, SheetDerives}
 use Rattle.typing.specs.Laws.Subtyping.{sub-trans, sub-antisym, subtype-sound, subtype-complete}
 use Rattle.typing.specs.Laws.Checking.{infer-complete, infer-derives, derives-least}
 
@@ -61,29 +61,29 @@ record Inferred (s : List ℕ) (n τ N : ℕ) : Type 0 where
   root-type : τ < 2
   is : judgement s ≡ typed τ N
 
-refused≢accepted : {c p n τ N : ℕ} {A : Type 0} → refused c p ≡ accepted n τ N → A
-refused≢accepted e = absurd (let z : _≡_ {A = ℕ} 0 1 = cc in omega arith)
+rejected≢accepted : {c p n τ N : ℕ} {A : Type 0} → rejected c p ≡ accepted n τ N → A
+rejected≢accepted e = absurd (let z : _≡_ {A = ℕ} 0 1 = cc in omega arith)
 
 module _ (s : List ℕ) (n τ N : ℕ) where
   root-accepted : (σ M : ℕ) (b : Bool) → ltb σ 2 ≡ b → Readable s → judgement s ≡ typed σ M
-      → cond b (accepted (terms s) σ M) (refused 13 (root s)) ≡ accepted n τ N → Inferred s n τ N
+      → cond b (accepted (terms s) σ M) (rejected 13 (root s)) ≡ accepted n τ N → Inferred s n τ N
   root-accepted σ M true h r j e =
       let p : σ ≡ τ = cc in
       let q : M ≡ N = cc in
       record { readable = r; count = (let c : n ≡ terms s = cc in c); root-type = subst (λ x. x < 2) p (ltb-true σ 2 h); is = j ∙ λ i. typed (p i) (q i) }
-  root-accepted σ M false h r j e = refused≢accepted e
+  root-accepted σ M false h r j e = rejected≢accepted e
 
-  judged : (j : Judgement) → judgement s ≡ j → Readable s → concluded (terms s) (root s) j ≡ accepted n τ N → Inferred s n τ N
-  judged (typed σ M) h r e = root-accepted σ M (ltb σ 2) refl r h e
-  judged (fault c at) h r e = refused≢accepted e
+  concluded-accepted : (j : Judgement) → judgement s ≡ j → Readable s → concluded (terms s) (root s) j ≡ accepted n τ N → Inferred s n τ N
+  concluded-accepted (typed σ M) h r e = root-accepted σ M (ltb σ 2) refl r h e
+  concluded-accepted (fault c at) h r e = rejected≢accepted e
 
   inferred : verdict s ≡ accepted n τ N → Inferred s n τ N
   unfolding verdict
   inferred e = go (decoding s) refl e
     where
       go : (d : Screening) → decoding s ≡ d → ifReadable d (λ _. concluded (terms s) (root s) (judgement s)) ≡ accepted n τ N → Inferred s n τ N
-      go clear h f = judged (judgement s) refl h f
-      go (unreadable c p) h f = refused≢accepted f
+      go clear h f = concluded-accepted (judgement s) refl h f
+      go (found c p) h f = rejected≢accepted f
 
 -- an accepted sheet is readable and derivable, with the least needs
 pub acceptance : (s : List ℕ) (n τ N : ℕ) → verdict s ≡ accepted n τ N → Acceptance s n τ N
@@ -123,5 +123,6 @@ accepted-exactly s r = (forth, back)
           terms s,
           d .0,
           x .least,
-          (λ i. ifReadable (r i) (λ _. concluded (terms s) (root s) (x .is i))) ∙ λ i. cond (lt-ltb (d .0) 2 (d .2) i) (accepted (terms s) (d .0) (x .least)) (refused 13 (root s)),
+          (λ i. ifReadable (r i) (λ _. concluded (terms s) (root s) (x .is i)))
+              ∙ λ i. cond (lt-ltb (d .0) 2 (d .2) i) (accepted (terms s) (d .0) (x .least)) (rejected 13 (root s)),
         )

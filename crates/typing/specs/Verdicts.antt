@@ -5,23 +5,23 @@ use Prim.Native.Nat.{ℕ}
 use lib.Dec.{ltb}
 use Rattle.program.specs.Layout.{authority, terms, root, typesOf}
 use Rattle.program.specs.Terms.{program}
-use Rattle.program.specs.Screening.{Screening, clear, refused as unreadable}
+use Rattle.program.specs.Screening.{Screening, clear, found}
 use Rattle.program.specs.Decoding.{decoding}
 use Rattle.typing.specs.Rules.{Derives}
 use Rattle.typing.specs.Checking.{Judgement, typed, fault, infer}
 
 pub data Verdict : Type 0 where
   accepted : (terms type needs : ℕ) → Verdict
-  refused : (cause place : ℕ) → Verdict
+  rejected : (cause place : ℕ) → Verdict
 
 -- "The root has type 0 or 1."
 abbrev pub concluded : (terms root : ℕ) → Judgement → Verdict
-concluded n r (typed τ N) = cond (ltb τ 2) (accepted n τ N) (refused 13 r)
-concluded n r (fault c at) = refused c at
+concluded n r (typed τ N) = cond (ltb τ 2) (accepted n τ N) (rejected 13 r)
+concluded n r (fault c at) = rejected c at
 
 abbrev pub ifReadable : Screening → (Unit {0} → Verdict) → Verdict
 ifReadable clear k = k tt
-ifReadable (unreadable c p) k = refused c p
+ifReadable (found c p) k = rejected c p
 
 -- The program is judged without bindings. It is a sign, so that the principal named here is never looked at.
 abbrev pub judgement : List ℕ → Judgement

@@ -11,7 +11,7 @@ pub enum Fault {
 }
 
 // The type and needs of a term, or the first fault in it.
-pub enum Judged {
+pub enum Inferred {
     Typed { ty: u16, needs: u32 },
     Faulty(Fault),
 }

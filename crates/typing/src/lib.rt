@@ -1,5 +1,2 @@
-// The parts of the type checker that do not recurse over terms: subtyping, bindings, and each kind's rule once its children are judged.
+// What the type checker answers. The rules and the algorithm that decides them are in specs/; no function stands here.
 pub mod answer;
-pub mod bindings;
-pub mod steps;
-pub mod subtypes;

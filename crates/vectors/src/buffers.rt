@@ -7,31 +7,31 @@ use std::num::wrapping_add_u32;
 use std::num::wrapping_sub_u32;
 
 // Room for the largest of each, and one more: what is too long must be refused.
-pub fn most_start() -> [u32; 40]
+pub fn max_start() -> [u32; 40]
     ensures { λ r. ⌜ 40 ≡ length r ⌝ }
 {
     [0; 40]
 }
 
-pub fn most_sheet() -> [u8; 10895]
+pub fn max_sheet() -> [u8; 10895]
     ensures { λ r. ⌜ 10895 ≡ length r ⌝ }
 {
     [0; 10895]
 }
 
-pub fn most_cells() -> [u8; 65537]
+pub fn max_cells() -> [u8; 65537]
     ensures { λ r. ⌜ 65537 ≡ length r ⌝ }
 {
     [0; 65537]
 }
 
-pub fn most_posts() -> [u16; 257]
+pub fn max_posts() -> [u16; 257]
     ensures { λ r. ⌜ 257 ≡ length r ⌝ }
 {
     [0; 257]
 }
 
-pub fn most_frames() -> [u32; 6497]
+pub fn max_frames() -> [u32; 6497]
     ensures { λ r. ⌜ 6497 ≡ length r ⌝ }
 {
     [0; 6497]

@@ -7,14 +7,14 @@ mod output;
 use buffers::fill_cells;
 use buffers::fill_frames;
 use buffers::fill_posts;
+use buffers::max_cells;
+use buffers::max_frames;
+use buffers::max_posts;
+use buffers::max_sheet;
+use buffers::max_start;
 use buffers::mix_cells;
 use buffers::mix_frames;
 use buffers::mix_posts;
-use buffers::most_cells;
-use buffers::most_frames;
-use buffers::most_posts;
-use buffers::most_sheet;
-use buffers::most_start;
 use input::Vector;
 use input::read_start;
 use input::read_vector;
@@ -22,7 +22,7 @@ use output::line;
 use output::run_line;
 
 // The reader's and the type checker's answers.
-fn judge(sheet: &[u8]) {
+fn typecheck(sheet: &[u8]) {
     let mut answer = [0u32; 8];
     let r = capi::sovzedal_decode(sheet, &mut answer);
     line(b"decode", r, &answer);
@@ -136,7 +136,7 @@ fn vector(
 ) {
     read_start(start);
     io::read_full(0, sheet);
-    judge(sheet);
+    typecheck(sheet);
     eagers(sheet, start, v.calls, v.depth, cells, posts);
     lazies(sheet, start, v.calls, v.depth, cells, posts, frames);
 }
@@ -176,11 +176,11 @@ fn next(
 }
 
 fn one() -> bool {
-    let mut start = most_start();
-    let mut sheet = most_sheet();
-    let mut cells = most_cells();
-    let mut posts = most_posts();
-    let mut frames = most_frames();
+    let mut start = max_start();
+    let mut sheet = max_sheet();
+    let mut cells = max_cells();
+    let mut posts = max_posts();
+    let mut frames = max_frames();
     next(&mut start, &mut sheet, &mut cells, &mut posts, &mut frames)
 }
 

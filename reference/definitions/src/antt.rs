@@ -28,10 +28,10 @@ pub fn theorem(entries: &[Entry]) -> String {
 
 fn row(sheet: &str, row: &Row) -> String {
     match row {
-        Row::Judging(due) => format!("judging {sheet} {}", verdict(*due)),
+        Row::Deciding(due) => format!("deciding {sheet} {}", verdict(*due)),
         Row::Running(run) => format!(
             "running {sheet} {} {} (after {} {})",
-            asked(&run.asked),
+            request(&run.asked),
             buffers(&run.before),
             answer(run.answer),
             buffers(&run.after)
@@ -42,7 +42,7 @@ fn row(sheet: &str, row: &Row) -> String {
 fn verdict(verdict: Result<Verdict, Refusal>) -> String {
     match verdict {
         Ok(Verdict { terms, ty, needs }) => format!("(accepted {terms} {ty} {})", needs.bits()),
-        Err(refusal) => format!("(refused {})", cause_and_place(refusal)),
+        Err(refusal) => format!("(rejected {})", cause_and_place(refusal)),
     }
 }
 
@@ -50,14 +50,14 @@ fn cause_and_place(refusal: Refusal) -> String {
     format!("{} {}", refusal.cause.number(), refusal.place)
 }
 
-fn asked(asked: &Asked) -> String {
+fn request(asked: &Asked) -> String {
     let runner = match asked.runner {
         Runner::Eager => "eager",
         Runner::Lazy => "lazy",
     };
     let request = &asked.request;
     format!(
-        "(asked {runner} {} {} {} {})",
+        "(requestOf {runner} {} {} {} {})",
         asked.checks == Checks::InForce,
         list(&request.start),
         request.calls,
@@ -67,7 +67,7 @@ fn asked(asked: &Asked) -> String {
 
 fn buffers(buffers: &Buffers) -> String {
     format!(
-        "(lent {} {} {})",
+        "(buffersOf {} {} {})",
         list(&buffers.cells),
         list(&buffers.posts),
         frames(&buffers.frames)
@@ -94,7 +94,7 @@ fn answer(answer: Result<Run, Refusal>) -> String {
             run.cells,
             run.posts
         ),
-        Err(refusal) => format!("(turnedBack {})", cause_and_place(refusal)),
+        Err(refusal) => format!("(refused {})", cause_and_place(refusal)),
     }
 }
 
@@ -147,11 +147,11 @@ mod tests {
         assert_eq!(
             rows,
             [
-                "judging s (accepted 5 1 0)",
-                "running s (asked eager true [] 4096 100) \
-                 (lent (replicate 20 7) (8 ∷ 8 ∷ []) (9 ∷ [])) \
+                "deciding s (accepted 5 1 0)",
+                "running s (requestOf eager true [] 4096 100) \
+                 (buffersOf (replicate 20 7) (8 ∷ 8 ∷ []) (9 ∷ [])) \
                  (after (ran (ended (ground-num 7)) (counted 0 0 1)) \
-                 (lent (replicate 20 0) (7 ∷ 8 ∷ []) (9 ∷ [])))",
+                 (buffersOf (replicate 20 0) (7 ∷ 8 ∷ []) (9 ∷ [])))",
             ]
         );
     }

@@ -10,12 +10,13 @@ use sheets::rng::Rng;
 use sheets::{cases, smallest};
 use sovzedal_reference::{decode, Checks};
 
-const MOST_TYPES: usize = 12;
+const MAX_TYPES: usize = 12;
 /// Some twenty terms, beside a few types and principals.
-const MOST_BYTES: usize = 240;
+const MAX_BYTES: usize = 240;
 /// Some forty terms. What reading takes grows faster than the sheet.
-const MOST_BYTES_OF_FEW: usize = 480;
-const MOST_CALLS: u32 = 100;
+const MAX_BYTES_OF_FEW: usize = 480;
+/// Of a short run.
+const MAX_SHORT_CALLS: u32 = 100;
 
 const WAYS: [(Runner, Checks); 4] = [
     (Runner::Eager, Checks::InForce),
@@ -61,7 +62,7 @@ fn asked_in_all_ways(sheet: Vec<u8>, request: &Request) -> Entry {
 fn shortened(request: Request) -> Request {
     const CELL_BYTES: usize = 8 * 120;
     let calls = match request.calls {
-        ..=MAX_CALLS => request.calls.min(MOST_CALLS),
+        ..=MAX_CALLS => request.calls.min(MAX_SHORT_CALLS),
         too_many => too_many,
     };
     Request {
@@ -115,12 +116,12 @@ fn limits_of_requests() -> Entry {
 /// `None` if the sheet that is drawn is too large.
 fn random_entry(rng: &mut Rng) -> Option<Entry> {
     let sample = sample(rng);
-    let most_bytes = if rng.percent(10) {
-        MOST_BYTES_OF_FEW
+    let max_bytes = if rng.percent(10) {
+        MAX_BYTES_OF_FEW
     } else {
-        MOST_BYTES
+        MAX_BYTES
     };
-    if sample.bytes.len() > most_bytes || sample.world.types.len() > MOST_TYPES {
+    if sample.bytes.len() > max_bytes || sample.world.types.len() > MAX_TYPES {
         return None;
     }
     // Whatever is asked of an unreadable sheet, the answer is its refusal.
@@ -144,7 +145,7 @@ fn random_short(rng: &mut Rng, sample: &Sample, runner: Runner, checks: Checks) 
             request: Request::random_small(rng, &sample.world),
         };
         let answer = Running::answered(&sample.bytes, asked.clone()).answer;
-        if answer.map_or(0, |run| run.calls) <= MOST_CALLS {
+        if answer.map_or(0, |run| run.calls) <= MAX_SHORT_CALLS {
             return asked;
         }
     }

@@ -46,7 +46,7 @@ fn count(entries: &[Entry]) -> Tally {
     for entry in entries {
         for row in &entry.rows {
             match row {
-                Row::Judging(verdict) => {
+                Row::Deciding(verdict) => {
                     tally.count_judged(&entry.sheet, &Reply::from(*verdict).answer)
                 }
                 Row::Running(run) => tally.count_run(&Reply::from(run.answer).answer),

@@ -12,7 +12,7 @@ pub struct Entry {
 }
 
 pub enum Row {
-    Judging(Result<Verdict, Refusal>),
+    Deciding(Result<Verdict, Refusal>),
     Running(Box<Running>),
 }
 
@@ -48,7 +48,7 @@ pub struct Buffers {
 impl Entry {
     /// The sheet's verdict and these runs of it.
     pub fn answered(sheet: Vec<u8>, asked: impl IntoIterator<Item = Asked>) -> Self {
-        let mut rows = vec![Row::Judging(typecheck(&sheet))];
+        let mut rows = vec![Row::Deciding(typecheck(&sheet))];
         for asked in asked {
             let run = Running::answered(&sheet, asked);
             rows.push(Row::Running(Box::new(run)));

@@ -5,14 +5,14 @@ use std::collections::BTreeSet;
 use std::fs;
 use std::path::Path;
 
-const MOST_BYTES: usize = 200_000;
+const MAX_BYTES: usize = 200_000;
 
 #[test]
 fn every_cause_is_recorded() {
     let recording = Recording::make();
     let causes: BTreeSet<u32> = recording.stdout.lines().map(cause).collect();
     assert_eq!(causes, (0..=22).collect());
-    assert!(recording.stdin.len() <= MOST_BYTES);
+    assert!(recording.stdin.len() <= MAX_BYTES);
 }
 
 /// The first number of the answer, after the name and the returned number.

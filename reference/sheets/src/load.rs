@@ -10,8 +10,8 @@ pub const PLANTS: u64 = 60;
 pub const LINES: u64 = 4;
 pub const FRAMES: u64 = 900;
 
-const FEWEST_MEMBERS: usize = 40;
-const MOST_MEMBERS: usize = 300;
+const MIN_MEMBERS: usize = 40;
+const MAX_MEMBERS: usize = 300;
 
 /// Open calls are at most 100, so members come in blocks.
 const BLOCK: u16 = 90;
@@ -23,7 +23,7 @@ const POSTING: u8 = 1;
 /// The sheet of frame `index`, of all the frames of all lines and plants.
 pub fn frame_sheet(index: u64) -> Vec<u8> {
     let rng = &mut Rng::for_item(PLANTS * LINES * FRAMES, index);
-    let members = rng.between(FEWEST_MEMBERS, MOST_MEMBERS) as u16;
+    let members = rng.between(MIN_MEMBERS, MAX_MEMBERS) as u16;
     let lowest = rng.below(50) as u16;
     let authorised = 1 << POSTING;
     let counting = [TypeRecord::function(NUMBER, NUMBER, authorised)];

@@ -1,45 +1,121 @@
-//! The names in `docs/ARCHITECTURE.md` exist: each definition and theorem of
-//! its tables in the file that is given for it, each function in its crate.
-//! Where the repository is not around this workspace, there is nothing to
-//! compare.
+//! The names in the documents exist. In the tables of `docs/ARCHITECTURE.md`
+//! each definition and theorem is made in the file that is given for it, and
+//! each function in its module; what is defined has code or a theorem, and
+//! each crate has a row. Where the repository is not around this workspace,
+//! there is nothing to compare.
 
+use std::collections::BTreeMap;
+use std::fmt::Debug;
 use std::path::{Path, PathBuf};
 use std::{env, fs};
 
+/// The documents whose paths `crate::module::item` are looked up.
+const DOCUMENTS: [&str; 4] = [
+    "README.md",
+    "CONTRIBUTING.md",
+    "docs/ARCHITECTURE.md",
+    "docs/DECISIONS.md",
+];
+
+/// The cells of a table's row, each under the header of its column.
+type Row = BTreeMap<String, String>;
+
 #[test]
-fn the_tables_name_what_exists() {
-    let document = repository().join("docs/ARCHITECTURE.md");
-    if !document.exists() {
-        return;
-    }
-    let text = fs::read_to_string(document).expect("the document");
-    let (_, tables) = text
-        .split_once("\n## From 01 to the definitions\n")
-        .expect("the tables");
-    let cells: Vec<&str> = tables
-        .lines()
-        .filter(|line| line.starts_with("| ") && !line.starts_with("| 01 |"))
-        .flat_map(|line| line.split(" | ").skip(1))
-        .collect();
-    assert!(cells.len() > 100, "few cells: {}", cells.len());
-    let missing: Vec<String> = cells.iter().flat_map(|cell| missing_in(cell)).collect();
-    assert!(missing.is_empty(), "not found: {missing:#?}");
+fn definitions_and_theorems_exist() {
+    let rows = architecture();
+    let cells = cells(&rows, &["definition", "theorem or promise"]);
+    none("not found", cells.flat_map(missing_in));
 }
 
 #[test]
-fn the_functions_named_exist() {
-    let document = repository().join("docs/ARCHITECTURE.md");
-    if !document.exists() {
-        return;
+fn functions_exist() {
+    let rows = architecture();
+    let in_tables = cells(&rows, &["entry", "function", "code"]).flat_map(quoted);
+    none("not found", in_tables.filter(|path| !item_exists(path)));
+    for name in DOCUMENTS {
+        let text = document(name);
+        let paths = text.lines().flat_map(quoted).filter(|it| it.contains("::"));
+        none("not found", paths.filter(|path| !item_exists(path)));
     }
-    let text = fs::read_to_string(document).expect("the document");
-    let named: Vec<String> = text.lines().flat_map(functions).collect();
-    assert!(named.len() > 50, "few functions: {}", named.len());
-    let missing: Vec<String> = named
-        .into_iter()
-        .filter(|path| !function_exists(path))
+}
+
+#[test]
+fn words_of_promises_exist() {
+    let rows = architecture();
+    let sources = every_source("src").chain(every_source("specs"));
+    let sources: Vec<String> = sources.collect();
+    let expressions = cells(&rows, &["promise", "requires", "here"]).flat_map(quoted);
+    let words = expressions.flat_map(|text| text.split(|c| !part_of_name(c)));
+    let words = words.filter(|word| !word.is_empty());
+    none(
+        "not found",
+        words.filter(|word| !sources.iter().any(|source| has_word(source, word))),
+    );
+}
+
+#[test]
+fn a_definition_has_code_or_a_theorem() {
+    let rows = architecture();
+    let has = |row: &Row, column| !without_notes(&row[column]).trim().is_empty();
+    let defined = rows
+        .iter()
+        .filter(|row| row.contains_key("definition") && has(row, "definition"));
+    let bare = defined.filter(|row| !has(row, "code") && !has(row, "theorem or promise"));
+    none("neither code nor theorem", bare.map(|row| &row["01"]));
+}
+
+#[test]
+fn each_crate_has_a_row() {
+    let rows = architecture();
+    let text = document("crates.txt");
+    let listed = text.lines().filter_map(|line| line.split_once(':'));
+    let listed: BTreeMap<&str, &str> = listed.filter(|(name, _)| !name.contains('#')).collect();
+    let rows = rows.iter().filter(|row| row.contains_key("crate"));
+    let rows: BTreeMap<&str, &Row> = rows
+        .filter_map(|row| Some((quoted(&row["crate"]).next()?, row)))
         .collect();
-    assert!(missing.is_empty(), "not found: {missing:#?}");
+    assert_eq!(Vec::from_iter(rows.keys()), Vec::from_iter(listed.keys()));
+    for (name, row) in rows {
+        let below: Vec<&str> = listed[name].split_whitespace().collect();
+        none(
+            "not below it",
+            quoted(&row["builds on"]).filter(|name| !below.contains(name)),
+        );
+    }
+}
+
+/// The rows of all tables of `docs/ARCHITECTURE.md`.
+fn architecture() -> Vec<Row> {
+    let text = document("docs/ARCHITECTURE.md");
+    let mut rows: Vec<Row> = Vec::new();
+    let mut header: Vec<&str> = Vec::new();
+    for line in text.lines() {
+        let cells: Vec<&str> = line.trim_matches('|').split('|').map(str::trim).collect();
+        if !line.starts_with('|') {
+            header.clear();
+        } else if header.is_empty() {
+            header = cells;
+        } else if !line.starts_with("|---") {
+            assert_eq!(header.len(), cells.len(), "cells of {line}");
+            let owned = |(name, cell): (&&str, &&str)| (name.to_string(), cell.to_string());
+            rows.push(header.iter().zip(&cells).map(owned).collect());
+        }
+    }
+    assert!(text.is_empty() || rows.len() > 150, "rows: {}", rows.len());
+    rows
+}
+
+/// The cells of these columns that are not empty.
+fn cells<'a>(rows: &'a [Row], columns: &'a [&str]) -> impl Iterator<Item = &'a str> {
+    let cells = columns
+        .iter()
+        .flat_map(|column| rows.iter().filter_map(|row| row.get(*column)));
+    cells.map(String::as_str).filter(|cell| !cell.is_empty())
+}
+
+fn none<T: Debug>(wrong: &str, items: impl Iterator<Item = T>) {
+    let items: Vec<T> = items.collect();
+    assert!(items.is_empty(), "{wrong}: {items:#?}");
 }
 
 /// What a cell names and the repository lacks. A cell is parts with `;`
@@ -48,10 +124,7 @@ fn the_functions_named_exist() {
 fn missing_in(cell: &str) -> Vec<String> {
     let mut missing = Vec::new();
     let mut crate_name = "";
-    for part in without_notes(cell.trim_end_matches('|'))
-        .split(';')
-        .map(str::trim)
-    {
+    for part in without_notes(cell).split(';').map(str::trim) {
         if part.contains('`') {
             continue;
         }
@@ -70,7 +143,7 @@ fn missing_in(cell: &str) -> Vec<String> {
         if sources.is_empty() {
             missing.push(format!("{crate_name}/{file}"));
         }
-        let lacks = |name: &&str| !sources.iter().any(|source| has_word(source, name));
+        let lacks = |name: &&str| !sources.iter().any(|source| defines(source, name));
         let lacking = words(names).filter(lacks);
         missing.extend(lacking.map(|name| format!("{crate_name}/{file}: {name}")));
     }
@@ -100,41 +173,46 @@ fn words(names: &str) -> impl Iterator<Item = &str> {
         .flat_map(|path| path.split('.'))
 }
 
-/// The paths `crate::module::function` in backticks, without parameters.
-fn functions(line: &str) -> impl Iterator<Item = String> + '_ {
-    let quoted = line.split('`').skip(1).step_by(2);
-    let paths = quoted.filter(|name| name.contains("::"));
-    paths.map(|path| path.split('(').next().unwrap().to_string())
+/// What stands in backticks.
+fn quoted(text: &str) -> impl Iterator<Item = &str> {
+    text.split('`').skip(1).step_by(2)
 }
 
-/// Whether the crate has this function or module.
-fn function_exists(path: &str) -> bool {
-    let (crate_name, function) = path.split_once("::").expect("a path");
-    let function = function.rsplit("::").next().unwrap();
-    files(&repository().join("crates").join(crate_name).join("src"))
-        .iter()
-        .any(|source| {
-            ["fn", "mod"]
-                .iter()
-                .any(|item| has_word(source, &format!("{item} {function}")))
-        })
+/// Whether `crate::module::item`, which may have parameters, is in its module.
+fn item_exists(path: &str) -> bool {
+    let path = path.split('(').next().unwrap();
+    let Some((module, item)) = path.rsplit_once("::") else {
+        return false;
+    };
+    let (crate_name, files) = match module.split_once("::") {
+        Some((crate_name, file)) => (crate_name, vec![file]),
+        None => (module, vec!["lib", "main"]),
+    };
+    let folder = repository().join("crates").join(crate_name).join("src");
+    let paths = files.iter().map(|file| folder.join(format!("{file}.rt")));
+    let mut texts = paths.filter_map(|path| fs::read_to_string(path).ok());
+    let kinds = ["fn", "mod", "struct", "enum", "const"].map(|kind| format!("{kind} {item}"));
+    texts.any(|text| kinds.iter().any(|kind| has_word(&text, kind)))
 }
 
 /// The texts that a name may stand in: the file of the crate, or every
 /// crate's if none is named.
 fn sources(crate_name: &str, file: &str) -> Vec<String> {
-    let crates = repository().join("crates");
     if file.is_empty() {
-        let every = fs::read_dir(crates).expect("the crates");
-        return every
-            .flat_map(|entry| files(&entry.expect("a crate").path().join("specs")))
-            .collect();
+        return every_source("specs").collect();
     }
     let path = format!("{crate_name}/specs/{}.antt", file.replace('.', "/"));
-    fs::read_to_string(crates.join(path))
-        .iter()
-        .map(without_comments)
+    fs::read_to_string(repository().join("crates").join(path))
+        .into_iter()
+        .map(|text| without_comments(&text))
         .collect()
+}
+
+/// The texts in this folder of every crate.
+fn every_source(folder: &'static str) -> impl Iterator<Item = String> {
+    let crates = fs::read_dir(repository().join("crates"));
+    let crates = crates.into_iter().flatten();
+    crates.flat_map(move |entry| files(&entry.expect("a crate").path().join(folder)))
 }
 
 /// The texts of all files below a directory, without comments.
@@ -153,22 +231,40 @@ fn files(directory: &Path) -> Vec<String> {
         .collect()
 }
 
-fn without_comments(text: &String) -> String {
-    let code = |line: &&str| !line.trim_start().starts_with("--");
+fn without_comments(text: &str) -> String {
+    let comment = |line: &str| line.starts_with("--") || line.starts_with("//");
     text.lines()
-        .filter(code)
+        .filter(|line| !comment(line.trim_start()))
         .flat_map(|line| [line, "\n"])
         .collect()
 }
 
+/// Whether the text gives this name a type.
+fn defines(text: &str, name: &str) -> bool {
+    let mut heads = text.lines().filter_map(|line| line.split_once(" :"));
+    heads.any(|(head, _)| has_word(head, name))
+}
+
 /// Whether the text has this name as a word of its own.
 fn has_word(text: &str, name: &str) -> bool {
-    let part_of_name = |c: char| c.is_alphanumeric() || "-_'".contains(c);
     text.match_indices(name).any(|(at, _)| {
         let before = text[..at].chars().next_back();
         let after = text[at + name.len()..].chars().next();
         !before.is_some_and(part_of_name) && !after.is_some_and(part_of_name)
     })
+}
+
+fn part_of_name(c: char) -> bool {
+    c.is_alphanumeric() || "-_'".contains(c)
+}
+
+/// A text of the repository, empty where that is not around this workspace.
+fn document(name: &str) -> String {
+    if !repository().join("crates").exists() {
+        return String::new();
+    }
+    let text = fs::read_to_string(repository().join(name));
+    text.unwrap_or_else(|error| panic!("{name}: {error}"))
 }
 
 /// Asked when the test runs: a path compiled in would outlive a move.

@@ -4,8 +4,8 @@
 use mathlib.Core.List.{[]}
 use mathlib.Core.Path.{ap}
 use Rattle.semantics.specs.Runs.{eager, After, run}
-use Rattle.interp.specs.Answers.{asked, lent}
-use Rattle.capi.specs.Replies.{inForce}
+use Rattle.interp.specs.Answers.{requestOf, buffersOf}
+use Rattle.capi.specs.Replies.{enforces}
 use Rattle.capi.proofs.EntryLaws.{run-away, run-given, small}
 use borrow.Author.Needs.{needs}
 use Rattle.capi.proofs.sovzedal_run_eager.Statement.{statement}
@@ -14,9 +14,9 @@ use Rattle.capi.proofs.sovzedal_run_eager.Tie as tie
 returns : tie.Need-returns
 returns c =
     let start = c .before .before .before .before .before .before in
-    run-away (start .args .answer .now) (c .if1 .taken) (lent (start .args .cells .now) (start .args .posts .now) [])
-    (run (start .args .sheet .now) (asked eager (inForce (start .args .enforce)) (start .args .start .now) (start .args .calls) (start .args .depth))
-    (lent (start .args .cells .now) (start .args .posts .now) []))
+    run-away (start .args .answer .now) (c .if1 .taken) (buffersOf (start .args .cells .now) (start .args .posts .now) [])
+    (run (start .args .sheet .now) (requestOf eager (enforces (start .args .enforce)) (start .args .start .now) (start .args .calls) (start .args .depth))
+    (buffersOf (start .args .cells .now) (start .args .posts .now) []))
 
 run-eager-requires : tie.Need-run-eager-requires
 run-eager-requires c κs = search needs
@@ -25,8 +25,8 @@ of-run-requires : tie.Need-of-run-requires
 of-run-requires c κs =
     let at-run-eager = c .before .before .before .before in
     let start = at-run-eager .before .before .before .before .before .before .before .before .before in
-    small (start .args .sheet .now) (asked eager (inForce (start .args .enforce)) (start .args .start .now) (start .args .calls) (start .args .depth))
-    (lent (start .args .cells .now) (start .args .posts .now) []) (at-run-eager .run-eager .result)
+    small (start .args .sheet .now) (requestOf eager (enforces (start .args .enforce)) (start .args .start .now) (start .args .calls) (start .args .depth))
+    (buffersOf (start .args .cells .now) (start .args .posts .now) []) (at-run-eager .run-eager .result)
     (ap (λ (a : After). a .answer) (at-run-eager .run-eager .ensures))
 
 put-requires : tie.Need-put-requires
@@ -49,9 +49,9 @@ returns-2 c =
     let at-run-eager = at-of-run .before .before .before .before .before in
     let at-if1 = at-run-eager .before .before .before in
     let start = at-if1 .before .before .before .before .before .before in
-    run-given (start .args .answer .now) (at-if1 .if1 .left) (lent (start .args .cells .now) (start .args .posts .now) []) _
-    (run (start .args .sheet .now) (asked eager (inForce (start .args .enforce)) (start .args .start .now) (start .args .calls) (start .args .depth))
-    (lent (start .args .cells .now) (start .args .posts .now) [])) (at-run-eager .run-eager .result) (at-of-run .of-run .ensures)
+    run-given (start .args .answer .now) (at-if1 .if1 .left) (buffersOf (start .args .cells .now) (start .args .posts .now) []) _
+    (run (start .args .sheet .now) (requestOf eager (enforces (start .args .enforce)) (start .args .start .now) (start .args .calls) (start .args .depth))
+    (buffersOf (start .args .cells .now) (start .args .posts .now) [])) (at-run-eager .run-eager .result) (at-of-run .of-run .ensures)
     (c .before .before .put .ensures) (at-run-eager .run-eager .ensures)
 
 pub sovzedal-run-eager-spec : {M : Type 1} → statement M

@@ -3,8 +3,8 @@
 -- since a run that is not refused makes at most 4,096 calls, 8,192 cells and 256 posts (small).
 use mathlib.Core.Path.{ap}
 use Rattle.semantics.specs.Runs.{lazy, After, run}
-use Rattle.interp.specs.Answers.{asked, lent}
-use Rattle.capi.specs.Replies.{inForce}
+use Rattle.interp.specs.Answers.{requestOf, buffersOf}
+use Rattle.capi.specs.Replies.{enforces}
 use Rattle.capi.proofs.EntryLaws.{run-away, run-given, small}
 use borrow.Author.Needs.{needs}
 use Rattle.capi.proofs.sovzedal_run_lazy.Statement.{statement}
@@ -13,9 +13,9 @@ use Rattle.capi.proofs.sovzedal_run_lazy.Tie as tie
 returns : tie.Need-returns
 returns c =
     let start = c .before .before .before .before .before .before .before in
-    run-away (start .args .answer .now) (c .if1 .taken) (lent (start .args .cells .now) (start .args .posts .now) (start .args .frames .now))
-    (run (start .args .sheet .now) (asked lazy (inForce (start .args .enforce)) (start .args .start .now) (start .args .calls) (start .args .depth))
-    (lent (start .args .cells .now) (start .args .posts .now) (start .args .frames .now)))
+    run-away (start .args .answer .now) (c .if1 .taken) (buffersOf (start .args .cells .now) (start .args .posts .now) (start .args .frames .now))
+    (run (start .args .sheet .now) (requestOf lazy (enforces (start .args .enforce)) (start .args .start .now) (start .args .calls) (start .args .depth))
+    (buffersOf (start .args .cells .now) (start .args .posts .now) (start .args .frames .now)))
 
 run-lazy-requires : tie.Need-run-lazy-requires
 run-lazy-requires c κs = search needs
@@ -24,8 +24,8 @@ of-run-requires : tie.Need-of-run-requires
 of-run-requires c κs =
     let at-run-lazy = c .before .before .before .before .before .before in
     let start = at-run-lazy .before .before .before .before .before .before .before .before .before .before .before in
-    small (start .args .sheet .now) (asked lazy (inForce (start .args .enforce)) (start .args .start .now) (start .args .calls) (start .args .depth))
-    (lent (start .args .cells .now) (start .args .posts .now) (start .args .frames .now)) (at-run-lazy .run-lazy .result)
+    small (start .args .sheet .now) (requestOf lazy (enforces (start .args .enforce)) (start .args .start .now) (start .args .calls) (start .args .depth))
+    (buffersOf (start .args .cells .now) (start .args .posts .now) (start .args .frames .now)) (at-run-lazy .run-lazy .result)
     (ap (λ (a : After). a .answer) (at-run-lazy .run-lazy .ensures))
 
 put-requires : tie.Need-put-requires
@@ -51,9 +51,9 @@ returns-2 c =
     let at-run-lazy = at-of-run .before .before .before .before .before .before .before in
     let at-if1 = at-run-lazy .before .before .before .before in
     let start = at-if1 .before .before .before .before .before .before .before in
-    run-given (start .args .answer .now) (at-if1 .if1 .left) (lent (start .args .cells .now) (start .args .posts .now) (start .args .frames .now)) _
-    (run (start .args .sheet .now) (asked lazy (inForce (start .args .enforce)) (start .args .start .now) (start .args .calls) (start .args .depth))
-    (lent (start .args .cells .now) (start .args .posts .now) (start .args .frames .now))) (at-run-lazy .run-lazy .result) (at-of-run .of-run .ensures)
+    run-given (start .args .answer .now) (at-if1 .if1 .left) (buffersOf (start .args .cells .now) (start .args .posts .now) (start .args .frames .now)) _
+    (run (start .args .sheet .now) (requestOf lazy (enforces (start .args .enforce)) (start .args .start .now) (start .args .calls) (start .args .depth))
+    (buffersOf (start .args .cells .now) (start .args .posts .now) (start .args .frames .now))) (at-run-lazy .run-lazy .result) (at-of-run .of-run .ensures)
     (c .before .before .put .ensures) (at-run-lazy .run-lazy .ensures)
 
 pub sovzedal-run-lazy-spec : {M : Type 1} → statement M

@@ -1,6 +1,6 @@
 -- `sovzedal_typecheck` returns 3 and leaves a list shorter than eight as it was (away). In any other list `put` leaves the reply of `of_verdict` (given),
 -- which is the definition's, since `typecheck` gives the definition's verdict.
-use Rattle.capi.specs.Replies.{judged, typecheckReply}
+use Rattle.capi.specs.Replies.{verdictReply, typecheckReply}
 use Rattle.capi.proofs.EntryLaws.{away, given}
 use mathlib.Core.Path.{_∙_, ap}
 use borrow.Author.Needs.{needs}
@@ -30,7 +30,7 @@ returns-2 c =
     let at-typecheck = at-of-verdict .before in
     let at-if1 = at-typecheck .before in
     let start = at-if1 .before .before .before in
-    given (start .args .answer .now) (at-if1 .if1 .left) (at-of-verdict .of-verdict .ensures ∙ ap judged (at-typecheck .typecheck .ensures))
+    given (start .args .answer .now) (at-if1 .if1 .left) (at-of-verdict .of-verdict .ensures ∙ ap verdictReply (at-typecheck .typecheck .ensures))
     (c .before .before .put .ensures)
 
 pub sovzedal-typecheck-spec : {M : Type 1} → statement M

@@ -14,8 +14,8 @@ enum-known-d c = search needs
 enum-known-d-2 : tie.Need-enum-known-d-2
 enum-known-d-2 c = search needs
 
-judge-program-requires : tie.Need-judge-program-requires
-judge-program-requires c κs =
+infer-program-requires : tie.Need-infer-program-requires
+infer-program-requires c κs =
     let at-decode = c .before .before .before in
     let start = at-decode .before .before in
     readable-sheet (start .args .sheet .now) (at-decode .decode .ensures .0) (c .before .d2 .given .1) (at-decode .decode .ensures .1)
@@ -29,9 +29,9 @@ returns-2 : tie.Need-returns-2
 returns-2 c =
     let at-decode = c .before .before .before .before in
     let start = at-decode .before .before in
-    readable-is (start .args .sheet .now) (at-decode .decode .ensures .0) (c .before .before .d2 .given .1) (c .judge-program .ensures)
+    readable-is (start .args .sheet .now) (at-decode .decode .ensures .0) (c .before .before .d2 .given .1) (c .infer-program .ensures)
 
 pub typecheck-spec : {M : Type 1} → statement M
 typecheck-spec =
     tie.close
-    (tie.spec decode-requires enum-known-d enum-known-d-2 judge-program-requires returns returns-2)
+    (tie.spec decode-requires enum-known-d enum-known-d-2 infer-program-requires returns returns-2)

@@ -4,7 +4,7 @@ use mathlib.Core.Path.{_∙_}
 use native.Mathlib.Omega.{arith}
 use Rattle.program.specs.Laws.Readable.{fields-ok}
 use Rattle.decoder.proofs.NestingLaws.{rising-at, deep-at}
-use Rattle.program.specs.Laws.Order.{told-8, told-readable}
+use Rattle.program.specs.Laws.Order.{found-8, none-found-readable}
 use Rattle.decoder.proofs.DecodeLaws.{found-at, found-none}
 use borrow.Author.Needs.{needs}
 use Rattle.decoder.proofs.nested.Statement.{statement}
@@ -12,21 +12,20 @@ use Rattle.decoder.proofs.nested.Tie as tie
 
 nestings-requires : tie.Need-nestings-requires
 nestings-requires c κs =
-    let start = c .before in (
-      (
-        omega (arith, (fields-ok (start .args .s .now) (start .pre .0 .none-found)) .terms-low, start .pre .0 .counts-are .terms-are),
-        omega
-            (arith, (fields-ok (start .args .s .now) (start .pre .0 .none-found)) .terms-high, start .pre .0 .counts-are .terms-are),
-      ),
-      rising-at (start .args .s .now)
-          (start .args .parents .now) (start .pre .1 .1 .0) ((fields-ok (start .args .s .now) (start .pre .0 .none-found)) .terms-high) (start .pre .1 .1 .1)
-          (start .pre .0 .counts-are .terms-are),
-    )
+    let start = c .before in
+    let laid = start .pre .tables .laid in
+    let fields = fields-ok (start .args .s .now) (laid .none-found) in
+    record {
+      low = omega (arith, fields .terms-low, laid .counts-are .terms-are);
+      high = omega (arith, fields .terms-high, laid .counts-are .terms-are);
+      rising = rising-at (start .args .s .now) (start .args .parents .now) (start .pre .tables .terms-ok) (fields .terms-high) (start .pre .places-ok)
+          (laid .counts-are .terms-are);
+    }
 
 too-deep-requires : tie.Need-too-deep-requires
 too-deep-requires c κs =
     let start = c .before .before .before in
-    omega (arith, (fields-ok (start .args .s .now) (start .pre .0 .none-found)) .terms-high, start .pre .0 .counts-are .terms-are)
+    omega (arith, (fields-ok (start .args .s .now) (start .pre .tables .laid .none-found)) .terms-high, start .pre .tables .laid .counts-are .terms-are)
 
 enum-known-t : tie.Need-enum-known-t
 enum-known-t c = search needs
@@ -38,10 +37,10 @@ returns : tie.Need-returns
 returns c =
     let at-nestings = c .before .before .before .before .before in
     let start = at-nestings .before .before in (
-      told-8 (start .args .s .now) (start .pre .1 .0 .none-found) (start .pre .1 .1 .0 .none-found) (start .pre .1 .1 .1 .none-found)
+      found-8 (start .args .s .now) (start .pre .tables .types-ok .none-found) (start .pre .tables .terms-ok .none-found) (start .pre .places-ok .none-found)
           (found-at (c .before .t .given .1) (c .before .before .before .too-deep .ensures ∙ deep-at (start .args .s .now) (start .args .parents .now)
-          (start .pre .1 .1 .0) ((fields-ok (start .args .s .now) (start .pre .0 .none-found)) .terms-high) (start .pre .1 .1 .1)
-          (start .pre .0 .counts-are .terms-are) _ (at-nestings .nestings .ensures))),
+          (start .pre .tables .terms-ok) ((fields-ok (start .args .s .now) (start .pre .tables .laid .none-found)) .terms-high) (start .pre .places-ok)
+          (start .pre .tables .laid .counts-are .terms-are) _ (at-nestings .nestings .ensures))),
       tt,
     )
 
@@ -49,11 +48,12 @@ returns-2 : tie.Need-returns-2
 returns-2 c =
     let at-nestings = c .before .before .before .before in
     let start = at-nestings .before .before in (
-      told-readable (start .args .s .now) (start .pre .1 .0 .none-found) (start .pre .1 .1 .0 .none-found) (start .pre .1 .1 .1 .none-found)
-          (found-none (c .enum-told .given .1) (c .before .before .too-deep .ensures ∙ deep-at (start .args .s .now) (start .args .parents .now) (start .pre .1 .1 .0)
-          ((fields-ok (start .args .s .now) (start .pre .0 .none-found)) .terms-high) (start .pre .1 .1 .1) (start .pre .0 .counts-are .terms-are) _
+      none-found-readable (start .args .s .now) (start .pre .tables .types-ok .none-found) (start .pre .tables .terms-ok .none-found) (start .pre .places-ok .none-found)
+          (found-none (c .enum-told .given .1) (c .before .before .too-deep .ensures ∙ deep-at (start .args .s .now) (start .args .parents .now)
+          (start .pre .tables .terms-ok)
+          ((fields-ok (start .args .s .now) (start .pre .tables .laid .none-found)) .terms-high) (start .pre .places-ok) (start .pre .tables .laid .counts-are .terms-are) _
           (at-nestings .nestings .ensures))),
-      start .pre .0 .counts-are,
+      start .pre .tables .laid .counts-are,
     )
 
 pub nested-spec : {M : Type 1} → statement M

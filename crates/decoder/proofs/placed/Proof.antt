@@ -1,6 +1,6 @@
 -- A term that is wrongly placed is refusal 7, since types and terms are right (told-7). Where none is found, that and the list of parents is what
 -- `nested` requires, and its answer is the answer.
-use Rattle.program.specs.Laws.Order.{told-7}
+use Rattle.program.specs.Laws.Order.{found-7}
 use Rattle.decoder.proofs.DecodeLaws.{found-at, found-none}
 use borrow.Author.Needs.{needs}
 use Rattle.decoder.proofs.placed.Statement.{statement}
@@ -21,25 +21,20 @@ enum-told c = search needs
 nested-requires : tie.Need-nested-requires
 nested-requires c κs =
     let at-parents-of = c .before .before .before .before .before in
-    let start = at-parents-of .before .before in (
-      start .pre .0,
-      (
-        start .pre .1 .0,
-        (
-          start .pre .1 .1,
-          record {
-            none-found = found-none (c .before .enum-told .given .1)
-                (c .before .before .before .bad-place .ensures);
-            links = at-parents-of .parents-of .ensures;
-          },
-        ),
-      ),
-    )
+    let start = at-parents-of .before .before in
+    record {
+      tables = start .pre;
+      places-ok = record {
+        none-found = found-none (c .before .enum-told .given .1)
+            (c .before .before .before .bad-place .ensures);
+        links = at-parents-of .parents-of .ensures;
+      };
+    }
 
 returns : tie.Need-returns
 returns c =
     let start = c .before .before .before .before .before .before .before in (
-      told-7 (start .args .s .now) (start .pre .1 .0 .none-found) (start .pre .1 .1 .none-found)
+      found-7 (start .args .s .now) (start .pre .types-ok .none-found) (start .pre .terms-ok .none-found)
           (found-at (c .before .t .given .1) (c .before .before .before .bad-place .ensures)),
       tt,
     )

@@ -1,6 +1,6 @@
 -- Types are searched before terms: a type at fault is refusal 5, a term at fault, where no type is, refusal 6 (Laws/Order). Where neither is
 -- found, that is what `placed` requires, and its answer is the answer.
-use Rattle.program.specs.Laws.Order.{told-5, told-6}
+use Rattle.program.specs.Laws.Order.{found-5, found-6}
 use Rattle.decoder.proofs.DecodeLaws.{found-at, found-none}
 use borrow.Author.Needs.{needs}
 use Rattle.decoder.proofs.tables.Statement.{statement}
@@ -27,25 +27,24 @@ enum-told-2 c = search needs
 placed-requires : tie.Need-placed-requires
 placed-requires c κs =
     let at-bad-type = c .before .before .before .before .before in
-    let start = at-bad-type .before .before in (
-      start .pre,
-      (
-        (record { none-found = found-none (c .before .before .before .enum-told .given .1) (at-bad-type .bad-type .ensures) }),
-        record { none-found = found-none (c .enum-told2 .given .1) (c .before .before .bad-term .ensures) },
-      ),
-    )
+    let start = at-bad-type .before .before in
+    record {
+      laid = start .pre;
+      types-ok = record { none-found = found-none (c .before .before .before .enum-told .given .1) (at-bad-type .bad-type .ensures) };
+      terms-ok = record { none-found = found-none (c .enum-told2 .given .1) (c .before .before .bad-term .ensures) };
+    }
 
 returns : tie.Need-returns
 returns c =
     let start = c .before .before .before .before .before in
-    (told-5 (start .args .s .now) (found-at (c .before .t .given .1) (c .before .before .before .bad-type .ensures)), tt)
+    (found-5 (start .args .s .now) (found-at (c .before .t .given .1) (c .before .before .before .bad-type .ensures)), tt)
 
 returns-2 : tie.Need-returns-2
 returns-2 c =
     let at-enum-told = c .before .before .before .before in
     let at-bad-type = at-enum-told .before .before in
     let start = at-bad-type .before .before in (
-      told-6 (start .args .s .now) (found-none (at-enum-told .enum-told .given .1) (at-bad-type .bad-type .ensures))
+      found-6 (start .args .s .now) (found-none (at-enum-told .enum-told .given .1) (at-bad-type .bad-type .ensures))
           (found-at (c .before .t2 .given .1) (c .before .before .before .bad-term .ensures)),
       tt,
     )

@@ -13,7 +13,7 @@ use Rattle.machine.specs.Store.{shapeOf}
 use Rattle.evaluator.specs.Contracts.{workLeft}
 use Rattle.evaluator.proofs.ContractLaws.{ends, ends-same, goes-on, stays, follows, same-cells}
 use Rattle.evaluator.proofs.ShapeLaws.{node-of, node-leaf, node-post, pair-of, nine-or-ten, first-below, second-below, third-below, privilege-below, lower, tail-of, tail-stops, next-below, tail-goes, boolean-is, number-is, variable-is, function-is, operand-below, pair-is, pair-applies, pair-operates, post-is, if-is, enable-is, branch-stuck, branch-to, chosen-below, apply-stuck, apply-deep, apply-spent, apply-full, apply-runs, one-call-less, post-done, post-calls}
-use Rattle.machine.proofs.CellLaws.{bound-full}
+use Rattle.stores.proofs.CellLaws.{bound-full}
 use Prim.Native.Nat.{ℕ, _<_}
 use borrow.Fn.Kinds.{In}
 use borrow.Fn.PlainCycle.{Measures, is, falls, and}
@@ -38,12 +38,12 @@ use Rattle.evaluator.proofs.+apply+eval+eval_enable+eval_if+eval_pair+e
 use Rattle.evaluator.proofs.eval_tail.Reads as eval-tail
 use Rattle.evaluator.proofs.eval_tail.Kinds as eval-tail-kinds
 use Rattle.evaluator.proofs.+apply+eval+eval_enable+eval_if+eval_pair+eval_post+eval_tail.Lts-eval_tail as eval-tail-lts
-use Rattle.machine.proofs.access.enable.Reads as enable-reads
-use Rattle.machine.proofs.access.enabled_now.Reads as enabled-now-reads
-use Rattle.machine.proofs.access.restore.Reads as restore-reads
-use Rattle.machine.proofs.cells.bind.Reads as bind-reads
-use Rattle.machine.proofs.cells.look.Reads as look-reads
-use Rattle.machine.proofs.cells.next_cell.Reads as next-cell-reads
+use Rattle.stores.proofs.access.enable.Reads as enable-reads
+use Rattle.stores.proofs.access.enabled_now.Reads as enabled-now-reads
+use Rattle.stores.proofs.access.restore.Reads as restore-reads
+use Rattle.stores.proofs.cells.bind.Reads as bind-reads
+use Rattle.stores.proofs.cells.look.Reads as look-reads
+use Rattle.stores.proofs.cells.next_cell.Reads as next-cell-reads
 use Rattle.machine.proofs.enter.enter.Reads as enter-reads
 use Rattle.machine.proofs.steps.append.Reads as append-reads
 use Rattle.machine.proofs.steps.choose.Reads as choose-reads
@@ -54,14 +54,14 @@ use Rattle.machine.proofs.table.second_of.Reads as second-of-reads
 use Rattle.machine.proofs.table.small_of.Reads as small-of-reads
 use Rattle.machine.proofs.table.third_of.Reads as third-of-reads
 use Rattle.machine.proofs.table.word_at.Reads as word-at-reads
-use Rattle.machine.proofs.words.boolean.Reads as boolean-reads
-use Rattle.machine.proofs.words.env.Reads as env-reads
-use Rattle.machine.proofs.words.function.Reads as function-reads
-use Rattle.machine.proofs.words.is_stop.Reads as is-stop-reads
-use Rattle.machine.proofs.words.number.Reads as number-reads
-use Rattle.machine.proofs.words.payload.Reads as payload-reads
-use Rattle.machine.proofs.words.sort.Reads as sort-reads
-use Rattle.machine.proofs.words.stop.Reads as stop-reads
+use Rattle.stores.proofs.words.boolean.Reads as boolean-reads
+use Rattle.stores.proofs.words.env.Reads as env-reads
+use Rattle.stores.proofs.words.function.Reads as function-reads
+use Rattle.stores.proofs.words.is_stop.Reads as is-stop-reads
+use Rattle.stores.proofs.words.number.Reads as number-reads
+use Rattle.stores.proofs.words.payload.Reads as payload-reads
+use Rattle.stores.proofs.words.sort.Reads as sort-reads
+use Rattle.stores.proofs.words.stop.Reads as stop-reads
 use Rattle.evaluator.proofs.+apply+eval+eval_enable+eval_if+eval_pair+eval_post+eval_tail.{
   statement,
 }
@@ -758,7 +758,7 @@ eval-tail-slice-aggregate-enter-2 t c = search needs
 eval-tail-enter-requires : (t : ℕ) → eval-tail-lts.Need-enter-requires (eval-tail-claims t) (eval-tail-at t) eval-tail.Post
 eval-tail-enter-requires t c κs =
     let start = c .before .before .before in
-    (start .pre .1 .tail, lower (start .pre .1 .node) .privilege)
+    record { kind = start .pre .1 .tail; privilege = lower (start .pre .1 .node) .privilege }
 
 eval-tail-is-stop-requires : (t : ℕ) → eval-tail-lts.Need-is-stop-requires (eval-tail-claims t) (eval-tail-at t) eval-tail.Post
 eval-tail-is-stop-requires t c κs = search needs

@@ -6,7 +6,7 @@ use mathlib.Core.Path.{refl, sym, ap}
 use Prim.Native.Nat.{_-_}
 use Rattle.evaluator.specs.Contracts.{Names}
 use Rattle.evaluator.specs.Laws.{table-of}
-use Rattle.interp.proofs.RunLaws.{empty-table, frames-back, told-by}
+use Rattle.interp.proofs.RunLaws.{empty-table, frames-back, answered-by}
 use Rattle.interp.proofs.evaluate.Statement.{statement}
 use Rattle.interp.proofs.evaluate.Tie as tie
 
@@ -18,7 +18,7 @@ sub-root c =
 decode-terms-requires : tie.Need-decode-terms-requires
 decode-terms-requires c κs =
     let start = c .before .before .before .before .before .before in
-    (start .pre .0, (start .pre .1, empty-table _ refl))
+    record { well-formed = start .pre .0; counts = start .pre .1; empty = empty-table _ refl }
 
 run-requires : tie.Need-run-requires
 run-requires c κs =
@@ -68,7 +68,7 @@ returns c =
     let e = at-run .run .ensures in record {
       terms = _;
       table = at-decode-terms .decode-terms .ensures;
-      tells = told-by (start .args .c .terms - 1)
+      answered = answered-by (start .args .c .terms - 1)
           (start .args .calls) (frames-back (at-frames .frames .given .1 .0 (sym (ap (λ (m : Names). m .frames) (e .names)))) (e .done))
           (c .before .out-of .ensures)
           (c .outcome-of .ensures) (at-clear .clear .ensures);

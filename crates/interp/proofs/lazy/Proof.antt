@@ -3,6 +3,7 @@ use native.Mathlib.Omega.{arith}
 use mathlib.Core.Path.{refl}
 use borrow.Author.Tests.{eqb-true}
 use lib.ListN.{length}
+use Rattle.program.specs.Limits.{frameNumbers}
 use Rattle.interp.proofs.RunLaws.{lazy-after}
 use borrow.Author.Needs.{needs}
 use Rattle.interp.proofs.lazy.Statement.{statement}
@@ -11,7 +12,7 @@ use Rattle.interp.proofs.lazy.Tie as tie
 lay-frames-requires : tie.Need-lay-frames-requires
 lay-frames-requires c κs =
     let start = c .before .before .before .before .before .before in
-    (start .pre .whole, omega (arith, eqb-true (length (start .args .frames .now)) 6496 (start .pre .frames-right)))
+    record { whole = start .pre .whole; room = omega (arith, eqb-true (length (start .args .frames .now)) frameNumbers (start .pre .frames-right)) }
 
 mode-of-requires : tie.Need-mode-of-requires
 mode-of-requires c κs = search needs

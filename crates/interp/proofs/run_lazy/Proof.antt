@@ -3,6 +3,7 @@
 use borrow.Author.Needs.{needs}
 use lib.Dec.{eqb}
 use lib.ListN.{length}
+use Rattle.program.specs.Limits.{frameNumbers}
 use Rattle.interp.proofs.RunLaws.{is-admitted, lazy-refused}
 use Rattle.interp.proofs.run_lazy.Statement.{statement}
 use Rattle.interp.proofs.run_lazy.Tie as tie
@@ -22,7 +23,7 @@ lazy-requires c κs =
     let at-admit = at-a2 .before .before in
     let start = at-admit .before .before .before .before .before .before in
     is-admitted (start .args .sheet .now) (start .args .start .now) (start .args .enforce) (start .args .cells .now) (start .args .posts .now)
-    (start .args .calls) (start .args .depth) (eqb (length (start .args .frames .now)) 6496) (at-a2 .a2 .given .1) (at-admit .admit .ensures)
+    (start .args .calls) (start .args .depth) (eqb (length (start .args .frames .now)) frameNumbers) (at-a2 .a2 .given .1) (at-admit .admit .ensures)
 
 returns : tie.Need-returns
 returns c =

@@ -9,6 +9,7 @@ use native.Mathlib.Decide.{decLt}
 use native.Mathlib.Omega.{arith}
 use lib.Dec.{eqb}
 use borrow.Author.Tests.{eq-eqb, ne-eqb}
+use Rattle.program.specs.Limits.{maxNesting}
 use Rattle.program.specs.Tests.{orElse}
 use Rattle.program.specs.Layout.{terms, root, kindByte, small, first, second, third}
 use Rattle.program.specs.Formats.{child, Format, Kind, Boolean, Number, Variable, Function, Letrec, Call, If, Check, Enable, Sign, Test, Sum, Difference, Less, Post, kindOf, format}
@@ -63,24 +64,25 @@ more false x y h p = h p
 
 nested-more : (s : List ℕ) (k t : ℕ) → nestedIn s k t ≡ true → nestedIn s (suc k) t ≡ true
 nested-more s zero t h = absurd (false≢true h)
-nested-more s (suc k) t h = more (eqb t (root s)) (nestedIn s k (parent s t (terms s))) (nestedIn s (suc k) (parent s t (terms s))) (nested-more s k (parent s t (terms s))) h
+nested-more s (suc k) t h = more (eqb t (root s)) (nestedIn s k (parent s t (terms s))) (nestedIn s (suc k) (parent s t (terms s)))
+    (nested-more s k (parent s t (terms s))) h
 
 nested-add : (s : List ℕ) (d k t : ℕ) → nestedIn s k t ≡ true → nestedIn s (d + k) t ≡ true
 nested-add s zero k t h = ap (λ (m : ℕ). nestedIn s m t) {x = 0 + k} {y = k} (omega arith) ∙ h
 nested-add s (suc d) k t h = ap (λ (m : ℕ). nestedIn s m t) {x = suc d + k} {y = suc (d + k)} (omega arith) ∙ nested-more s (d + k) t (nested-add s d k t h)
 
 -- a term that is not nested in k levels is not in the last of 32
-nested-lt : (s : List ℕ) (k t : ℕ) → nestedIn s 32 t ≡ true → nestedIn s k t ≡ false → k < 32
-nested-lt s k t w h = go (decLt k 32)
+nested-lt : (s : List ℕ) (k t : ℕ) → nestedIn s maxNesting t ≡ true → nestedIn s k t ≡ false → k < maxNesting
+nested-lt s k t w h = go (decLt k maxNesting)
   where
-    go : Dec (k < 32) → k < 32
+    go : Dec (k < maxNesting) → k < maxNesting
     go (yes l) = l
     go (no n) = absurd (true≢false (sym (nested-add s (k - 32) 32 t w) ∙ ap (λ (m : ℕ). nestedIn s m t) {x = k - 32 + 32} {y = k} (omega arith) ∙ h))
 
 counts-self : (y : ℕ) → counts child y y ≡ 1
 counts-self y = ap (λ (e : Bool). cond e 1 0) (eq-eqb y y refl)
 
-max-le-of : (a b k : ℕ) → suc a + k ≤ 32 → suc b + k ≤ 32 → suc (max a b) + k ≤ 32
+max-le-of : (a b k : ℕ) → suc a + k ≤ maxNesting → suc b + k ≤ maxNesting → suc (max a b) + k ≤ maxNesting
 max-le-of a b k h g = let m : max a b ≤ 31 - k = max-le (omega arith) (omega arith) in omega arith
 
 module _ (s : List ℕ) (w : WellFormed s) where
@@ -90,46 +92,53 @@ module _ (s : List ℕ) (w : WellFormed s) where
       ap (λ (b : Bool). orElse b (λ _. nestedIn s k (parent s c (terms s)))) (ne-eqb c (root s) (λ z. omega arith))
       ∙ ap (nestedIn s k) (parent-is s c (terms s) t (one-parent s w c (omega arith)) l g)
 
-  module _ (t k : ℕ) (room : k < 32) where
+  module _ (t k : ℕ) (room : k < maxNesting) where
     -- the children of a record are terms that fit one level deeper
     record Deep (f : Format) (a b c : ℕ) : Type 0 where
-      fits : (y : ℕ) → y < t → 0 < counts (f .first) a y + counts (f .second) b y + counts (f .third) c y → suc (height (tree s y)) + k ≤ 32
+      fits : (y : ℕ) → y < t → 0 < counts (f .first) a y + counts (f .second) b y + counts (f .third) c y → suc (height (tree s y)) + k ≤ maxNesting
 
-    two : (a b : ℕ) → suc (height (tree s a)) + k ≤ 32 → suc (height (tree s b)) + k ≤ 32 → 1 + max (height (tree s a)) (height (tree s b)) + k ≤ 32
+    two : (a b : ℕ) → suc (height (tree s a)) + k ≤ maxNesting → suc (height (tree s b)) + k ≤ maxNesting
+        → 1 + max (height (tree s a)) (height (tree s b)) + k ≤ maxNesting
     two a b p q = omega (arith, max-le-of (height (tree s a)) (height (tree s b)) k p q)
 
-    three : (a b c : ℕ) → suc (height (tree s a)) + k ≤ 32 → suc (height (tree s b)) + k ≤ 32 → suc (height (tree s c)) + k ≤ 32
-        → 1 + max (height (tree s a)) (max (height (tree s b)) (height (tree s c))) + k ≤ 32
+    three : (a b c : ℕ) → suc (height (tree s a)) + k ≤ maxNesting → suc (height (tree s b)) + k ≤ maxNesting → suc (height (tree s c)) + k ≤ maxNesting
+        → 1 + max (height (tree s a)) (max (height (tree s b)) (height (tree s c))) + k ≤ maxNesting
     three a b c p q r =
         omega (arith, max-le-of (height (tree s a)) (max (height (tree s b)) (height (tree s c))) k p (max-le-of (height (tree s b)) (height (tree s c)) k q r))
 
-    node-height : (K : Kind) (x a b c : ℕ) → Below (format K) t a b c → Deep (format K) a b c → height (node K t x a b c (tree s)) + k ≤ 32
+    node-height : (K : Kind) (x a b c : ℕ) → Below (format K) t a b c → Deep (format K) a b c → height (node K t x a b c (tree s)) + k ≤ maxNesting
     node-height Boolean x a b c u h = omega arith
     node-height Number x a b c u h = omega arith
     node-height Variable x a b c u h = omega arith
     node-height Function x a b c u h = omega (arith, h .fits b (u .second-below refl) (omega (arith, counts-self b)))
-    node-height Letrec x a b c u h = two b c (h .fits b (u .second-below refl) (omega (arith, counts-self b))) (h .fits c (u .third-below refl) (omega (arith, counts-self c)))
-    node-height Call x a b c u h = two a b (h .fits a (u .first-below refl) (omega (arith, counts-self a))) (h .fits b (u .second-below refl) (omega (arith, counts-self b)))
+    node-height Letrec x a b c u h = two b c (h .fits b (u .second-below refl) (omega (arith, counts-self b)))
+        (h .fits c (u .third-below refl) (omega (arith, counts-self c)))
+    node-height Call x a b c u h = two a b (h .fits a (u .first-below refl) (omega (arith, counts-self a)))
+        (h .fits b (u .second-below refl) (omega (arith, counts-self b)))
     node-height If x a b c u h =
         three a b c (h .fits a (u .first-below refl) (omega (arith, counts-self a))) (h .fits b (u .second-below refl) (omega (arith, counts-self b)))
         (h .fits c (u .third-below refl) (omega (arith, counts-self c)))
     node-height Check x a b c u h = omega (arith, h .fits a (u .first-below refl) (omega (arith, counts-self a)))
     node-height Enable x a b c u h = omega (arith, h .fits a (u .first-below refl) (omega (arith, counts-self a)))
     node-height Sign x a b c u h = omega (arith, h .fits a (u .first-below refl) (omega (arith, counts-self a)))
-    node-height Test x a b c u h = two a b (h .fits a (u .first-below refl) (omega (arith, counts-self a))) (h .fits b (u .second-below refl) (omega (arith, counts-self b)))
-    node-height Sum x a b c u h = two a b (h .fits a (u .first-below refl) (omega (arith, counts-self a))) (h .fits b (u .second-below refl) (omega (arith, counts-self b)))
-    node-height Difference x a b c u h = two a b (h .fits a (u .first-below refl) (omega (arith, counts-self a))) (h .fits b (u .second-below refl) (omega (arith, counts-self b)))
-    node-height Less x a b c u h = two a b (h .fits a (u .first-below refl) (omega (arith, counts-self a))) (h .fits b (u .second-below refl) (omega (arith, counts-self b)))
+    node-height Test x a b c u h = two a b (h .fits a (u .first-below refl) (omega (arith, counts-self a)))
+        (h .fits b (u .second-below refl) (omega (arith, counts-self b)))
+    node-height Sum x a b c u h = two a b (h .fits a (u .first-below refl) (omega (arith, counts-self a)))
+        (h .fits b (u .second-below refl) (omega (arith, counts-self b)))
+    node-height Difference x a b c u h = two a b (h .fits a (u .first-below refl) (omega (arith, counts-self a)))
+        (h .fits b (u .second-below refl) (omega (arith, counts-self b)))
+    node-height Less x a b c u h = two a b (h .fits a (u .first-below refl) (omega (arith, counts-self a)))
+        (h .fits b (u .second-below refl) (omega (arith, counts-self b)))
     node-height Post x a b c u h = omega (arith, h .fits a (u .first-below refl) (omega (arith, counts-self a)))
 
   -- below a term that is not nested in k levels there is room for 32 − k
-  tree-height : (d t k : ℕ) → t < d → t < terms s → nestedIn s k t ≡ false → height (tree s t) + k ≤ 32
+  tree-height : (d t k : ℕ) → t < d → t < terms s → nestedIn s k t ≡ false → height (tree s t) + k ≤ maxNesting
   tree-height zero t k u l h = absurd (omega arith)
   tree-height (suc d) t k u l h =
-      subst (λ (c : Term). height c + k ≤ 32) (sym (tree-node s w t l))
+      subst (λ (c : Term). height c + k ≤ maxNesting) (sym (tree-node s w t l))
       (node-height t k (nested-lt s k t (w .nested-ok t l) h) (kindOf (kindByte s t)) (small s t) (first s t) (second s t) (third s t) (below s w t l)
       (record { fits = λ y m g. omega (arith, tree-height d y (suc k) (omega arith) (omega arith) (deeper t y k l m g ∙ h)) }))
 
   -- "Nesting is at most 32, the root counting 1."
-  pub program-height : height (program s) ≤ 32
+  pub program-height : height (program s) ≤ maxNesting
   program-height = omega (arith, tree-height (terms s) (root s) 0 (root-lower s w) (root-lower s w) refl)

@@ -6,6 +6,7 @@ use Prim.Native.Nat.{ℕ, _+_, _*_, _/_, _<_, _≤_}
 use native.Mathlib.Omega.{arith}
 use lib.ListN.{length}
 use borrow.Author.Tests.{leb-true, eqb-true}
+use Rattle.program.specs.Limits.{maxPrincipals, maxTypes, maxTerms, maxNesting}
 use Rattle.privileges.specs.Booleans.{and-left, and-right}
 use Rattle.program.specs.Bytes.{byte, word16}
 use Rattle.program.specs.Layout.{principals, typeField, types, termField, terms, termAt}
@@ -44,39 +45,39 @@ counted size least most n h = record {
 pub record WellFormed (s : List ℕ) : Type 0 where
   pub version : word16 s 3 ≡ 1
   pub principals-least : 1 ≤ principals s
-  pub principals-most : principals s ≤ 32
+  pub principals-most : principals s ≤ maxPrincipals
   pub types-least : 2 ≤ types s
-  pub types-most : types s ≤ 256
+  pub types-most : types s ≤ maxTypes
   pub terms-least : 1 ≤ terms s
-  pub terms-most : terms s ≤ 1024
+  pub terms-most : terms s ≤ maxTerms
   pub whole : termAt s (terms s) ≡ length s
   pub type-ok : (t : ℕ) → t < types s → typeOk s t ≡ true
   pub term-ok : (t : ℕ) → t < terms s → termOk s t ≡ true
   pub placed-ok : (t : ℕ) → t < terms s → placedOk s t ≡ true
-  pub nested-ok : (t : ℕ) → t < terms s → nestedIn s 32 t ≡ true
+  pub nested-ok : (t : ℕ) → t < terms s → nestedIn s maxNesting t ≡ true
 
 -- what the fields give
 pub record FieldsOk (s : List ℕ) : Type 0 where
   pub version-is : word16 s 3 ≡ 1
   pub principals-low : 1 ≤ principals s
-  pub principals-high : principals s ≤ 32
+  pub principals-high : principals s ≤ maxPrincipals
   pub types-low : 2 ≤ types s
-  pub types-high : types s ≤ 256
+  pub types-high : types s ≤ maxTypes
   pub terms-low : 1 ≤ terms s
-  pub terms-high : terms s ≤ 1024
+  pub terms-high : terms s ≤ maxTerms
   pub ends : termAt s (terms s) ≡ length s
 
 pub fields-ok : (s : List ℕ) → None (fieldConditions s) → FieldsOk s
 fields-ok s n =
     let a = none-append (field s 0 1 (holds 2 1 1)) _ n in
     let v = none-cons (a .1) in
-    let b = none-append (field s 5 2 (holds 4 1 32)) _ (v .1) in
-    let c = none-append (field s (typeField s) 3 (holds 10 2 256)) _ (b .1) in
-    let d = none-append (field s (termField s) 4 (holds 8 1 1024)) _ (c .1) in
+    let b = none-append (field s 5 2 (holds 4 1 maxPrincipals)) _ (v .1) in
+    let c = none-append (field s (typeField s) 3 (holds 10 2 maxTypes)) _ (b .1) in
+    let d = none-append (field s (termField s) 4 (holds 8 1 maxTerms)) _ (c .1) in
     let e = none-cons (d .1) in
-    let cp = counted 4 1 32 (word16 s 6) (field-ok s 5 2 (holds 4 1 32) (b .0) .sized) in
-    let cy = counted 10 2 256 (word16 s (typeField s + 1)) (field-ok s (typeField s) 3 (holds 10 2 256) (c .0) .sized) in
-    let cm = counted 8 1 1024 (word16 s (termField s + 1)) (field-ok s (termField s) 4 (holds 8 1 1024) (d .0) .sized) in
+    let cp = counted 4 1 maxPrincipals (word16 s 6) (field-ok s 5 2 (holds 4 1 maxPrincipals) (b .0) .sized) in
+    let cy = counted 10 2 maxTypes (word16 s (typeField s + 1)) (field-ok s (typeField s) 3 (holds 10 2 maxTypes) (c .0) .sized) in
+    let cm = counted 8 1 maxTerms (word16 s (termField s + 1)) (field-ok s (termField s) 4 (holds 8 1 maxTerms) (d .0) .sized) in
     record {
       version-is = eqb-true (word16 s 3) 1 (unless-none 3 _ (v .0));
       principals-low = cp .low;
@@ -101,7 +102,7 @@ tables-ok s f (none-next a (none-next b (none-next c (none-next d none-end)))) =
   type-ok = λ t h. lowest-none (typeOk s) 0 (types s) a t (omega arith) (omega arith);
   term-ok = λ t h. lowest-none (termOk s) 0 (terms s) b t (omega arith) (omega arith);
   placed-ok = λ t h. lowest-none (placedOk s) 0 (terms s) c t (omega arith) (omega arith);
-  nested-ok = λ t h. lowest-none (nestedIn s 32) 0 (terms s) d t (omega arith) (omega arith);
+  nested-ok = λ t h. lowest-none (nestedIn s maxNesting) 0 (terms s) d t (omega arith) (omega arith);
 }
 
 pub well-formed : (s : List ℕ) → Readable s → WellFormed s

@@ -43,14 +43,17 @@ module _ (s : List ℕ) (whole : termAt s (terms s) ≡ length s) (c : Counts) (
   term-laid t = go (decLt t (terms s))
     where
       go : Dec (t < terms s) → cond (leb (byteOf t + 8) (length s)) (termAtByte s (byteOf t)) noTerm ≡ termAtByte s (termAt s t)
-      go (yes h) = ap (λ (b : Bool). cond b (termAtByte s (byteOf t)) noTerm) (le-leb (byteOf t + 8) (length s) (omega (arith, same-place t, whole))) ∙ ap (termAtByte s) (same-place t)
-      go (no h) = ap (λ (b : Bool). cond b (termAtByte s (byteOf t)) noTerm) (lt-leb (byteOf t + 8) (length s) (omega (arith, same-place t, whole))) ∙ sym (zeros t (omega (arith, whole)))
+      go (yes h) = ap (λ (b : Bool). cond b (termAtByte s (byteOf t)) noTerm) (le-leb (byteOf t + 8) (length s) (omega (arith, same-place t, whole)))
+          ∙ ap (termAtByte s) (same-place t)
+      go (no h) = ap (λ (b : Bool). cond b (termAtByte s (byteOf t)) noTerm) (lt-leb (byteOf t + 8) (length s) (omega (arith, same-place t, whole)))
+          ∙ sym (zeros t (omega (arith, whole)))
 
   pub type-laid : (t : ℕ) → t < types s → typeRecord s c t ≡ typeAtByte s (typeAt s t)
   unfolding typeRecord
   type-laid t h =
       let e : 11 + 4 * c .principals + 10 * t ≡ typeAt s t = omega (arith, k .principals-are) in
-      ap (λ (b : Bool). cond b (typeAtByte s (11 + 4 * c .principals + 10 * t)) noType) (le-leb (11 + 4 * c .principals + 10 * t + 10) (length s) (omega (arith, whole)))
+      ap (λ (b : Bool). cond b (typeAtByte s (11 + 4 * c .principals + 10 * t)) noType)
+      (le-leb (11 + 4 * c .principals + 10 * t + 10) (length s) (omega (arith, whole)))
       ∙ ap (typeAtByte s) e
 
 -- of a well-formed sheet

@@ -6,15 +6,15 @@ use mathlib.Core.Path.{_≡_, refl, sym, ap, _∙_, subst}
 use Prim.Native.Nat.{ℕ, zero, suc, _+_, _≤_, _<_}
 use native.Mathlib.Decide.{ℕ-discrete}
 use native.Mathlib.Omega.{arith}
-use Rattle.program.specs.Screening.{Condition, Screening, clear, refused, tell, screen, First, first-here, first-later, None, none-end, none-next, unless, onward, lowest}
+use Rattle.program.specs.Screening.{Condition, Screening, clear, found, tell, screen, First, first-here, first-later, None, none-end, none-next, unless, onward, lowest}
 
 -- ---- constructors apart
 abbrev IsClear : Screening → Type 0
 IsClear clear = Unit {0}
-IsClear (refused c p) = ⊥
+IsClear (found c p) = ⊥
 
-pub refused≢clear : {c p : ℕ} → refused c p ≡ clear → ⊥
-refused≢clear e = subst IsClear (sym e) tt
+pub found≢clear : {c p : ℕ} → found c p ≡ clear → ⊥
+found≢clear e = subst IsClear (sym e) tt
 
 abbrev IsNone : Option ℕ → Type 0
 IsNone none = Unit {0}
@@ -24,19 +24,19 @@ pub some≢none : {i : ℕ} → some i ≡ none → ⊥
 some≢none e = subst IsNone (sym e) tt
 
 -- ---- the first that is found is told
-pub told-first : (cs : List Condition) (c p : ℕ) → screen cs ≡ refused c p → First c p cs
+pub found-first : (cs : List Condition) (c p : ℕ) → screen cs ≡ found c p → First c p cs
 unfolding screen tell
-told-first [] c p e = absurd (refused≢clear (sym e))
-told-first (x ∷ xs) c p e = go (x .found tt) refl e (told-first xs c p)
+found-first [] c p e = absurd (found≢clear (sym e))
+found-first (x ∷ xs) c p e = go (x .found tt) refl e (found-first xs c p)
   where
-    go : (o : Option ℕ) → x .found tt ≡ o → tell (x .cause) o (λ _. screen xs) ≡ refused c p → (screen xs ≡ refused c p → First c p xs) → First c p (x ∷ xs)
+    go : (o : Option ℕ) → x .found tt ≡ o → tell (x .cause) o (λ _. screen xs) ≡ found c p → (screen xs ≡ found c p → First c p xs) → First c p (x ∷ xs)
     go none h f rest = first-later h (rest f)
     go (some q) h f rest = first-here (let g : x .cause ≡ c = cc in g) (h ∙ (let g : some q ≡ some p = cc in g))
 
-pub first-told : {cs : List Condition} {c p : ℕ} → First c p cs → screen cs ≡ refused c p
+pub first-found : {cs : List Condition} {c p : ℕ} → First c p cs → screen cs ≡ found c p
 unfolding screen tell
-first-told {p = p} (first-here {c} {cs} e f) = (λ i. tell (c .cause) (f i) (λ _. screen cs)) ∙ ap (λ (x : ℕ). refused x p) e
-first-told (first-later {c} {cs} f r) = (λ i. tell (c .cause) (f i) (λ _. screen cs)) ∙ first-told r
+first-found {p = p} (first-here {c} {cs} e f) = (λ i. tell (c .cause) (f i) (λ _. screen cs)) ∙ ap (λ (x : ℕ). found x p) e
+first-found (first-later {c} {cs} f r) = (λ i. tell (c .cause) (f i) (λ _. screen cs)) ∙ first-found r
 
 pub clear-none : (cs : List Condition) → screen cs ≡ clear → None cs
 unfolding screen tell
@@ -45,7 +45,7 @@ clear-none (x ∷ xs) e = go (x .found tt) refl e (clear-none xs)
   where
     go : (o : Option ℕ) → x .found tt ≡ o → tell (x .cause) o (λ _. screen xs) ≡ clear → (screen xs ≡ clear → None xs) → None (x ∷ xs)
     go none h f rest = none-next h (rest f)
-    go (some q) h f rest = absurd (refused≢clear f)
+    go (some q) h f rest = absurd (found≢clear f)
 
 pub none-clear : {cs : List Condition} → None cs → screen cs ≡ clear
 unfolding screen tell
@@ -81,8 +81,8 @@ none-screen (none-next {c} {cs} f n) ys = (λ i. tell (c .cause) (f i) (λ _. sc
 pub screen-clear : (xs ys : List Condition) → screen xs ≡ clear → screen (xs ++ ys) ≡ screen ys
 screen-clear xs ys e = none-screen (clear-none xs e) ys
 
-pub screen-refused : (xs ys : List Condition) (c p : ℕ) → screen xs ≡ refused c p → screen (xs ++ ys) ≡ refused c p
-screen-refused xs ys c p e = first-told (first-left ys (told-first xs c p e))
+pub screen-found : (xs ys : List Condition) (c p : ℕ) → screen xs ≡ found c p → screen (xs ++ ys) ≡ found c p
+screen-found xs ys c p e = first-found (first-left ys (found-first xs c p e))
 
 -- ---- single conditions
 pub unless-none : (cause : ℕ) (ok : Bool) → unless cause ok .found tt ≡ none → ok ≡ true

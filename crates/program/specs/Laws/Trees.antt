@@ -166,7 +166,8 @@ type-function s t p x h e = subst (λ (q : Part). partOk s t q x ≡ true) e h
 tree-standard : (s : List ℕ) → WellFormed s → (k t : ℕ) → t < terms s → t < k → Standard (typesOf s) (treeTo s k t)
 tree-standard s w zero t l h = absurd (omega arith)
 tree-standard s w (suc k) t l h =
-    node-standard (typesOf s) (λ y. treeTo s k y) t (λ y g. tree-standard s w k y (omega arith) (omega arith)) (kindOf (kindByte s t)) (small s t) (first s t) (second s t) (third s t)
+    node-standard (typesOf s) (λ y. treeTo s k y) t (λ y g. tree-standard s w k y (omega arith) (omega arith)) (kindOf (kindByte s t)) (small s t) (first s t)
+    (second s t) (third s t)
     (below s w t l) (type-function s t (formatAt s t .first) (first s t) (parts s w t l .first-ok))
     (λ e. deep k (omega (arith, below s w t l .second-below (ap isChild e))) (body-sign s (formatAt s t .second) (second s t) (placed s w t l .body-signed) e))
   where

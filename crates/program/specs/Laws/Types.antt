@@ -7,6 +7,7 @@ use native.Mathlib.Decide.{decLt}
 use native.Mathlib.Omega.{arith}
 use lib.Dec.{leb, ltb, eqb}
 use borrow.Author.Tests.{ltb-true, leb-true, eqb-true, eq-eqb, le-ltb, not-true}
+use Rattle.program.specs.Limits.{maxTypeDepth}
 use Rattle.privileges.specs.Booleans.{and-left, and-right, and-both}
 use Rattle.program.specs.Bytes.{byte, word16, word32, Bytes}
 use Rattle.program.specs.Layout.{types, typeAt, Types, typesOf}
@@ -25,15 +26,15 @@ pub record FunctionType (s : List ℕ) (t : ℕ) : Type 0 where
   pub zero-is : byte s (typeAt s t + 1) ≡ 0
   pub arg-below : typesOf s .arg t < t
   pub res-below : typesOf s .res t < t
-  pub depth : shallow s 12 t ≡ true
+  pub depth : shallow s maxTypeDepth t ≡ true
   pub differs : fresh s t t ≡ true
 
 pub function-type : (s : List ℕ) → WellFormed s → (t : ℕ) → typesOf s .isFun t ≡ true → FunctionType s t
 function-type s w t h =
     let l : 2 ≤ t = leb-true 2 t (and-left (leb 2 t) (ltb t (types s)) h) in
     let i : t < types s = ltb-true t (types s) (and-right (leb 2 t) (ltb t (types s)) h) in
-    let ok : (functionOk s t && shallow s 12 t && fresh s t t) ≡ true =
-    (λ i. cond (sym (le-ltb t 2 l) i) (baseOk s t) (functionOk s t && shallow s 12 t && fresh s t t)) ∙ w .type-ok t i in
+    let ok : (functionOk s t && shallow s maxTypeDepth t && fresh s t t) ≡ true =
+    (λ i. cond (sym (le-ltb t 2 l) i) (baseOk s t) (functionOk s t && shallow s maxTypeDepth t && fresh s t t)) ∙ w .type-ok t i in
     record {
       low = l;
       inside = i;
@@ -66,7 +67,8 @@ differs-below s t (suc n) u h l = go (decLt u n) (differs-below s t n u (and-rig
     go (yes k) rest = rest k
     go (no k) rest =
         let e : u ≡ n = omega arith in
-        ap (λ (x : ℕ). sameBytes s (typeAt s x) (typeAt s t) 10) e ∙ not-true (sameBytes s (typeAt s n) (typeAt s t) 10) (and-left (not (sameBytes s (typeAt s n) (typeAt s t) 10)) (fresh s t n) h)
+        ap (λ (x : ℕ). sameBytes s (typeAt s x) (typeAt s t) 10) e
+        ∙ not-true (sameBytes s (typeAt s n) (typeAt s t) 10) (and-left (not (sameBytes s (typeAt s n) (typeAt s t) 10)) (fresh s t n) h)
 
 module _ (s : List ℕ) (b : Bytes s) (t u : ℕ) where
   -- byte by byte, from the last: two records with the same kind and parts are sameBytes
@@ -94,7 +96,8 @@ module _ (s : List ℕ) (b : Bytes s) (t u : ℕ) where
       at : (n x y : ℕ) → x ≡ typeAt s t + n → y ≡ typeAt s u + n → byte s x ≡ byte s y → eqb (byte s (typeAt s t + n)) (byte s (typeAt s u + n)) ≡ true
       at n x y p q e = eq-eqb (byte s (typeAt s t + n)) (byte s (typeAt s u + n)) (ap (byte s) (sym p) ∙ e ∙ ap (byte s) q)
 
-  later-differs : WellFormed s → typesOf s .isFun t ≡ true → typesOf s .isFun u ≡ true → typesOf s .arg t ≡ typesOf s .arg u → typesOf s .res t ≡ typesOf s .res u
+  later-differs : WellFormed s → typesOf s .isFun t ≡ true → typesOf s .isFun u ≡ true → typesOf s .arg t ≡ typesOf s .arg u → typesOf s .res t
+      ≡ typesOf s .res u
       → typesOf s .latent t ≡ typesOf s .latent u → t < u → ⊥
   later-differs w ht hu ea er el l =
       let f = function-type s w t ht in

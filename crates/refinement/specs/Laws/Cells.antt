@@ -9,8 +9,8 @@ use lib.ListN.{getD, length, set, length-set}
 use lib.Seq.{getD-set-same, getD-set-other}
 use borrow.Author.Tests.{ne-eqb, le-leb}
 use Rattle.program.specs.Bytes.{word16}
-use Rattle.machine.specs.Words.{pick, sortOf, payloadOf, envOf}
-use Rattle.machine.specs.Cells.{behindOf, heldOf, set16, cellSet}
+use Rattle.stores.specs.Words.{pick, sortOf, payloadOf, envOf}
+use Rattle.stores.specs.Cells.{behindOf, heldOf, set16, cellSet}
 
 length-set16 : (l : List ℕ) (i n : ℕ) → length (set16 l i n) ≡ length l
 unfolding set16

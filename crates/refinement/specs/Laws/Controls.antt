@@ -9,10 +9,11 @@ use native.Mathlib.Numerals.{add-one}
 use lib.ListN.{getD, length, set, length-set}
 use lib.Seq.{getD-set-same, getD-set-other}
 use borrow.Author.Tests.{le-leb}
+use Rattle.program.specs.Limits.{frameNumbers}
 use Rattle.privileges.specs.Sets.{has, meet, insert}
 use Rattle.semantics.specs.Access.{Frame, frame, chk, enableFirst, lazyControl, Rights, rights, addAuthorised, eagerControl}
-use Rattle.machine.specs.Words.{pick}
-use Rattle.machine.specs.Access.{pairOf, lowOf, highOf, enforced, lazyMode, walkGrants, framesGrant, grantedOf, signAccess, signFrames, lastOf, enableAccess, enableFrames, enabledNow, restoreFrames}
+use Rattle.stores.specs.Words.{pick}
+use Rattle.stores.specs.Access.{pairOf, lowOf, highOf, enforced, lazyMode, walkGrants, framesGrant, grantedOf, signAccess, signFrames, lastOf, enableAccess, enableFrames, enabledNow, restoreFrames}
 use Rattle.refinement.specs.Laws.Relation.{Fixed, Kept}
 use Rattle.refinement.specs.Laws.Steps.{Models}
 
@@ -96,7 +97,7 @@ pub data Frames (A : ℕ → ℕ) (f : List ℕ) : (d : ℕ) → List Frame → 
 
 pub record LazyMode (A : ℕ → ℕ) (a : List Frame) (acc d : ℕ) (f : List ℕ) : Type 0 where
   pub used : lowOf acc ≡ d * 2
-  pub long : length f ≡ 6496
+  pub long : length f ≡ frameNumbers
   pub frames : Frames A f d a
 
 abbrev signedFrames : ℕ → List ℕ → ℕ → List ℕ

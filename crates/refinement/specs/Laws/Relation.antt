@@ -7,18 +7,19 @@ use native.Mathlib.Omega.{arith}
 use lib.Dec.{ltb}
 use lib.ListN.{getD, length, set, length-set}
 use borrow.Author.Tests.{lt-ltb, le-ltb}
+use Rattle.program.specs.Limits.{maxCells, maxNesting}
 use Rattle.program.specs.Terms.{Op, sum, difference, less, Term, boolean, number, variable, function, letrec, call, if, check, enable, sign, test, binary, post}
 use Rattle.program.specs.Laws.Nesting.{height}
 use Rattle.semantics.specs.Values.{Value, bool, num, closure, Env, empty, bind, Budget, budget, Result, ends, stops}
 use Rattle.semantics.specs.Meaning.{_then_}
-use Rattle.machine.specs.declared.state.Stop.{Stop}
-use Rattle.machine.specs.declared.state.Stop.the-variants.{Check, Stuck, OpenCalls, Calls, Cells, Posts}
-use Rattle.machine.specs.Words.{pick, booleanWord, numberWord, functionWord, stopWord, sortOf, payloadOf, envOf, isStop}
+use Rattle.stores.specs.declared.state.Stop.{Stop}
+use Rattle.stores.specs.declared.state.Stop.the-variants.{Check, Stuck, OpenCalls, Calls, Cells, Posts}
+use Rattle.stores.specs.Words.{pick, booleanWord, numberWord, functionWord, stopWord, sortOf, payloadOf, envOf, isStop}
 use Rattle.machine.specs.Table.{wordKind, wordSmall, wordFirst, wordSecond, wordThird, wordAuthority}
-use Rattle.machine.specs.Cells.{behindOf, heldOf}
+use Rattle.stores.specs.Cells.{behindOf, heldOf}
 use Rattle.machine.specs.Steps.{cellsMade}
 use Rattle.machine.specs.Store.{Store as State, Done, doneOf, andThen}
-use Rattle.machine.specs.Stops.{causeOf, placeOf}
+use Rattle.stores.specs.Stops.{stopCause, stopPlace}
 use Rattle.refinement.specs.Laws.Cells.{Agree, agree-held, agree-behind}
 
 -- ---- what stays in a run: the words of the terms, the sets that the principals may use, the lent list of posts, and the mode
@@ -46,7 +47,7 @@ countersOf c m p mode = c ∷ m ∷ p ∷ mode ∷ []
 pub record Balance (z : Fixed) (st : State) (c m d r : ℕ) (ps : List ℕ) : Type 0 where
   pub counters : st .n ≡ countersOf c m (length ps) (z .mode)
   pub cells : m + d ≡ length (st .cells) / 8
-  pub most : length (st .cells) ≤ 65536
+  pub most : length (st .cells) ≤ maxCells
   pub room : length ps + r ≡ length (z .posts)
   pub list : st .posts ≡ written (z .posts) ps
 
@@ -109,7 +110,7 @@ pub function-word : (b e : ℕ) → b < 65536 → e < 65536 → Function b e (fu
 function-word b e p q = record { word = record { sort-is = omega arith; small = omega arith }; body-is = omega arith; env-is = omega arith }
 
 -- a stop's word
-stop-range : (x : Stop) → (17 ≤ causeOf x) × (causeOf x ≤ 22)
+stop-range : (x : Stop) → (17 ≤ stopCause x) × (stopCause x ≤ 22)
 stop-range (Check t) = (omega arith, omega arith)
 stop-range (Stuck t) = (omega arith, omega arith)
 stop-range (OpenCalls t) = (omega arith, omega arith)
@@ -120,12 +121,12 @@ stop-range (Posts t) = (omega arith, omega arith)
 stop-parts : (k t : ℕ) → k < 65536 → t < 65536 → (sortOf (stopWord k t) ≡ k) × (payloadOf (stopWord k t) ≡ t)
 stop-parts k t h i = (omega arith, omega arith)
 
-pub stop-word : (x : Stop) → placeOf x < 65536
-    → (sortOf (stopWord (causeOf x) (placeOf x)) ≡ causeOf x) × (payloadOf (stopWord (causeOf x) (placeOf x)) ≡ placeOf x)
-stop-word x i = stop-parts (causeOf x) (placeOf x) (omega (arith, stop-range x)) i
+pub stop-word : (x : Stop) → stopPlace x < 65536
+    → (sortOf (stopWord (stopCause x) (stopPlace x)) ≡ stopCause x) × (payloadOf (stopWord (stopCause x) (stopPlace x)) ≡ stopPlace x)
+stop-word x i = stop-parts (stopCause x) (stopPlace x) (omega (arith, stop-range x)) i
 
-stop-stops : (x : Stop) → isStop (stopWord (causeOf x) (placeOf x)) ≡ true
-stop-stops x = lt-ltb 2 (sortOf (stopWord (causeOf x) (placeOf x))) (omega (arith, stop-range x))
+stop-stops : (x : Stop) → isStop (stopWord (stopCause x) (stopPlace x)) ≡ true
+stop-stops x = lt-ltb 2 (sortOf (stopWord (stopCause x) (stopPlace x))) (omega (arith, stop-range x))
 
 -- ---- terms
 
@@ -174,7 +175,7 @@ module _ (z : Fixed) where
 
   -- a function's body is at most 32 high
   pub record Body (b : ℕ) (c : Term) : Type 0 where
-    pub shallow : height c ≤ 32
+    pub shallow : height c ≤ maxNesting
     pub stands : Stands b c
 
   -- ---- a word for a value and a link for an environment, in a store of which the first m cells are made
@@ -239,8 +240,8 @@ module _ (z : Fixed) where
   -- ---- outcomes
   pub data Meets (depth : ℕ) (st₀ : State) : Done → Result → Type 0 where
     valued : {w : ℕ} {x : Value} {st : State} {o : Budget} → RepAt st w x → Balances z st o → Later depth st₀ st → Meets depth st₀ (doneOf w st) (ends x o)
-    halted : {st : State} {o : Budget} (x : Stop) → placeOf x < 65536 → Balances z st o → Later depth st₀ st
-        → Meets depth st₀ (doneOf (stopWord (causeOf x) (placeOf x)) st) (stops (causeOf x) (placeOf x) o)
+    halted : {st : State} {o : Budget} (x : Stop) → stopPlace x < 65536 → Balances z st o → Later depth st₀ st
+        → Meets depth st₀ (doneOf (stopWord (stopCause x) (stopPlace x)) st) (stops (stopCause x) (stopPlace x) o)
 
   pub meets-later : {depth : ℕ} {st₀ st : State} {d : Done} {o : Result} → Later depth st₀ st → Meets depth st d o → Meets depth st₀ d o
   meets-later l (valued r t m) = valued r t (later-trans l m)
@@ -254,5 +255,5 @@ module _ (z : Fixed) where
   meets-then {depth} {st₀} k q (valued {w = w} {x = x} {st = st} {o = o} r t l) h =
       subst (λ b. Meets depth st₀ (pick b (doneOf w st) (k w st)) (q x o)) (sym (le-ltb 2 (sortOf w) (rep-low r))) (meets-later l (h _ _ _ _ r t l))
   meets-then {depth} {st₀} k q (halted {st = st} {o = o} x i t l) h =
-      let w : ℕ = stopWord (causeOf x) (placeOf x) in
-      subst (λ b. Meets depth st₀ (pick b (doneOf w st) (k w st)) (stops (causeOf x) (placeOf x) o)) (sym (stop-stops x)) (halted x i t l)
+      let w : ℕ = stopWord (stopCause x) (stopPlace x) in
+      subst (λ b. Meets depth st₀ (pick b (doneOf w st) (k w st)) (stops (stopCause x) (stopPlace x) o)) (sym (stop-stops x)) (halted x i t l)

@@ -5,6 +5,7 @@ use Prim.Native.Nat.{ℕ, suc, _+_, _*_, _/_, _-_, _≤_}
 use native.Mathlib.Omega.{arith}
 use lib.ListN.{getD, length, set, drop, length-append, length-reverse}
 use lib.Seq.{drop-cons, set-at, getD-at, getD-append-add}
+use Rattle.program.specs.Limits.{maxDepth, maxCells, maxStartFrames}
 use Rattle.program.specs.Layout.{root}
 use Rattle.program.specs.Terms.{program}
 use Rattle.program.specs.Records.{CountsOf}
@@ -16,13 +17,13 @@ use Rattle.semantics.specs.Values.{Value, empty, Budget, Result, ends}
 use Rattle.semantics.specs.Meaning.{Control, eval}
 use Rattle.semantics.specs.Access.{Frame}
 use Rattle.semantics.specs.Runs.{Request, Buffers, sizes, ground-bool, ground-num, ended, initial, outcome, left, counts, inOrder}
-use Rattle.machine.specs.declared.state.Stop.{Stop}
-use Rattle.machine.specs.declared.state.Stop.the-variants.{Check, Stuck, OpenCalls, Calls, Cells, Posts}
-use Rattle.machine.specs.declared.state.Out.the-variants.{Stop as Stopped}
-use Rattle.machine.specs.Words.{payloadOf, envOf, stopWord, outBy, outOf}
+use Rattle.stores.specs.declared.state.Stop.{Stop}
+use Rattle.stores.specs.declared.state.Stop.the-variants.{Check, Stuck, OpenCalls, Calls, Cells, Posts}
+use Rattle.stores.specs.declared.state.Out.the-variants.{Stop as Stopped}
+use Rattle.stores.specs.Words.{payloadOf, envOf, stopWord, outBy, outOf}
 use Rattle.machine.specs.Table.{Decoded}
 use Rattle.machine.specs.Store.{Store as State, Done, doneOf, evalAt}
-use Rattle.machine.specs.Stops.{causeOf, placeOf}
+use Rattle.stores.specs.Stops.{stopCause, stopPlace}
 use Rattle.refinement.specs.Claims.{outcomeOf, countsOf, sizesOf, laidOut, startOf, Refined}
 use Rattle.refinement.specs.Laws.Relation.{Fixed, written, length-written, Balances, balance, Later, stop-word, Rep, rep-bool, rep-num, rep-fun, rep-rec, env-none, Meets, valued, halted}
 use Rattle.refinement.specs.Laws.Steps.{Models}
@@ -56,7 +57,7 @@ module _ (A : ℕ → ℕ) where
       (laid-frames fs behind))
 
 -- ---- what a word tells
-stop-out : (x : Stop) (e : ℕ) → outBy (causeOf x) (placeOf x) e ≡ Stopped x
+stop-out : (x : Stop) (e : ℕ) → outBy (stopCause x) (stopPlace x) e ≡ Stopped x
 unfolding outBy
 stop-out (Check t) e = refl
 stop-out (Stuck t) e = refl
@@ -78,35 +79,35 @@ module _ (s table : List ℕ) (mode : ℕ) (q : Request) (b : Buffers) where
   abbrev run : Fixed
   run = fixedOf s table (b .posts) mode
 
-  record Told (st : State) (u : Budget) : Type 0 where
-    counts-told : countsOf (q .calls) (st .n) ≡ counts q (sizes b) u
-    posts-told : st .posts ≡ inOrder u ++ drop (length (inOrder u)) (b .posts)
-    sizes-told : sizesOf st ≡ sizes b
+  record Agrees (st : State) (u : Budget) : Type 0 where
+    counts-agree : countsOf (q .calls) (st .n) ≡ counts q (sizes b) u
+    posts-agree : st .posts ≡ inOrder u ++ drop (length (inOrder u)) (b .posts)
+    sizes-agree : sizesOf st ≡ sizes b
 
-  told : {depth : ℕ} {st : State} {u : Budget} → Balances run st u → Later depth (startOf mode q b) st → Told st u
-  told (balance {c = c} {m = m} {d = d} {ps = ps} h) l =
+  agrees : {depth : ℕ} {st : State} {u : Budget} → Balances run st u → Later depth (startOf mode q b) st → Agrees st u
+  agrees (balance {c = c} {m = m} {d = d} {ps = ps} h) l =
       let p : m ≡ length (b .cells) / 8 - d = omega (arith, h .cells, l .old .long) in
       record {
-        counts-told = (λ i. countsOf (q .calls) (h .counters i)) ∙ (λ i. record { calls = q .calls - c; cells = p i; posts = length ps });
-        posts-told = h .list ∙ written-is (b .posts) ps (omega (arith, h .room)) ∙ ap (λ (n : ℕ). reverse ps ++ drop n (b .posts)) (sym (length-reverse ps));
-        sizes-told = λ i. record { cells = l .old .long i; posts = (ap length (h .list) ∙ length-written (b .posts) ps) i; frames = l .frames .long i };
+        counts-agree = (λ i. countsOf (q .calls) (h .counters i)) ∙ (λ i. record { calls = q .calls - c; cells = p i; posts = length ps });
+        posts-agree = h .list ∙ written-is (b .posts) ps (omega (arith, h .room)) ∙ ap (λ (n : ℕ). reverse ps ++ drop n (b .posts)) (sym (length-reverse ps));
+        sizes-agree = λ i. record { cells = l .old .long i; posts = (ap length (h .list) ∙ length-written (b .posts) ps) i; frames = l .frames .long i };
       }
 
-  refined-by : (n : ℕ) {w : ℕ} {st : State} {x : Result} → outcomeOf n (outOf w) ≡ outcome n x → Told st (left x) → Refined n q b (doneOf w st) x
-  refined-by n e t = record { same-outcome = e; same-counts = t .counts-told; same-posts = t .posts-told; same-sizes = t .sizes-told }
+  refined-by : (n : ℕ) {w : ℕ} {st : State} {x : Result} → outcomeOf n (outOf w) ≡ outcome n x → Agrees st (left x) → Refined n q b (doneOf w st) x
+  refined-by n e t = record { same-outcome = e; same-counts = t .counts-agree; same-posts = t .posts-agree; same-sizes = t .sizes-agree }
 
   meets-refined : (n : ℕ) {depth : ℕ} {d : Done} {x : Result} → Meets run depth (startOf mode q b) d x → Refined n q b d x
-  meets-refined n (valued {o = o} r t l) = refined-by n (value-outcome run n o r) (told t l)
+  meets-refined n (valued {o = o} r t l) = refined-by n (value-outcome run n o r) (agrees t l)
   meets-refined n (halted {o = o} x i t l) =
-      let w : ℕ = stopWord (causeOf x) (placeOf x) in
+      let w : ℕ = stopWord (stopCause x) (stopPlace x) in
       let v = stop-word x i in
-      refined-by n {w = w} ((λ j. outcomeOf n (outBy (v .0 j) (v .1 j) (envOf w))) ∙ (λ j. outcomeOf n (stop-out x (envOf w) j))) (told t l)
+      refined-by n {w = w} ((λ j. outcomeOf n (outBy (v .0 j) (v .1 j) (envOf w))) ∙ (λ j. outcomeOf n (stop-out x (envOf w) j))) (agrees t l)
 
 -- ---- a whole run, in either style
 module _ (s : List ℕ) (w : WellFormed s) (c : Counts) (h : CountsOf s c) (table : List ℕ) (decoded : Decoded s c table) (q : Request) (b : Buffers)
-    (few : q .depth ≤ 100) (most : length (b .cells) ≤ 65536) (mode : ℕ) where
+    (few : q .depth ≤ maxDepth) (most : length (b .cells) ≤ maxCells) (mode : ℕ) where
   pub refined : (X : Control) (R : X .State → (acc depth : ℕ) → List ℕ → Type 0) → Models (fixedOf s table (b .posts) mode) X (q .enforce) R
-      → (acc depth : ℕ) (a : X .State) → depth ≤ 16 → R a acc depth (b .frames)
+      → (acc depth : ℕ) (a : X .State) → depth ≤ maxStartFrames → R a acc depth (b .frames)
       → Refined (root s) q b (evalAt table (q .depth) (root s) 0 acc (startOf mode q b))
       (eval X (q .enforce) (q .depth) (program s) a empty (initial q (sizes b)))
   refined X R models acc depth a deep r =

@@ -12,10 +12,10 @@ use Rattle.program.specs.Terms.{Op, sum, difference, less, Term}
 use Rattle.program.specs.Laws.Nesting.{height}
 use Rattle.semantics.specs.Values.{Value, bool, num, closure, lookup, Budget, ends}
 use Rattle.semantics.specs.Meaning.{Control, Evaluation, Application, found, tooDeep, evalWith, apply, eval}
-use Rattle.machine.specs.declared.state.Stop.the-variants.{Stuck, OpenCalls}
-use Rattle.machine.specs.Words.{pick, booleanWord, numberWord, functionWord, stopWord, payloadOf}
+use Rattle.stores.specs.declared.state.Stop.the-variants.{Stuck, OpenCalls}
+use Rattle.stores.specs.Words.{pick, booleanWord, numberWord, functionWord, stopWord, payloadOf}
 use Rattle.machine.specs.Table.{wordKind, wordSmall, wordFirst, wordSecond, wordAuthority}
-use Rattle.machine.specs.Cells.{lookOf}
+use Rattle.stores.specs.Cells.{lookOf}
 use Rattle.machine.specs.Steps.{cellsMade}
 use Rattle.machine.specs.Store.{Store as State, Done, doneOf, Runs, Applier, Shape, binary, shapeOf, leafOf, binaryS, byShape, begin, step, below, applyAt, evalAt}
 use Rattle.refinement.specs.Laws.Relation.{Fixed, Balances, sortFor, function-word, kindNumber, wordAt, kind, small, first, second, Stands, on-boolean, on-number, on-variable, on-function, on-letrec, on-call, on-if, on-check, on-enable, on-sign, on-test, on-binary, on-post, Body, rep-bool, rep-num, rep-fun, rep-rec, RepAt, EnvAt, boolean-rep, number-rep, rep-word, env-low, Meets}

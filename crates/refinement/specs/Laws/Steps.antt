@@ -12,14 +12,14 @@ use borrow.Author.Tests.{ne-eqb, lt-ltb, le-ltb, le-leb, lt-leb}
 use Rattle.program.specs.Terms.{Op, sum, difference, less, Term}
 use Rattle.semantics.specs.Values.{Value, num, closure, Env, bind, lookup, entered, Budget, budget, Result, ends, stops}
 use Rattle.semantics.specs.Meaning.{Control, Evaluation, Application, _then_, choose, found, branch, operate, compute, appendPost, takeCell, beginCall, passes}
-use Rattle.machine.specs.declared.state.Stop.{Stop}
-use Rattle.machine.specs.declared.state.Stop.the-variants.{Check, Stuck, Calls, Cells, Posts}
-use Rattle.machine.specs.Words.{pick, numberWord, functionWord, stopWord, sortOf, payloadOf, envOf}
-use Rattle.machine.specs.Cells.{behindOf, walkOf, heldOf, lookOf, cellSet}
-use Rattle.machine.specs.Access.{enforced, grantedOf, allowedOf, signAccess, signFrames, enableAccess, enableFrames, enabledNow, restoreFrames}
+use Rattle.stores.specs.declared.state.Stop.{Stop}
+use Rattle.stores.specs.declared.state.Stop.the-variants.{Check, Stuck, Calls, Cells, Posts}
+use Rattle.stores.specs.Words.{pick, numberWord, functionWord, stopWord, sortOf, payloadOf, envOf}
+use Rattle.stores.specs.Cells.{behindOf, walkOf, heldOf, lookOf, cellSet}
+use Rattle.stores.specs.Access.{enforced, grantedOf, allowedOf, signAccess, signFrames, enableAccess, enableFrames, enabledNow, restoreFrames}
 use Rattle.machine.specs.Steps.{callsLeft, cellsMade, postsMade, modeOf, resultOf, operateOf, postWord, postCounters, postList}
 use Rattle.machine.specs.Store.{Store as State, Done, storeOf, doneOf, withFrames, andThen, Runs, Applier, hasRoom, ownCell, bound, called, letrecS, callS, branchS, ifS, checkS, testS, signS, restored, enableS, binaryS, postDone, postS, begin}
-use Rattle.machine.specs.Stops.{causeOf, placeOf}
+use Rattle.stores.specs.Stops.{stopCause, stopPlace}
 use Rattle.refinement.specs.Laws.Cells.{agree-cell, cell-holds, cell-behind, length-cell}
 use Rattle.refinement.specs.Laws.Relation.{Fixed, length-written, countersOf, Balance, Balances, balance, Kept, kept-refl, Later, later-refl, sortFor, Function, function-word, kindNumber, Body, Rep, rep-bool, rep-num, rep-fun, rep-rec, RepEnv, RepAt, EnvAt, env-none, env-some, boolean-rep, number-rep, rep-word, rep-low, rep-later, env-later, Meets, valued, halted, meets-later, meets-then}
 
@@ -136,8 +136,8 @@ module _ (z : Fixed) where
   balances-frames f (balance h) = balance record { counters = h .counters; cells = h .cells; most = h .most; room = h .room; list = h .list }
 
   -- ---- steps that evaluate no other term
-  pub meets-stop : {depth : ℕ} {st : State} {o : Budget} (x : Stop) → placeOf x < 65536 → Balances z st o
-      → Meets z depth st (doneOf (stopWord (causeOf x) (placeOf x)) st) (stops (causeOf x) (placeOf x) o)
+  pub meets-stop : {depth : ℕ} {st : State} {o : Budget} (x : Stop) → stopPlace x < 65536 → Balances z st o
+      → Meets z depth st (doneOf (stopWord (stopCause x) (stopPlace x)) st) (stops (stopCause x) (stopPlace x) o)
   meets-stop {depth} {st} x i h = halted x i h (later-refl depth st)
 
   pub meets-end : {depth : ℕ} {st : State} {o : Budget} {w : ℕ} {x : Value} → RepAt z st w x → Balances z st o → Meets z depth st (doneOf w st) (ends x o)

@@ -6,8 +6,8 @@ use mathlib.Core.Path.{_≡_, refl}
 use Prim.Native.Nat.{_-_, _≤_}
 use native.Mathlib.Omega.{arith}
 use lib.ListN.{length, take, drop, length-set}
-use Rattle.report.proofs.DraftLaws.{sized}
-use Rattle.report.proofs.ReportLaws.{copy-more, too-short, fitting}
+use Rattle.program.specs.Laws.Lists.{sized, copy-more}
+use Rattle.report.proofs.ReportLaws.{too-short, fitting}
 use Rattle.report.proofs.deliver.Statement.{statement}
 use Rattle.report.proofs.deliver.Tie as tie
 

@@ -2,8 +2,8 @@
 -- run (rejected-told), an accepted one is told with its run (accepted-told). The run's answer depends on the lengths of the buffers alone, and these are
 -- the largest, as in the definition of the print, by the precondition (lent-largest).
 use mathlib.Core.Path.{sym, ap, _∙_}
-use Rattle.typing.specs.Answers.{told}
-use Rattle.report.proofs.ReportLaws.{rejected-told, accepted-told, lent-largest}
+use Rattle.typing.specs.Answers.{verdictModel}
+use Rattle.report.proofs.ReportLaws.{rejected-reported, accepted-reported, buffers-largest}
 use borrow.Author.Needs.{needs}
 use Rattle.report.proofs.render.Statement.{statement}
 use Rattle.report.proofs.render.Tie as tie
@@ -39,14 +39,14 @@ returns : tie.Need-returns
 returns c =
     let at-typecheck = c .before .before .before .before .before in
     let start = at-typecheck .before .before .before .before in
-    rejected-told (start .args .sheet .now) _ (sym (ap told (c .before .before .before .v .given .1)) ∙ at-typecheck .typecheck .ensures)
+    rejected-reported (start .args .sheet .now) _ (sym (ap verdictModel (c .before .before .before .v .given .1)) ∙ at-typecheck .typecheck .ensures)
     (c .before .of-reader .ensures) (c .refusal .ensures)
 
 returns-2 : tie.Need-returns-2
 returns-2 c =
     let at-typecheck = c .before .before .before .before .before in
     let start = at-typecheck .before .before .before .before in
-    rejected-told (start .args .sheet .now) _ (sym (ap told (c .before .before .before .v2 .given .1)) ∙ at-typecheck .typecheck .ensures)
+    rejected-reported (start .args .sheet .now) _ (sym (ap verdictModel (c .before .before .before .v2 .given .1)) ∙ at-typecheck .typecheck .ensures)
     (c .before .of-fault .ensures) (c .refusal2 .ensures)
 
 same-length : tie.Need-same-length
@@ -61,8 +61,8 @@ returns-3 c =
     let at-v3 = at-run-accepted .before .before .before .before in
     let at-typecheck = at-v3 .before .before in
     let start = at-typecheck .before .before .before .before in
-    accepted-told (start .args .sheet .now) _ (sym (ap told (at-v3 .v3 .given .1)) ∙ at-typecheck .typecheck .ensures)
-    (lent-largest (start .args .cells .now) (start .args .posts .now) (start .pre .0) (start .pre .1)) (at-run-accepted .run-accepted .ensures)
+    accepted-reported (start .args .sheet .now) _ (sym (ap verdictModel (at-v3 .v3 .given .1)) ∙ at-typecheck .typecheck .ensures)
+    (buffers-largest (start .args .cells .now) (start .args .posts .now) (start .pre .0) (start .pre .1)) (at-run-accepted .run-accepted .ensures)
 
 pub render-spec : {M : Type 1} → statement M
 render-spec =

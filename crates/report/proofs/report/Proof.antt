@@ -1,6 +1,6 @@
--- `report` gives and leaves what `reported` says. Where the cell store (few-cells) or the list of posts (few-posts) has another length than the largest,
+-- `report` gives and leaves what `reported` says. Where the cell store (other-cells) or the list of posts (other-posts) has another length than the largest,
 -- the answer is `Unfit` and nothing is touched; else `render` makes the printed text and runs the sheet, and `deliver` copies the text (all-told).
-use Rattle.report.proofs.ReportLaws.{few-cells, few-posts, all-told}
+use Rattle.report.proofs.ReportLaws.{other-cells, other-posts, all-reported}
 use borrow.Author.Needs.{needs}
 use Rattle.report.proofs.report.Statement.{statement}
 use Rattle.report.proofs.report.Tie as tie
@@ -8,12 +8,12 @@ use Rattle.report.proofs.report.Tie as tie
 returns : tie.Need-returns
 returns c =
     let start = c .before .before .before .before .before in
-    few-cells (start .args .sheet .now) (start .args .cells .now) (start .args .posts .now) (start .args .text .now) (c .if1 .taken)
+    other-cells (start .args .sheet .now) (start .args .cells .now) (start .args .posts .now) (start .args .text .now) (c .if1 .taken)
 
 returns-2 : tie.Need-returns-2
 returns-2 c =
     let start = c .before .before .before .before .before .before in
-    few-posts (start .args .sheet .now) (start .args .cells .now) (start .args .posts .now) (start .args .text .now) (c .before .if1 .left) (c .if2 .taken)
+    other-posts (start .args .sheet .now) (start .args .cells .now) (start .args .posts .now) (start .args .text .now) (c .before .if1 .left) (c .if2 .taken)
 
 render-requires : tie.Need-render-requires
 render-requires c κs = search needs
@@ -36,7 +36,7 @@ returns-3 c =
     let at-if2 = at-render .before .before .before in
     let at-if1 = at-if2 .before in
     let start = at-if1 .before .before .before .before .before in
-    all-told (start .args .sheet .now) (start .args .cells .now) (start .args .posts .now) (start .args .text .now) (at-if1 .if1 .left) (at-if2 .if2 .left)
+    all-reported (start .args .sheet .now) (start .args .cells .now) (start .args .posts .now) (start .args .text .now) (at-if1 .if1 .left) (at-if2 .if2 .left)
     (at-render .render .ensures) (c .before .before .deliver .ensures)
 
 pub report-spec : {M : Type 1} → statement M

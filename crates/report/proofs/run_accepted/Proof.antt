@@ -1,6 +1,6 @@
 -- `run_accepted` tells the answer of the run that `run_eager` makes: a refused one as a refusal (refused-told), any other as outcome and counts behind the
 -- three lines of the acceptance (ran-told). The buffers are as that run leaves them. The texts, at most 53 and 183 bytes long, are within the 192 of a draft.
-use Rattle.report.proofs.ReportLaws.{refused-told, ran-told}
+use Rattle.report.proofs.ReportLaws.{refused-reported, ran-reported}
 use borrow.Author.Needs.{needs}
 use Rattle.report.proofs.run_accepted.Statement.{statement}
 use Rattle.report.proofs.run_accepted.Tie as tie
@@ -36,7 +36,7 @@ returns : tie.Need-returns
 returns c =
     let at-run-eager = c .before .before .before .before .before .before .before .before .before in
     let start = at-run-eager .before .before .before .before .before .before .before in
-    refused-told (start .args .sheet .now) (start .args .terms) (start .args .ty) (start .args .needs) _ _ _ (at-run-eager .run-eager .ensures)
+    refused-reported (start .args .sheet .now) (start .args .terms) (start .args .ty) (start .args .needs) _ _ _ (at-run-eager .run-eager .ensures)
     (c .before .before .before .r .given .1) (c .before .of-refusal .ensures) (c .refusal .ensures)
 
 same-length-3 : tie.Need-same-length-3
@@ -49,7 +49,7 @@ returns-2 : tie.Need-returns-2
 returns-2 c =
     let at-run-eager = c .before .before .before .before .before .before .before .before in
     let start = at-run-eager .before .before .before .before .before .before .before in
-    ran-told (start .args .sheet .now) (start .args .terms) (start .args .ty) (start .args .needs) _ _ _ (at-run-eager .run-eager .ensures)
+    ran-reported (start .args .sheet .now) (start .args .terms) (start .args .ty) (start .args .needs) _ _ _ (at-run-eager .run-eager .ensures)
     (c .before .before .r2 .given .1) (c .accepted .ensures)
 
 pub run-accepted-spec : {M : Type 1} → statement M

@@ -39,7 +39,8 @@ swap false false = refl
 sign-grants : (A : ℕ → ℕ) (n P : ℕ) (fs : List Frame) → ((p : ℕ) → has p P ≡ chk A fs p) → (p : ℕ) → has p (meet P (A n)) ≡ chk A (frame n 0 ∷ fs) p
 sign-grants A n P fs h p = has-meet p P (A n) ∙ swap (has p P) (has p (A n)) ∙ λ i. has p (A n) && (sym (has-none p) i || h p i)
 
-pub stands-sign : (A : ℕ → ℕ) (n : ℕ) (r : Rights) (fs : List Frame) → ((p : ℕ) → has p (r .granted) ≡ chk A fs p) → Stands A (rights n (meet (r .granted) (A n))) (frame n 0 ∷ fs)
+pub stands-sign : (A : ℕ → ℕ) (n : ℕ) (r : Rights) (fs : List Frame) → ((p : ℕ) → has p (r .granted) ≡ chk A fs p)
+    → Stands A (rights n (meet (r .granted) (A n))) (frame n 0 ∷ fs)
 stands-sign A n r fs h = record { first = frame n 0; behind = fs; is = refl; same-signer = refl; same-grants = sign-grants A n (r .granted) fs h }
 
 -- ---- enable
@@ -57,7 +58,8 @@ enabling true true b E W h = ap (λ (x : Bool). x || (E || W)) (h refl)
 enabling true false b E W h = ap (λ (x : Bool). x || false) (h refl)
 enabling false a b E W h = refl
 
-pub stands-enable : (A : ℕ → ℕ) (p : ℕ) (r : Rights) (fs : List Frame) → Stands A r fs → Stands A (rights (r .signer) (addAuthorised A (r .signer) p (r .granted))) (enableFirst p fs)
+pub stands-enable : (A : ℕ → ℕ) (p : ℕ) (r : Rights) (fs : List Frame) → Stands A r fs
+    → Stands A (rights (r .signer) (addAuthorised A (r .signer) p (r .granted))) (enableFirst p fs)
 stands-enable A p r fs h =
     let f = h .first in
     let gs = h .behind in
@@ -69,7 +71,8 @@ stands-enable A p r fs h =
       same-grants = λ q.
           addAuthorised-has A q (r .signer) p (r .granted)
           ∙ (λ i. eqb q p && has p (A (h .same-signer i)) || (h .same-grants q ∙ (λ j. chk A (h .is j) q)) i)
-          ∙ enabling (eqb q p) (has q (A (f .principal))) (has p (A (f .principal))) (has q (f .enabled)) (chk A gs q) (λ e. ap (λ (x : ℕ). has x (A (f .principal))) (sym (eqb-true q p e)))
+          ∙ enabling (eqb q p) (has q (A (f .principal))) (has p (A (f .principal))) (has q (f .enabled)) (chk A gs q)
+          (λ e. ap (λ (x : ℕ). has x (A (f .principal))) (sym (eqb-true q p e)))
           ∙ (λ i. has q (A (f .principal)) && (sym (has-insert q p (f .enabled)) i || chk A gs q))
           ∙ λ i. chk A (enableFirst p (sym (h .is) i)) q;
     }
@@ -87,4 +90,5 @@ pub eager-lazy : (A : ℕ → ℕ) (enforce : Bool) (depth : ℕ) (c : Term) →
     → (e : Env) (u : Budget) → eval (eagerControl A) enforce depth c r e u ≡ eval (lazyControl A) enforce depth c fs e u
 unfolding eval evalWith eager-lazy-simulation
 eager-lazy A enforce k (sign at n c) signed r fs h e u =
-    agree (eagerControl A) (lazyControl A) (eager-lazy-simulation A) enforce k c (rights n (meet (r .granted) (A n))) (frame n 0 ∷ fs) (stands-sign A n r fs h) e u
+    agree (eagerControl A) (lazyControl A) (eager-lazy-simulation A) enforce k c (rights n (meet (r .granted) (A n))) (frame n 0 ∷ fs)
+    (stands-sign A n r fs h) e u

@@ -49,6 +49,7 @@ module _ (X Y : Control) (R : Simulation X Y) (enforce : Bool) where
   apply-agree (suc k) at v w s t r u =
       λ i. enter at v w (λ body e u₁. eval-agree (apply X enforce k) (apply Y enforce k) (apply-agree k) body s t r e u₁ i) u
 
-  pub agree : (depth : ℕ) (c : Term) (s : X .State) (t : Y .State) → R .related s t → (e : Env) (u : Budget) → eval X enforce depth c s e u ≡ eval Y enforce depth c t e u
+  pub agree : (depth : ℕ) (c : Term) (s : X .State) (t : Y .State) → R .related s t → (e : Env) (u : Budget) → eval X enforce depth c s e u
+      ≡ eval Y enforce depth c t e u
   unfolding eval
   agree k c = eval-agree (apply X enforce k) (apply Y enforce k) (apply-agree k) c

@@ -71,19 +71,26 @@ spends-post at (closure r ty body env) u = spends-none u refl
 
 spends-cell : (at : ℕ) (k : Budget → Result) → ((w : Budget) → Spends w (k w)) → (u : Budget) → Spends u (takeCell at k u)
 spends-cell at k h (budget c zero r ps) = spends-none (budget c zero r ps) refl
-spends-cell at k h (budget c (suc d) r ps) = record { spent = spent-trans (record { calls = le-refl c; cells = omega arith; posts = refl }) (h (budget c d r ps) .spent) }
+spends-cell at k h (budget c (suc d) r ps) = record {
+  spent = spent-trans (record { calls = le-refl c; cells = omega arith; posts = refl })
+      (h (budget c d r ps) .spent);
+}
 
 spends-begin : (at : ℕ) (k : Budget → Result) → ((w : Budget) → Spends w (k w)) → (u : Budget) → Spends u (beginCall at k u)
 spends-begin at k h (budget zero d r ps) = spends-none (budget zero d r ps) refl
 spends-begin at k h (budget (suc c) zero r ps) = spends-none (budget (suc c) zero r ps) refl
-spends-begin at k h (budget (suc c) (suc d) r ps) = record { spent = spent-trans (record { calls = omega arith; cells = omega arith; posts = refl }) (h (budget c d r ps) .spent) }
+spends-begin at k h (budget (suc c) (suc d) r ps) = record {
+  spent = spent-trans (record { calls = omega arith; cells = omega arith; posts = refl })
+      (h (budget c d r ps) .spent);
+}
 
 spends-deep : (at : ℕ) (v : Value) (u : Budget) → Spends u (tooDeep at v u)
 spends-deep at (closure r ty body env) u = spends-none u refl
 spends-deep at (bool b) u = spends-none u refl
 spends-deep at (num n) u = spends-none u refl
 
-spends-enter : (at : ℕ) (v w : Value) (run : Term → Env → Budget → Result) → ((c : Term) (e : Env) (x : Budget) → Spends x (run c e x)) → (u : Budget) → Spends u (enter at v w run u)
+spends-enter : (at : ℕ) (v w : Value) (run : Term → Env → Budget → Result) → ((c : Term) (e : Env) (x : Budget) → Spends x (run c e x)) → (u : Budget)
+    → Spends u (enter at v w run u)
 spends-enter at (closure r ty body env) w run h u = spends-begin at _ (λ x. h body (entered r ty body env w) x) u
 spends-enter at (bool b) w run h u = spends-none u refl
 spends-enter at (num n) w run h u = spends-none u refl

@@ -7,6 +7,7 @@ use lib.Dec.{leb, ltb, eqb}
 use lib.ListN.{length, drop, take, length-reverse}
 use lib.Seq.{take-append-seam}
 use borrow.Author.Tests.{lt-leb}
+use Rattle.program.specs.Limits.{maxStart, maxCells, maxPosts, maxCalls, maxDepth}
 use Rattle.privileges.specs.Sets.{_⊆_}
 use Rattle.program.specs.Layout.{principals, types, authority, root, typesOf}
 use Rattle.program.specs.Terms.{program}
@@ -20,7 +21,7 @@ use Rattle.typing.specs.Laws.Subtyping.{sub-isFun}
 use Rattle.semantics.specs.Values.{bool, num, closure, empty, Budget, budget, Result, ends, stops}
 use Rattle.semantics.specs.Meaning.{eval}
 use Rattle.semantics.specs.Access.{privs, rights, eagerControl}
-use Rattle.semantics.specs.Runs.{Runner, eager, lazy, Request, Buffers, Sizes, sizes, stack, known, framesOk, runConditions, initial, evaluation, Course, turnedBack, started, ran, outcome, left, counts, answerOf, inOrder, postsMade, buffersAfter, After}
+use Rattle.semantics.specs.Runs.{Runner, eager, lazy, Request, Buffers, Sizes, sizes, stack, known, framesOk, runConditions, initial, evaluation, Course, rejected, started, ran, outcome, left, counts, answerOf, inOrder, postsMade, buffersAfter, After}
 use Rattle.semantics.specs.Laws.Access.{privs-chk, eager-lazy}
 use Rattle.soundness.specs.Claims.{GrantsSet, Comparable, postsOf, SameRun, Proper}
 use Rattle.soundness.specs.Laws.Safety.{Base, Safe, Alike, checks-removed}
@@ -32,11 +33,13 @@ eagerly s q z enforce = eval (eagerControl (authority s)) enforce (q .depth) (pr
 -- ---- comparable requests
 module _ (s : List ℕ) (x y : Request) (b d : Buffers) (c : Comparable x y b d) where
   -- are turned back alike, if both have the frame store that their runners ask for
-  pub same-conditions : framesOk (x .runner) (length (b .frames)) ≡ framesOk (y .runner) (length (d .frames)) → runConditions s x (sizes b) ≡ runConditions s y (sizes d)
+  pub same-conditions : framesOk (x .runner) (length (b .frames)) ≡ framesOk (y .runner) (length (d .frames)) → runConditions s x (sizes b)
+      ≡ runConditions s y (sizes d)
   same-conditions f = λ i.
       decodingConditions s
-      ++ unless 14 (leb (length (c .same-start i)) 32 && eqb (length (c .same-start i) % 2) 0 && known (principals s) (stack (c .same-start i)))
-      ∷ unless 15 (leb (c .same-cells i) 65536 && leb (c .same-posts i) 256 && f i) ∷ unless 16 (leb (c .same-calls i) 4096 && leb (c .same-depth i) 100) ∷ []
+      ++ unless 14 (leb (length (c .same-start i)) maxStart && eqb (length (c .same-start i) % 2) 0 && known (principals s) (stack (c .same-start i)))
+      ∷ unless 15 (leb (c .same-cells i) maxCells && leb (c .same-posts i) maxPosts && f i)
+      ∷ unless 16 (leb (c .same-calls i) maxCalls && leb (c .same-depth i) maxDepth) ∷ []
 
   -- and the eager runner evaluates them alike
   pub same-eagerly : (enforce : Bool) → eagerly s x (sizes b) enforce ≡ eagerly s y (sizes d) enforce
@@ -49,21 +52,23 @@ abbrev whole : (root : ℕ) → Request → Buffers → Course → After
 whole r q b x = record { answer = answerOf r q (sizes b) x; buffers = buffersAfter (q .runner) b x }
 
 -- the posts made are the first entries of the list, as many as are told
-pub posts-told : (r : ℕ) (q : Request) (b : Buffers) (x : Course) → postsOf (whole r q b x) ≡ postsMade x
-posts-told r q b (turnedBack c p) = refl
-posts-told r q b (started x) = go (left x)
+pub posts-listed : (r : ℕ) (q : Request) (b : Buffers) (x : Course) → postsOf (whole r q b x) ≡ postsMade x
+posts-listed r q b (rejected c p) = refl
+posts-listed r q b (started x) = go (left x)
   where
     go : (u : Budget) → take (counts q (sizes b) u .posts) (inOrder u ++ drop (length (inOrder u)) (b .posts)) ≡ inOrder u
-    go (budget k d m ps) = ap (λ (n : ℕ). take n (reverse ps ++ drop (length (reverse ps)) (b .posts))) (sym (length-reverse ps)) ∙ take-append-seam (reverse ps) _
+    go (budget k d m ps) = ap (λ (n : ℕ). take n (reverse ps ++ drop (length (reverse ps)) (b .posts))) (sym (length-reverse ps))
+        ∙ take-append-seam (reverse ps) _
 
-pub same-told : (r : ℕ) (x y : Request) (b d : Buffers) → Comparable x y b d → (f g : Result) → f ≡ g → SameRun (whole r x b (started f)) (whole r y d (started g))
-same-told r x y b d c f g e = record {
-  same-answer = λ i. ran (outcome r (e i)) (told (left (e i)) i);
-  same-posts = posts-told r x b (started f) ∙ ap (λ (z : Result). inOrder (left z)) e ∙ sym (posts-told r y d (started g));
+pub same-whole : (r : ℕ) (x y : Request) (b d : Buffers) → Comparable x y b d → (f g : Result) → f ≡ g
+    → SameRun (whole r x b (started f)) (whole r y d (started g))
+same-whole r x y b d c f g e = record {
+  same-answer = λ i. ran (outcome r (e i)) (same-made (left (e i)) i);
+  same-posts = posts-listed r x b (started f) ∙ ap (λ (z : Result). inOrder (left z)) e ∙ sym (posts-listed r y d (started g));
 }
   where
-    told : (u : Budget) → counts x (sizes b) u ≡ counts y (sizes d) u
-    told (budget k l m ps) = λ i. record { calls = c .same-calls i - k; cells = c .same-cells i / 8 - l; posts = length ps }
+    same-made : (u : Budget) → counts x (sizes b) u ≡ counts y (sizes d) u
+    same-made (budget k l m ps) = λ i. record { calls = c .same-calls i - k; cells = c .same-cells i / 8 - l; posts = length ps }
 
 -- ---- a run that starts is one of a readable sheet
 pub clear-readable : (s : List ℕ) (q : Request) (z : Sizes) → screen (runConditions s q z) ≡ clear → Readable s
@@ -74,13 +79,15 @@ clear-readable s q z e = none-clear (none-append (decodingConditions s) _ (clear
 pub as-eager : (s : List ℕ) → WellFormed s → (q : Request) (z : Sizes) (r : Runner) → evaluation r s q z ≡ evaluation eager s q z
 as-eager s w q z eager = refl
 as-eager s w q z lazy =
-    sym (eager-lazy (authority s) (q .enforce) (q .depth) (program s) (program-signed s w) (rights 0 (privs (authority s) (stack (q .start)))) (stack (q .start))
+    sym (eager-lazy (authority s) (q .enforce) (q .depth) (program s) (program-signed s w) (rights 0 (privs (authority s) (stack (q .start))))
+    (stack (q .start))
     (privs-chk (authority s) (stack (q .start))) empty (initial q z))
 
 pub same-evaluation : (s : List ℕ) → WellFormed s → (x y : Request) (b d : Buffers) → Comparable x y b d → x .enforce ≡ y .enforce
     → evaluation (x .runner) s x (sizes b) ≡ evaluation (y .runner) s y (sizes d)
 same-evaluation s w x y b d c e =
-    as-eager s w x (sizes b) (x .runner) ∙ same-eagerly s x y b d c (x .enforce) ∙ (λ i. eagerly s y (sizes d) (e i)) ∙ sym (as-eager s w y (sizes d) (y .runner))
+    as-eager s w x (sizes b) (x .runner) ∙ same-eagerly s x y b d c (x .enforce) ∙ (λ i. eagerly s y (sizes d) (e i))
+    ∙ sym (as-eager s w y (sizes d) (y .runner))
 
 -- ---- safe results are proper
 base-types : (s : List ℕ) → Base (typesOf s)
@@ -89,7 +96,8 @@ base-types s = record { bool-base = refl; num-base = refl }
 low-base : (s : List ℕ) (τ : ℕ) → τ < 2 → typesOf s .isFun τ ≡ false
 low-base s τ h = ap (λ (b : Bool). b && ltb τ (types s)) (lt-leb 2 τ h)
 
-safe-proper : (s : List ℕ) (τ : ℕ) → τ < 2 → (q : Request) (z : Sizes) (x : Result) → Safe (typesOf s) (authority s) (base-types s) τ x → Proper τ (answerOf (root s) q z (started x))
+safe-proper : (s : List ℕ) (τ : ℕ) → τ < 2 → (q : Request) (z : Sizes) (x : Result) → Safe (typesOf s) (authority s) (base-types s) τ x
+    → Proper τ (answerOf (root s) q z (started x))
 safe-proper s τ l q z (ends (bool b) u) h = h
 safe-proper s τ l q z (ends (num n) u) h = h
 safe-proper s τ l q z (ends (closure r ty body env) u) h = absurd (true≢false (sym (sub-isFun (typesOf s) (h .below) (h .function)) ∙ low-base s τ l))
@@ -112,5 +120,6 @@ removed s w τ N l h x y b d c ex ey g =
     same-eagerly s x y b d c false ∙ (λ i. eagerly s y (sizes d) (sym ey i)) ∙ sym (as-eager s w y (sizes d) (y .runner)) in
     record {
       same-result = first ∙ alike .same ∙ second;
-      proper = subst (λ (z : Result). Proper τ (answerOf (root s) x (sizes b) (started z))) (sym first) (safe-proper s τ l x (sizes b) (eagerly s x (sizes b) true) (alike .safe));
+      proper = subst (λ (z : Result). Proper τ (answerOf (root s) x (sizes b) (started z))) (sym first)
+          (safe-proper s τ l x (sizes b) (eagerly s x (sizes b) true) (alike .safe));
     }

@@ -21,7 +21,8 @@ use Rattle.semantics.specs.Access.{rights, addAuthorised, eagerControl}
 use Rattle.soundness.specs.Claims.{Limit}
 
 -- ---- a signed term does not ask who signs around it
-sign-any : {T : Types} {A : ℕ → ℕ} {Γ : List ℕ} {n at k : ℕ} {c : Term} {τ N : ℕ} → Derives T A Γ n (sign at k c) τ N → (m : ℕ) → Derives T A Γ m (sign at k c) τ N
+sign-any : {T : Types} {A : ℕ → ℕ} {Γ : List ℕ} {n at k : ℕ} {c : Term} {τ N : ℕ} → Derives T A Γ n (sign at k c) τ N → (m : ℕ)
+    → Derives T A Γ m (sign at k c) τ N
 sign-any (d-sign d s) m = d-sign d s
 sign-any (d-widen d s) m = d-widen (sign-any d m) s
 
@@ -128,14 +129,16 @@ module _ (T : Types) (A : ℕ → ℕ) (base : Base T) where
   alike-widen (ends v u) y f g = record { same = g .same; safe = widen v (g .safe) f }
   alike-widen (stops c at u) y f g = record { same = g .same; safe = g .safe }
 
-  alike-then : {τ σ : ℕ} (x y : Result) (k l : Value → Budget → Result) → Alike τ x y → ((v : Value) (u : Budget) → HasType v τ → Alike σ (k v u) (l v u)) → Alike σ (x then k) (y then l)
+  alike-then : {τ σ : ℕ} (x y : Result) (k l : Value → Budget → Result) → Alike τ x y → ((v : Value) (u : Budget) → HasType v τ → Alike σ (k v u) (l v u))
+      → Alike σ (x then k) (y then l)
   alike-then {τ} {σ} x y k l g h = subst (λ z. Alike σ (x then k) (z then l)) (g .same) (go x (g .safe))
     where
       go : (z : Result) → Safe τ z → Alike σ (z then k) (z then l)
       go (ends v u) s = h v u s
       go (stops c at u) s = record { same = refl; safe = s }
 
-  alike-choose : {τ : ℕ} (b : Bool) (y y′ n n′ : Budget → Result) (u : Budget) → Alike τ (y u) (y′ u) → Alike τ (n u) (n′ u) → Alike τ (choose b y n u) (choose b y′ n′ u)
+  alike-choose : {τ : ℕ} (b : Bool) (y y′ n n′ : Budget → Result) (u : Budget) → Alike τ (y u) (y′ u) → Alike τ (n u) (n′ u)
+      → Alike τ (choose b y n u) (choose b y′ n′ u)
   alike-choose true y y′ n n′ u hy hn = hy
   alike-choose false y y′ n n′ u hy hn = hn
 
@@ -164,10 +167,12 @@ module _ (T : Types) (A : ℕ → ℕ) (base : Base T) where
   operate-type difference x y = refl
   operate-type less x y = refl
 
-  alike-compute : (at : ℕ) (op : Op) (v w : Value) → HasType v 1 → HasType w 1 → (u : Budget) → Alike (resultType op) (compute at op v w u) (compute at op v w u)
+  alike-compute : (at : ℕ) (op : Op) (v w : Value) → HasType v 1 → HasType w 1 → (u : Budget)
+      → Alike (resultType op) (compute at op v w u) (compute at op v w u)
   alike-compute at op v w hv hw u =
       num-only (λ v. Alike (resultType op) (compute at op v w u) (compute at op v w u))
-      (λ x. num-only (λ w. Alike (resultType op) (compute at op (num x) w u) (compute at op (num x) w u)) (λ y. alike-end (operate op x y) (resultType op) u (operate-type op x y)) w hw) v hv
+      (λ x. num-only (λ w. Alike (resultType op) (compute at op (num x) w u) (compute at op (num x) w u))
+      (λ y. alike-end (operate op x y) (resultType op) u (operate-type op x y)) w hw) v hv
 
   -- ---- evaluations: one with checks in force, one with checks passed over
   abbrev AlikeApplication : Application (eagerControl A) → Application (eagerControl A) → Type 0
@@ -201,20 +206,23 @@ module _ (T : Types) (A : ℕ → ℕ) (base : Base T) where
     eval-alike (d-call {n = n} {at = at} {φ = φ} {N = N} {M = M} {f = fn} {a = a} d d′ hf fit) w e he P hP u =
         let hNM : union N M ⊆ P = ⊆-trans (⊆-union-right (T .latent φ) (union N M)) hP in
         alike-then (checked fn (rights n P) e u) (skipped fn (rights n P) e u) _ _ (eval-alike d (w .0) e he P (⊆-trans (⊆-union-left N M) hNM) u)
-        (λ v u₁ hv. alike-then (checked a (rights n P) e u₁) (skipped a (rights n P) e u₁) _ _ (eval-alike d′ (w .1) e he P (⊆-trans (⊆-union-right N M) hNM) u₁)
+        (λ v u₁ hv. alike-then (checked a (rights n P) e u₁) (skipped a (rights n P) e u₁) _ _
+        (eval-alike d′ (w .1) e he P (⊆-trans (⊆-union-right N M) hNM) u₁)
         (λ x u₂ hx. alike-app at φ v x hf hv (widen x hx fit) n P (⊆-trans (⊆-union-left (T .latent φ) (union N M)) hP) u₂))
     eval-alike (d-if {n = n} {at = at} {τ = τ} {N = N} {M = M} {K = K} {c = c} {y = y} {o = o} d d′ d″) w e he P hP u =
         let hMK : union M K ⊆ P = ⊆-trans (⊆-union-right N (union M K)) hP in
         alike-then (checked c (rights n P) e u) (skipped c (rights n P) e u) _ _ (eval-alike d (w .0) e he P (⊆-trans (⊆-union-left N (union M K)) hP) u)
         (λ v u₁ hv. bool-only
-        (λ v. Alike τ (branch at v (λ x. checked y (rights n P) e x) (λ x. checked o (rights n P) e x) u₁) (branch at v (λ x. skipped y (rights n P) e x) (λ x. skipped o (rights n P) e x) u₁))
+        (λ v. Alike τ (branch at v (λ x. checked y (rights n P) e x) (λ x. checked o (rights n P) e x) u₁)
+        (branch at v (λ x. skipped y (rights n P) e x) (λ x. skipped o (rights n P) e x) u₁))
         (λ b. alike-choose b _ _ _ _ u₁ (eval-alike d′ (w .1) e he P (⊆-trans (⊆-union-left M K) hMK) u₁)
         (eval-alike d″ (w .2) e he P (⊆-trans (⊆-union-right M K) hMK) u₁)) v hv)
     eval-alike (d-test {n = n} {p = p} {N = N} {M = M} d d′) w e he P hP u =
         alike-choose (has p P) _ _ _ _ u
         (eval-alike d (w .0) e he P (⊆-trans (⊆-union-left N M) hP) u) (eval-alike d′ (w .1) e he P (⊆-trans (⊆-union-right N M) hP) u)
     eval-alike (d-check {n = n} {at = at} {p = p} {τ = τ} {N = N} {c = c} d) w e he P hP u =
-        subst (λ b. Alike τ (choose b (λ x. checked c (rights n P) e x) (λ x. stops 17 at x) u) (skipped c (rights n P) e u)) (sym (hP .all p (has-inserted p N)))
+        subst (λ b. Alike τ (choose b (λ x. checked c (rights n P) e x) (λ x. stops 17 at x) u) (skipped c (rights n P) e u))
+        (sym (hP .all p (has-inserted p N)))
         (eval-alike d w e he P (⊆-trans (⊆-insert p N) hP) u)
     eval-alike (d-enable {n = n} {p = p} {N = N} d) w e he P hP u = eval-alike d w e he (addAuthorised A n p P) (removed-added A n p N P hP) u
     eval-alike (d-sign {m = m} d s) w e he P hP u = eval-alike d w e he (meet P (A m)) (⊆-meet hP s) u

@@ -31,8 +31,8 @@ slice-aggregate-report-4 c = search needs
 report-requires : tie.Need-report-requires
 report-requires c κs = search needs
 
-enum-known-told : tie.Need-enum-known-told
-enum-known-told c = search needs
+enum-known-reported : tie.Need-enum-known-reported
+enum-known-reported c = search needs
 
 returns : tie.Need-returns
 returns c = search needs
@@ -40,12 +40,12 @@ returns c = search needs
 array-share-prefix-text : tie.Need-array-share-prefix-text
 array-share-prefix-text c =
     let at-report = c .before .before .before .before .before .before in
-    text-written _ _ _ _ _ _ (c .before .told .given .1) (at-report .report .ensures) .fits
+    text-written _ _ _ _ _ _ (c .before .reported .given .1) (at-report .report .ensures) .fits
 
 slice-aggregate-tell : tie.Need-slice-aggregate-tell
 slice-aggregate-tell c =
     let at-report = c .before .before .before .before .before .before .before in
-    sym (length-take-le _ _ (text-written _ _ _ _ _ _ (c .before .before .told .given .1) (at-report .report .ensures) .fits))
+    sym (length-take-le _ _ (text-written _ _ _ _ _ _ (c .before .before .reported .given .1) (at-report .report .ensures) .fits))
 
 tell-requires : tie.Need-tell-requires
 tell-requires c κs = search needs
@@ -65,7 +65,7 @@ main-spec =
     slice-aggregate-report-3
     slice-aggregate-report-4
     report-requires
-    enum-known-told
+    enum-known-reported
     returns
     array-share-prefix-text
     slice-aggregate-tell

@@ -134,7 +134,12 @@ module _ (T : Types) (A : ℕ → ℕ) where
   infer-complete L (d-test {at = at} {τ = τ} d d′) =
       let x = infer-complete L d in
       let y = infer-complete L d′ in
-      record { least = union (x .least) (y .least); is = then _ (x .is) ∙ then _ (y .is) ∙ met _ 10 at _ (eq-eqb τ τ refl); inside = union-mono (x .inside) (y .inside) }
+      record {
+        least = union (x .least) (y .least);
+        is = then _ (x .is) ∙ then _ (y .is)
+            ∙ met _ 10 at _ (eq-eqb τ τ refl);
+        inside = union-mono (x .inside) (y .inside);
+      }
   infer-complete L (d-check {p = p} d) =
       let x = infer-complete L d in
       record { least = insert p (x .least); is = then _ (x .is); inside = insert-mono p (x .inside) }

@@ -99,7 +99,8 @@ module _ (T : Types) where
   unfolding subtypeIn
   in-sound zero a b h = eqb-sub a b h
   in-sound (suc k) a b h = ⊎-elim (eqb-sub a b)
-      (λ g. let p = five (T .isFun a) (T .isFun b) (subtypeIn T k (T .arg b) (T .arg a)) (subset (T .latent a) (T .latent b)) (subtypeIn T k (T .res a) (T .res b)) g in
+      (λ g. let p = five (T .isFun a) (T .isFun b) (subtypeIn T k (T .arg b) (T .arg a)) (subset (T .latent a) (T .latent b))
+      (subtypeIn T k (T .res a) (T .res b)) g in
       sub-fun (p .0) (p .1) (in-sound k (T .arg b) (T .arg a) (p .2)) (subset-⊆ (T .latent a) (T .latent b) (p .3)) (in-sound k (T .res a) (T .res b) (p .4)))
       (or-inv (eqb a b) _ h)
 

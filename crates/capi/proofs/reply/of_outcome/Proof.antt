@@ -1,7 +1,7 @@
 -- `of_outcome` gives the reply that `finished` says, by case: a stop as the cause and term that `of_stop` tells (stopped-as), an end as 0 and a boolean
 -- (ended-bool) or 1 and a number. `counted` adds the counts; that they are few is the precondition of both.
 use mathlib.Core.Path.{_∙_, ap}
-use Rattle.interp.specs.Answers.{outcomeTold, countsTold}
+use Rattle.interp.specs.Answers.{outcomeModel, countsModel}
 use Rattle.interp.specs.declared.answer.Value.{Value}
 use Rattle.interp.specs.declared.answer.Outcome.{Outcome}
 use Rattle.interp.specs.declared.answer.Outcome.the-variants.{End}
@@ -44,7 +44,7 @@ counted-requires-3 c κs = search needs
 returns : tie.Need-returns
 returns c =
     let start = c .before .before .before .before .before in
-    by (λ (o : Outcome). finished (outcomeTold o) (countsTold (start .args .m))) (c .before .before .before .o .given .1)
+    by (λ (o : Outcome). finished (outcomeModel o) (countsModel (start .args .m))) (c .before .before .before .o .given .1)
     (stopped-as (start .args .m) _ _ (c .counted .ensures) (c .before .of-stop .ensures))
 
 returns-2 : tie.Need-returns-2
@@ -52,14 +52,14 @@ returns-2 c =
     let at-v = c .before .before in
     let at-o2 = at-v .before .before .before in
     let start = at-o2 .before .before in
-    by (λ (o : Outcome). finished (outcomeTold o) (countsTold (start .args .m))) (at-o2 .o2 .given .1 ∙ ap (λ (v : Value). End v) (at-v .v .given .1))
+    by (λ (o : Outcome). finished (outcomeModel o) (countsModel (start .args .m))) (at-o2 .o2 .given .1 ∙ ap (λ (v : Value). End v) (at-v .v .given .1))
     (ended-bool (start .args .m) (at-v .v .given .0 .0) (c .counted2 .ensures))
 
 returns-3 : tie.Need-returns-3
 returns-3 c =
     let at-o2 = c .before .before .before .before .before in
     let start = at-o2 .before .before in
-    by (λ (o : Outcome). finished (outcomeTold o) (countsTold (start .args .m)))
+    by (λ (o : Outcome). finished (outcomeModel o) (countsModel (start .args .m)))
     (at-o2 .o2 .given .1 ∙ ap (λ (v : Value). End v) (c .before .before .v2 .given .1)) (c .counted3 .ensures)
 
 pub of-outcome-spec : {M : Type 1} → statement M

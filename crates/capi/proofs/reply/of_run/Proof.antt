@@ -1,7 +1,7 @@
 -- `of_run` gives the reply that `runReply` says, by case: a refused run as the cause and place that `of_refusal` tells (refused-as), any other as its
 -- outcome and counts. In that case the precondition `Small` says that the counts are few, which `of_outcome` requires.
 use mathlib.Core.Path.{subst}
-use Rattle.interp.specs.Answers.{told}
+use Rattle.interp.specs.Answers.{runModel}
 use Rattle.interp.specs.declared.answer.Run.{Run}
 use Rattle.capi.specs.Internal.{Small}
 use Rattle.capi.specs.Replies.{runReply}
@@ -26,10 +26,11 @@ of-outcome-requires : tie.Need-of-outcome-requires
 of-outcome-requires c κs = subst Small (c .before .x2 .given .1) (c .before .before .before .pre)
 
 returns : tie.Need-returns
-returns c = by (λ (r : Run). runReply (told r)) (c .before .before .before .x .given .1) (refused-as _ _ (c .refused .ensures) (c .before .of-refusal .ensures))
+returns c = by (λ (r : Run). runReply (runModel r)) (c .before .before .before .x .given .1)
+    (refused-as _ _ (c .refused .ensures) (c .before .of-refusal .ensures))
 
 returns-2 : tie.Need-returns-2
-returns-2 c = by (λ (r : Run). runReply (told r)) (c .before .before .x2 .given .1) (c .of-outcome .ensures)
+returns-2 c = by (λ (r : Run). runReply (runModel r)) (c .before .before .x2 .given .1) (c .of-outcome .ensures)
 
 pub of-run-spec : {M : Type 1} → statement M
 of-run-spec =

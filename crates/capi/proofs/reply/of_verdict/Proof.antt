@@ -1,9 +1,9 @@
 -- `of_verdict` gives the reply that `judged` says, by case: a refusal of the reader or of the type checker as the cause and place that `of_reader` or
 -- `of_fault` tells (refused-as), an acceptance as its type, terms and needs, where both replies are the same by computation.
 use mathlib.Core.Path.{refl}
-use Rattle.typing.specs.Answers.{told}
+use Rattle.typing.specs.Answers.{verdictModel}
 use Rattle.typing.specs.declared.answer.Verdict.{Verdict}
-use Rattle.capi.specs.Replies.{judged}
+use Rattle.capi.specs.Replies.{verdictReply}
 use Rattle.capi.proofs.ReplyLaws.{by, refused-as}
 use borrow.Author.Needs.{needs}
 use Rattle.capi.proofs.reply.of_verdict.Statement.{statement}
@@ -37,15 +37,15 @@ cast-t11 : tie.Need-cast-t11
 cast-t11 c = search needs
 
 returns : tie.Need-returns
-returns c = by (λ (v : Verdict). judged (told v)) (c .before .before .before .v .given .1)
+returns c = by (λ (v : Verdict). verdictReply (verdictModel v)) (c .before .before .before .v .given .1)
     (refused-as _ _ (c .refused .ensures) (c .before .of-reader .ensures))
 
 returns-2 : tie.Need-returns-2
-returns-2 c = by (λ (v : Verdict). judged (told v)) (c .before .before .before .v2 .given .1)
+returns-2 c = by (λ (v : Verdict). verdictReply (verdictModel v)) (c .before .before .before .v2 .given .1)
     (refused-as _ _ (c .refused2 .ensures) (c .before .of-fault .ensures))
 
 returns-3 : tie.Need-returns-3
-returns-3 c = by (λ (v : Verdict). judged (told v)) (c .before .v3 .given .1) refl
+returns-3 c = by (λ (v : Verdict). verdictReply (verdictModel v)) (c .before .v3 .given .1) refl
 
 pub of-verdict-spec : {M : Type 1} → statement M
 of-verdict-spec =

@@ -6,7 +6,8 @@ use mathlib.Core.Path.{_≡_, refl}
 use Prim.Native.Nat.{_+_, _≤_, _-_}
 use native.Mathlib.Omega.{arith}
 use lib.ListN.{take, drop}
-use Rattle.capi.proofs.ReplyLaws.{sized, written-length, written-more, written-all}
+use Rattle.program.specs.Laws.Lists.{sized}
+use Rattle.capi.proofs.ReplyLaws.{written-length, written-more, written-all}
 use Rattle.capi.proofs.reply.put.Statement.{statement}
 use Rattle.capi.proofs.reply.put.Tie as tie
 

@@ -16,21 +16,21 @@ abbrev μ-loop : tie.MeasureT-loop
 μ-loop parents n deep₀ t₀ deep t = t
 
 sub-t : tie.Need-sub-t Inv-loop μ-loop
-sub-t c = omega (arith, c .pre .0)
+sub-t c = omega arith
 
 cast-t : tie.Need-cast-t Inv-loop μ-loop
-cast-t c = omega (arith, c .pre .0)
+cast-t c = omega arith
 
 array-write-deep : tie.Need-array-write-deep Inv-loop μ-loop
-array-write-deep c = omega (arith, c .pre .0)
+array-write-deep c = omega arith
 
 loop-holds : tie.Need-loop-holds Inv-loop μ-loop
 loop-holds c = (
-  omega (arith, c .pre .0),
+  omega arith,
   (
     length-set (replicate 1024 0) (c .args .n - 1) 1,
     nested-root (c .args .parents .now) (replicate 1024 0) (c .args .n)
-        (c .pre .0 .0) (c .pre .0 .1),
+        (c .pre .low) (c .pre .high),
   ),
 )
 
@@ -38,20 +38,20 @@ sub-t-2 : tie.Need-sub-t-2 Inv-loop μ-loop
 sub-t-2 c = omega arith
 
 mul-p : tie.Need-mul-p Inv-loop μ-loop
-mul-p c = omega (arith, c .before .before .pre .0)
+mul-p c = omega arith
 
 element-copy-out-p : tie.Need-element-copy-out-p Inv-loop μ-loop
-element-copy-out-p c = omega (arith, c .before .before .pre .0)
+element-copy-out-p c = omega arith
 
 cast-p : tie.Need-cast-p Inv-loop μ-loop
 cast-p c =
     let start = c .before .before .before in
-    omega (arith, start .pre .0, (start .pre .1 .inside (c .before .before .loop .t - 1) (omega arith)))
+    omega (arith, (start .pre .rising .inside (c .before .before .loop .t - 1) (omega arith)))
 
 array-read-d : tie.Need-array-read-d Inv-loop μ-loop
 array-read-d c =
     let start = c .before .before .before in
-    omega (arith, start .pre .0, (start .pre .1 .inside (c .before .before .loop .t - 1) (omega arith)))
+    omega (arith, (start .pre .rising .inside (c .before .before .loop .t - 1) (omega arith)))
 
 add-deep : tie.Need-add-deep Inv-loop μ-loop
 add-deep c = omega arith
@@ -59,7 +59,7 @@ add-deep c = omega arith
 array-write-deep-2 : tie.Need-array-write-deep-2 Inv-loop μ-loop
 array-write-deep-2 c =
     let start = c .before .before .before .before in
-    omega (arith, start .pre .0)
+    omega arith
 
 loop-less : tie.Need-loop-less Inv-loop μ-loop
 loop-less c = omega arith
@@ -72,7 +72,7 @@ loop-again c =
       (
         simp length-set (at-loop .loop .inv .1 .0),
         nested-more (start .args .parents .now) (at-loop .loop .deep) (start .args .n)
-            (at-loop .loop .t) _ (at-loop .loop .inv .1 .1) (start .pre .1) (omega (arith, at-loop .loop .inv .1 .0, start .pre .0))
+            (at-loop .loop .t) _ (at-loop .loop .inv .1 .1) (start .pre .rising) (omega (arith, at-loop .loop .inv .1 .0, start .pre .high))
             (c .before .before .loop-test .taken) (at-loop .loop .inv .0) (λ k h. one-more _ k) (omega arith),
       ),
     )
@@ -80,7 +80,7 @@ loop-again c =
 array-write-deep-3 : tie.Need-array-write-deep-3 Inv-loop μ-loop
 array-write-deep-3 c =
     let start = c .before .before .before .before in
-    omega (arith, start .pre .0)
+    omega arith
 
 loop-less-2 : tie.Need-loop-less-2 Inv-loop μ-loop
 loop-less-2 c = omega arith
@@ -93,7 +93,7 @@ loop-again-2 c =
       (
         simp length-set (at-loop .loop .inv .1 .0),
         nested-more (start .args .parents .now) (at-loop .loop .deep) (start .args .n)
-            (at-loop .loop .t) 33 (at-loop .loop .inv .1 .1) (start .pre .1) (omega (arith, at-loop .loop .inv .1 .0, start .pre .0))
+            (at-loop .loop .t) 33 (at-loop .loop .inv .1 .1) (start .pre .rising) (omega (arith, at-loop .loop .inv .1 .0, start .pre .high))
             (c .before .before .loop-test .taken) (at-loop .loop .inv .0) (λ k h. held _ k (c .if1 .left) h) (omega arith),
       ),
     )

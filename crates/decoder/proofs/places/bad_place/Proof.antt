@@ -21,12 +21,12 @@ abbrev μ-loop : tie.MeasureT-loop
 loop-holds : tie.Need-loop-holds Inv-loop μ-loop
 loop-holds c =
     let start = c .before in
-    (omega arith, (start .pre .0 .counts-are .terms-are, lowest-starts (placedOk (start .args .s .now)) (start .args .c .terms)))
+    (omega arith, (start .pre .tables .laid .counts-are .terms-are, lowest-starts (placedOk (start .args .s .now)) (start .args .c .terms)))
 
 place-ok-requires : tie.Need-place-ok-requires Inv-loop μ-loop
 place-ok-requires c κs =
     let start = c .before .before .before in
-    (start .pre .0, (start .pre .1 .0, (omega (arith, c .before .loop .inv .1 .0), start .pre .1 .1)))
+    record { tables = start .pre .tables; links = start .pre .links; inside = omega (arith, c .before .loop .inv .1 .0) }
 
 returns : tie.Need-returns Inv-loop μ-loop
 returns c =
@@ -39,7 +39,7 @@ returns c =
 add-t : tie.Need-add-t Inv-loop μ-loop
 add-t c =
     let start = c .before .before .before .before .before in
-    omega (arith, fields-ok (start .args .s .now) (start .pre .0 .none-found) .terms-high, c .before .before .before .loop .inv .1 .0)
+    omega (arith, fields-ok (start .args .s .now) (start .pre .tables .laid .none-found) .terms-high, c .before .before .before .loop .inv .1 .0)
 
 loop-less : tie.Need-loop-less Inv-loop μ-loop
 loop-less c = omega arith

@@ -20,10 +20,10 @@ abbrev μ-loop : tie.MeasureT-loop
 loop-holds : tie.Need-loop-holds Inv-loop μ-loop
 loop-holds c =
     let start = c .before in
-    (omega arith, (start .pre .0 .counts-are .terms-are, (refl, links-none (start .args .s .now))))
+    (omega arith, (start .pre .laid .counts-are .terms-are, (refl, links-none (start .args .s .now))))
 
 shape-at-requires : tie.Need-shape-at-requires Inv-loop μ-loop
-shape-at-requires c κs = c .before .before .before .pre .0
+shape-at-requires c κs = c .before .before .before .pre .laid
 
 slice-aggregate-link-all : tie.Need-slice-aggregate-link-all Inv-loop μ-loop
 slice-aggregate-link-all c = sym (c .before .before .before .loop .inv .1 .1 .0)
@@ -34,14 +34,14 @@ link-all-requires c κs =
     let at-loop = at-shape-at .before .before in
     let start = at-loop .before .before in
     subst (λ (k : ℕ). ChildrenBelow (at-shape-at .shape-at .result) k) (sym (at-loop .loop .inv .1 .1 .0))
-    (shape-below (start .args .s .now) (start .pre .1) (fields-ok (start .args .s .now) (start .pre .0 .none-found) .terms-high) (at-loop .loop .t)
+    (shape-below (start .args .s .now) (start .pre .terms-ok) (fields-ok (start .args .s .now) (start .pre .laid .none-found) .terms-high) (at-loop .loop .t)
     (omega (arith, c .before .before .loop-test .taken, at-loop .loop .inv .1 .0)) (at-shape-at .shape-at .ensures))
 
 add-t : tie.Need-add-t Inv-loop μ-loop
 add-t c =
     let at-loop = c .before .before .before .before .before in
     let start = at-loop .before .before in
-    omega (arith, (fields-ok (start .args .s .now) (start .pre .0 .none-found) .terms-high), at-loop .loop .inv .1 .0)
+    omega (arith, (fields-ok (start .args .s .now) (start .pre .laid .none-found) .terms-high), at-loop .loop .inv .1 .0)
 
 loop-less : tie.Need-loop-less Inv-loop μ-loop
 loop-less c = omega arith
@@ -57,8 +57,8 @@ loop-again c =
         at-loop .loop .inv .1 .0,
         (
           at-link-all .link-all .kept .0 ∙ at-loop .loop .inv .1 .1 .0,
-          links-more (start .args .s .now) (start .pre .1)
-              (fields-ok (start .args .s .now) (start .pre .0 .none-found) .terms-high) (at-loop .loop .t)
+          links-more (start .args .s .now) (start .pre .terms-ok)
+              (fields-ok (start .args .s .now) (start .pre .laid .none-found) .terms-high) (at-loop .loop .t)
               (omega (arith, at-loop-test .loop-test .taken, at-loop .loop .inv .1 .0)) (c .before .before .before .shape-at .ensures) (at-loop .loop .parents)
               (at-link-all .link-all .last .0) (at-loop .loop .inv .1 .1 .0) (at-loop .loop .inv .1 .1 .1) (at-link-all .link-all .ensures),
         ),

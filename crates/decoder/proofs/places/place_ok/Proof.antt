@@ -12,7 +12,7 @@ use Rattle.decoder.proofs.places.place_ok.Tie as tie
 add-root : tie.Need-add-root
 add-root c =
     let start = c .before in
-    omega (arith, start .pre .1 .1 .0, (fields-ok (start .args .s .now) (start .pre .0 .none-found) .terms-high))
+    omega (arith, start .pre .inside, (fields-ok (start .args .s .now) (start .pre .tables .laid .none-found) .terms-high))
 
 mul-p : tie.Need-mul-p
 mul-p c = search needs
@@ -20,7 +20,7 @@ mul-p c = search needs
 element-copy-out-p : tie.Need-element-copy-out-p
 element-copy-out-p c =
     let start = c .before .before in
-    omega (arith, start .pre .1 .1 .0, (fields-ok (start .args .s .now) (start .pre .0 .none-found) .terms-high))
+    omega (arith, start .pre .inside, (fields-ok (start .args .s .now) (start .pre .tables .laid .none-found) .terms-high))
 
 parents-ok-requires : tie.Need-parents-ok-requires
 parents-ok-requires c κs = search needs
@@ -37,8 +37,8 @@ returns c =
     let at-parents-ok = at-body-signed .before in
     let start = at-parents-ok .before .before .before .before in
     ap (λ (signed : Bool). at-parents-ok .parents-ok .result && at-body-signed .body-signed .result && signed) (c .root-signed .ensures) ∙ place-is
-    (start .args .s .now) (start .args .c) (start .pre .0) (start .pre .1 .0) (start .args .t) (start .pre .1 .1 .0) (start .args .parents .now)
-    (start .pre .1 .1 .1) (at-parents-ok .parents-ok .ensures) (at-body-signed .body-signed .ensures) refl
+    (start .args .s .now) (start .args .c) (start .pre .tables .laid) (start .pre .tables .terms-ok) (start .args .t) (start .pre .inside) (start .args .parents .now)
+    (start .pre .links) (at-parents-ok .parents-ok .ensures) (at-body-signed .body-signed .ensures) refl
 
 pub place-ok-spec : {M : Type 1} → statement M
 place-ok-spec =

@@ -22,25 +22,25 @@ abbrev μ-loop : tie.MeasureT-loop
 loop-holds : tie.Need-loop-holds Inv-loop μ-loop
 loop-holds c =
     let start = c .before .before .before in
-    (start .pre .0 .even, (omega arith, (refl, lay-none _ (start .args .start .now) (start .args .frames .now))))
+    (start .pre .whole .even, (omega arith, (refl, lay-none _ (start .args .start .now) (start .args .frames .now))))
 
 sub-i : tie.Need-sub-i Inv-loop μ-loop
 sub-i c =
     let at-loop = c .before in
     let start = at-loop .before .before .before .before in
-    omega (arith, start .pre .0 .few, start .pre .0 .even, start .pre .1, at-loop .loop .inv .0, at-loop .loop .inv .1 .0, at-loop .loop .inv .1 .1 .0)
+    omega (arith, start .pre .whole .few, start .pre .whole .even, start .pre .room, at-loop .loop .inv .0, at-loop .loop .inv .1 .0, at-loop .loop .inv .1 .1 .0)
 
 mul-authority : tie.Need-mul-authority Inv-loop μ-loop
 mul-authority c =
     let at-loop = c .before in
     let start = at-loop .before .before .before .before in
-    omega (arith, start .pre .0 .few, start .pre .0 .even, start .pre .1, at-loop .loop .inv .0, at-loop .loop .inv .1 .0, at-loop .loop .inv .1 .1 .0)
+    omega (arith, start .pre .whole .few, start .pre .whole .even, start .pre .room, at-loop .loop .inv .0, at-loop .loop .inv .1 .0, at-loop .loop .inv .1 .1 .0)
 
 shared-slice-read-authority : tie.Need-shared-slice-read-authority Inv-loop μ-loop
 shared-slice-read-authority c =
     let at-loop = c .before .before in
     let start = at-loop .before .before .before .before in
-    omega (arith, start .pre .0 .few, start .pre .0 .even, start .pre .1, at-loop .loop .inv .0, at-loop .loop .inv .1 .0, at-loop .loop .inv .1 .1 .0)
+    omega (arith, start .pre .whole .few, start .pre .whole .even, start .pre .room, at-loop .loop .inv .0, at-loop .loop .inv .1 .0, at-loop .loop .inv .1 .1 .0)
 
 authority-requires : tie.Need-authority-requires Inv-loop μ-loop
 authority-requires c κs = search needs
@@ -49,43 +49,43 @@ mul-frames : tie.Need-mul-frames Inv-loop μ-loop
 mul-frames c =
     let at-loop = c .before .before .before in
     let start = at-loop .before .before .before .before in
-    omega (arith, start .pre .0 .few, start .pre .0 .even, start .pre .1, at-loop .loop .inv .0, at-loop .loop .inv .1 .0, at-loop .loop .inv .1 .1 .0)
+    omega (arith, start .pre .whole .few, start .pre .whole .even, start .pre .room, at-loop .loop .inv .0, at-loop .loop .inv .1 .0, at-loop .loop .inv .1 .1 .0)
 
 slice-write-frames : tie.Need-slice-write-frames Inv-loop μ-loop
 slice-write-frames c =
     let at-loop = c .before .before .before in
     let start = at-loop .before .before .before .before in
-    omega (arith, start .pre .0 .few, start .pre .0 .even, start .pre .1, at-loop .loop .inv .0, at-loop .loop .inv .1 .0, at-loop .loop .inv .1 .1 .0)
+    omega (arith, start .pre .whole .few, start .pre .whole .even, start .pre .room, at-loop .loop .inv .0, at-loop .loop .inv .1 .0, at-loop .loop .inv .1 .1 .0)
 
 add-frames : tie.Need-add-frames Inv-loop μ-loop
 add-frames c =
     let at-loop = c .before .before .before in
     let start = at-loop .before .before .before .before in
-    omega (arith, start .pre .0 .few, start .pre .0 .even, start .pre .1, at-loop .loop .inv .0, at-loop .loop .inv .1 .0, at-loop .loop .inv .1 .1 .0)
+    omega (arith, start .pre .whole .few, start .pre .whole .even, start .pre .room, at-loop .loop .inv .0, at-loop .loop .inv .1 .0, at-loop .loop .inv .1 .1 .0)
 
 mul-frames-2 : tie.Need-mul-frames-2 Inv-loop μ-loop
 mul-frames-2 c =
     let at-loop = c .before .before .before in
     let start = at-loop .before .before .before .before in
-    omega (arith, start .pre .0 .few, start .pre .0 .even, start .pre .1, at-loop .loop .inv .0, at-loop .loop .inv .1 .0, at-loop .loop .inv .1 .1 .0)
+    omega (arith, start .pre .whole .few, start .pre .whole .even, start .pre .room, at-loop .loop .inv .0, at-loop .loop .inv .1 .0, at-loop .loop .inv .1 .1 .0)
 
 shared-slice-read-frames : tie.Need-shared-slice-read-frames Inv-loop μ-loop
 shared-slice-read-frames c =
     let at-loop = c .before .before .before .before in
     let start = at-loop .before .before .before .before in
-    omega (arith, start .pre .0 .few, start .pre .0 .even, start .pre .1, at-loop .loop .inv .0, at-loop .loop .inv .1 .0, at-loop .loop .inv .1 .1 .0)
+    omega (arith, start .pre .whole .few, start .pre .whole .even, start .pre .room, at-loop .loop .inv .0, at-loop .loop .inv .1 .0, at-loop .loop .inv .1 .1 .0)
 
 add-frames-2 : tie.Need-add-frames-2 Inv-loop μ-loop
 add-frames-2 c =
     let at-loop = c .before .before .before .before in
     let start = at-loop .before .before .before .before in
-    omega (arith, start .pre .0 .few, start .pre .0 .even, start .pre .1, at-loop .loop .inv .0, at-loop .loop .inv .1 .0, at-loop .loop .inv .1 .1 .0)
+    omega (arith, start .pre .whole .few, start .pre .whole .even, start .pre .room, at-loop .loop .inv .0, at-loop .loop .inv .1 .0, at-loop .loop .inv .1 .1 .0)
 
 mul-frames-3 : tie.Need-mul-frames-3 Inv-loop μ-loop
 mul-frames-3 c =
     let at-loop = c .before .before .before .before in
     let start = at-loop .before .before .before .before in
-    omega (arith, start .pre .0 .few, start .pre .0 .even, start .pre .1, at-loop .loop .inv .0, at-loop .loop .inv .1 .0, at-loop .loop .inv .1 .1 .0)
+    omega (arith, start .pre .whole .few, start .pre .whole .even, start .pre .room, at-loop .loop .inv .0, at-loop .loop .inv .1 .0, at-loop .loop .inv .1 .1 .0)
 
 slice-write-frames-2 : tie.Need-slice-write-frames-2 Inv-loop μ-loop
 slice-write-frames-2 c =
@@ -93,9 +93,9 @@ slice-write-frames-2 c =
     let start = at-loop .before .before .before .before in
     simp length-set (omega (
       arith,
-      start .pre .0 .few,
-      start .pre .0 .even,
-      start .pre .1,
+      start .pre .whole .few,
+      start .pre .whole .even,
+      start .pre .room,
       at-loop .loop .inv .0,
       at-loop .loop .inv .1 .0,
       at-loop .loop .inv .1 .1 .0,
@@ -106,13 +106,13 @@ add-at : tie.Need-add-at Inv-loop μ-loop
 add-at c =
     let at-loop = c .before .before .before .before in
     let start = at-loop .before .before .before .before in
-    omega (arith, start .pre .0 .few, start .pre .0 .even, start .pre .1, at-loop .loop .inv .0, at-loop .loop .inv .1 .0, at-loop .loop .inv .1 .1 .0)
+    omega (arith, start .pre .whole .few, start .pre .whole .even, start .pre .room, at-loop .loop .inv .0, at-loop .loop .inv .1 .0, at-loop .loop .inv .1 .1 .0)
 
 loop-less : tie.Need-loop-less Inv-loop μ-loop
 loop-less c =
     let at-loop = c .before .before .before .before in
     let start = at-loop .before .before .before .before in
-    omega (arith, start .pre .0 .few, start .pre .0 .even, start .pre .1, at-loop .loop .inv .0, at-loop .loop .inv .1 .0, at-loop .loop .inv .1 .1 .0)
+    omega (arith, start .pre .whole .few, start .pre .whole .even, start .pre .room, at-loop .loop .inv .0, at-loop .loop .inv .1 .0, at-loop .loop .inv .1 .1 .0)
 
 loop-again : tie.Need-loop-again Inv-loop μ-loop
 loop-again c =
@@ -125,8 +125,8 @@ loop-again c =
         (
           simp length-set (at-loop .loop .inv .1 .1 .0),
           lay-more _ (start .args .start .now) (start .args .frames .now) _ _ (at-loop .loop .inv .0)
-              (omega (arith, at-loop .loop .inv .0, at-loop-test .loop-test .taken)) (at-loop .loop .inv .1 .0) (start .pre .0 .even)
-              (omega (arith, start .pre .0 .few, start .pre .1)) (c .before .authority .ensures) (at-loop .loop .inv .1 .1 .1),
+              (omega (arith, at-loop .loop .inv .0, at-loop-test .loop-test .taken)) (at-loop .loop .inv .1 .0) (start .pre .whole .even)
+              (omega (arith, start .pre .whole .few, start .pre .room)) (c .before .authority .ensures) (at-loop .loop .inv .1 .1 .1),
         ),
       ),
     )
@@ -135,7 +135,7 @@ same-length : tie.Need-same-length Inv-loop μ-loop
 same-length c =
     let at-loop = c .before in
     let start = at-loop .before .before .before .before in
-    omega (arith, start .pre .0 .few, start .pre .0 .even, start .pre .1, at-loop .loop .inv .0, at-loop .loop .inv .1 .0, at-loop .loop .inv .1 .1 .0)
+    omega (arith, start .pre .whole .few, start .pre .whole .even, start .pre .room, at-loop .loop .inv .0, at-loop .loop .inv .1 .0, at-loop .loop .inv .1 .1 .0)
 
 returns : tie.Need-returns Inv-loop μ-loop
 returns c =

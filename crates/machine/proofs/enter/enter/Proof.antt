@@ -103,7 +103,7 @@ unfolding shapeOf
 allowed-requires c κs =
     let at-kind-of = c .before .before .before .before .before .before in
     let start = at-kind-of .before .before .before in
-    privileged _ (at-kind-of .kind-of .ensures) 7 refl (c .before .before .if4 .taken) (start .pre .1) (c .small-of .ensures)
+    privileged _ (at-kind-of .kind-of .ensures) 7 refl (c .before .before .if4 .taken) (start .pre .privilege) (c .small-of .ensures)
 
 first-of-requires-2 : tie.Need-first-of-requires-2
 first-of-requires-2 c κs = search needs
@@ -154,8 +154,8 @@ granted-requires c κs =
     let at-if1 = c .before .before .before .before .before in
     let at-kind-of = at-if1 .before in
     let start = at-kind-of .before .before .before in
-    privileged _ (at-kind-of .kind-of .ensures) 10 refl (only-test _ (at-kind-of .kind-of .ensures) (start .pre .0) (at-if1 .if1 .left)
-    (c .before .before .before .if3 .left) (c .before .before .if4 .left)) (start .pre .1) (c .small-of2 .ensures)
+    privileged _ (at-kind-of .kind-of .ensures) 10 refl (only-test _ (at-kind-of .kind-of .ensures) (start .pre .kind) (at-if1 .if1 .left)
+    (c .before .before .before .if3 .left) (c .before .before .if4 .left)) (start .pre .privilege) (c .small-of2 .ensures)
 
 first-of-requires-4 : tie.Need-first-of-requires-4
 first-of-requires-4 c κs = search needs
@@ -181,7 +181,7 @@ returns-6 c =
     let at-if1 = at-if3 .before .before in
     let at-kind-of = at-if1 .before in
     let start = at-kind-of .before .before .before in
-    enter-test _ _ _ _ _ _ _ (at-kind-of .kind-of .ensures) (only-test _ (at-kind-of .kind-of .ensures) (start .pre .0) (at-if1 .if1 .left) (at-if3 .if3 .left)
+    enter-test _ _ _ _ _ _ _ (at-kind-of .kind-of .ensures) (only-test _ (at-kind-of .kind-of .ensures) (start .pre .kind) (at-if1 .if1 .left) (at-if3 .if3 .left)
     (at-if4 .if4 .left)) (at-small-of2 .small-of2 .ensures) (at-granted .granted .ensures .0) (at-granted .granted .ensures .1)
     (c .before .before .before .first-of4 .ensures) (c .before .before .second-of2 .ensures) (c .before .choose .ensures) (c .goes4 .ensures)
 

@@ -15,7 +15,7 @@ abbrev μ-loop : tie.MeasureT-loop
 loop-holds : tie.Need-loop-holds Inv-loop μ-loop
 loop-holds c =
     let start = c .before in
-    filled-none (start .pre .0) (start .pre .1 .0) _ (start .pre .1 .1)
+    filled-none (start .pre .well-formed) (start .pre .counts) _ (start .pre .empty)
 
 term-word-requires : tie.Need-term-word-requires Inv-loop μ-loop
 term-word-requires c κs = search needs
@@ -29,7 +29,7 @@ mul-terms c = omega arith
 element-write-terms : tie.Need-element-write-terms Inv-loop μ-loop
 element-write-terms c =
     let start = c .before .before .before .before in
-    omega (arith, start .pre .0 .terms-most, start .pre .1 .0 .terms-are)
+    omega (arith, start .pre .well-formed .terms-most, start .pre .counts .terms-are)
 
 add-t : tie.Need-add-t Inv-loop μ-loop
 add-t c = omega arith
@@ -40,12 +40,12 @@ loop-less c = omega arith
 loop-again : tie.Need-loop-again Inv-loop μ-loop
 loop-again c =
     let start = c .before .before .before .before in
-    filled-more (start .pre .0) (start .pre .1 .0) (c .before .loop-test .taken) (c .term-word .ensures) (c .before .before .loop .inv)
+    filled-more (start .pre .well-formed) (start .pre .counts) (c .before .loop-test .taken) (c .term-word .ensures) (c .before .before .loop .inv)
 
 returns : tie.Need-returns Inv-loop μ-loop
 returns c =
     let start = c .before .before .before in
-    filled-whole (start .pre .0) (start .pre .1 .0) (c .loop-test .left) (c .before .loop .inv)
+    filled-whole (start .pre .well-formed) (start .pre .counts) (c .loop-test .left) (c .before .loop .inv)
 
 pub decode-terms-spec : {M : Type 1} → statement M
 decode-terms-spec =

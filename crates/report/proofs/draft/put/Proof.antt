@@ -1,6 +1,7 @@
 -- Where `len` is below 192, the length of the array, `put` appends its byte: the byte is set at `len`, and one byte more is then held (put-held).
 use native.Mathlib.Omega.{arith}
-use Rattle.report.proofs.DraftLaws.{put-held, sized}
+use Rattle.program.specs.Laws.Lists.{sized}
+use Rattle.report.proofs.DraftLaws.{put-held}
 use borrow.Author.Needs.{needs}
 use Rattle.report.proofs.draft.put.Statement.{statement}
 use Rattle.report.proofs.draft.put.Tie as tie

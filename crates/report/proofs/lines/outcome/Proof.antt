@@ -1,6 +1,6 @@
 -- `outcome` appends the text of an outcome, by a law for each case: a stop (stop-told), an end with a number (number-told), with true (true-told) and with
 -- false (false-told). At most 49 bytes, the bound for a stop: 5 for "stop ", 4 for " at ", 20 for each of the two numbers.
-use Rattle.report.proofs.LineLaws.{stop-told, number-told, true-told, false-told}
+use Rattle.report.proofs.LineLaws.{stop-shown, number-shown, true-shown, false-shown}
 use borrow.Author.Needs.{needs}
 use Rattle.report.proofs.lines.outcome.Statement.{statement}
 use Rattle.report.proofs.lines.outcome.Tie as tie
@@ -45,7 +45,7 @@ returns : tie.Need-returns
 returns c =
     let at-v2 = c .before .before .before .before in
     let at-o2 = at-v2 .before .before .before in
-    true-told (at-o2 .o2 .given .1) (at-v2 .v2 .given .1) (c .before .before .if1 .taken) (c .word .ensures)
+    true-shown (at-o2 .o2 .given .1) (at-v2 .v2 .given .1) (c .before .before .if1 .taken) (c .word .ensures)
 
 slice-aggregate-word-2 : tie.Need-slice-aggregate-word-2
 slice-aggregate-word-2 c = search needs
@@ -56,18 +56,18 @@ word-requires-2 c κs = search needs
 returns-2 : tie.Need-returns-2
 returns-2 c =
     let at-o = c .before .before .before .before in
-    stop-told (at-o .o .given .1) (c .before .of-stop .ensures) (c .placed .ensures)
+    stop-shown (at-o .o .given .1) (c .before .of-stop .ensures) (c .placed .ensures)
 
 returns-3 : tie.Need-returns-3
 returns-3 c =
     let at-o2 = c .before .before .before .before .before .before in
-    number-told (at-o2 .o2 .given .1) (c .before .before .before .v .given .1) (c .labelled .ensures)
+    number-shown (at-o2 .o2 .given .1) (c .before .before .before .v .given .1) (c .labelled .ensures)
 
 returns-4 : tie.Need-returns-4
 returns-4 c =
     let at-v2 = c .before .before .before .before in
     let at-o2 = at-v2 .before .before .before in
-    false-told (at-o2 .o2 .given .1) (at-v2 .v2 .given .1) (c .before .before .if1 .left) (c .word2 .ensures)
+    false-shown (at-o2 .o2 .given .1) (at-v2 .v2 .given .1) (c .before .before .if1 .left) (c .word2 .ensures)
 
 pub outcome-spec : {M : Type 1} → statement M
 outcome-spec =

@@ -1,3 +1,0 @@
-pub mod RecordLaws
-pub mod TypeLaws
-pub mod TermLaws

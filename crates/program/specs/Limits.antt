@@ -1,0 +1,43 @@
+-- 01's limits, each named once; every other file cites them.
+use Prim.Native.Nat.{ℕ}
+
+-- "1 to 32 principals", "2 to 256 types", "1 to 1,024 terms"
+abbrev pub maxPrincipals : ℕ
+maxPrincipals = 32
+
+abbrev pub maxTypes : ℕ
+maxTypes = 256
+
+abbrev pub maxTerms : ℕ
+maxTerms = 1024
+
+-- of types, "nested at most 12 deep"; of terms, "Nesting is at most 32"
+abbrev pub maxTypeDepth : ℕ
+maxTypeDepth = 12
+
+abbrev pub maxNesting : ℕ
+maxNesting = 32
+
+-- a start stack of 16 frames; "A frame is two 32-bit numbers"
+abbrev pub maxStartFrames : ℕ
+maxStartFrames = 16
+
+abbrev pub maxStart : ℕ
+maxStart = 32
+
+-- the buffers of a run: bytes of the cell store, entries of the list of posts, numbers of a lazy run's frame store
+abbrev pub maxCells : ℕ
+maxCells = 65536
+
+abbrev pub maxPosts : ℕ
+maxPosts = 256
+
+abbrev pub frameNumbers : ℕ
+frameNumbers = 6496
+
+-- the allowances: "calls over 4,096 or open calls over 100"
+abbrev pub maxCalls : ℕ
+maxCalls = 4096
+
+abbrev pub maxDepth : ℕ
+maxDepth = 100

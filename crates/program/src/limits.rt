@@ -1,0 +1,32 @@
+// The limits of the format and of a run, each named once. specs/Limits.antt has the paper's words.
+pub const MAX_PRINCIPALS: u16 = 32;
+
+pub const MAX_TYPES: u16 = 256;
+
+pub const MAX_TERMS: u16 = 1024;
+
+// Arrays with a place for each type and for each term.
+pub const TYPE_PLACES: usize = MAX_TYPES as usize;
+
+pub const TERM_PLACES: usize = MAX_TERMS as usize;
+
+// Bytes of the longest sheet: the first field, the heads of the three others, and their records.
+pub const MAX_SHEET: usize = 5 + 3 * 3 + 4 * 32 + 10 * TYPE_PLACES + 8 * TERM_PLACES;
+
+pub const MAX_TYPE_DEPTH: u8 = 12;
+
+pub const MAX_NESTING: u8 = 32;
+
+// Numbers of a start stack of 16 frames.
+pub const MAX_START: usize = 32;
+
+// Bytes of the cell store, entries of the list of posts, numbers of a lazy run's frame store.
+pub const MAX_CELLS: usize = 65536;
+
+pub const MAX_POSTS: usize = 256;
+
+pub const FRAME_NUMBERS: usize = 6496;
+
+pub const MAX_CALLS: u32 = 4096;
+
+pub const MAX_DEPTH: u32 = 100;

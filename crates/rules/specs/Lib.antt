@@ -1,0 +1,3 @@
+pub mod Inference
+pub mod Steps
+pub mod Laws

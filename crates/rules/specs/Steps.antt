@@ -1,0 +1,74 @@
+-- What the contracts of internal functions say. No reader of the public promise needs this file.
+use mathlib.Core.Bool.{cond, _&&_}
+use mathlib.Core.List.{List, _∷_}
+use mathlib.Core.Option.{Option, none, some}
+use mathlib.Core.Path.{_≡_}
+use Prim.Native.Nat.{ℕ, zero, suc, _+_}
+use lib.Dec.{eqb}
+use Rattle.privileges.specs.Sets.{has, union, insert, remove, subset}
+use Rattle.program.specs.Layout.{Types}
+use Rattle.program.specs.declared.records.TermRecord.{TermRecord}
+use Rattle.program.specs.declared.records.TypeRecord.{TypeRecord}
+use Rattle.typing.specs.Subtyping.{subtype}
+use Rattle.typing.specs.Rules.{bound}
+use Rattle.typing.specs.Checking.{Judgement, typed, _next_, require, variableType}
+use Rattle.rules.specs.Inference.{context}
+use Rattle.rules.specs.declared.bindings.Bindings.{Bindings}
+use Rattle.rules.specs.declared.bindings.Found.{Found}
+use Rattle.rules.specs.declared.bindings.Found.the-variants.{At, Nothing}
+
+-- ---- bindings
+pub record Pushed (b : Bindings) (ty : ℕ) (r : Bindings) : Type 0 where
+  pub context-is : context r ≡ ty ∷ context b
+  pub len-is : r .len ≡ b .len + 1
+
+abbrev pub foundOf : Found → Option ℕ
+foundOf (At ty) = some ty
+foundOf Nothing = none
+
+-- ---- a term's judgement from that of its last child, the earlier ones being typed
+abbrev pub leafBy : (kind : ℕ) → Judgement → Judgement
+leafBy zero v = typed 0 0
+leafBy (suc zero) v = typed 1 0
+leafBy (suc (suc k)) v = v
+
+unfoldable pub leafStep : TermRecord → (at : ℕ) → List ℕ → Judgement
+leafStep x at Γ = leafBy (x .kind) (variableType at (bound Γ (x .first)))
+
+unfoldable pub checkStep : (p : ℕ) → Judgement → Judgement
+checkStep p j = j next λ τ N. typed τ (insert p N)
+
+unfoldable pub enableStep : (may p : ℕ) → Judgement → Judgement
+enableStep may p j = j next λ τ N. typed τ (cond (has p may) (remove p N) N)
+
+unfoldable pub signStep : (may at : ℕ) → Judgement → Judgement
+signStep may at j = j next λ τ N. require (subset N may) 11 at (typed τ N)
+
+unfoldable pub postStep : (at : ℕ) → Judgement → Judgement
+postStep at j = j next λ τ N. require (eqb τ 1) 10 at (typed 1 N)
+
+unfoldable pub testStep : (at τ N : ℕ) → Judgement → Judgement
+testStep at τ N j = j next λ ρ M. require (eqb τ ρ) 10 at (typed ρ (union N M))
+
+unfoldable pub ifStep : (at σ N τ M : ℕ) → Judgement → Judgement
+ifStep at σ N τ M j = j next λ ρ K. require (eqb σ 0 && eqb τ ρ) 10 at (typed ρ (union N (union M K)))
+
+unfoldable pub binaryStep : (result at τ N : ℕ) → Judgement → Judgement
+binaryStep σ at τ N j = j next λ ρ M. require (eqb τ 1 && eqb ρ 1) 10 at (typed σ (union N M))
+
+unfoldable pub bodyStep : TypeRecord → (at τ N : ℕ) → Judgement → Judgement
+bodyStep f at τ N j = require (eqb τ (f .res)) 10 at (require (subset N (f .latent)) 12 at j)
+
+unfoldable pub functionStep : TypeRecord → (ty at : ℕ) → Judgement → Judgement
+functionStep f ty at j = j next λ τ N. bodyStep f at τ N (typed ty 0)
+
+unfoldable pub letrecStep : TypeRecord → (at τ N : ℕ) → Judgement → Judgement
+letrecStep f at τ N j = j next λ ρ M. bodyStep f at τ N (typed ρ (union (f .latent) M))
+
+unfoldable pub callStep : Types → (at φ N : ℕ) → Judgement → Judgement
+callStep T at φ N j = j next λ α M.
+    require (T .isFun φ && subtype T α (T .arg φ)) 10 at (typed (T .res φ) (union (T .latent φ) (union N M)))
+
+-- the result of a sum (kind 11), a difference (12) or a less (13)
+unfoldable pub resultOf : (kind : ℕ) → ℕ
+resultOf k = cond (eqb k 13) 0 1

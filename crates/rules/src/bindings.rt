@@ -1,0 +1,41 @@
+// The types of the bindings around a term, by value. 32 places suffice: a sheet's nesting bounds its bindings (specs/Laws/Room.antt).
+ghost use mathlib.Core.Path.{_≡_};
+ghost use Prim.Native.Nat.{_<_, _≤_};
+ghost use Rattle.typing.specs.Rules.{bound};
+ghost use Rattle.rules.specs.Inference.{context};
+ghost use Rattle.rules.specs.Steps.{Pushed, foundOf};
+
+// The nearest binding is the last of the first `len`.
+pub struct Bindings {
+    pub types: [u16; 32],
+    pub len: usize,
+}
+
+pub enum Found {
+    At(u16),
+    Nothing,
+}
+
+// One binding more.
+pub fn push(b: Bindings, ty: u16) -> Bindings
+    requires { ⌜ b .len < 32 ⌝ }
+    ensures { λ r. ⌜ Pushed b ty r ⌝ }
+{
+    let mut r = b;
+    let at = b.len;
+    r.types[at] = ty;
+    r.len = at + 1;
+    r
+}
+
+// The type of binding i, 0 for the nearest.
+pub fn lookup(b: Bindings, i: u16) -> Found
+    requires { ⌜ b .len ≤ 32 ⌝ }
+    ensures { λ r. ⌜ foundOf r ≡ bound (context b) i ⌝ }
+{
+    if b.len <= (i as usize) {
+        return Found::Nothing;
+    }
+    let at = b.len - 1 - (i as usize);
+    Found::At(b.types[at])
+}

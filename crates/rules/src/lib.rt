@@ -1,0 +1,5 @@
+// Each kind's rule once its children are judged, in proved code: subtyping, the bindings around a term, and the judgement of a term from those of
+// its children. The crate `checker` walks the terms.
+pub mod bindings;
+pub mod steps;
+pub mod subtypes;

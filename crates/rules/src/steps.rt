@@ -1,0 +1,233 @@
+// Each kind's rule once its children are judged: the judgement of a term from that of its last child, the earlier ones being typed.
+use crate::bindings::Bindings;
+use crate::bindings::Found;
+use crate::bindings::lookup;
+use crate::subtypes::is_function;
+use crate::subtypes::subtype;
+use program::records::Counts;
+use program::records::TermRecord;
+use program::records::TypeRecord;
+use typing::answer::Fault;
+use typing::answer::Inferred;
+ghost use mathlib.Core.Path.{_≡_};
+ghost use Prim.Native.Nat.{_<_, _≤_};
+ghost use Rattle.program.specs.Layout.{typesOf};
+ghost use Rattle.rules.specs.Inference.{inferredModel, context, Sheet};
+ghost use Rattle.rules.specs.Steps.{
+  leafStep,
+  checkStep,
+  enableStep,
+  signStep,
+  postStep,
+  testStep,
+  ifStep,
+  binaryStep,
+  bodyStep,
+  functionStep,
+  letrecStep,
+  callStep,
+  resultOf,
+};
+
+// A boolean, a number or a variable.
+pub fn leaf(t: u16, x: TermRecord, b: Bindings) -> Inferred
+    requires { ⌜ b .len ≤ 32 ⌝ }
+    ensures { λ r. ⌜ inferredModel r ≡ leafStep x t (context b) ⌝ }
+{
+    let kind = x.kind;
+    match kind {
+        0 => Inferred::Typed { ty: 0, needs: 0 },
+        1 => Inferred::Typed { ty: 1, needs: 0 },
+        _ => {
+            let f = lookup(b, x.first);
+            match f {
+                Found::At(ty) => Inferred::Typed { ty: ty, needs: 0 },
+                Found::Nothing => Inferred::Faulty(Fault::Variable(t)),
+            }
+        }
+    }
+}
+
+// Of a check of privilege p: its child's judgement.
+pub fn checked(p: u8, j: Inferred) -> Inferred
+    requires { ⌜ p < 32 ⌝ }
+    ensures { λ r. ⌜ inferredModel r ≡ checkStep p (inferredModel j) ⌝ }
+{
+    let Inferred::Typed { ty, needs } = j else {
+        return j;
+    };
+    Inferred::Typed {
+        ty: ty,
+        needs: privileges::insert(p, needs),
+    }
+}
+
+// Of an enable of privilege p, where the signing principal may use the set `may`: its child's judgement.
+pub fn enabled(may: u32, p: u8, j: Inferred) -> Inferred
+    requires { ⌜ p < 32 ⌝ }
+    ensures { λ r. ⌜ inferredModel r ≡ enableStep may p (inferredModel j) ⌝ }
+{
+    let Inferred::Typed { ty, needs } = j else {
+        return j;
+    };
+    if privileges::contains(p, may) {
+        return Inferred::Typed {
+            ty: ty,
+            needs: privileges::remove(p, needs),
+        };
+    }
+    Inferred::Typed {
+        ty: ty,
+        needs: needs,
+    }
+}
+
+// Of a sign, whose principal may use the set `may`: its child's judgement.
+pub fn signed(may: u32, t: u16, j: Inferred) -> Inferred
+    ensures { λ r. ⌜ inferredModel r ≡ signStep may t (inferredModel j) ⌝ }
+{
+    let Inferred::Typed { ty, needs } = j else {
+        return j;
+    };
+    if privileges::subset(needs, may) {
+        return Inferred::Typed {
+            ty: ty,
+            needs: needs,
+        };
+    }
+    Inferred::Faulty(Fault::SignNeeds(t))
+}
+
+// Of a post: its child's judgement.
+pub fn posted(t: u16, j: Inferred) -> Inferred
+    ensures { λ r. ⌜ inferredModel r ≡ postStep t (inferredModel j) ⌝ }
+{
+    let Inferred::Typed { ty, needs } = j else {
+        return j;
+    };
+    if ty == 1 {
+        return Inferred::Typed {
+            ty: 1,
+            needs: needs,
+        };
+    }
+    Inferred::Faulty(Fault::Type(t))
+}
+
+// Of a test: the first branch's type and needs, and the second's judgement.
+pub fn tested(t: u16, ty1: u16, needs1: u32, j: Inferred) -> Inferred
+    ensures { λ r. ⌜ inferredModel r ≡ testStep t ty1 needs1 (inferredModel j) ⌝ }
+{
+    let Inferred::Typed { ty, needs } = j else {
+        return j;
+    };
+    if ty1 == ty {
+        return Inferred::Typed {
+            ty: ty,
+            needs: privileges::union(needs1, needs),
+        };
+    }
+    Inferred::Faulty(Fault::Type(t))
+}
+
+// Of an if: the condition's type and needs, the first branch's, and the second's judgement.
+pub fn branched(t: u16, ty0: u16, needs0: u32, ty1: u16, needs1: u32, j: Inferred) -> Inferred
+    ensures { λ r. ⌜ inferredModel r ≡ ifStep t ty0 needs0 ty1 needs1 (inferredModel j) ⌝ }
+{
+    let Inferred::Typed { ty, needs } = j else {
+        return j;
+    };
+    if 0 < ty0 {
+        return Inferred::Faulty(Fault::Type(t));
+    }
+    if ty1 == ty {
+        let both = privileges::union(needs1, needs);
+        return Inferred::Typed {
+            ty: ty,
+            needs: privileges::union(needs0, both),
+        };
+    }
+    Inferred::Faulty(Fault::Type(t))
+}
+
+// Less gives a boolean, sum and difference a number.
+pub fn result_of(kind: u8) -> u16
+    ensures { λ r. ⌜ r ≡ resultOf kind ⌝ }
+{
+    if kind == 13 { 0 } else { 1 }
+}
+
+// Of an operation on numbers: what it gives, the first operand's type and needs, and the second's judgement.
+pub fn computed(result: u16, t: u16, ty1: u16, needs1: u32, j: Inferred) -> Inferred
+    ensures { λ r. ⌜ inferredModel r ≡ binaryStep result t ty1 needs1 (inferredModel j) ⌝ }
+{
+    let Inferred::Typed { ty, needs } = j else {
+        return j;
+    };
+    if ty1 == 1 {
+        if ty == 1 {
+            return Inferred::Typed {
+                ty: result,
+                needs: privileges::union(needs1, needs),
+            };
+        }
+        return Inferred::Faulty(Fault::Type(t));
+    }
+    Inferred::Faulty(Fault::Type(t))
+}
+
+// The tests of a function's body, 10 before 12; `j` if it passes them.
+pub fn body_fits(f: TypeRecord, t: u16, ty: u16, needs: u32, j: Inferred) -> Inferred
+    ensures { λ r. ⌜ inferredModel r ≡ bodyStep f t ty needs (inferredModel j) ⌝ }
+{
+    if ty == f.res {
+        if privileges::subset(needs, f.latent) {
+            return j;
+        }
+        return Inferred::Faulty(Fault::BodyNeeds(t));
+    }
+    Inferred::Faulty(Fault::Type(t))
+}
+
+// Of a function of type `fun`, whose record is f: its body's judgement.
+pub fn function_of(f: TypeRecord, fun: u16, t: u16, j: Inferred) -> Inferred
+    ensures { λ r. ⌜ inferredModel r ≡ functionStep f fun t (inferredModel j) ⌝ }
+{
+    let Inferred::Typed { ty, needs } = j else {
+        return j;
+    };
+    body_fits(f, t, ty, needs, Inferred::Typed { ty: fun, needs: 0 })
+}
+
+// Of a letrec, whose function's type has the record f: the body's type and needs, and the rest's judgement.
+pub fn letrec_of(f: TypeRecord, t: u16, ty1: u16, needs1: u32, rest: Inferred) -> Inferred
+    ensures { λ r. ⌜ inferredModel r ≡ letrecStep f t ty1 needs1 (inferredModel rest) ⌝ }
+{
+    let Inferred::Typed { ty, needs } = rest else {
+        return rest;
+    };
+    let all = privileges::union(f.latent, needs);
+    body_fits(f, t, ty1, needs1, Inferred::Typed { ty: ty, needs: all })
+}
+
+// Of a call: the function's type and needs, and the argument's judgement.
+pub fn call_of(s: &[u8], c: Counts, t: u16, ty1: u16, needs1: u32, j: Inferred) -> Inferred
+    requires { ⌜ Sheet (now s) c ⌝ }
+    ensures { λ r. ⌜ inferredModel r ≡ callStep (typesOf (now (s .entry))) t ty1 needs1 (inferredModel j) ⌝ }
+{
+    let Inferred::Typed { ty, needs } = j else {
+        return j;
+    };
+    if !is_function(c, ty1) {
+        return Inferred::Faulty(Fault::Type(t));
+    }
+    let f = accessors::type_record(s, c, ty1);
+    if subtype(s, c, ty, f.arg) {
+        let both = privileges::union(needs1, needs);
+        return Inferred::Typed {
+            ty: f.res,
+            needs: privileges::union(f.latent, both),
+        };
+    }
+    Inferred::Faulty(Fault::Type(t))
+}

@@ -1,0 +1,3 @@
+pub mod AccessLaws
+pub mod CellLaws
+pub mod WordLaws

@@ -1,0 +1,57 @@
+-- So many bytes are zero, and the others as they were, until all are zero. The bytes that are left fall.
+use native.Mathlib.Omega.{arith}
+use mathlib.Core.Path.{_≡_, refl, ap, _∙_}
+use mathlib.Core.List.{List, _++_}
+use Prim.Native.Nat.{ℕ, _≤_, _-_}
+use lib.ListN.{length, drop, replicate, set, length-set}
+use borrow.Author.Fill.{fill-more}
+use Rattle.stores.proofs.CellLaws.{filled}
+use Rattle.stores.proofs.cells.clear.Statement.{statement}
+use Rattle.stores.proofs.cells.clear.Tie as tie
+
+abbrev Inv-loop : tie.InvT-loop
+Inv-loop a₀ i₀ a i = (a ≡ replicate i 0 ++ drop i a₀) × ((i ≤ length a₀) × (length a ≡ length a₀))
+
+abbrev μ-loop : tie.MeasureT-loop
+μ-loop a₀ i₀ a i = length a₀ - i
+
+loop-holds : tie.Need-loop-holds Inv-loop μ-loop
+loop-holds c = (refl, (omega arith, refl))
+
+slice-write-a : tie.Need-slice-write-a Inv-loop μ-loop
+slice-write-a c = omega arith
+
+add-i : tie.Need-add-i Inv-loop μ-loop
+add-i c = omega arith
+
+loop-less : tie.Need-loop-less Inv-loop μ-loop
+loop-less c = omega arith
+
+loop-again : tie.Need-loop-again Inv-loop μ-loop
+loop-again c =
+    let at-loop = c .before in (
+      ap (λ (l : List ℕ). set l (at-loop .loop .i) 0) (at-loop .loop .inv .0) ∙ fill-more (at-loop .loop .i) 0 (c .before .before .args .a .now) (omega arith),
+      (omega arith, simp length-set (at-loop .loop .inv .1 .1)),
+    )
+
+same-length : tie.Need-same-length Inv-loop μ-loop
+same-length c = c .before .loop .inv .1 .1
+
+returns : tie.Need-returns Inv-loop μ-loop
+returns c =
+    let at-loop = c .before in
+    filled _ (c .before .before .args .a .now) (at-loop .loop .i) (at-loop .loop .inv .0) (omega arith)
+
+pub clear-spec : {M : Type 1} → statement M
+clear-spec =
+    tie.close
+    (tie.spec
+    Inv-loop
+    μ-loop
+    loop-holds
+    slice-write-a
+    add-i
+    loop-less
+    loop-again
+    same-length
+    returns)

@@ -1,0 +1,20 @@
+-- 01's numbers of the stops, 17 to 22, and the term that stops.
+use Prim.Native.Nat.{ℕ}
+use Rattle.stores.specs.declared.state.Stop.{Stop}
+use Rattle.stores.specs.declared.state.Stop.the-variants.{Check, Stuck, OpenCalls, Calls, Cells, Posts}
+
+abbrev pub stopCause : Stop → ℕ
+stopCause (Check t) = 17
+stopCause (Stuck t) = 18
+stopCause (OpenCalls t) = 19
+stopCause (Calls t) = 20
+stopCause (Cells t) = 21
+stopCause (Posts t) = 22
+
+abbrev pub stopPlace : Stop → ℕ
+stopPlace (Check t) = t
+stopPlace (Stuck t) = t
+stopPlace (OpenCalls t) = t
+stopPlace (Calls t) = t
+stopPlace (Cells t) = t
+stopPlace (Posts t) = t

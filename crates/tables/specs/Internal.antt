@@ -1,0 +1,132 @@
+-- What the contracts of the functions that look at fields and records for the decoder say. No reader of the public promise needs this file.
+use mathlib.Core.Bool.{Bool, true, false, _&&_}
+use mathlib.Core.List.{List}
+use mathlib.Core.Option.{Option, none, some}
+use mathlib.Core.Path.{_≡_}
+use Prim.Native.Nat.{ℕ, _+_, _*_, _/_, _<_, _≤_}
+use lib.Dec.{leb, ltb, eqb}
+use lib.ListN.{length, getD}
+use Rattle.program.specs.Limits.{maxTypeDepth}
+use Rattle.program.specs.Bytes.{word16}
+use Rattle.program.specs.Layout.{typeAt, kindByte, first, second, third}
+use Rattle.program.specs.Screening.{First, None}
+use Rattle.program.specs.Formats.{Part, unused, flag, anyNumber, privilege, principal, functionType, child, bodyChild, Kind, Boolean, Number, Variable, Function, Letrec, Call, If, Check, Enable, Sign, Test, Sum, Difference, Less, Post, kindOf, format}
+use Rattle.program.specs.Decoding.{holds, field, fieldConditions, shallow, typeOk, termOk}
+use Rattle.program.specs.Answers.{decodingCause, decodingPlace}
+use Rattle.program.specs.Records.{CountsOf}
+use Rattle.program.specs.declared.records.Counts.{Counts}
+use Rattle.program.specs.declared.records.TermRecord.{TermRecord}
+use Rattle.tables.specs.declared.terms.Shape.{Shape}
+use Rattle.tables.specs.declared.terms.Shape.the-variants.{Leaf, One, Two, Three, Function as FunctionShape, Letrec as LetrecShape, Wrong}
+use Rattle.tables.specs.declared.header.Field.{Field}
+use Rattle.tables.specs.declared.header.Field.the-variants.{Records, Fault as FieldFault}
+use Rattle.tables.specs.declared.header.Header.{Header}
+use Rattle.tables.specs.declared.header.Header.the-variants.{Laid as HeaderLaid, Fault as HeaderFault}
+use Rattle.tables.specs.declared.search.Found.{Found}
+use Rattle.tables.specs.declared.search.Found.the-variants.{At, Nothing}
+use Rattle.tables.specs.declared.types.Depth.{Depth}
+use Rattle.tables.specs.declared.types.Depth.the-variants.{Is, Fault as DepthFault}
+
+-- ---- the fields
+-- the fields are right, and these are their counts
+pub record Laid (s : List ℕ) (c : Counts) : Type 0 where
+  pub counts-are : CountsOf s c
+  pub none-found : None (fieldConditions s)
+
+pub record FieldHolds (s : List ℕ) (at tag size least most n : ℕ) : Type 0 where
+  pub count : n ≡ word16 s (at + 1) / size
+  pub least-are : least ≤ n
+  pub most-are : n ≤ most
+  pub inside : at + 3 + n * size ≤ length s
+  pub none-found : None (field s at tag (holds size least most))
+
+abbrev pub FieldIs : List ℕ → (at tag size least most : ℕ) → Field → Type 0
+FieldIs s at tag size least most (Records n) = FieldHolds s at tag size least most n
+FieldIs s at tag size least most (FieldFault f) = First (decodingCause f) (decodingPlace f) (field s at tag (holds size least most))
+
+abbrev pub HeaderIs : List ℕ → Header → Type 0
+HeaderIs s (HeaderLaid c) = Laid s c
+HeaderIs s (HeaderFault f) = First (decodingCause f) (decodingPlace f) (fieldConditions s)
+
+-- ---- a search over a table
+abbrev pub foundOf : Found → Option ℕ
+foundOf (At t) = some t
+foundOf Nothing = none
+
+-- ---- types
+-- the type table begins at `at`, and the record of type t lies in the sheet
+pub record TableAt (s : List ℕ) (at t : ℕ) : Type 0 where
+  pub begins : (u : ℕ) → at + 10 * u ≡ typeAt s u
+  pub near : at ≤ 139
+  pub inside : at + 10 * t + 10 ≤ length s
+
+-- the list has the depths of the first so many types
+pub record Depths (s d : List ℕ) (t : ℕ) : Type 0 where
+  pub each : (u : ℕ) → u < t → (k : ℕ) → shallow s k u ≡ leb (getD d u 0) k
+  pub few : (u : ℕ) → u < t → getD d u 0 ≤ maxTypeDepth
+
+pub record Deep (s : List ℕ) (t d : ℕ) : Type 0 where
+  pub right : typeOk s t ≡ true
+  pub deep : (k : ℕ) → shallow s k t ≡ leb d k
+  pub most : d ≤ maxTypeDepth
+
+abbrev pub DepthIs : List ℕ → ℕ → Depth → Type 0
+DepthIs s t (Is d) = Deep s t d
+DepthIs s t DepthFault = typeOk s t ≡ false
+
+-- ---- terms
+-- `partOk` by the numbers of principals and types
+abbrev pub partIn : (principals types t : ℕ) → Part → (value : ℕ) → Bool
+partIn P Y t unused x = eqb x 0
+partIn P Y t flag x = leb x 1
+partIn P Y t anyNumber x = true
+partIn P Y t privilege x = leb x 31
+partIn P Y t principal x = ltb x P
+partIn P Y t functionType x = leb 2 x && ltb x Y
+partIn P Y t child x = ltb x t
+partIn P Y t bodyChild x = ltb x t
+
+abbrev pub recordOk : (principals types t kind small first second third : ℕ) → Bool
+recordOk P Y t k x a b d =
+    leb k 14 && partIn P Y t (format (kindOf k) .small) x && partIn P Y t (format (kindOf k) .first) a && partIn P Y t (format (kindOf k) .second) b
+    && partIn P Y t (format (kindOf k) .third) d
+
+-- the children of each kind
+abbrev pub childrenOf : Kind → (first second third : ℕ) → Shape
+childrenOf Boolean a b d = Leaf
+childrenOf Number a b d = Leaf
+childrenOf Variable a b d = Leaf
+childrenOf Function a b d = FunctionShape b
+childrenOf Letrec a b d = LetrecShape b d
+childrenOf Call a b d = Two a b
+childrenOf If a b d = Three a b d
+childrenOf Check a b d = One a
+childrenOf Enable a b d = One a
+childrenOf Sign a b d = One a
+childrenOf Test a b d = Two a b
+childrenOf Sum a b d = Two a b
+childrenOf Difference a b d = Two a b
+childrenOf Less a b d = Two a b
+childrenOf Post a b d = One a
+
+abbrev pub shapeIf : Bool → Shape → Shape
+shapeIf true x = x
+shapeIf false x = Wrong
+
+abbrev pub shapeFrom : (principals types t kind small first second third : ℕ) → Shape
+shapeFrom P Y t k x a b d = shapeIf (recordOk P Y t k x a b d) (childrenOf (kindOf k) a b d)
+
+unfoldable pub shapeOf : (principals types t : ℕ) → TermRecord → Shape
+shapeOf P Y t r = shapeFrom P Y t (r .kind) (r .small) (r .first) (r .second) (r .third)
+
+unfoldable pub shapeAt : List ℕ → (t : ℕ) → Shape
+shapeAt s t = shapeIf (termOk s t) (childrenOf (kindOf (kindByte s t)) (first s t) (second s t) (third s t))
+
+abbrev pub isWrong : Shape → Bool
+isWrong Leaf = false
+isWrong (One a) = false
+isWrong (Two a b) = false
+isWrong (Three a b d) = false
+isWrong (FunctionShape b) = false
+isWrong (LetrecShape b d) = false
+isWrong Wrong = true
