@@ -138,6 +138,9 @@ module _ {s : List ℕ} {c : Counts} {t : ℕ} {b : Bindings} {n : ℕ} {x : Ter
   pub enable-privilege : x .kind ≡ 8 → x .small < 32
   enable-privilege e = omega (arith, leb-true (x .small) 31 (small-as Enable (named e)))
 
+  pub test-privilege : x .kind ≡ 10 → x .small < 32
+  test-privilege e = omega (arith, leb-true (x .small) 31 (small-as Test (named e)))
+
   left : (y z : ℕ) → y < t → roomAt s t ≡ max (roomAt s y) (roomAt s z) → Child s c t y b n
   left y z h e = plain y h (omega (arith, e, le-max-left (roomAt s y) (roomAt s z)))
 
@@ -301,7 +304,7 @@ module _ {s : List ℕ} {c : Counts} {t : ℕ} {b : Bindings} {n : ℕ} {x : Ter
 
     -- ---- two children
     abbrev test-rest : (τ N : ℕ) → Judgement
-    test-rest τ N = testStep t τ N (J (x .second))
+    test-rest τ N = testStep (x .small) t τ N (J (x .second))
 
     test-as : x .kind ≡ 10 → J t ≡ (J (x .first) next test-rest)
     unfolding termJudgement infer testStep
@@ -311,8 +314,8 @@ module _ {s : List ℕ} {c : Counts} {t : ℕ} {b : Bindings} {n : ℕ} {x : Ter
     test-stops e j p h = stops test-rest (test-as e) j p h
 
     pub test-is : x .kind ≡ 10 → {j : Inferred} {τ N : ℕ} → j ≡ Typed τ N → inferredModel j ≡ J (x .first) → {k r : Judgement} → k ≡ J (x .second)
-        → r ≡ testStep t τ N k → r ≡ J t
-    test-is e {τ = τ} {N = N} h p q r = ends (testStep t τ N) q (goes test-rest (test-as e) h p) r
+        → r ≡ testStep (x .small) t τ N k → r ≡ J t
+    test-is e {τ = τ} {N = N} h p q r = ends (testStep (x .small) t τ N) q (goes test-rest (test-as e) h p) r
 
     abbrev call-rest : (φ N : ℕ) → Judgement
     call-rest φ N = callStep (typesOf s) t φ N (J (x .second))

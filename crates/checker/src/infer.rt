@@ -136,7 +136,7 @@ fn infer_test(s: &[u8], c: Counts, t: u16, x: TermRecord, b: Bindings, n: u8) ->
         return j;
     };
     let k = infer(s, c, x.second, b, n);
-    steps::tested(t, ty, needs, k)
+    steps::tested(x.small, t, ty, needs, k)
 }
 
 fn infer_binary(s: &[u8], c: Counts, t: u16, x: TermRecord, b: Bindings, n: u8) -> Inferred

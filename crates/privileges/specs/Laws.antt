@@ -206,13 +206,20 @@ remove-mono p {a} {b} f = record {
       has-remove q p b ∙ and-both (and-left (not (eqb q p)) (has q a) g) (f .all q (and-right (not (eqb q p)) (has q a) g));
 }
 
--- what is needed besides p lies in a set exactly if all of it lies in the set with p
-pub remove-insert : (p a b : ℕ) → remove p a ⊆ b → a ⊆ insert p b
-remove-insert p a b f = record { all = λ q h. has-insert q p b ∙ kept q (eqb q p) refl h }
+pub remove-⊆ : (p m : ℕ) → remove p m ⊆ m
+remove-⊆ p m = record { all = λ q h. and-right (not (eqb q p)) (has q m) (sym (has-remove q p m) ∙ h) }
+
+-- what lies in a set but for p lies in it, if the set has p
+pub remove-has : (p a b : ℕ) → remove p a ⊆ b → has p b ≡ true → a ⊆ b
+remove-has p a b f g = record { all = λ q h. kept q (eqb q p) refl h }
   where
-    kept : (q : ℕ) (z : Bool) → eqb q p ≡ z → has q a ≡ true → (z || has q b) ≡ true
-    kept q true e h = refl
+    kept : (q : ℕ) (z : Bool) → eqb q p ≡ z → has q a ≡ true → has q b ≡ true
+    kept q true e h = ap (λ (x : ℕ). has x b) (eqb-true q p e) ∙ g
     kept q false e h = f .all q (has-remove q p a ∙ and-both (ap not e) h)
+
+-- and in the set with p added
+pub remove-insert : (p a b : ℕ) → remove p a ⊆ b → a ⊆ insert p b
+remove-insert p a b f = remove-has p a (insert p b) (⊆-trans f (⊆-insert p b)) (has-inserted p b)
 
 -- ---- subset decides inclusion
 and-absorb : (a b : Bool) → (a ≡ true → b ≡ true) → (a && b) ≡ a

@@ -92,13 +92,13 @@ module _ {j : Inferred} {τ N : ℕ} (e : j ≡ Typed τ N) where
   unfolding postStep
   post-other t h = rw (e, ne-eqb τ 1 h) refl
 
-  pub test-same : (t σ P : ℕ) {K : ℕ} → σ ≡ τ → K ≡ union P N → typed τ K ≡ testStep t σ P (inferredModel j)
+  pub test-same : (p t σ P : ℕ) {Y K : ℕ} → σ ≡ τ → Y ≡ remove p P → K ≡ union Y N → typed τ K ≡ testStep p t σ P (inferredModel j)
   unfolding testStep
-  test-same t σ P h g = rw (e, eq-eqb σ τ h, g) refl
+  test-same p t σ P h y g = rw (e, eq-eqb σ τ h, g, y) refl
 
-  pub test-differs : (t σ P : ℕ) → (σ ≡ τ → ⊥) → fault 10 t ≡ testStep t σ P (inferredModel j)
+  pub test-differs : (p t σ P : ℕ) → (σ ≡ τ → ⊥) → fault 10 t ≡ testStep p t σ P (inferredModel j)
   unfolding testStep
-  test-differs t σ P h = rw (e, ne-eqb σ τ h) refl
+  test-differs p t σ P h = rw (e, ne-eqb σ τ h) refl
 
   pub if-cond : (t ρ Q σ P : ℕ) → 0 < ρ → fault 10 t ≡ ifStep t ρ Q σ P (inferredModel j)
   unfolding ifStep

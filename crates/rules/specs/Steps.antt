@@ -47,8 +47,8 @@ signStep may at j = j next λ τ N. require (subset N may) 11 at (typed τ N)
 unfoldable pub postStep : (at : ℕ) → Judgement → Judgement
 postStep at j = j next λ τ N. require (eqb τ 1) 10 at (typed 1 N)
 
-unfoldable pub testStep : (at τ N : ℕ) → Judgement → Judgement
-testStep at τ N j = j next λ ρ M. require (eqb τ ρ) 10 at (typed ρ (union N M))
+unfoldable pub testStep : (p at τ N : ℕ) → Judgement → Judgement
+testStep p at τ N j = j next λ ρ M. require (eqb τ ρ) 10 at (typed ρ (union (remove p N) M))
 
 unfoldable pub ifStep : (at σ N τ M : ℕ) → Judgement → Judgement
 ifStep at σ N τ M j = j next λ ρ K. require (eqb σ 0 && eqb τ ρ) 10 at (typed ρ (union N (union M K)))

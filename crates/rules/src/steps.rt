@@ -114,17 +114,19 @@ pub fn posted(t: u16, j: Inferred) -> Inferred
     Inferred::Faulty(Fault::Type(t))
 }
 
-// Of a test: the first branch's type and needs, and the second's judgement.
-pub fn tested(t: u16, ty1: u16, needs1: u32, j: Inferred) -> Inferred
-    ensures { λ r. ⌜ inferredModel r ≡ testStep t ty1 needs1 (inferredModel j) ⌝ }
+// Of a test of privilege p: the first branch's type and needs, of which p is taken out, and the second's judgement.
+pub fn tested(p: u8, t: u16, ty1: u16, needs1: u32, j: Inferred) -> Inferred
+    requires { ⌜ p < 32 ⌝ }
+    ensures { λ r. ⌜ inferredModel r ≡ testStep p t ty1 needs1 (inferredModel j) ⌝ }
 {
     let Inferred::Typed { ty, needs } = j else {
         return j;
     };
     if ty1 == ty {
+        let yes = privileges::remove(p, needs1);
         return Inferred::Typed {
             ty: ty,
-            needs: privileges::union(needs1, needs),
+            needs: privileges::union(yes, needs),
         };
     }
     Inferred::Faulty(Fault::Type(t))

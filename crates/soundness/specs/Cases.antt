@@ -186,8 +186,8 @@ cases =
     -- "f(x) = f x, called on 0, open calls 100, calls 4,096: stop 19, calls 100, cells 101. With calls 99: stop 20."
     ++ both endless (request [] maxCalls maxDepth) (ran (stopped 19 2) (counted 100 101 0)) []
     ++ both endless (request [] 99 maxDepth) (ran (stopped 20 2) (counted 99 100 0)) []
-    -- "Test 1, yes check 1 for 7, no 0: needs 00000002."
-    ++ deciding tested (accepted 5 1 2) ∷ []
+    -- "Test 1, yes check 1 for 7, no 0: needs 00000002." W1 changed it: "The case of the test in 01 now gives needs 00000000".
+    ++ deciding tested (accepted 5 1 0) ∷ []
 
 -- ---- what the definitions tell, in whatever buffers
 abbrev pub observed : Buffers → Case → Observed

@@ -5,7 +5,7 @@ use mathlib.Core.List.{List, _∷_}
 use mathlib.Core.Option.{Option, none, some}
 use Prim.Native.Nat.{ℕ}
 use lib.Dec.{eqb}
-use Rattle.privileges.specs.Sets.{union, insert, subset}
+use Rattle.privileges.specs.Sets.{union, insert, remove, subset}
 use Rattle.program.specs.Layout.{Types}
 use Rattle.program.specs.Terms.{Term, boolean, number, variable, function, letrec, call, if, check, enable, sign, test, binary, post}
 use Rattle.typing.specs.Subtyping.{subtype}
@@ -51,7 +51,8 @@ module _ (T : Types) (A : ℕ → ℕ) where
   infer Γ n (enable at p c) = infer Γ n c next λ τ N. typed τ (removeAuthorised A n p N)
   -- "11 needs of a sign"
   infer Γ n (sign at m c) = infer Γ m c next λ τ N. require (subset N (A m)) 11 at (typed τ N)
-  infer Γ n (test at p y o) = infer Γ n y next λ τ N. infer Γ n o next λ ρ M. require (eqb τ ρ) 10 at (typed ρ (union N M))
+  -- 02, W1: "a test of p takes p out of the needs of its yes-branch before the union"
+  infer Γ n (test at p y o) = infer Γ n y next λ τ N. infer Γ n o next λ ρ M. require (eqb τ ρ) 10 at (typed ρ (union (remove p N) M))
   infer Γ n (binary at op a b) = infer Γ n a next λ τ N. infer Γ n b next λ ρ M.
       require (eqb τ 1 && eqb ρ 1) 10 at (typed (resultType op) (union N M))
   infer Γ n (post at c) = infer Γ n c next λ τ N. require (eqb τ 1) 10 at (typed 1 N)

@@ -1,5 +1,5 @@
 -- The theorems about the rules: subtyping is an order that the test decides; a readable sheet is accepted exactly if it has a derivation; the
--- needs told are the least, and the type told is that of every derivation.
+-- needs told are the least, and the type told is that of every derivation; what 01's own rules accept is accepted, with no more needs.
 use mathlib.Core.Bool.{Bool, true, false, cond}
 use mathlib.Core.List.{List}
 use mathlib.Core.Logic.{_↔_}
@@ -17,10 +17,12 @@ use Rattle.program.specs.Laws.Readable.{well-formed}
 use Rattle.program.specs.Laws.Types.{lower-types, distinct-types}
 use Rattle.program.specs.Laws.Trees.{program-standard}
 use Rattle.typing.specs.Subtyping.{Subtype, sub-same, subtype}
+use Rattle.typing.specs.Rules.{base}
 use Rattle.typing.specs.Checking.{Judgement, typed, fault}
-use Rattle.typing.specs.Verdicts.{accepted, rejected, concluded, ifReadable, judgement, verdict, SheetDerives}
+use Rattle.typing.specs.Verdicts.{accepted, rejected, concluded, ifReadable, judgement, verdict, SheetDerivesBy, SheetDerives}
 use Rattle.typing.specs.Laws.Subtyping.{sub-trans, sub-antisym, subtype-sound, subtype-complete}
 use Rattle.typing.specs.Laws.Checking.{infer-complete, infer-derives, derives-least}
+use Rattle.typing.specs.Laws.Variants.{relaxed, current-relaxes-base}
 
 -- ---- Theorem 1: subtyping
 
@@ -109,20 +111,35 @@ Accepted s = (n : ℕ) × (τ : ℕ) × (N : ℕ) × (verdict s ≡ accepted n �
 abbrev pub Derivable : List ℕ → Type 0
 Derivable s = (τ : ℕ) × (N : ℕ) × (τ < 2) × SheetDerives s τ N
 
+-- a sheet is accepted, of type τ and with needs inside N
+pub record AcceptedInside (s : List ℕ) (τ N : ℕ) : Type 0 where
+  pub needs : ℕ
+  pub is : verdict s ≡ accepted (terms s) τ needs
+  pub inside : needs ⊆ N
+
+derived-accepted : (s : List ℕ) → Readable s → (τ N : ℕ) → τ < 2 → SheetDerives s τ N → AcceptedInside s τ N
+unfolding verdict
+derived-accepted s r τ N l d =
+    let x = infer-complete (typesOf s) (authority s) (lower-types s (well-formed s r)) d in
+    record {
+      needs = x .least;
+      is =
+          (λ i. ifReadable (r i) (λ _. concluded (terms s) (root s) (x .is i)))
+          ∙ λ i. cond (lt-ltb τ 2 l i) (accepted (terms s) τ (x .least)) (rejected 13 (root s));
+      inside = x .inside;
+    }
+
 -- 01, "The two runs of demand 3": "A readable sheet is accepted exactly when the rules give a derivation."
 pub accepted-exactly : (s : List ℕ) → Readable s → Accepted s ↔ Derivable s
-unfolding verdict
 accepted-exactly s r = (forth, back)
   where
     forth : Accepted s → Derivable s
     forth a = let h = acceptance s (a .0) (a .1) (a .2) (a .3) in (a .1, a .2, h .root-type, h .needs .derivation)
 
     back : Derivable s → Accepted s
-    back d =
-        let x = infer-complete (typesOf s) (authority s) (lower-types s (well-formed s r)) (d .3) in (
-          terms s,
-          d .0,
-          x .least,
-          (λ i. ifReadable (r i) (λ _. concluded (terms s) (root s) (x .is i)))
-              ∙ λ i. cond (lt-ltb (d .0) 2 (d .2) i) (accepted (terms s) (d .0) (x .least)) (rejected 13 (root s)),
-        )
+    back d = let a = derived-accepted s r (d .0) (d .1) (d .2) (d .3) in (terms s, d .0, a .needs, a .is)
+
+-- ---- what W1 made better
+-- A readable sheet that 01's own rules accept, of type τ and with needs N, is accepted, of the same type and with needs inside N.
+pub accepted-before : (s : List ℕ) → Readable s → (τ N : ℕ) → τ < 2 → SheetDerivesBy base s τ N → AcceptedInside s τ N
+accepted-before s r τ N l d = derived-accepted s r τ N l (relaxed current-relaxes-base d)

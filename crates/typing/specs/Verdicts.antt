@@ -7,7 +7,7 @@ use Rattle.program.specs.Layout.{authority, terms, root, typesOf}
 use Rattle.program.specs.Terms.{program}
 use Rattle.program.specs.Screening.{Screening, clear, found}
 use Rattle.program.specs.Decoding.{decoding}
-use Rattle.typing.specs.Rules.{Derives}
+use Rattle.typing.specs.Rules.{Variant, current, Derives}
 use Rattle.typing.specs.Checking.{Judgement, typed, fault, infer}
 
 pub data Verdict : Type 0 where
@@ -30,6 +30,9 @@ judgement s = infer (typesOf s) (authority s) [] 0 (program s)
 unfoldable pub verdict : List ℕ → Verdict
 verdict s = ifReadable (decoding s) λ _. concluded (terms s) (root s) (judgement s)
 
--- a derivation of the sheet: of its program, without bindings
+-- a derivation of the sheet: of its program, without bindings; by the rules of a variant, and by those in force
+abbrev pub SheetDerivesBy : Variant → List ℕ → (type needs : ℕ) → Type 0
+SheetDerivesBy W s τ N = Derives W (typesOf s) (authority s) [] 0 (program s) τ N
+
 abbrev pub SheetDerives : List ℕ → (type needs : ℕ) → Type 0
-SheetDerives s τ N = Derives (typesOf s) (authority s) [] 0 (program s) τ N
+SheetDerives s τ N = SheetDerivesBy current s τ N

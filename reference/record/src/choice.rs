@@ -8,7 +8,7 @@ use sheets::request::{
     Request, FRAME_NUMBERS, MAX_CALLS, MAX_CELL_BYTES, MAX_OPEN_CALLS, MAX_POSTS,
 };
 use sheets::rng::Rng;
-use sheets::{cases, smallest};
+use sheets::{cases, smallest, yes_branch};
 
 const SEED: u64 = 20;
 const GENERATED: usize = 240;
@@ -22,6 +22,7 @@ pub fn vectors() -> Vec<Vector> {
     vectors.extend(edges_of_requests());
     vectors.extend(edges_of_sheets());
     vectors.extend(generated());
+    vectors.extend(yes_branches());
     vectors
 }
 
@@ -29,6 +30,16 @@ fn named_cases() -> impl Iterator<Item = Vector> {
     cases::all().into_iter().map(|case| Vector {
         sheet: case.sheet,
         request: case.request,
+    })
+}
+
+/// Each on its own stack, where the yes-branch runs, and on the empty one.
+fn yes_branches() -> impl Iterator<Item = Vector> {
+    yes_branch::all().into_iter().flat_map(|case| {
+        [case.request, Request::largest()].map(|request| Vector {
+            sheet: case.sheet.clone(),
+            request,
+        })
     })
 }
 

@@ -71,6 +71,7 @@ pub fn endless() -> Vec<u8> {
     with_functions(&[0], &[number_to_number()], root)
 }
 
+/// Its needs are what request W1 changed.
 pub fn test_then_check() -> Vec<u8> {
     plain(&[ONE], sign(0, test(1, check(1, number(7)), number(0))))
 }

@@ -142,14 +142,15 @@ fn nested(rng: &mut Rng, world: &World) -> Tree {
     while tree.height() + 1 < levels {
         let privilege = world.random_privilege(rng);
         let twig = number(rng.below(10) as u16);
-        tree = match rng.below(7) {
+        tree = match rng.below(8) {
             0 => post(tree),
             1 => enable(privilege, tree),
             2 => check(privilege, tree),
             3 => sign(world.random_principal(rng), tree),
             4 => sum(twig, tree),
             5 => difference(tree, twig),
-            _ => test(privilege, tree, twig),
+            6 => test(privilege, tree, twig),
+            _ => test(privilege, twig, tree),
         };
     }
     sign(world.random_principal(rng), tree)

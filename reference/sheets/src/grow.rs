@@ -152,10 +152,19 @@ impl Grower<'_> {
         )
     }
 
+    /// The yes-branch may need what is tested, and often checks it at once.
     fn test(&mut self, ty: u16, site: Site) -> Tree {
         let privilege = self.world.random_privilege(self.rng);
         let [yes, no] = self.split(site);
-        test(privilege, self.grow(ty, yes), self.grow(ty, no))
+        let yes = yes.allowing(yes.allowed | 1 << privilege);
+        let has_room = yes.levels > self.world.least_height(ty);
+        let yes = if has_room && self.rng.percent(50) {
+            let inner = yes.below(yes.size.saturating_sub(1));
+            check(privilege, self.grow(ty, inner))
+        } else {
+            self.grow(ty, yes)
+        };
+        test(privilege, yes, self.grow(ty, no))
     }
 
     fn check(&mut self, ty: u16, site: Site) -> Option<Tree> {

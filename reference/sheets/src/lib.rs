@@ -1,10 +1,10 @@
 //! Sheets to test with.
 //!
-//! [`tree`] and [`records`] assemble sheets. [`cases`], [`smallest`],
-//! [`extremes`] and [`load`] hold the ones made by hand, [`generate`] draws
-//! others at random and [`request`] draws what to ask of their runs, from a
-//! [`seed`]. Nothing here knows how a sheet is judged or run, except [`grow`],
-//! which builds sheets that the rules accept.
+//! [`tree`] and [`records`] assemble sheets. [`cases`], [`yes_branch`],
+//! [`smallest`], [`extremes`] and [`load`] hold the ones made by hand,
+//! [`generate`] draws others at random and [`request`] draws what to ask of
+//! their runs, from a [`seed`]. Nothing here knows how a sheet is judged or
+//! run, except [`grow`], which builds sheets that the rules accept.
 
 pub mod cases;
 pub mod damage;
@@ -22,6 +22,7 @@ pub mod tally;
 pub mod tree;
 pub mod wild;
 pub mod world;
+pub mod yes_branch;
 
 /// Two capital digits a byte.
 pub fn hex(bytes: &[u8]) -> String {

@@ -53,6 +53,13 @@ impl Judgement {
     }
 }
 
+/// The type that two branches share, and the needs of each.
+struct Branches {
+    ty: TypeId,
+    yes: Set,
+    no: Set,
+}
+
 struct Judge<'a> {
     sheet: &'a Sheet,
     /// The types of the variables in scope, the nearest last.
@@ -75,11 +82,19 @@ impl Judge<'_> {
                 let branches = self.branches(id, yes, no, signer)?;
                 require_type(id, condition.ty == Type::BOOL)?;
                 Ok(Judgement {
-                    needs: branches.needs.union(condition.needs),
-                    ..branches
+                    ty: branches.ty,
+                    needs: condition.needs.union(branches.yes).union(branches.no),
                 })
             }
-            Term::Test { yes, no, .. } => self.branches(id, yes, no, signer),
+            Term::Test { privilege, yes, no } => {
+                let branches = self.branches(id, yes, no, signer)?;
+                // The yes-branch runs only where the privilege is granted.
+                // Unlike an enable, that doesn't ask who signs.
+                Ok(Judgement {
+                    ty: branches.ty,
+                    needs: branches.yes.without(privilege).union(branches.no),
+                })
+            }
             Term::Check { privilege, inner } => {
                 let inner = self.judge(inner, signer)?;
                 Ok(Judgement {
@@ -176,13 +191,14 @@ impl Judge<'_> {
         yes: TermId,
         no: TermId,
         signer: Set,
-    ) -> Result<Judgement, Refusal> {
+    ) -> Result<Branches, Refusal> {
         let yes = self.judge(yes, signer)?;
         let no = self.judge(no, signer)?;
         require_type(id, yes.ty == no.ty)?;
-        Ok(Judgement {
-            needs: yes.needs.union(no.needs),
-            ..yes
+        Ok(Branches {
+            ty: yes.ty,
+            yes: yes.needs,
+            no: no.needs,
         })
     }
 

@@ -1,10 +1,12 @@
-//! The cases that the contract names.
+//! The cases that the contract names, and those of its requests.
 
 use sheets::cases::*;
 use sheets::tree::*;
+use sheets::yes_branch;
 use sovzedal_reference::*;
 
 const ONE: u32 = 1 << 1;
+const TWO: u32 = 1 << 2;
 
 /// Runs eagerly and lazily with the largest buffers; both must tell the same.
 fn run(sheet: &[u8], request: Request) -> (Run, Vec<u16>) {
@@ -149,11 +151,91 @@ fn a_function_that_calls_itself_forever() {
     assert_eq!((run_of_99.calls, run_of_99.cells), (99, 100));
 }
 
+/// Request W1 changed this case: before it the needs were 00000002. Its runs
+/// are as before.
 #[test]
-fn a_test_keeps_what_its_branches_need() {
-    assert_eq!(needs(&test_then_check()), 2);
+fn a_yes_branch_knows_what_is_tested() {
+    assert_eq!(needs(&test_then_check()), 0);
     assert_eq!(outcome(&test_then_check(), Request::LARGEST), number_end(0));
     assert_eq!(outcome(&test_then_check(), on(&[0, ONE])), number_end(7));
+}
+
+#[test]
+fn what_a_test_takes_out_of_needs() {
+    // Sets with the tested privilege are those that it stays in.
+    let expected = [
+        ("yes-branch alone", Ok(0)),
+        ("no-branch alone", Ok(ONE)),
+        ("both branches", Ok(ONE)),
+        ("another privilege in the yes-branch", Ok(TWO)),
+        ("another privilege in the no-branch", Ok(TWO)),
+        ("a check around the test", Ok(ONE)),
+        ("a check beside the test", Ok(ONE)),
+        ("signed by the unable", Ok(0)),
+        (
+            "signed by the unable, no-branch",
+            Err((Cause::SignNeeds, 4)),
+        ),
+        (
+            "signed by the unable, in the yes-branch",
+            Err((Cause::SignNeeds, 2)),
+        ),
+        ("a test of both", Ok(0)),
+        ("the inner test's no-branch", Ok(0)),
+        ("the inner test's own privilege in its no-branch", Ok(TWO)),
+        ("tested again in the no-branch", Ok(0)),
+        ("tested again in the yes-branch", Ok(0)),
+        ("an enable", Ok(0)),
+        ("an enable of another", Ok(0)),
+        ("an enable by the unable", Ok(0)),
+        ("an enable around the test", Ok(0)),
+        ("a call with a latent need", Ok(0)),
+        ("a call with a latent need in the no-branch", Ok(ONE)),
+        ("a binder with a latent need", Ok(0)),
+        // The test takes nothing out of a latent set.
+        ("a function of both branches, called outside", Ok(ONE)),
+        ("the body of a quiet function", Ok(0)),
+    ];
+    let told: Vec<_> = yes_branch::all()
+        .iter()
+        .map(|case| (case.name, judged(&case.sheet)))
+        .collect();
+    assert_eq!(told, expected);
+}
+
+fn judged(sheet: &[u8]) -> Result<u32, (Cause, u32)> {
+    let verdict = typecheck(sheet);
+    verdict
+        .map(|verdict| verdict.needs.bits())
+        .map_err(|refusal| (refusal.cause, refusal.place))
+}
+
+/// With less needed, more stacks grant it: on each of them the checks, in
+/// force, are met.
+#[test]
+fn where_needs_are_granted_checks_may_be_passed_over() {
+    for case in yes_branch::all() {
+        let Ok(needs) = judged(&case.sheet) else {
+            continue;
+        };
+        for granted in [0, ONE, TWO, ONE | TWO] {
+            if needs & !granted != 0 {
+                continue;
+            }
+            let start = [0, granted];
+            let asked = |checks| Request {
+                checks,
+                ..on(&start)
+            };
+            let in_force = run(&case.sheet, asked(Checks::InForce));
+            assert!(
+                matches!(in_force.0.outcome, Outcome::End(_)),
+                "{}: {in_force:?}",
+                case.name
+            );
+            assert_eq!(in_force, run(&case.sheet, asked(Checks::PassedOver)));
+        }
+    }
 }
 
 #[test]

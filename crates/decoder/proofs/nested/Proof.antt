@@ -48,10 +48,12 @@ returns-2 : tie.Need-returns-2
 returns-2 c =
     let at-nestings = c .before .before .before .before in
     let start = at-nestings .before .before in (
-      none-found-readable (start .args .s .now) (start .pre .tables .types-ok .none-found) (start .pre .tables .terms-ok .none-found) (start .pre .places-ok .none-found)
+      none-found-readable (start .args .s .now) (start .pre .tables .types-ok .none-found) (start .pre .tables .terms-ok .none-found)
+          (start .pre .places-ok .none-found)
           (found-none (c .enum-told .given .1) (c .before .before .too-deep .ensures ∙ deep-at (start .args .s .now) (start .args .parents .now)
           (start .pre .tables .terms-ok)
-          ((fields-ok (start .args .s .now) (start .pre .tables .laid .none-found)) .terms-high) (start .pre .places-ok) (start .pre .tables .laid .counts-are .terms-are) _
+          ((fields-ok (start .args .s .now) (start .pre .tables .laid .none-found)) .terms-high) (start .pre .places-ok)
+          (start .pre .tables .laid .counts-are .terms-are) _
           (at-nestings .nestings .ensures))),
       start .pre .tables .laid .counts-are,
     )

@@ -8,12 +8,12 @@ use mathlib.Core.Path.{_≡_, refl, sym, ap, _∙_, subst}
 use Prim.Native.Nat.{ℕ, zero, suc}
 use native.Mathlib.Omega.{arith}
 use Rattle.privileges.specs.Sets.{has, meet, union, insert, remove, _⊆_}
-use Rattle.privileges.specs.Laws.{⊆-trans, ⊆-union-left, ⊆-union-right, ⊆-meet, ⊆-insert, has-inserted, remove-insert}
+use Rattle.privileges.specs.Laws.{⊆-trans, ⊆-union-left, ⊆-union-right, ⊆-meet, ⊆-insert, has-inserted, remove-has, remove-insert}
 use Rattle.program.specs.Layout.{Types}
 use Rattle.program.specs.Terms.{Op, sum, difference, less, Term, function, sign}
 use Rattle.program.specs.Laws.Trees.{Signed, signed, Standard}
 use Rattle.typing.specs.Subtyping.{Subtype, sub-same}
-use Rattle.typing.specs.Rules.{bound, removeAuthorised, resultType, Derives, d-boolean, d-number, d-variable, d-function, d-letrec, d-call, d-if, d-test, d-check, d-enable, d-sign, d-binary, d-post, d-widen}
+use Rattle.typing.specs.Rules.{bound, removeAuthorised, resultType, current, Derives, d-boolean, d-number, d-variable, d-function, d-letrec, d-call, d-if, d-test, d-check, d-enable, d-sign, d-binary, d-post, d-widen}
 use Rattle.typing.specs.Laws.Subtyping.{sub-trans, sub-base, sub-isFun, sub-arg, sub-res, sub-latent}
 use Rattle.semantics.specs.Values.{Value, bool, num, closure, Env, empty, bind, lookup, entered, Budget, budget, Result, ends, stops}
 use Rattle.semantics.specs.Meaning.{_then_, choose, found, branch, operate, compute, appendPost, takeCell, beginCall, tooDeep, enter, Evaluation, Application, evalWith, apply, eval}
@@ -21,12 +21,13 @@ use Rattle.semantics.specs.Access.{rights, addAuthorised, eagerControl}
 use Rattle.soundness.specs.Claims.{Limit}
 
 -- ---- a signed term does not ask who signs around it
-sign-any : {T : Types} {A : ℕ → ℕ} {Γ : List ℕ} {n at k : ℕ} {c : Term} {τ N : ℕ} → Derives T A Γ n (sign at k c) τ N → (m : ℕ)
-    → Derives T A Γ m (sign at k c) τ N
+sign-any : {T : Types} {A : ℕ → ℕ} {Γ : List ℕ} {n at k : ℕ} {c : Term} {τ N : ℕ} → Derives current T A Γ n (sign at k c) τ N
+    → (m : ℕ) → Derives current T A Γ m (sign at k c) τ N
 sign-any (d-sign d s) m = d-sign d s
 sign-any (d-widen d s) m = d-widen (sign-any d m) s
 
-body-any : {T : Types} {A : ℕ → ℕ} {Γ : List ℕ} {n : ℕ} {c : Term} {τ N : ℕ} → Signed c → Derives T A Γ n c τ N → (m : ℕ) → Derives T A Γ m c τ N
+body-any : {T : Types} {A : ℕ → ℕ} {Γ : List ℕ} {n : ℕ} {c : Term} {τ N : ℕ} → Signed c → Derives current T A Γ n c τ N
+    → (m : ℕ) → Derives current T A Γ m c τ N
 body-any signed d m = sign-any d m
 
 -- ---- enabling covers what an enable takes from the needs
@@ -57,7 +58,7 @@ module _ (T : Types) (A : ℕ → ℕ) (base : Base T) where
     pub N : ℕ
     pub function : T .isFun ty ≡ true
     pub holds : Holds Γ
-    pub derives : (n : ℕ) → Derives T A (inner recursive ty Γ) n body (T .res ty) N
+    pub derives : (n : ℕ) → Derives current T A (inner recursive ty Γ) n body (T .res ty) N
     pub within : N ⊆ T .latent ty
     pub standard : Standard T body
     pub below : Subtype T ty τ
@@ -137,9 +138,9 @@ module _ (T : Types) (A : ℕ → ℕ) (base : Base T) where
       go (ends v u) s = h v u s
       go (stops c at u) s = record { same = refl; safe = s }
 
-  alike-choose : {τ : ℕ} (b : Bool) (y y′ n n′ : Budget → Result) (u : Budget) → Alike τ (y u) (y′ u) → Alike τ (n u) (n′ u)
+  alike-choose : {τ : ℕ} (b : Bool) (y y′ n n′ : Budget → Result) (u : Budget) → (b ≡ true → Alike τ (y u) (y′ u)) → Alike τ (n u) (n′ u)
       → Alike τ (choose b y n u) (choose b y′ n′ u)
-  alike-choose true y y′ n n′ u hy hn = hy
+  alike-choose true y y′ n n′ u hy hn = hy refl
   alike-choose false y y′ n n′ u hy hn = hn
 
   alike-cell : (τ at : ℕ) (k l : Budget → Result) → ((u : Budget) → Alike τ (k u) (l u)) → (u : Budget) → Alike τ (takeCell at k u) (takeCell at l u)
@@ -189,7 +190,7 @@ module _ (T : Types) (A : ℕ → ℕ) (base : Base T) where
     abbrev skipped : Term → Evaluation (eagerControl A)
     skipped = evalWith (eagerControl A) false g
 
-    eval-alike : {Γ : List ℕ} {n : ℕ} {c : Term} {τ N : ℕ} → Derives T A Γ n c τ N → Standard T c
+    eval-alike : {Γ : List ℕ} {n : ℕ} {c : Term} {τ N : ℕ} → Derives current T A Γ n c τ N → Standard T c
         → AlikeEvaluation Γ n τ N (evalWith (eagerControl A) true f c) (evalWith (eagerControl A) false g c)
     unfolding evalWith
     eval-alike (d-boolean {b = b}) w e he P hP u = alike-end (bool b) 0 u refl
@@ -215,11 +216,13 @@ module _ (T : Types) (A : ℕ → ℕ) (base : Base T) where
         (λ v u₁ hv. bool-only
         (λ v. Alike τ (branch at v (λ x. checked y (rights n P) e x) (λ x. checked o (rights n P) e x) u₁)
         (branch at v (λ x. skipped y (rights n P) e x) (λ x. skipped o (rights n P) e x) u₁))
-        (λ b. alike-choose b _ _ _ _ u₁ (eval-alike d′ (w .1) e he P (⊆-trans (⊆-union-left M K) hMK) u₁)
+        (λ b. alike-choose b _ _ _ _ u₁ (λ _. eval-alike d′ (w .1) e he P (⊆-trans (⊆-union-left M K) hMK) u₁)
         (eval-alike d″ (w .2) e he P (⊆-trans (⊆-union-right M K) hMK) u₁)) v hv)
+    -- the yes-branch runs only where p is granted
     eval-alike (d-test {n = n} {p = p} {N = N} {M = M} d d′) w e he P hP u =
         alike-choose (has p P) _ _ _ _ u
-        (eval-alike d (w .0) e he P (⊆-trans (⊆-union-left N M) hP) u) (eval-alike d′ (w .1) e he P (⊆-trans (⊆-union-right N M) hP) u)
+        (λ granted. eval-alike d (w .0) e he P (remove-has p N P (⊆-trans (⊆-union-left (remove p N) M) hP) granted) u)
+        (eval-alike d′ (w .1) e he P (⊆-trans (⊆-union-right (remove p N) M) hP) u)
     eval-alike (d-check {n = n} {at = at} {p = p} {τ = τ} {N = N} {c = c} d) w e he P hP u =
         subst (λ b. Alike τ (choose b (λ x. checked c (rights n P) e x) (λ x. stops 17 at x) u) (skipped c (rights n P) e u))
         (sym (hP .all p (has-inserted p N)))
@@ -255,7 +258,7 @@ module _ (T : Types) (A : ℕ → ℕ) (base : Base T) where
       (entered r ty body env w) (enter-holds r ty body env φ h w (widen w hw (sub-arg T (h .below))))
       P (⊆-trans (h .within) (⊆-trans (sub-latent T (h .below)) hP)) u₁)) u) v hv
 
-  pub checks-removed : (depth : ℕ) {Γ : List ℕ} {n : ℕ} {c : Term} {τ N : ℕ} → Derives T A Γ n c τ N → Standard T c
+  pub checks-removed : (depth : ℕ) {Γ : List ℕ} {n : ℕ} {c : Term} {τ N : ℕ} → Derives current T A Γ n c τ N → Standard T c
       → AlikeEvaluation Γ n τ N (eval (eagerControl A) true depth c) (eval (eagerControl A) false depth c)
   unfolding eval
   checks-removed k d w = eval-alike (apply (eagerControl A) true k) (apply (eagerControl A) false k) (apply-alike k) d w

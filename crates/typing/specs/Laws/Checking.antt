@@ -14,7 +14,7 @@ use Rattle.program.specs.Terms.{Term, boolean, number, variable, function, letr
 use Rattle.program.specs.Laws.Types.{Lower}
 use Rattle.program.specs.Laws.Trees.{Standard}
 use Rattle.typing.specs.Subtyping.{subtype}
-use Rattle.typing.specs.Rules.{bound, removeAuthorised, Derives, d-boolean, d-number, d-variable, d-function, d-letrec, d-call, d-if, d-test, d-check, d-enable, d-sign, d-binary, d-post, d-widen}
+use Rattle.typing.specs.Rules.{bound, removeAuthorised, current, Derives, d-boolean, d-number, d-variable, d-function, d-letrec, d-call, d-if, d-test, d-check, d-enable, d-sign, d-binary, d-post, d-widen}
 use Rattle.typing.specs.Checking.{Judgement, typed, fault, _next_, require, variableType, bodyFits, infer}
 use Rattle.typing.specs.Laws.Subtyping.{subtype-sound, subtype-complete}
 
@@ -28,12 +28,12 @@ removeAuthorised-mono A n p {a} {b} f = go (has p (A n))
 
 -- ---- sound: what is typed is derived
 pub data Sound (T : Types) (A : ℕ → ℕ) (Γ : List ℕ) (n : ℕ) (c : Term) : Judgement → Type 0 where
-  derived : {τ N : ℕ} → Derives T A Γ n c τ N → Sound T A Γ n c (typed τ N)
+  derived : {τ N : ℕ} → Derives current T A Γ n c τ N → Sound T A Γ n c (typed τ N)
   faulty : {cause at : ℕ} → Sound T A Γ n c (fault cause at)
 
 module _ {T : Types} {A : ℕ → ℕ} {Γ : List ℕ} {n : ℕ} {c : Term} where
   next-sound : {Γ′ : List ℕ} {n′ : ℕ} {c′ : Term} {j : Judgement} (k : ℕ → ℕ → Judgement) → Sound T A Γ′ n′ c′ j
-      → ((τ N : ℕ) → Derives T A Γ′ n′ c′ τ N → Sound T A Γ n c (k τ N)) → Sound T A Γ n c (j next k)
+      → ((τ N : ℕ) → Derives current T A Γ′ n′ c′ τ N → Sound T A Γ n c (k τ N)) → Sound T A Γ n c (j next k)
   next-sound k (derived {τ} {N} d) h = h τ N d
   next-sound k faulty h = faulty
 
@@ -41,16 +41,16 @@ module _ {T : Types} {A : ℕ → ℕ} {Γ : List ℕ} {n : ℕ} {c : Term} wher
   require-sound true cause at h = h refl
   require-sound false cause at h = faulty
 
-  retype : {τ σ N : ℕ} → τ ≡ σ → Derives T A Γ n c τ N → Derives T A Γ n c σ N
-  retype {N = N} e d = subst (λ x. Derives T A Γ n c x N) e d
+  retype : {τ σ N : ℕ} → τ ≡ σ → Derives current T A Γ n c τ N → Derives current T A Γ n c σ N
+  retype {N = N} e d = subst (λ x. Derives current T A Γ n c x N) e d
 
   body-sound : {τ N : ℕ} (at ty : ℕ) {j : Judgement} → (τ ≡ T .res ty → N ⊆ T .latent ty → Sound T A Γ n c j) → Sound T A Γ n c (bodyFits T A at ty τ N j)
   body-sound {τ} {N} at ty h = require-sound _ 10 at λ e. require-sound _ 12 at λ l. h (eqb-true τ (T .res ty) e) (subset-⊆ N (T .latent ty) l)
 
-  typed-derives : {j : Judgement} {τ N : ℕ} → Sound T A Γ n c j → j ≡ typed τ N → Derives T A Γ n c τ N
+  typed-derives : {j : Judgement} {τ N : ℕ} → Sound T A Γ n c j → j ≡ typed τ N → Derives current T A Γ n c τ N
   typed-derives s e = go (subst (Sound T A Γ n c) e s)
     where
-      go : {τ N : ℕ} → Sound T A Γ n c (typed τ N) → Derives T A Γ n c τ N
+      go : {τ N : ℕ} → Sound T A Γ n c (typed τ N) → Derives current T A Γ n c τ N
       go (derived d) = d
 
 module _ (T : Types) (A : ℕ → ℕ) where
@@ -98,7 +98,7 @@ module _ (T : Types) (A : ℕ → ℕ) where
   body-met : (at ty : ℕ) {N L : ℕ} (j : Judgement) → L ⊆ N → N ⊆ T .latent ty → bodyFits T A at ty (T .res ty) L j ≡ j
   body-met at ty j s l = met _ 10 at _ (eq-eqb (T .res ty) (T .res ty) refl) ∙ met _ 12 at j (⊆-subset (⊆-trans s l))
 
-  pub infer-complete : Lower T → {Γ : List ℕ} {n : ℕ} {c : Term} {τ N : ℕ} → Derives T A Γ n c τ N → Typed Γ n c τ N
+  pub infer-complete : Lower T → {Γ : List ℕ} {n : ℕ} {c : Term} {τ N : ℕ} → Derives current T A Γ n c τ N → Typed Γ n c τ N
   unfolding infer
   infer-complete L d-boolean = record { least = 0; is = refl; inside = ⊆-refl 0 }
   infer-complete L d-number = record { least = 0; is = refl; inside = ⊆-refl 0 }
@@ -131,14 +131,13 @@ module _ (T : Types) (A : ℕ → ℕ) where
         is = then _ (x .is) ∙ then _ (y .is) ∙ then _ (z .is) ∙ met _ 10 at _ (eq-eqb τ τ refl);
         inside = union-mono (x .inside) (union-mono (y .inside) (z .inside));
       }
-  infer-complete L (d-test {at = at} {τ = τ} d d′) =
+  infer-complete L (d-test {at = at} {p = p} {τ = τ} d d′) =
       let x = infer-complete L d in
       let y = infer-complete L d′ in
       record {
-        least = union (x .least) (y .least);
-        is = then _ (x .is) ∙ then _ (y .is)
-            ∙ met _ 10 at _ (eq-eqb τ τ refl);
-        inside = union-mono (x .inside) (y .inside);
+        least = union (remove p (x .least)) (y .least);
+        is = then _ (x .is) ∙ then _ (y .is) ∙ met _ 10 at _ (eq-eqb τ τ refl);
+        inside = union-mono (remove-mono p (x .inside)) (y .inside);
       }
   infer-complete L (d-check {p = p} d) =
       let x = infer-complete L d in
@@ -160,11 +159,12 @@ module _ (T : Types) (A : ℕ → ℕ) where
       let x = infer-complete L d in
       record { least = x .least; is = x .is; inside = ⊆-trans (x .inside) s }
 
-  pub infer-derives : {Γ : List ℕ} {n : ℕ} {c : Term} {τ N : ℕ} → Standard T c → infer T A Γ n c ≡ typed τ N → Derives T A Γ n c τ N
+  pub infer-derives : {Γ : List ℕ} {n : ℕ} {c : Term} {τ N : ℕ} → Standard T c → infer T A Γ n c ≡ typed τ N → Derives current T A Γ n c τ N
   infer-derives {Γ} {n} {c} w e = typed-derives (infer-sound Γ n c w) e
 
   -- every derivation has the type that is inferred, and needs no less
-  pub derives-least : Lower T → {Γ : List ℕ} {n : ℕ} {c : Term} {τ N σ M : ℕ} → infer T A Γ n c ≡ typed τ N → Derives T A Γ n c σ M → (σ ≡ τ) × N ⊆ M
+  pub derives-least : Lower T → {Γ : List ℕ} {n : ℕ} {c : Term} {τ N σ M : ℕ} → infer T A Γ n c ≡ typed τ N → Derives current T A Γ n c σ M
+      → (σ ≡ τ) × N ⊆ M
   derives-least L {τ = τ} {N = N} {σ = σ} {M = M} e d =
       let x = infer-complete L d in
       let g : typed σ (x .least) ≡ typed τ N = sym (x .is) ∙ e in

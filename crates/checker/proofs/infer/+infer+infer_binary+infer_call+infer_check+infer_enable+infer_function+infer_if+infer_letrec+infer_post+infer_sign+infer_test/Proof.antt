@@ -5,7 +5,7 @@ use borrow.Author.Needs.{needs}
 use mathlib.Core.Path.{refl}
 use Prim.Native.Nat.{_+_, _*_}
 use native.Mathlib.Omega.{arith}
-use Rattle.checker.proofs.TermLaws.{past-ten, kind-most, check-child, enable-child, sign-child, post-child, check-privilege, enable-privilege, call-first, call-second, test-first, test-second, binary-first, binary-second, if-first, if-second, if-third, function-room, function-child, letrec-room, letrec-body, letrec-rest, leaf-is, check-is, enable-is, sign-is, post-is, test-stops, test-is, call-stops, call-is, binary-stops, binary-is, if-stops, branch-stops, if-is, function-is, letrec-stops, letrec-is}
+use Rattle.checker.proofs.TermLaws.{past-ten, kind-most, check-child, enable-child, sign-child, post-child, check-privilege, enable-privilege, test-privilege, call-first, call-second, test-first, test-second, binary-first, binary-second, if-first, if-second, if-third, function-room, function-child, letrec-room, letrec-body, letrec-rest, leaf-is, check-is, enable-is, sign-is, post-is, test-stops, test-is, call-stops, call-is, binary-stops, binary-is, if-stops, branch-stops, if-is, function-is, letrec-stops, letrec-is}
 use Prim.Native.Nat.{ℕ, _<_}
 use borrow.Fn.Kinds.{In}
 use borrow.Fn.PlainCycle.{Measures, is, falls, and}
@@ -511,7 +511,8 @@ pub +infer+infer-binary+infer-call+infer-check+infer-enable+infer-function+infer
     (c .before .before .infer .ensures) (c .before .match .keys2))  -- infer-test-returns
     (λ c κs. let h = test-second (c .before .before .before .before .before .pre .1 .0) (c .before .before .before .before .before .pre .1 .1) in
     (omega (arith, c .before .before .before .before .before .pre .0, h .lower), h .ready))  -- infer-test-infer-requires-2
-    (λ c κs. search needs)  -- infer-test-tested-requires
+    (λ c κs. test-privilege (c .before .before .before .before .before .before .pre .1 .0)
+    (c .before .before .before .before .before .before .pre .1 .1))  -- infer-test-tested-requires
     (λ c. test-is (c .before .before .before .before .before .before .before .pre .1 .0) _
     (c .before .before .before .before .before .before .before .pre .1 .1) (c .before .before .before .j .given .1)
     (c .before .before .before .before .before .infer .ensures) (c .before .infer2 .ensures) (c .tested .ensures))  -- infer-test-returns-2

@@ -37,7 +37,8 @@ returns c =
     let at-parents-ok = at-body-signed .before in
     let start = at-parents-ok .before .before .before .before in
     ap (λ (signed : Bool). at-parents-ok .parents-ok .result && at-body-signed .body-signed .result && signed) (c .root-signed .ensures) ∙ place-is
-    (start .args .s .now) (start .args .c) (start .pre .tables .laid) (start .pre .tables .terms-ok) (start .args .t) (start .pre .inside) (start .args .parents .now)
+    (start .args .s .now) (start .args .c) (start .pre .tables .laid) (start .pre .tables .terms-ok) (start .args .t) (start .pre .inside)
+    (start .args .parents .now)
     (start .pre .links) (at-parents-ok .parents-ok .ensures) (at-body-signed .body-signed .ensures) refl
 
 pub place-ok-spec : {M : Type 1} → statement M

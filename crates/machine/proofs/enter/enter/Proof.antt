@@ -181,7 +181,8 @@ returns-6 c =
     let at-if1 = at-if3 .before .before in
     let at-kind-of = at-if1 .before in
     let start = at-kind-of .before .before .before in
-    enter-test _ _ _ _ _ _ _ (at-kind-of .kind-of .ensures) (only-test _ (at-kind-of .kind-of .ensures) (start .pre .kind) (at-if1 .if1 .left) (at-if3 .if3 .left)
+    enter-test _ _ _ _ _ _ _ (at-kind-of .kind-of .ensures) (only-test _ (at-kind-of .kind-of .ensures) (start .pre .kind) (at-if1 .if1 .left)
+    (at-if3 .if3 .left)
     (at-if4 .if4 .left)) (at-small-of2 .small-of2 .ensures) (at-granted .granted .ensures .0) (at-granted .granted .ensures .1)
     (c .before .before .before .first-of4 .ensures) (c .before .before .second-of2 .ensures) (c .before .choose .ensures) (c .goes4 .ensures)
 
