@@ -188,6 +188,36 @@ fn the_format_shows_an_example() {
     assert_eq!(block(after, "text"), Some(&*report(&sheet)), "the print");
 }
 
+/// The controller's sheet is the example that it names, and its prints are
+/// those that the readme shows and the gate asks for.
+#[test]
+fn the_controller_has_an_example_loaded() {
+    let directory = repository().join("examples");
+    if !directory.exists() {
+        return;
+    }
+    let controller = read(&directory.join("c/controller.c"));
+    let (_, table) = controller
+        .split_once("sheet[] = {\n")
+        .expect("the controller's sheet");
+    let (table, _) = table.split_once("};").expect("its end");
+    let digits: String = table
+        .lines()
+        .flat_map(|line| line.split("/*").next())
+        .flat_map(|line| line.split("0x").skip(1))
+        .map(|byte| &byte[..2])
+        .collect();
+    assert_eq!(bytes(&digits), bytes(&read(&directory.join("loop.hex"))));
+
+    let shown = read(&directory.join("README.md"));
+    let section = section(&shown, "A").expect("the controller's section");
+    let print = block(section, "text").expect("what it prints");
+    let gate = repository().join(".ci/examples");
+    if gate.exists() {
+        assert!(read(&gate).contains(print), "the gate asks for this print");
+    }
+}
+
 /// Asked when the test runs: a path compiled in would outlive a move.
 fn repository() -> PathBuf {
     let package = env::var_os("CARGO_MANIFEST_DIR").expect("cargo sets it");
