@@ -17,10 +17,10 @@ use Rattle.capi.specs.Blocks.{accessed, readReply, accessReply, unfit, b
 use Rattle.capi.specs.Internal.{replyOf}
 use Rattle.capi.specs.declared.reply.Reply.{Reply}
 
-pub told-by : (status cause byte : ℕ) (r : Bool)
+pub replied-by : (status cause byte : ℕ) (r : Bool)
     → record { status = status; numbers = cause ∷ 0 ∷ boolByte r ∷ byte ∷ 0 ∷ 0 ∷ 0 ∷ 0 ∷ [] } ≡ accessed status cause 0 r byte
-told-by status cause byte true = refl
-told-by status cause byte false = refl
+replied-by status cause byte true = refl
+replied-by status cause byte false = refl
 
 module _ (block answer : List ℕ) where
   -- ---- the block has another length, or the list is too short

@@ -11,7 +11,7 @@ use lib.Seq.{drop-cons}
 use Rattle.privileges.specs.Sets.{has, meet}
 use Rattle.privileges.specs.Laws.{has-meet, has-xor, has-ext}
 use Rattle.program.specs.Bytes.{byte}
-use Rattle.registers.specs.Block.{Told, without, withFlag, afterRun}
+use Rattle.registers.specs.Block.{RunRegisters, without, withFlag, afterRun}
 use Rattle.registers.specs.Laws.{has-without}
 use Rattle.registers.specs.Internal.{setPair}
 
@@ -48,7 +48,7 @@ pub sized : (l : List ℕ) (n : ℕ) → length (map (λ (v : ℕ). v) l) ≡ n 
 sized l n e = simp length-map at e
 
 -- ---- what the stores of a run leave
-module _ (b : List ℕ) (t : Told) (size : length b ≡ 16) where
+module _ (b : List ℕ) (t : RunRegisters) (size : length b ≡ 16) where
   abbrev three : List ℕ → List ℕ
   three l = set (set (set l 0 0) 1 (withFlag (byte b 1) (t .flag))) 2 (t .cause)
 

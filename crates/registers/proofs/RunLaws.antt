@@ -30,11 +30,11 @@ use Rattle.stores.specs.declared.state.Stop.{Stop}
 use Rattle.numbers.specs.Codes.{CodeIs}
 use Rattle.numbers.specs.declared.Code.{Code}
 use Rattle.registers.specs.Largest.{request, lentRun}
-use Rattle.registers.specs.Block.{areLargest, allowance, told, without, afterRun, Written, done, ranOn, commanded, isKept, Register, kept, fixed, writeTo, writeOf}
+use Rattle.registers.specs.Block.{areLargest, allowance, registersOf, without, afterRun, Written, done, ranOn, commanded, isKept, Register, kept, fixed, writeTo, writeOf}
 use Rattle.registers.specs.Block as blocks
 use Rattle.registers.specs.Laws.{at-inside}
 use Rattle.registers.specs.Theorems.{unreadable-first, other-length, same-run, lent-few}
-use Rattle.registers.specs.Internal.{endTold, FewCalls, keptOf}
+use Rattle.registers.specs.Internal.{endRegisters, FewCalls, keptOf}
 
 -- ---- the buffers have the lengths asked for, or not
 module _ (s : List ℕ) (calls : ℕ) (cells posts : List ℕ) where
@@ -53,36 +53,37 @@ module _ (s : List ℕ) (calls : ℕ) (cells posts : List ℕ) where
       as-buffers f e = sym (ap lent f ∙ other-length s (request calls) (buffersOf cells posts []) (sym p ∙ ap decodedModel e) refl)
 
     -- its calls
-    pub few-calls : (x : Run) → runModel x ≡ lent right .answer → FewCalls x
-    few-calls (Refused f) e = tt
-    few-calls (Ran o m) e = lent-few s (request calls) (buffersOf cells posts []) right (outcomeModel o) (countsModel m) (sym e) .calls-most
+    pub few-calls : (x : Run) (cells′ posts′ : List ℕ) → after x cells′ posts′ [] ≡ lent right → FewCalls x
+    few-calls (Refused f) cells′ posts′ e = tt
+    few-calls (Ran o m) cells′ posts′ e =
+        lent-few s (request calls) (buffersOf cells posts []) right (outcomeModel o) (countsModel m) (sym (ap (λ (a : After). a .answer) e)) .calls-most
 
 -- ---- what its answer puts into the registers
 module _ (m : Made) where
-  pub stop-told : {o : Outcome} {x : Stop} {c : Code} → o ≡ Stopped x → CodeIs (stopCause x) (stopPlace x) c
-      → record { flag = 2; cause = c .cause; value = 0; calls = m .calls; place = c .place } ≡ told (ran (outcomeModel o) (countsModel m))
-  stop-told e k =
+  pub stop-registers : {o : Outcome} {x : Stop} {c : Code} → o ≡ Stopped x → CodeIs (stopCause x) (stopPlace x) c
+      → record { flag = 2; cause = c .cause; value = 0; calls = m .calls; place = c .place } ≡ registersOf (ran (outcomeModel o) (countsModel m))
+  stop-registers e k =
       (λ i. record { flag = 2; cause = k .cause-is i; value = 0; calls = m .calls; place = k .place-is i })
-      ∙ sym (ap (λ (o : Outcome). told (ran (outcomeModel o) (countsModel m))) e)
+      ∙ sym (ap (λ (o : Outcome). registersOf (ran (outcomeModel o) (countsModel m))) e)
 
-  abbrev endsIn : Value → blocks.Told
-  endsIn v = told (ran (outcomeModel (End v)) (countsModel m))
+  abbrev endsIn : Value → blocks.RunRegisters
+  endsIn v = registersOf (ran (outcomeModel (End v)) (countsModel m))
 
-  by-bool : (b : Bool) → endTold (boolByte b) (m .calls) ≡ endsIn (VBool b)
+  by-bool : (b : Bool) → endRegisters (boolByte b) (m .calls) ≡ endsIn (VBool b)
   by-bool true = refl
   by-bool false = refl
 
-  pub bool-told : {o : Outcome} {b : Bool} {t : blocks.Told} → o ≡ End (VBool b) → t ≡ endTold (boolByte b) (m .calls)
-      → t ≡ told (ran (outcomeModel o) (countsModel m))
-  bool-told {b = b} e h = h ∙ by-bool b ∙ sym (ap (λ (o : Outcome). told (ran (outcomeModel o) (countsModel m))) e)
+  pub bool-registers : {o : Outcome} {b : Bool} {t : blocks.RunRegisters} → o ≡ End (VBool b) → t ≡ endRegisters (boolByte b) (m .calls)
+      → t ≡ registersOf (ran (outcomeModel o) (countsModel m))
+  bool-registers {b = b} e h = h ∙ by-bool b ∙ sym (ap (λ (o : Outcome). registersOf (ran (outcomeModel o) (countsModel m))) e)
 
-  pub num-told : {o : Outcome} {n : ℕ} {t : blocks.Told} → o ≡ End (Num n) → t ≡ endTold n (m .calls) → t ≡ told (ran (outcomeModel o) (countsModel m))
-  num-told e h = h ∙ sym (ap (λ (o : Outcome). told (ran (outcomeModel o) (countsModel m))) e)
+  pub num-registers : {o : Outcome} {n : ℕ} {t : blocks.RunRegisters} → o ≡ End (Num n) → t ≡ endRegisters n (m .calls) → t ≡ registersOf (ran (outcomeModel o) (countsModel m))
+  num-registers e h = h ∙ sym (ap (λ (o : Outcome). registersOf (ran (outcomeModel o) (countsModel m))) e)
 
-pub refusal-told : {x : Run} {f : refusals.Refusal} {c : Code} → x ≡ Refused f → CodeIs (refusalCause f) (refusalPlace f) c
-    → record { flag = 4; cause = c .cause; value = 0; calls = 0; place = c .place } ≡ told (runModel x)
-refusal-told e k =
-    (λ i. record { flag = 4; cause = k .cause-is i; value = 0; calls = 0; place = k .place-is i }) ∙ sym (ap (λ (r : Run). told (runModel r)) e)
+pub refusal-registers : {x : Run} {f : refusals.Refusal} {c : Code} → x ≡ Refused f → CodeIs (refusalCause f) (refusalPlace f) c
+    → record { flag = 4; cause = c .cause; value = 0; calls = 0; place = c .place } ≡ registersOf (runModel x)
+refusal-registers e k =
+    (λ i. record { flag = 4; cause = k .cause-is i; value = 0; calls = 0; place = k .place-is i }) ∙ sym (ap (λ (r : Run). registersOf (runModel r)) e)
 
 -- ---- a write, by its address
 module _ (block s cells posts : List ℕ) (v : ℕ) where
@@ -92,8 +93,8 @@ module _ (block s cells posts : List ℕ) (v : ℕ) where
   pub not-run : (v ≡ 1 → ⊥) → done block B ≡ commanded (eqb v 1) block s B
   not-run ne = sym (ap (λ (x : Bool). commanded x block s B) (ne-eqb v 1 ne))
 
-  pub has-run : v ≡ 1 → (x : Run) {calls : ℕ} {cells′ posts′ : List ℕ} {t : blocks.Told} {block′ : List ℕ} → calls ≡ allowance block
-      → after x cells′ posts′ [] ≡ lentRun (areLargest B) s (request calls) B → t ≡ told (runModel x) → block′ ≡ afterRun block t
+  pub has-run : v ≡ 1 → (x : Run) {calls : ℕ} {cells′ posts′ : List ℕ} {t : blocks.RunRegisters} {block′ : List ℕ} → calls ≡ allowance block
+      → after x cells′ posts′ [] ≡ lentRun (areLargest B) s (request calls) B → t ≡ registersOf (runModel x) → block′ ≡ afterRun block t
       → done block′ (buffersOf cells′ posts′ []) ≡ commanded (eqb v 1) block s B
   has-run e x {cells′ = cells′} {posts′ = posts′} f g h k =
       (λ i. done ((k ∙ ap (afterRun block) h) i) (buffersOf cells′ posts′ []))

@@ -29,7 +29,7 @@ abbrev pub blockRun : (block s : List ℕ) → Buffers → After
 blockRun block s b = lentRun (areLargest b) s (request (allowance block)) b
 
 -- what an answer puts into the status and into 2 and 6 to 11
-pub record Told : Type 0 where
+pub record RunRegisters : Type 0 where
   pub flag : ℕ
   pub cause : ℕ
   pub value : ℕ
@@ -42,10 +42,10 @@ valueOf (ground-bool b) = cond b 1 0
 valueOf (ground-num n) = n
 
 -- "status (bit 0 ended, bit 1 stopped, bit 2 refused)"; "what has no meaning in that answer becomes zero"
-abbrev pub told : Answer → Told
-told (ran (ended g) k) = record { flag = 2 ^ 0; cause = 0; value = valueOf g; calls = k .calls; place = 0 }
-told (ran (stopped c t) k) = record { flag = 2 ^ 1; cause = c; value = 0; calls = k .calls; place = t }
-told (refused c p) = record { flag = 2 ^ 2; cause = c; value = 0; calls = 0; place = p }
+abbrev pub registersOf : Answer → RunRegisters
+registersOf (ran (ended g) k) = record { flag = 2 ^ 0; cause = 0; value = valueOf g; calls = k .calls; place = 0 }
+registersOf (ran (stopped c t) k) = record { flag = 2 ^ 1; cause = c; value = 0; calls = k .calls; place = t }
+registersOf (refused c p) = record { flag = 2 ^ 2; cause = c; value = 0; calls = 0; place = p }
 
 -- a byte's bits that are not in another one (Laws: has-without)
 unfoldable pub without : (status bits : ℕ) → ℕ
@@ -63,7 +63,7 @@ abbrev pub low : ℕ → ℕ
 low n = n % 256
 
 -- 0 command, 1 status, 2 cause, 3 mask, 4 and 5 allowance, 6 and 7 value, 8 and 9 calls made, 10 and 11 term or place; 12 to 15 are left
-abbrev pub afterRun : (block : List ℕ) → Told → List ℕ
+abbrev pub afterRun : (block : List ℕ) → RunRegisters → List ℕ
 afterRun b t =
     0 ∷ withFlag (byte b 1) (t .flag) ∷ t .cause ∷ byte b 3 ∷ byte b 4 ∷ byte b 5
     ∷ high (t .value) ∷ low (t .value) ∷ high (t .calls) ∷ low (t .calls) ∷ high (t .place) ∷ low (t .place)
@@ -98,7 +98,7 @@ abbrev pub done : (block : List ℕ) → Buffers → Written
 done block b = record { access = access-done; block = block; buffers = b }
 
 abbrev pub ranOn : (block : List ℕ) → After → Written
-ranOn block a = done (afterRun block (told (a .answer))) (a .buffers)
+ranOn block a = done (afterRun block (registersOf (a .answer))) (a .buffers)
 
 -- "Writing 1 to command runs the loaded sheet"; "Other command values … change nothing"
 abbrev pub commanded : (isOne : Bool) (block s : List ℕ) → Buffers → Written

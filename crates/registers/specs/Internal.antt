@@ -8,13 +8,13 @@ use Rattle.interp.specs.declared.answer.Run.{Run}
 use Rattle.interp.specs.declared.answer.Run.the-variants.{Refused, Ran}
 use Rattle.registers.specs.Block as blocks
 use Rattle.registers.specs.Block.{high, low}
-use Rattle.registers.specs.declared.told.Told.{Told}
+use Rattle.registers.specs.declared.outcome.RunRegisters.{RunRegisters}
 
-abbrev pub toldModel : Told → blocks.Told
-toldModel t = record { flag = t .flag; cause = t .cause; value = t .value; calls = t .calls; place = t .place }
+abbrev pub registersModel : RunRegisters → blocks.RunRegisters
+registersModel t = record { flag = t .flag; cause = t .cause; value = t .value; calls = t .calls; place = t .place }
 
-abbrev pub endTold : (value calls : ℕ) → blocks.Told
-endTold v n = record { flag = 1; cause = 0; value = v; calls = n; place = 0 }
+abbrev pub endRegisters : (value calls : ℕ) → blocks.RunRegisters
+endRegisters v n = record { flag = 1; cause = 0; value = v; calls = n; place = 0 }
 
 -- the calls of a run that was not refused fit into a pair of bytes
 abbrev pub FewCalls : Run → Type 0

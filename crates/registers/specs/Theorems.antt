@@ -19,11 +19,11 @@ use Rattle.privileges.specs.Laws.{has-none, has-meet}
 use Rattle.program.specs.Bytes.{byte}
 use Rattle.program.specs.Screening.{Screening, clear, found, tell, screen, unless}
 use Rattle.program.specs.Decoding.{decodingConditions, decoding, Readable}
-use Rattle.program.specs.Laws.Screening.{screen-clear, screen-refused}
+use Rattle.program.specs.Laws.Screening.{screen-clear, screen-found}
 use Rattle.semantics.specs.Runs.{Request, Buffers, sizes, startOk, buffersOk, limitsOk, runConditions, Ground, ended, stopped, Outcome, Counts, Answer, refused, ran, After, run}
 use Rattle.semantics.specs.Theorems.{course-found, run-course, refused-untouched, Few, counts-few}
 use Rattle.registers.specs.Largest.{request, lentConditions, unlessFound, lentRun}
-use Rattle.registers.specs.Block.{areLargest, allowance, blockRun, Told, told, without, withFlag, afterRun, read-byte, read-refused, access-refused, readOf, raised, done, ranOn, commanded, isKept, Register, command, status, kept, fixed, absent, registerAt, writeTo, writeOf}
+use Rattle.registers.specs.Block.{areLargest, allowance, blockRun, RunRegisters, registersOf, without, withFlag, afterRun, read-byte, read-refused, access-refused, readOf, raised, done, ranOn, commanded, isKept, Register, command, status, kept, fixed, absent, registerAt, writeTo, writeOf}
 use Rattle.registers.specs.Laws.{flag-low, flag-high, SomeBit, NoBit, find-bit, no-bit, at-kept, at-fixed, at-absent}
 
 -- ---- "a buffer asked for as the largest and lent in another length is 15"
@@ -31,14 +31,14 @@ refused≢ran : {c p : ℕ} {o : Outcome} {k : Counts} → refused c p ≡ ran o
 refused≢ran e = let z : _≡_ {A = ℕ} 0 1 = cc in omega arith
 
 module _ (s : List ℕ) (q : Request) (b : Buffers) where
-  abbrev turnedBack : (cause place : ℕ) → After
-  turnedBack c p = record { answer = refused c p; buffers = b }
+  abbrev refusedRun : (cause place : ℕ) → After
+  refusedRun c p = record { answer = refused c p; buffers = b }
 
   lent-by : (right : Bool) {x : Screening} → screen (lentConditions right s q) ≡ x → lentRun right s q b ≡ unlessFound x b (λ _. run s q b)
   unfolding lentRun
   lent-by right e = λ i. unlessFound (e i) b (λ _. run s q b)
 
-  run-by : (c p : ℕ) → screen (runConditions s q (sizes b)) ≡ found c p → run s q b ≡ turnedBack c p
+  run-by : (c p : ℕ) → screen (runConditions s q (sizes b)) ≡ found c p → run s q b ≡ refusedRun c p
   run-by c p e = run-course s q b _ (course-found s q b c p e)
 
   -- what is left to ask once a sheet has been read
@@ -64,12 +64,12 @@ module _ (s : List ℕ) (q : Request) (b : Buffers) where
   readable-runs r false e = lent-by true (lent-asks r true e) ∙ sym (run-by 14 0 (run-asks r e))
 
   -- 1 to 8 come first,
-  pub unreadable-first : (right : Bool) (c p : ℕ) → decoding s ≡ found c p → lentRun right s q b ≡ turnedBack c p
+  pub unreadable-first : (right : Bool) (c p : ℕ) → decoding s ≡ found c p → lentRun right s q b ≡ refusedRun c p
   unfolding decoding
-  unreadable-first right c p e = lent-by right (screen-refused (decodingConditions s) _ c p e)
+  unreadable-first right c p e = lent-by right (screen-found (decodingConditions s) _ c p e)
 
   -- then 14, and then another length is 15, whatever the allowance.
-  pub other-length : Readable s → startOk s q ≡ true → lentRun false s q b ≡ turnedBack 15 0
+  pub other-length : Readable s → startOk s q ≡ true → lentRun false s q b ≡ refusedRun 15 0
   unfolding screen tell
   other-length r e = lent-by false (lent-asks r false e)
 
@@ -80,7 +80,7 @@ module _ (s : List ℕ) (q : Request) (b : Buffers) where
     where
       go : (x : Screening) → decoding s ≡ x → lentRun true s q b ≡ run s q b
       go clear e = readable-runs e (startOk s q) refl
-      go (found c p) e = unreadable-first true c p e ∙ sym (run-by c p (screen-refused (decodingConditions s) _ c p e))
+      go (found c p) e = unreadable-first true c p e ∙ sym (run-by c p (screen-found (decodingConditions s) _ c p e))
 
   -- The counts and the buffers are therefore as in any run.
   pub lent-few : (right : Bool) (o : Outcome) (k : Counts) → lentRun right s q b .answer ≡ ran o k → Few k
@@ -110,7 +110,7 @@ bit-small (ran (ended g) k) = lit< tt
 bit-small (ran (stopped c t) k) = lit< tt
 bit-small (refused c p) = lit< tt
 
-flag-is : (a : Answer) → told a .flag ≡ 2 ^ bitOf a
+flag-is : (a : Answer) → registersOf a .flag ≡ 2 ^ bitOf a
 flag-is (ran (ended g) k) = refl
 flag-is (ran (stopped c t) k) = refl
 flag-is (refused c p) = refl
@@ -121,20 +121,20 @@ pub record OneOfThree (status bit : ℕ) : Type 0 where
   pub alone : (k : ℕ) → k < 3 → has k status ≡ eqb k bit
 
 module _ (block : List ℕ) (a : Answer) where
-  flagged : (k : ℕ) → has k (byte (afterRun block (told a)) 1) ≡ has k (withFlag (byte block 1) (2 ^ bitOf a))
+  flagged : (k : ℕ) → has k (byte (afterRun block (registersOf a)) 1) ≡ has k (withFlag (byte block 1) (2 ^ bitOf a))
   flagged k = ap (λ (f : ℕ). has k (withFlag (byte block 1) f)) (flag-is a)
 
-  pub one-bit : OneOfThree (byte (afterRun block (told a)) 1) (bitOf a)
+  pub one-bit : OneOfThree (byte (afterRun block (registersOf a)) 1) (bitOf a)
   one-bit = record { below = bit-small a; alone = λ k h. flagged k ∙ flag-low k (byte block 1) (bitOf a) h }
 
   -- the other five stay
-  pub other-bits : (k : ℕ) → 3 ≤ k → has k (byte (afterRun block (told a)) 1) ≡ has k (byte block 1)
+  pub other-bits : (k : ℕ) → 3 ≤ k → has k (byte (afterRun block (registersOf a)) 1) ≡ has k (byte block 1)
   other-bits k h = flagged k ∙ flag-high k (byte block 1) (bitOf a) h (bit-small a)
 
 -- ---- "of 2 and 6 to 11, what has no meaning in that answer becomes zero"
 module _ (block : List ℕ) where
   abbrev pub Zero : Answer → (address : ℕ) → Type 0
-  Zero a at = byte (afterRun block (told a)) at ≡ 0
+  Zero a at = byte (afterRun block (registersOf a)) at ≡ 0
 
   -- an end has no cause and no term
   pub end-zeros : (g : Ground) (k : Counts) → Zero (ran (ended g) k) 2 × Zero (ran (ended g) k) 10 × Zero (ran (ended g) k) 11
@@ -229,7 +229,7 @@ pub data Spares (address : ℕ) : List Write → Type 0 where
   spares-end : Spares address []
   spares-next : {w : Write} {ws : List Write} → (w .address ≡ address → ⊥) → Spares address ws → Spares address (w ∷ ws)
 
-run-keeps : (block : List ℕ) (t : Told) (k : ℕ) → 3 ≤ k → k ≤ 5 → byte (afterRun block t) k ≡ byte block k
+run-keeps : (block : List ℕ) (t : RunRegisters) (k : ℕ) → 3 ≤ k → k ≤ 5 → byte (afterRun block t) k ≡ byte block k
 run-keeps block t zero h l = absurd (omega arith)
 run-keeps block t (suc zero) h l = absurd (omega arith)
 run-keeps block t (suc (suc zero)) h l = absurd (omega arith)
@@ -240,7 +240,7 @@ run-keeps block t (suc (suc (suc (suc (suc (suc k)))))) h l = absurd (omega arit
 
 module _ (k : ℕ) (from : 3 ≤ k) (to : k ≤ 5) where
   command-keeps : (x : Bool) (block s : List ℕ) (b : Buffers) → byte (commanded x block s b .block) k ≡ byte block k
-  command-keeps true block s b = run-keeps block (told (blockRun block s b .answer)) k from to
+  command-keeps true block s b = run-keeps block (registersOf (blockRun block s b .answer)) k from to
   command-keeps false block s b = refl
 
   write-keeps : (r : Register) (block : List ℕ) (a v : ℕ) (s : List ℕ) (b : Buffers) → (a ≡ k → ⊥) → byte (writeTo r block a v s b .block) k ≡ byte block k

@@ -10,16 +10,16 @@ ghost use Rattle.registers.specs.Internal.{keptOf};
 
 pub mod block;
 pub mod largest;
-mod told;
+mod outcome;
 mod update;
 
 use block::Access;
 use block::Block;
 use block::Read;
 use block::Written;
+use outcome::of_run;
 use program::limits::MAX_CELLS;
 use program::limits::MAX_POSTS;
-use told::of_run;
 use update::after_run;
 use update::stored;
 use update::without;

@@ -3,9 +3,9 @@ ghost use mathlib.Core.Path.{_≡_};
 ghost use Prim.Native.Nat.{_<_};
 ghost use lib.ListN.{set};
 ghost use Rattle.registers.specs.Block.{without as withoutOf, withFlag as withFlagOf, afterRun};
-ghost use Rattle.registers.specs.Internal.{toldModel, setPair};
+ghost use Rattle.registers.specs.Internal.{registersModel, setPair};
 use crate::block::Block;
-use crate::told::Told;
+use crate::outcome::RunRegisters;
 
 // The bits of a byte that are not among these.
 pub fn without(status: u8, bits: u8) -> u8
@@ -40,8 +40,8 @@ fn stored_pair(b: Block, at: usize, n: u16) -> Block
 }
 
 // The block after a run.
-pub fn after_run(b: Block, t: Told) -> Block
-    ensures { λ r. ⌜ r .bytes ≡ afterRun (b .bytes) (toldModel t) ⌝ }
+pub fn after_run(b: Block, t: RunRegisters) -> Block
+    ensures { λ r. ⌜ r .bytes ≡ afterRun (b .bytes) (registersModel t) ⌝ }
 {
     let mut r = b;
     r.bytes[0] = 0;

@@ -1,8 +1,6 @@
 -- A value other than 1 leaves all as it was (not-run). With 1 the block is the definition's after the run that `run_lent` gives (has-run); the test of the
 -- lengths and the pair are the definition's by computation. The calls of that run are few, as `of_run` requires (few-calls).
 use borrow.Author.Needs.{needs}
-use mathlib.Core.Path.{ap}
-use Rattle.semantics.specs.Runs.{After}
 use Rattle.interp.specs.Answers.{buffersOf}
 use mathlib.Core.List.{[]}
 use Rattle.registers.specs.Block.{areLargest}
@@ -33,8 +31,7 @@ of-run-requires c κs =
     let at-pair = at-run-lent .before .before .before in
     let start = at-pair .before .before .before .before .before .before .before in
     few-calls (start .args .sheet .now) (at-pair .pair .result) (start .args .cells .now) (start .args .posts .now)
-    (areLargest (buffersOf (start .args .cells .now) (start .args .posts .now) [])) (at-run-lent .run-lent .result)
-    (ap (λ (a : After). a .answer) (at-run-lent .run-lent .ensures))
+    (areLargest (buffersOf (start .args .cells .now) (start .args .posts .now) [])) (at-run-lent .run-lent .result) _ _ (at-run-lent .run-lent .ensures)
 
 after-run-requires : tie.Need-after-run-requires
 after-run-requires c κs = search needs

@@ -1,12 +1,12 @@
--- `of_outcome` gives the registers that `told` says, by case: a stop as the cause and term that `of_stop` tells (stop-told), an end as a boolean (bool-told) or
--- a number (num-told). The calls fit, since they are at most 4,096.
+-- `of_outcome` gives the registers that `registersOf` says, by case: a stop as the cause and term that `of_stop` tells (stop-registers), an end as a boolean (bool-registers) or
+-- a number (num-registers). The calls fit, since they are at most 4,096.
 use borrow.Author.Needs.{needs}
 use mathlib.Core.Path.{_∙_, ap}
 use Rattle.interp.specs.declared.answer.Value.{Value}
 use Rattle.interp.specs.declared.answer.Outcome.the-variants.{End}
-use Rattle.registers.proofs.RunLaws.{stop-told, bool-told, num-told}
-use Rattle.registers.proofs.told.of_outcome.Statement.{statement}
-use Rattle.registers.proofs.told.of_outcome.Tie as tie
+use Rattle.registers.proofs.RunLaws.{stop-registers, bool-registers, num-registers}
+use Rattle.registers.proofs.outcome.of_outcome.Statement.{statement}
+use Rattle.registers.proofs.outcome.of_outcome.Tie as tie
 
 cast-calls : tie.Need-cast-calls
 cast-calls c = search needs
@@ -38,19 +38,19 @@ ended-requires-2 c κs = search needs
 returns : tie.Need-returns
 returns c =
     let start = c .before .before .before .before .before in
-    stop-told (start .args .m) (c .before .before .o .given .1) (c .of-stop .ensures)
+    stop-registers (start .args .m) (c .before .before .o .given .1) (c .of-stop .ensures)
 
 returns-2 : tie.Need-returns-2
 returns-2 c =
     let at-o2 = c .before .before .before .before .before in
     let start = at-o2 .before .before .before in
-    bool-told (start .args .m) (at-o2 .o2 .given .1 ∙ ap (λ (v : Value). End v) (c .before .before .v .given .1)) (c .ended .ensures)
+    bool-registers (start .args .m) (at-o2 .o2 .given .1 ∙ ap (λ (v : Value). End v) (c .before .before .v .given .1)) (c .ended .ensures)
 
 returns-3 : tie.Need-returns-3
 returns-3 c =
     let at-o2 = c .before .before .before .before .before in
     let start = at-o2 .before .before .before in
-    num-told (start .args .m) (at-o2 .o2 .given .1 ∙ ap (λ (v : Value). End v) (c .before .before .v2 .given .1)) (c .ended2 .ensures)
+    num-registers (start .args .m) (at-o2 .o2 .given .1 ∙ ap (λ (v : Value). End v) (c .before .before .v2 .given .1)) (c .ended2 .ensures)
 
 pub of-outcome-spec : {M : Type 1} → statement M
 of-outcome-spec =

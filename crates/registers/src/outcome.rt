@@ -4,15 +4,15 @@ ghost use Prim.Native.Nat.{_≤_};
 ghost use Rattle.program.specs.Limits.{maxCalls};
 ghost use Rattle.semantics.specs.Runs.{ran};
 ghost use Rattle.interp.specs.Answers.{outcomeModel, countsModel, runModel};
-ghost use Rattle.registers.specs.Block.{told};
-ghost use Rattle.registers.specs.Internal.{toldModel, endTold, FewCalls};
+ghost use Rattle.registers.specs.Block.{registersOf};
+ghost use Rattle.registers.specs.Internal.{registersModel, endRegisters, FewCalls};
 use interp::answer::Made;
 use interp::answer::Outcome;
 use interp::answer::Run;
 use interp::answer::Value;
 
 // The status bit by its worth, and the registers 2 and 6 to 11.
-pub struct Told {
+pub struct RunRegisters {
     pub flag: u8,
     pub cause: u8,
     pub value: u16,
@@ -20,10 +20,10 @@ pub struct Told {
     pub place: u16,
 }
 
-fn ended(value: u16, calls: u16) -> Told
-    ensures { λ r. ⌜ toldModel r ≡ endTold value calls ⌝ }
+fn ended(value: u16, calls: u16) -> RunRegisters
+    ensures { λ r. ⌜ registersModel r ≡ endRegisters value calls ⌝ }
 {
-    Told {
+    RunRegisters {
         flag: 1,
         cause: 0,
         value: value,
@@ -32,15 +32,15 @@ fn ended(value: u16, calls: u16) -> Told
     }
 }
 
-fn of_outcome(o: Outcome, m: Made) -> Told
+fn of_outcome(o: Outcome, m: Made) -> RunRegisters
     requires { ⌜ m .calls ≤ maxCalls ⌝ }
-    ensures { λ r. ⌜ toldModel r ≡ told (ran (outcomeModel o) (countsModel m)) ⌝ }
+    ensures { λ r. ⌜ registersModel r ≡ registersOf (ran (outcomeModel o) (countsModel m)) ⌝ }
 {
     let calls = m.calls as u16;
     match o {
         Outcome::Stop(x) => {
             let c = numbers::of_stop(x);
-            Told {
+            RunRegisters {
                 flag: 2,
                 cause: c.cause,
                 value: 0,
@@ -55,14 +55,14 @@ fn of_outcome(o: Outcome, m: Made) -> Told
     }
 }
 
-pub fn of_run(x: Run) -> Told
+pub fn of_run(x: Run) -> RunRegisters
     requires { ⌜ FewCalls x ⌝ }
-    ensures { λ r. ⌜ toldModel r ≡ told (runModel x) ⌝ }
+    ensures { λ r. ⌜ registersModel r ≡ registersOf (runModel x) ⌝ }
 {
     match x {
         Run::Refused(f) => {
             let c = numbers::of_refusal(f);
-            Told {
+            RunRegisters {
                 flag: 4,
                 cause: c.cause,
                 value: 0,
