@@ -77,7 +77,8 @@ module _ (m : Made) where
       → t ≡ registersOf (ran (outcomeModel o) (countsModel m))
   bool-registers {b = b} e h = h ∙ by-bool b ∙ sym (ap (λ (o : Outcome). registersOf (ran (outcomeModel o) (countsModel m))) e)
 
-  pub num-registers : {o : Outcome} {n : ℕ} {t : blocks.RunRegisters} → o ≡ End (Num n) → t ≡ endRegisters n (m .calls) → t ≡ registersOf (ran (outcomeModel o) (countsModel m))
+  pub num-registers : {o : Outcome} {n : ℕ} {t : blocks.RunRegisters} → o ≡ End (Num n) → t ≡ endRegisters n (m .calls) → t
+      ≡ registersOf (ran (outcomeModel o) (countsModel m))
   num-registers e h = h ∙ sym (ap (λ (o : Outcome). registersOf (ran (outcomeModel o) (countsModel m))) e)
 
 pub refusal-registers : {x : Run} {f : refusals.Refusal} {c : Code} → x ≡ Refused f → CodeIs (refusalCause f) (refusalPlace f) c
