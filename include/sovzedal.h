@@ -1,4 +1,4 @@
-/* Sovzedal: rule sheets decoded, type-checked and run, with or without their checks.
+/* Sovzedal: rule sheets decoded, type-checked and run, with or without their checks; and a block of registers for a controller that has them run.
  *
  * For x86-64. Link libsovzedal.a (README.md, "Embed it", has the command that writes it). Of the C library it needs memcpy and memset alone: no heap,
  * no system call, no global state, so that calls on buffers of their own may be made from several threads. A run recurses: SOVZEDAL_STACK bytes of
@@ -7,29 +7,32 @@
  * What the proof assumes of a C caller, for every function here:
  *   - each pointer is valid for as many elements as the length after it says, and is aligned for its type; with a length of 0 nothing is read or
  *     written through it, and it may be null;
- *   - no buffer that a function writes (`answer`, `cells`, `posts`, `frames`) overlaps another argument, and nobody else writes to any of them or to
- *     `sheet` and `start` until the call returns;
+ *   - no buffer that a function writes (`answer`, `cells`, `posts`, `frames`, `block`) overlaps another argument, and nobody else writes to any of
+ *     them or to `sheet` and `start` until the call returns;
  *   - no length exceeds PTRDIFF_MAX bytes.
  * Under these each function does exactly what is said here, on any contents.
  *
  * Every function returns
- *   SOVZEDAL_OK       0  the sheet is readable, or accepted, or the run ended;
+ *   SOVZEDAL_OK       0  the sheet is readable, or accepted, or the run ended; or the register was read or written;
  *   SOVZEDAL_STOPPED  1  the run was stopped, for one of the causes 17 to 22;
- *   SOVZEDAL_REFUSED  2  refused, for one of the causes 1 to 16: every buffer but `answer` is as it was;
- *   SOVZEDAL_SHORT    3  `answer` has fewer than 8 entries: nothing was done and nothing written anywhere;
+ *   SOVZEDAL_REFUSED  2  refused, for one of the causes 1 to 16, or 23 for an address: every buffer but `answer` is as it was;
+ *   SOVZEDAL_SHORT    3  `answer` has fewer than 8 entries, or `block` is not of 16 bytes: nothing was done and nothing written anywhere;
  * and writes exactly the first 8 entries of `answer`:
  *
- *   entry   decode, readable   typecheck, accepted   run, ended or stopped                 refused   name, SOVZEDAL_AT_..
- *   0       0                  0                     0, or the stop's cause                cause     CAUSE
- *   1       0                  0                     0, or the stop's term                 place     PLACE
- *   2       0                  root's type, 0 or 1   an end's value: 0 boolean, 1 number   0         TYPE
- *   3       terms              terms                 an end's value                        0         VALUE, TERMS
- *   4       principals         0                     calls made                            0         CALLS, PRINCIPALS
- *   5       types              0                     cells made                            0         CELLS, TYPES
- *   6       0                  0                     posts made                            0         POSTS
- *   7       0                  needs                 0                                     0         NEEDS
+ *   entry   decode, readable   typecheck, accepted   run, ended or stopped                 block, accessed            refused   name, SOVZEDAL_AT_..
+ *   0       0                  0                     0, or the stop's cause                0                          cause     CAUSE
+ *   1       0                  0                     0, or the stop's term                 0                          place     PLACE
+ *   2       0                  root's type, 0 or 1   an end's value: 0 boolean, 1 number   interrupt raised, 0 or 1   0 *       TYPE, INTERRUPT
+ *   3       terms              terms                 an end's value                        byte read; 0 if written    0         VALUE, TERMS
+ *   4       principals         0                     calls made                            0                          0         CALLS, PRINCIPALS
+ *   5       types              0                     cells made                            0                          0         CELLS, TYPES
+ *   6       0                  0                     posts made                            0                          0         POSTS
+ *   7       0                  needs                 0                                     0                          0         NEEDS
+ *
+ *   * with 23, as in the column before: whether the interrupt is raised, 0 or 1.
  *
  * Types: 0 is the boolean, 1 the number. Needs are a set of privileges: bit k, worth 2^k, stands for privilege k. docs/REFUSALS.md explains the causes.
+ * How a run went that a write to a block asked for is told by the block's registers and not here: that write returns SOVZEDAL_OK.
  */
 #ifndef SOVZEDAL_H
 #define SOVZEDAL_H
@@ -43,7 +46,7 @@ extern "C" {
 
 /* The version of this interface, and of the format that it reads. */
 #define SOVZEDAL_VERSION_MAJOR 1
-#define SOVZEDAL_VERSION_MINOR 0
+#define SOVZEDAL_VERSION_MINOR 1
 #define SOVZEDAL_FORMAT 1
 
 /* What a function returns. */
@@ -59,7 +62,8 @@ enum {
     SOVZEDAL_AT_CAUSE = 0,
     SOVZEDAL_AT_PLACE = 1,
     SOVZEDAL_AT_TYPE = 2,        /* of the root, or of an end's value: SOVZEDAL_BOOLEAN or SOVZEDAL_NUMBER */
-    SOVZEDAL_AT_VALUE = 3,       /* of a run that ended */
+    SOVZEDAL_AT_INTERRUPT = 2,   /* of a block: 1 if its interrupt is raised after the access, else 0 */
+    SOVZEDAL_AT_VALUE = 3,       /* of a run that ended, or of a register that was read */
     SOVZEDAL_AT_TERMS = 3,       /* of a readable or accepted sheet */
     SOVZEDAL_AT_CALLS = 4,       /* of a run */
     SOVZEDAL_AT_PRINCIPALS = 4,  /* of a readable sheet */
@@ -75,7 +79,7 @@ enum {
 };
 
 /* The causes, by the headings of docs/REFUSALS.md. 1 to 8 are told of a sheet that is not readable, 9 to 13 of one that the rules refuse, 14 to 16 of a
- * request to run one; 17 to 22 are stops. */
+ * request to run one; 17 to 22 are stops; 23 is told of an address that a block does not have. */
 enum {
     SOVZEDAL_CUT_SHORT = 1,
     SOVZEDAL_WRONG_TAG = 2,
@@ -98,7 +102,8 @@ enum {
     SOVZEDAL_OPEN_CALLS = 19,
     SOVZEDAL_CALLS_SPENT = 20,
     SOVZEDAL_NO_CELL = 21,
-    SOVZEDAL_NO_POST = 22
+    SOVZEDAL_NO_POST = 22,
+    SOVZEDAL_ADDRESS = 23
 };
 
 enum {
@@ -109,7 +114,33 @@ enum {
     SOVZEDAL_MAX_DEPTH = 100,    /* the largest allowance of open calls */
     SOVZEDAL_MAX_CELLS = 65536,  /* bytes of the largest cell store */
     SOVZEDAL_MAX_POSTS = 256,    /* entries of the largest post list */
-    SOVZEDAL_FRAMES = 6496       /* numbers of a lazy run's frame store, exactly */
+    SOVZEDAL_FRAMES = 6496,      /* numbers of a lazy run's frame store, exactly */
+    SOVZEDAL_BLOCK = 16          /* bytes of a register block, exactly */
+};
+
+/* The registers of a block, by their addresses. CALLS, VALUE, CALLS_MADE and PLACE are pairs: here stands the highest byte, and the lowest follows.
+ * Addresses 12 to 15 have no register and read as zero. */
+enum {
+    SOVZEDAL_REG_COMMAND = 0,     /* SOVZEDAL_COMMAND_RUN runs the sheet; reads as zero */
+    SOVZEDAL_REG_STATUS = 1,      /* SOVZEDAL_STATUS_..; a write clears the bits that it has as one */
+    SOVZEDAL_REG_CAUSE = 2,       /* of a stop or a refusal */
+    SOVZEDAL_REG_MASK = 3,        /* the interrupt is raised while mask and status share a bit */
+    SOVZEDAL_REG_CALLS = 4,       /* how many calls a run may make, at most 4,096 */
+    SOVZEDAL_REG_VALUE = 6,       /* of an end; a boolean is 0 or 1 */
+    SOVZEDAL_REG_CALLS_MADE = 8,  /* by a run that ended or was stopped */
+    SOVZEDAL_REG_PLACE = 10       /* the term of a stop, the place of a refusal */
+};
+
+/* The one command that there is. */
+enum {
+    SOVZEDAL_COMMAND_RUN = 1
+};
+
+/* The bits of the status register. A run sets one of them and clears the other two. */
+enum {
+    SOVZEDAL_STATUS_ENDED = 1,
+    SOVZEDAL_STATUS_STOPPED = 2,
+    SOVZEDAL_STATUS_REFUSED = 4
 };
 
 /* Native stack, in bytes, on x86-64. A run with `depth` open calls needs at most SOVZEDAL_STACK_BASE + depth * SOVZEDAL_STACK_PER_CALL, so a caller
@@ -130,7 +161,8 @@ static inline const char *sovzedal_cause_text(uint32_t cause)
         "variable", "type", "needs of a sign", "needs of a body", "type of the root",
         "start stack", "buffers", "allowance",
         "refused check", "stuck",
-        "open calls", "calls spent", "no cell", "no place for a post"
+        "open calls", "calls spent", "no cell", "no place for a post",
+        "address"
     };
     return cause < sizeof texts / sizeof texts[0] ? texts[cause] : "unknown";
 }
@@ -180,6 +212,37 @@ uint32_t sovzedal_run_lazy(const uint8_t *sheet, size_t sheet_len,
                            uint16_t *posts, size_t posts_len,
                            uint32_t *frames, size_t frames_len,
                            uint32_t *answer, size_t answer_len);
+
+/* Reads a register of a block. A new block is SOVZEDAL_BLOCK bytes, all zero; only sovzedal_block_write is to change it, but both functions take any
+ * bytes. Reading changes nothing.
+ *   block, block_len    the block and its length in bytes, exactly 16; only read
+ *   address             the register's address, 0 to 15
+ *   answer, answer_len  the list for the answer and its length in entries; it tells the byte and whether the interrupt is raised
+ * Refusals: 23, of an address above 15. */
+uint32_t sovzedal_block_read(const uint8_t *block, size_t block_len,
+                             uint32_t address,
+                             uint32_t *answer, size_t answer_len);
+
+/* Writes a register of a block.
+ *   block, block_len    the block and its length in bytes, exactly 16
+ *   address             the register's address, 0 to 15
+ *   value               the byte to write. At COMMAND, 1 runs the sheet and any other value changes nothing; at STATUS the bits that are one are
+ *                       cleared; at MASK and in both bytes of CALLS the value is kept; at any other address nothing changes
+ *   sheet, sheet_len    the loaded sheet and its length in bytes; only read
+ *   cells, cells_len    the cell store and its length in bytes, for a run exactly 65,536
+ *   posts, posts_len    the list for posts and its length in entries, for a run exactly 256
+ *   answer, answer_len  the list for the answer and its length in entries; it tells whether the interrupt is raised after the write
+ * Sheet and buffers are looked at only by a run. That is one of sovzedal_run_eager on the empty start stack, with the calls that CALLS allows, 100 open
+ * calls and the checks enforced, and it leaves the buffers as that does. It sets one bit of STATUS and clears the other two of the three, makes COMMAND
+ * zero and puts its answer into CAUSE, VALUE, CALLS_MADE and PLACE: zero in each that has no meaning in that answer. STATUS_REFUSED comes with one of
+ * the causes 1 to 8, 15 (a buffer of another length) and 16 (more than 4,096 calls), found in this order, and leaves the buffers as they were.
+ * Refusals: 23, of an address above 15; block and buffers are as they were. */
+uint32_t sovzedal_block_write(uint8_t *block, size_t block_len,
+                              uint32_t address, uint8_t value,
+                              const uint8_t *sheet, size_t sheet_len,
+                              uint8_t *cells, size_t cells_len,
+                              uint16_t *posts, size_t posts_len,
+                              uint32_t *answer, size_t answer_len);
 
 #ifdef __cplusplus
 }

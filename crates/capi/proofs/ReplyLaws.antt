@@ -1,10 +1,10 @@
 -- From the numbers that the code puts together to the replies of specs/Replies.antt.
 use mathlib.Core.Bool.{Bool, true, false}
-use mathlib.Core.List.{List, [], _∷_, _++_}
+use mathlib.Core.List.{List, [], _∷_, _++_, append-nil}
 use mathlib.Core.Path.{_≡_, refl, sym, ap, _∙_}
 use Prim.Native.Nat.{ℕ, zero, suc, _+_, _<_, _≤_}
 use native.Mathlib.Omega.{arith}
-use lib.ListN.{length, getD, set, take, drop, length-append, length-take, length-drop}
+use lib.ListN.{length, getD, set, take, drop, length-append, length-take, length-drop, drop-of-length-le}
 use mir.Val.{boolByte}
 use Rattle.program.specs.Laws.Lists.{copy-more}
 use Rattle.semantics.specs.Runs.{ground-bool, ended, stopped}
@@ -38,16 +38,21 @@ take-whole [] (suc n) h = refl
 take-whole (x ∷ xs) zero h = absurd (omega (arith, h))
 take-whole (x ∷ xs) (suc n) h = ap (λ (l : List ℕ). x ∷ l) (take-whole xs n (omega arith))
 
-module _ (numbers before : List ℕ) (i : ℕ) {now : List ℕ} (eight : length numbers ≡ 8) where
-  pub written-length : 8 ≤ length before → i ≤ 8 → now ≡ take i numbers ++ drop i before → length now ≡ length before
+-- the first n numbers of a list overwritten one by one, the first i already
+module _ (n : ℕ) (numbers before : List ℕ) (i : ℕ) {now : List ℕ} (size : length numbers ≡ n) where
+  pub written-length : n ≤ length before → i ≤ n → now ≡ take i numbers ++ drop i before → length now ≡ length before
   written-length h k e = ap (λ (l : List ℕ). length l) e ∙ length-append (take i numbers) (drop i before)
-      ∙ omega (arith, length-take i numbers, length-drop i before, eight)
+      ∙ omega (arith, length-take i numbers, length-drop i before, size)
 
-  pub written-more : 8 ≤ length before → i < 8 → now ≡ take i numbers ++ drop i before → set now i (getD numbers i 0) ≡ take (i + 1) numbers
+  pub written-more : n ≤ length before → i < n → now ≡ take i numbers ++ drop i before → set now i (getD numbers i 0) ≡ take (i + 1) numbers
       ++ drop (i + 1) before
-  written-more h k e = copy-more numbers before now i (omega (arith, eight)) (omega arith) e
+  written-more h k e = copy-more numbers before now i (omega (arith, size)) (omega arith) e
 
-  pub written-all : i ≤ 8 → 8 ≤ i → now ≡ take i numbers ++ drop i before → now ≡ numbers ++ drop 8 before
+  pub written-all : i ≤ n → n ≤ i → now ≡ take i numbers ++ drop i before → now ≡ numbers ++ drop n before
   written-all h k e =
-      let done : i ≡ 8 = omega arith in
-      e ∙ ap (λ (n : ℕ). take n numbers ++ drop n before) done ∙ ap (λ (l : List ℕ). l ++ drop 8 before) (take-whole numbers 8 eight)
+      let done : i ≡ n = omega arith in
+      e ∙ ap (λ (k : ℕ). take k numbers ++ drop k before) done ∙ ap (λ (l : List ℕ). l ++ drop n before) (take-whole numbers n size)
+
+  -- where the list has no more than these
+  pub written-over : length before ≡ n → i ≤ n → n ≤ i → now ≡ take i numbers ++ drop i before → now ≡ numbers
+  written-over l h k e = written-all h k e ∙ ap (λ (x : List ℕ). numbers ++ x) (drop-of-length-le before {i = n} (omega arith)) ∙ append-nil numbers

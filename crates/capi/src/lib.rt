@@ -4,9 +4,15 @@ ghost use mathlib.Core.Path.{_≡_};
 ghost use Rattle.semantics.specs.Runs.{eager as eagerRunner, lazy as lazyRunner, run};
 ghost use Rattle.interp.specs.Answers.{requestOf, buffersOf};
 ghost use Rattle.capi.specs.Replies.{decodeReply, typecheckReply, replied, called, enforces, left, leftAll};
+ghost use Rattle.capi.specs.Blocks.{blockRead, leftBlock, blockWrite};
 
+mod block;
 mod reply;
 
+use block::load;
+use block::of_access;
+use block::of_read;
+use block::save;
 use reply::of_decoded;
 use reply::of_run;
 use reply::of_verdict;
@@ -90,4 +96,49 @@ pub extern "C" fn sovzedal_run_lazy(
         frames,
     );
     put(of_run(r), answer)
+}
+
+// A register's byte. The block is a list of 16 bytes.
+#[no_mangle]
+pub extern "C" fn sovzedal_block_read(block: &[u8], address: u32, answer: &mut [u32]) -> u32
+    ensures { λ r. ⌜ left r (now (answer .exit)) ≡ blockRead (now (block .entry)) address (now (answer .entry)) ⌝ }
+{
+    if block.len() != 16 {
+        return 3;
+    }
+    if answer.len() < 8 {
+        return 3;
+    }
+    let b = load(block);
+    let x = registers::read(b, address);
+    put(of_read(x, registers::interrupt(b)), answer)
+}
+
+// A write to a register; 1 to the command runs the sheet, in the largest buffers.
+#[no_mangle]
+pub extern "C" fn sovzedal_block_write(
+    block: &mut [u8],
+    address: u32,
+    value: u8,
+    sheet: &[u8],
+    cells: &mut [u8],
+    posts: &mut [u16],
+    answer: &mut [u32],
+) -> u32
+    ensures { λ r. ⌜ leftBlock r (now (answer .exit)) (now (block .exit)) (buffersOf (now (cells .exit)) (now (posts .exit)) [])
+        ≡ blockWrite (now (block .entry)) address value (now (sheet .entry)) (buffersOf (now (cells .entry)) (now (posts .entry)) [])
+        (now (answer .entry)) ⌝ }
+{
+    if block.len() != 16 {
+        return 3;
+    }
+    if answer.len() < 8 {
+        return 3;
+    }
+    let old = load(block);
+    let w = registers::write(old, address, value, sheet, cells, posts);
+    let b = w.block;
+    let access = w.access;
+    save(b, block);
+    put(of_access(access, registers::interrupt(b)), answer)
 }

@@ -15,7 +15,8 @@ use sovzedal::{
 use std::process::ExitCode;
 use std::{env, fs};
 
-/// The headings of docs/REFUSALS.md, by their numbers.
+/// The headings of docs/REFUSALS.md that a verdict or a run can tell, by their
+/// numbers.
 const CAUSES: [&str; 23] = [
     "none",
     "cut short",

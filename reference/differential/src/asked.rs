@@ -89,13 +89,14 @@ impl Buffers {
     }
 }
 
+/// A lent buffer, with margins.
 #[derive(Clone, Debug, PartialEq, Eq)]
 pub struct Lent<T> {
     with_margins: Vec<T>,
 }
 
 impl<T: FromBits> Lent<T> {
-    fn random(rng: &mut Rng, length: usize) -> Self {
+    pub fn random(rng: &mut Rng, length: usize) -> Self {
         let mut with_margins = Vec::with_capacity(length + 2 * MARGIN + T::PER_WORD);
         while with_margins.len() < length + 2 * MARGIN {
             T::push_all(rng.word(), &mut with_margins);

@@ -13,8 +13,9 @@ pub struct RunArguments<'a> {
     pub enforce: u32,
 }
 
-/// Each function returns 0 (readable, accepted or ended), 1 (stopped),
-/// 2 (refused) or 3 (`answer` is shorter than [`ANSWER_NUMBERS`]).
+/// Each function returns 0 (readable, accepted, ended, or a register read or
+/// written), 1 (stopped), 2 (refused) or 3 (`answer` is shorter than
+/// [`ANSWER_NUMBERS`], or `block` isn't of 16 bytes).
 pub trait Implementation {
     const NAME: &'static str;
 
@@ -36,6 +37,17 @@ pub trait Implementation {
         cells: &mut [u8],
         posts: &mut [u16],
         frames: &mut [u32],
+        answer: &mut [u32],
+    ) -> u32;
+    fn block_read(block: &[u8], address: u32, answer: &mut [u32]) -> u32;
+
+    fn block_write(
+        block: &mut [u8],
+        address: u32,
+        value: u8,
+        sheet: &[u8],
+        cells: &mut [u8],
+        posts: &mut [u16],
         answer: &mut [u32],
     ) -> u32;
 }

@@ -2,12 +2,14 @@
 //! needed to ask both the same and to compare all that they leave behind.
 
 mod asked;
+mod board;
 mod implementation;
 mod library;
 mod reference;
 pub mod settings;
 
-pub use asked::{Asked, Buffers, Entry};
+pub use asked::{Asked, Buffers, Entry, Lent};
+pub use board::Board;
 pub use implementation::{Implementation, RunArguments, ANSWER_NUMBERS};
 pub use library::Library;
 pub use reference::Reference;

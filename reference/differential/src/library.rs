@@ -52,6 +52,29 @@ mod c {
             answer: *mut u32,
             answer_len: usize,
         ) -> u32;
+
+        pub fn sovzedal_block_read(
+            block: *const u8,
+            block_len: usize,
+            address: u32,
+            answer: *mut u32,
+            answer_len: usize,
+        ) -> u32;
+
+        pub fn sovzedal_block_write(
+            block: *mut u8,
+            block_len: usize,
+            address: u32,
+            value: u8,
+            sheet: *const u8,
+            sheet_len: usize,
+            cells: *mut u8,
+            cells_len: usize,
+            posts: *mut u16,
+            posts_len: usize,
+            answer: *mut u32,
+            answer_len: usize,
+        ) -> u32;
     }
 }
 
@@ -133,6 +156,45 @@ impl Implementation for Library {
                 posts.len(),
                 frames.as_mut_ptr(),
                 frames.len(),
+                answer.as_mut_ptr(),
+                answer.len(),
+            )
+        }
+    }
+
+    fn block_read(block: &[u8], address: u32, answer: &mut [u32]) -> u32 {
+        unsafe {
+            c::sovzedal_block_read(
+                block.as_ptr(),
+                block.len(),
+                address,
+                answer.as_mut_ptr(),
+                answer.len(),
+            )
+        }
+    }
+
+    fn block_write(
+        block: &mut [u8],
+        address: u32,
+        value: u8,
+        sheet: &[u8],
+        cells: &mut [u8],
+        posts: &mut [u16],
+        answer: &mut [u32],
+    ) -> u32 {
+        unsafe {
+            c::sovzedal_block_write(
+                block.as_mut_ptr(),
+                block.len(),
+                address,
+                value,
+                sheet.as_ptr(),
+                sheet.len(),
+                cells.as_mut_ptr(),
+                cells.len(),
+                posts.as_mut_ptr(),
+                posts.len(),
                 answer.as_mut_ptr(),
                 answer.len(),
             )

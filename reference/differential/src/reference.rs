@@ -1,7 +1,11 @@
 //! The reference, behind the library's interface.
 
 use crate::implementation::{Implementation, RunArguments, ANSWER_NUMBERS};
+use sovzedal_reference::registers::{Block, Loaded, BLOCK_BYTES};
 use sovzedal_reference::{decode, run_eager, run_lazy, typecheck, Checks, Reply, Request};
+
+/// What is returned where the answer has no room or the block isn't one.
+const UNFIT: u32 = 3;
 
 pub struct Reference;
 
@@ -38,6 +42,39 @@ impl Implementation for Reference {
             run_lazy(sheet, &arguments.into(), cells, posts, frames)
         })
     }
+
+    fn block_read(block: &[u8], address: u32, answer: &mut [u32]) -> u32 {
+        let Ok(bytes) = block.try_into() else {
+            return UNFIT;
+        };
+        let block = Block { bytes };
+        reply_with(answer, || Reply::of_block(&block, block.read(address)))
+    }
+
+    fn block_write(
+        block: &mut [u8],
+        address: u32,
+        value: u8,
+        sheet: &[u8],
+        cells: &mut [u8],
+        posts: &mut [u16],
+        answer: &mut [u32],
+    ) -> u32 {
+        let Ok(bytes) = <&mut [u8; BLOCK_BYTES]>::try_from(block) else {
+            return UNFIT;
+        };
+        let loaded = Loaded {
+            sheet,
+            cells,
+            posts,
+        };
+        reply_with(answer, || {
+            let mut block = Block { bytes: *bytes };
+            let written = block.write(address, value, loaded);
+            *bytes = block.bytes;
+            Reply::of_block(&block, written.map(|()| 0))
+        })
+    }
 }
 
 impl<'a> From<RunArguments<'a>> for Request<'a> {
@@ -56,9 +93,8 @@ impl<'a> From<RunArguments<'a>> for Request<'a> {
 
 /// Asks only if the answer has room, and writes its first numbers.
 fn reply_with<T: Into<Reply>>(answer: &mut [u32], ask: impl FnOnce() -> T) -> u32 {
-    const NO_ROOM: u32 = 3;
     let Some(room) = answer.first_chunk_mut::<ANSWER_NUMBERS>() else {
-        return NO_ROOM;
+        return UNFIT;
     };
     let Reply { status, answer } = ask().into();
     *room = answer;

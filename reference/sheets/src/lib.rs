@@ -2,9 +2,10 @@
 //!
 //! [`tree`] and [`records`] assemble sheets. [`cases`], [`yes_branch`],
 //! [`smallest`], [`extremes`] and [`load`] hold the ones made by hand,
-//! [`generate`] draws others at random and [`request`] draws what to ask of
-//! their runs, from a [`seed`]. Nothing here knows how a sheet is judged or
-//! run, except [`grow`], which builds sheets that the rules accept.
+//! [`generate`] draws others at random, [`request`] draws what to ask of
+//! their runs and [`session`] what a controller does with a register block,
+//! from a [`seed`]. Nothing here knows how a sheet is judged or run, except
+//! [`grow`], which builds sheets that the rules accept.
 
 pub mod cases;
 pub mod damage;
@@ -16,6 +17,7 @@ pub mod records;
 pub mod request;
 pub mod rng;
 pub mod seed;
+pub mod session;
 pub mod smallest;
 pub mod spoil;
 pub mod tally;

@@ -1,4 +1,4 @@
-//! For each cause the smallest sheet known to reach it.
+//! For each cause the smallest sheet known to reach it. 23 is told of no sheet.
 
 use crate::cases::{computing, endless, nested, plain, with_functions, FIRST_FUNCTION};
 use crate::records::{Records, TypeRecord, BOOL, NUMBER};
@@ -13,7 +13,7 @@ pub struct Smallest {
     pub request: Request,
 }
 
-/// One for each cause, 1 to 22.
+/// One for each cause that a sheet or a request can have, 1 to 22.
 pub fn all() -> Vec<Smallest> {
     (1..=22)
         .map(|cause| Smallest {
@@ -45,7 +45,7 @@ fn sheet(cause: u32) -> Vec<u8> {
         20 => doubling(|step| step),
         21 => doubling(|step| letrec(FIRST_FUNCTION, sign(0, variable(0)), beneath_binder(step))),
         22 => posting_thrice(),
-        _ => unreachable!("there are 22 causes"),
+        _ => unreachable!("the causes are 1 to 22"),
     }
 }
 

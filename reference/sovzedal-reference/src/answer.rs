@@ -2,6 +2,7 @@
 
 use crate::judge::Verdict;
 use crate::refusal::Refusal;
+use crate::registers::Block;
 use crate::run::{Outcome, Plain, Run, Stop};
 use crate::sheet::Sheet;
 
@@ -77,6 +78,22 @@ impl From<Run> for Reply {
             }
         };
         Reply { status, answer }
+    }
+}
+
+impl Reply {
+    /// To an access of a register block, as that is afterwards: the byte
+    /// read, or 0 for a write. How a run went is told by the block alone.
+    pub fn of_block(block: &Block, accessed: Result<u8, Refusal>) -> Self {
+        let mut reply = match accessed {
+            Ok(value) => Reply {
+                status: DONE,
+                answer: [0, 0, 0, u32::from(value), 0, 0, 0, 0],
+            },
+            Err(refusal) => refusal.into(),
+        };
+        reply.answer[2] = u32::from(block.interrupt());
+        reply
     }
 }
 

@@ -1,6 +1,7 @@
 //! What can be told instead of a result, by the contract's numbers.
 
-/// Every cause of a refusal (1 to 16) or a stop (17 to 22).
+/// Every cause of a refusal (1 to 16, and 23 for an address of the register
+/// block) or a stop (17 to 22).
 #[derive(Clone, Copy, Debug, PartialEq, Eq)]
 #[repr(u32)]
 pub enum Cause {
@@ -26,6 +27,7 @@ pub enum Cause {
     CallsSpent = 20,
     NoCell = 21,
     NoPost = 22,
+    Address = 23,
 }
 
 impl Cause {
@@ -47,7 +49,7 @@ impl Cause {
     }
 }
 
-/// A sheet or a request was turned back.
+/// A sheet, a request or an address was turned back.
 #[derive(Clone, Copy, Debug, PartialEq, Eq)]
 pub struct Refusal {
     pub cause: Cause,

@@ -1,10 +1,13 @@
 //! What the documents show is what this implementation gives: the prints of
-//! `examples/`, the sheets and prints of `docs/REFUSALS.md`, and the sheet and
-//! print of `docs/FORMAT.md`. Where the repository is not around this
-//! workspace, there is nothing to compare.
+//! `examples/`, the sheets and prints of `docs/REFUSALS.md`, the sheet and
+//! print of `docs/FORMAT.md`, and the names and numbers of
+//! `include/sovzedal.h`. Where the repository is not around this workspace,
+//! there is nothing to compare.
 
 use sheets::smallest::{all, Smallest};
-use sovzedal_reference::{report, run_eager, Checks, Reply, Request};
+use sovzedal_reference::registers::{at, status, Block, BLOCK_BYTES, RUN};
+use sovzedal_reference::{report, run_eager, Cause, Checks, Reply, Request};
+use sovzedal_reference::{FRAME_NUMBERS, MAX_CALLS, MAX_CELL_BYTES, MAX_OPEN_CALLS, MAX_POSTS};
 use std::path::{Path, PathBuf};
 use std::{env, fs};
 
@@ -44,6 +47,125 @@ fn refusals_are_those_of_the_smallest_sheets() {
     }
 }
 
+/// 23 has no sheet: its call is shown alone.
+#[test]
+fn the_refusal_of_an_address_is_that_of_the_call_shown() {
+    let path = repository().join("docs/REFUSALS.md");
+    if !path.exists() {
+        return;
+    }
+    let shown = read(&path);
+    let section = section(&shown, "23").expect("a section for 23");
+    assert_eq!(block(section, "hex"), None);
+    let call = block(section, "c").expect("a call");
+    let address = call
+        .strip_prefix("sovzedal_block_read(block, 16, ")
+        .and_then(|rest| rest.strip_suffix(", answer, 8);\n"))
+        .expect("a read of a block of 16 bytes");
+    let address = address.parse().expect("an address");
+    let refusal = Block::new().read(address).expect_err("a refusal");
+    let print = format!("refused {} at {}\n", refusal.cause.number(), refusal.place);
+    assert_eq!(block(section, "text"), Some(&*print));
+}
+
+/// The table, the headings and the header's texts name the causes alike.
+#[test]
+fn causes_have_one_name_each() {
+    let (path, header) = (repository().join("docs/REFUSALS.md"), header());
+    let (true, Some(header)) = (path.exists(), header) else {
+        return;
+    };
+    let shown = read(&path);
+    let headings: Vec<&str> = shown
+        .lines()
+        .filter_map(|line| line.strip_prefix("## "))
+        .collect();
+    let rows: Vec<String> = shown
+        .lines()
+        .filter(|line| line.starts_with("| ["))
+        .map(|line| {
+            let mut cells = line.split(" | ");
+            let (link, name) = (cells.next().unwrap(), cells.next().unwrap());
+            let number = link[3..].split(']').next().unwrap();
+            format!("{number} {name}")
+        })
+        .collect();
+    assert_eq!(rows, headings);
+
+    let (_, texts) = header.split_once("texts[] = {").expect("the texts");
+    let (texts, _) = texts.split_once("};").expect("their end");
+    let texts: Vec<String> = (0..)
+        .zip(texts.split('"').skip(1).step_by(2))
+        .map(|(number, text)| format!("{number} {text}"))
+        .collect();
+    assert_eq!(texts[0], "0 none");
+    assert_eq!(texts[1..], headings);
+}
+
+#[test]
+fn the_header_has_the_same_numbers() {
+    let Some(header) = header() else {
+        return;
+    };
+    let number = |name: &str| -> u64 {
+        let define = format!("SOVZEDAL_{name} =");
+        let rest = header.split(&*define).nth(1).expect(name);
+        let digits = rest.trim_start().split(|c: char| !c.is_ascii_digit());
+        digits.into_iter().next().unwrap().parse().expect(name)
+    };
+    let causes = [
+        ("CUT_SHORT", Cause::CutShort),
+        ("WRONG_TAG", Cause::WrongTag),
+        ("VERSION", Cause::WrongVersion),
+        ("LENGTH", Cause::WrongLength),
+        ("TYPE_RECORD", Cause::TypeRecord),
+        ("TERM_RECORD", Cause::TermRecord),
+        ("PLACE", Cause::Shape),
+        ("NESTING", Cause::Nesting),
+        ("VARIABLE", Cause::UnboundVariable),
+        ("TYPE", Cause::TypeMismatch),
+        ("SIGN_NEEDS", Cause::SignNeeds),
+        ("BODY_NEEDS", Cause::BodyNeeds),
+        ("ROOT_TYPE", Cause::RootType),
+        ("START_STACK", Cause::StartStack),
+        ("BUFFERS", Cause::Buffers),
+        ("ALLOWANCE", Cause::Allowance),
+        ("REFUSED_CHECK", Cause::RefusedCheck),
+        ("STUCK", Cause::Stuck),
+        ("OPEN_CALLS", Cause::TooManyOpenCalls),
+        ("CALLS_SPENT", Cause::CallsSpent),
+        ("NO_CELL", Cause::NoCell),
+        ("NO_POST", Cause::NoPost),
+        ("ADDRESS", Cause::Address),
+    ];
+    for (name, cause) in causes {
+        assert_eq!(number(name), u64::from(cause.number()), "{name}");
+    }
+    let numbers = [
+        ("MAX_CALLS", MAX_CALLS as usize),
+        ("MAX_DEPTH", MAX_OPEN_CALLS as usize),
+        ("MAX_CELLS", MAX_CELL_BYTES),
+        ("MAX_POSTS", MAX_POSTS),
+        ("FRAMES", FRAME_NUMBERS),
+        ("BLOCK", BLOCK_BYTES),
+        ("REG_COMMAND", at::COMMAND),
+        ("REG_STATUS", at::STATUS),
+        ("REG_CAUSE", at::CAUSE),
+        ("REG_MASK", at::MASK),
+        ("REG_CALLS", at::CALLS),
+        ("REG_VALUE", at::VALUE),
+        ("REG_CALLS_MADE", at::CALLS_MADE),
+        ("REG_PLACE", at::PLACE),
+        ("COMMAND_RUN", usize::from(RUN)),
+        ("STATUS_ENDED", usize::from(status::ENDED)),
+        ("STATUS_STOPPED", usize::from(status::STOPPED)),
+        ("STATUS_REFUSED", usize::from(status::REFUSED)),
+    ];
+    for (name, expected) in numbers {
+        assert_eq!(number(name), expected as u64, "{name}");
+    }
+}
+
 #[test]
 fn the_format_shows_an_example() {
     let path = repository().join("docs/FORMAT.md");
@@ -66,10 +188,45 @@ fn the_format_shows_an_example() {
     assert_eq!(block(after, "text"), Some(&*report(&sheet)), "the print");
 }
 
+/// The controller's sheet is the example that it names, and its prints are
+/// those that the readme shows and the gate asks for.
+#[test]
+fn the_controller_has_an_example_loaded() {
+    let directory = repository().join("examples");
+    if !directory.exists() {
+        return;
+    }
+    let controller = read(&directory.join("c/controller.c"));
+    let (_, table) = controller
+        .split_once("sheet[] = {\n")
+        .expect("the controller's sheet");
+    let (table, _) = table.split_once("};").expect("its end");
+    let digits: String = table
+        .lines()
+        .flat_map(|line| line.split("/*").next())
+        .flat_map(|line| line.split("0x").skip(1))
+        .map(|byte| &byte[..2])
+        .collect();
+    assert_eq!(bytes(&digits), bytes(&read(&directory.join("loop.hex"))));
+
+    let shown = read(&directory.join("README.md"));
+    let section = section(&shown, "A").expect("the controller's section");
+    let print = block(section, "text").expect("what it prints");
+    let gate = repository().join(".ci/examples");
+    if gate.exists() {
+        assert!(read(&gate).contains(print), "the gate asks for this print");
+    }
+}
+
 /// Asked when the test runs: a path compiled in would outlive a move.
 fn repository() -> PathBuf {
     let package = env::var_os("CARGO_MANIFEST_DIR").expect("cargo sets it");
     Path::new(&package).join("../..")
+}
+
+fn header() -> Option<String> {
+    let path = repository().join("include/sovzedal.h");
+    path.exists().then(|| read(&path))
 }
 
 fn read(path: &Path) -> String {

@@ -1,13 +1,16 @@
 //! Prints how much native stack the deepest runs use: 100 open calls, each
-//! made from as deep as nesting allows, through terms of one kind; and what
-//! such a run uses with fewer open calls.
+//! made from as deep as nesting allows, through terms of one kind; what such a
+//! run uses with fewer open calls, and by a write to a register block.
 
 mod paint;
 
-use differential::{Asked, Buffers, Entry, Implementation, Library, Reference, ANSWER_NUMBERS};
+use differential::{
+    Asked, Board, Buffers, Entry, Implementation, Library, Reference, ANSWER_NUMBERS,
+};
 use sheets::extremes::{deepest, endless_through};
 use sheets::request::{Request, MAX_OPEN_CALLS};
 use sheets::rng::Rng;
+use sheets::session::{Access, BLOCK_BYTES};
 use sheets::tree::Kind;
 
 /// Kinds that a call can stand in and be evaluated within.
@@ -47,6 +50,14 @@ fn main() {
         let used = measure(&endless_through(Kind::Call), open_calls);
         print_line(&open_calls.to_string(), used);
     }
+    println!("through calls, by a register block");
+    let sheet = endless_through(Kind::Call);
+    println!(
+        "{:12}{:12}{:24}",
+        "eager",
+        used_by_block::<Library>(&sheet),
+        used_by_block::<Reference>(&sheet)
+    );
 }
 
 fn print_line(name: &str, [a, b, c, d]: [usize; 4]) {
@@ -78,6 +89,17 @@ fn used_by<I: Implementation>(sheet: &[u8], entry: Entry, open_calls: u32) -> us
     };
     paint::stack_used(|| {
         asked.of::<I>(&mut buffers);
+    })
+}
+
+/// A write to a register block that runs the sheet, on the empty stack, with
+/// 4,096 calls allowed.
+fn used_by_block<I: Implementation>(sheet: &[u8]) -> usize {
+    let mut block = [0; BLOCK_BYTES];
+    block[4] = 0x10;
+    let mut board = Board::random(&mut Rng::new(0), &block);
+    paint::stack_used(|| {
+        board.access::<I>(Access::RUN, sheet);
     })
 }
 
@@ -115,6 +137,8 @@ mod tests {
                     );
                 }
             }
+            let used = used_by_block::<Library>(&sheet);
+            assert!(used <= most, "{kind:?} by a register block: {used}");
         }
     }
 }

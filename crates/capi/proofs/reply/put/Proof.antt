@@ -37,7 +37,7 @@ slice-write-answer c =
       arith,
       c .loop-test .taken,
       start .pre,
-      (written-length (start .args .reply .numbers) (start .args .answer .now) (at-loop .loop .i)
+      (written-length 8 (start .args .reply .numbers) (start .args .answer .now) (at-loop .loop .i)
           (sized (start .args .reply .numbers) 8 (start .good .0 .1 .1 .1 .0 .1 .0 .1)) (start .pre) (at-loop .loop .inv .0) (at-loop .loop .inv .1)),
     )
 
@@ -52,7 +52,7 @@ loop-again c =
     let at-loop = c .before in
     let start = at-loop .before .before in (
       omega (arith, c .loop-test .taken),
-      written-more (start .args .reply .numbers) (start .args .answer .now) (at-loop .loop .i)
+      written-more 8 (start .args .reply .numbers) (start .args .answer .now) (at-loop .loop .i)
           (sized (start .args .reply .numbers) 8 (start .good .0 .1 .1 .1 .0 .1 .0 .1)) (start .pre) (c .loop-test .taken) (at-loop .loop .inv .1),
     )
 
@@ -60,7 +60,7 @@ same-length : tie.Need-same-length Inv-loop μ-loop
 same-length c =
     let at-loop = c .before in
     let start = at-loop .before .before in
-    (written-length (start .args .reply .numbers) (start .args .answer .now) (at-loop .loop .i)
+    (written-length 8 (start .args .reply .numbers) (start .args .answer .now) (at-loop .loop .i)
     (sized (start .args .reply .numbers) 8 (start .good .0 .1 .1 .1 .0 .1 .0 .1)) (start .pre) (at-loop .loop .inv .0) (at-loop .loop .inv .1))
 
 returns : tie.Need-returns Inv-loop μ-loop
@@ -68,7 +68,7 @@ returns c =
     let at-loop = c .before in
     let start = at-loop .before .before in (
       refl,
-      written-all (start .args .reply .numbers) (start .args .answer .now) (at-loop .loop .i)
+      written-all 8 (start .args .reply .numbers) (start .args .answer .now) (at-loop .loop .i)
           (sized (start .args .reply .numbers) 8 (start .good .0 .1 .1 .1 .0 .1 .0 .1)) (at-loop .loop .inv .0) (c .loop-test .left) (at-loop .loop .inv .1),
     )
 

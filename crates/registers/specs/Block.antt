@@ -1,0 +1,128 @@
+-- The register block: 02, W2. A block is a list of 16 bytes, any of them.
+use mathlib.Core.Bool.{Bool, true, false, not, cond, _&&_}
+use mathlib.Core.List.{List, [], _∷_}
+use Prim.Native.Nat.{ℕ, _/_, _%_, _^_}
+use lib.Bits.{bitAnd, bitXor}
+use lib.Dec.{leb, eqb}
+use lib.ListN.{set}
+use Rattle.privileges.specs.Sets.{meet, union}
+use Rattle.program.specs.Limits.{maxCells, maxPosts}
+use Rattle.program.specs.Bytes.{byte, word16}
+use Rattle.semantics.specs.Runs.{Buffers, Ground, ground-bool, ground-num, ended, stopped, Answer, refused, ran, zeros, After}
+use Rattle.registers.specs.Largest.{request, isLargest, lentRun}
+
+-- "The block has 16, zero at first"
+abbrev pub newBlock : List ℕ
+newBlock = zeros 16
+
+-- ---- a run
+
+-- "with 100 open calls and the largest buffers, which are lent"
+abbrev pub areLargest : Buffers → Bool
+areLargest b = isLargest maxCells (b .cells) && isLargest maxPosts (b .posts)
+
+-- "4 and 5 calls allowance"
+abbrev pub allowance : (block : List ℕ) → ℕ
+allowance block = word16 block 4
+
+abbrev pub blockRun : (block s : List ℕ) → Buffers → After
+blockRun block s b = lentRun (areLargest b) s (request (allowance block)) b
+
+-- what an answer puts into the status and into 2 and 6 to 11
+pub record RunRegisters : Type 0 where
+  pub flag : ℕ
+  pub cause : ℕ
+  pub value : ℕ
+  pub calls : ℕ
+  pub place : ℕ
+
+-- "value (a boolean is 0 or 1)"
+abbrev pub valueOf : Ground → ℕ
+valueOf (ground-bool b) = cond b 1 0
+valueOf (ground-num n) = n
+
+-- "status (bit 0 ended, bit 1 stopped, bit 2 refused)"; "what has no meaning in that answer becomes zero"
+abbrev pub registersOf : Answer → RunRegisters
+registersOf (ran (ended g) k) = record { flag = 2 ^ 0; cause = 0; value = valueOf g; calls = k .calls; place = 0 }
+registersOf (ran (stopped c t) k) = record { flag = 2 ^ 1; cause = c; value = 0; calls = k .calls; place = t }
+registersOf (refused c p) = record { flag = 2 ^ 2; cause = c; value = 0; calls = 0; place = p }
+
+-- a byte's bits that are not in another one (Laws: has-without)
+unfoldable pub without : (status bits : ℕ) → ℕ
+without m n = bitXor m (bitAnd m n)
+
+-- "sets one status bit and clears the other two"
+unfoldable pub withFlag : (status flag : ℕ) → ℕ
+withFlag m flag = union (without m 7) flag
+
+-- "Pairs have the highest byte first."
+abbrev pub high : ℕ → ℕ
+high n = n / 256
+
+abbrev pub low : ℕ → ℕ
+low n = n % 256
+
+-- 0 command, 1 status, 2 cause, 3 mask, 4 and 5 allowance, 6 and 7 value, 8 and 9 calls made, 10 and 11 term or place; 12 to 15 are left
+abbrev pub afterRun : (block : List ℕ) → RunRegisters → List ℕ
+afterRun b t =
+    0 ∷ withFlag (byte b 1) (t .flag) ∷ t .cause ∷ byte b 3 ∷ byte b 4 ∷ byte b 5
+    ∷ high (t .value) ∷ low (t .value) ∷ high (t .calls) ∷ low (t .calls) ∷ high (t .place) ∷ low (t .place)
+    ∷ byte b 12 ∷ byte b 13 ∷ byte b 14 ∷ byte b 15 ∷ []
+
+-- ---- accesses
+
+-- what an access answers
+pub data Reading : Type 0 where
+  read-byte : ℕ → Reading
+  read-refused : (cause place : ℕ) → Reading
+
+pub data Access : Type 0 where
+  access-done : Access
+  access-refused : (cause place : ℕ) → Access
+
+-- "An address above 15 is answered with 23"; no place is named, so it is 0
+abbrev pub readOf : (block : List ℕ) (address : ℕ) → Reading
+readOf b a = cond (leb a 15) (read-byte (byte b a)) (read-refused 23 0)
+
+-- "The interrupt is raised while status and mask share a bit." (Theorems: raised-exactly)
+abbrev pub raised : (block : List ℕ) → Bool
+raised b = not (eqb (meet (byte b 1) (byte b 3)) 0)
+
+-- what a write answers, and what it leaves
+pub record Written : Type 0 where
+  pub access : Access
+  pub block : List ℕ
+  pub buffers : Buffers
+
+abbrev pub done : (block : List ℕ) → Buffers → Written
+done block b = record { access = access-done; block = block; buffers = b }
+
+abbrev pub ranOn : (block : List ℕ) → After → Written
+ranOn block a = done (afterRun block (registersOf (a .answer))) (a .buffers)
+
+-- "Writing 1 to command runs the loaded sheet"; "Other command values … change nothing"
+abbrev pub commanded : (isOne : Bool) (block s : List ℕ) → Buffers → Written
+commanded true block s b = ranOn block (blockRun block s b)
+commanded false block s b = done block b
+
+-- "3 to 5 keep what is written."
+abbrev pub isKept : (address : ℕ) → Bool
+isKept a = leb 3 a && leb a 5
+
+-- the registers by what a write to them does
+pub data Register : Type 0 where
+  command status kept fixed absent : Register
+
+abbrev pub registerAt : (address : ℕ) → Register
+registerAt a = cond (eqb a 0) command (cond (eqb a 1) status (cond (leb a 15) (cond (isKept a) kept fixed) absent))
+
+-- "Writing status clears the bits written as one."; "writes to 2 and 6 to 15 change nothing"; 23 "leaves the block"
+abbrev pub writeTo : Register → (block : List ℕ) (address value : ℕ) (s : List ℕ) → Buffers → Written
+writeTo command block a v s b = commanded (eqb v 1) block s b
+writeTo status block a v s b = done (set block 1 (without (byte block 1) v)) b
+writeTo kept block a v s b = done (set block a v) b
+writeTo fixed block a v s b = done block b
+writeTo absent block a v s b = record { access = access-refused 23 0; block = block; buffers = b }
+
+abbrev pub writeOf : (block : List ℕ) (address value : ℕ) (s : List ℕ) → Buffers → Written
+writeOf block a v s b = writeTo (registerAt a) block a v s b

@@ -1,0 +1,7 @@
+pub mod Largest
+pub mod Block
+pub mod Answers
+pub mod Internal
+pub mod Laws
+pub mod Theorems
+pub mod Cases

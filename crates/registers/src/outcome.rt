@@ -1,0 +1,75 @@
+// What a run's answer puts into the registers.
+ghost use mathlib.Core.Path.{_≡_};
+ghost use Prim.Native.Nat.{_≤_};
+ghost use Rattle.program.specs.Limits.{maxCalls};
+ghost use Rattle.semantics.specs.Runs.{ran};
+ghost use Rattle.interp.specs.Answers.{outcomeModel, countsModel, runModel};
+ghost use Rattle.registers.specs.Block.{registersOf};
+ghost use Rattle.registers.specs.Internal.{registersModel, endRegisters, FewCalls};
+use interp::answer::Made;
+use interp::answer::Outcome;
+use interp::answer::Run;
+use interp::answer::Value;
+
+// The status bit by its worth, and the registers 2 and 6 to 11.
+pub struct RunRegisters {
+    pub flag: u8,
+    pub cause: u8,
+    pub value: u16,
+    pub calls: u16,
+    pub place: u16,
+}
+
+fn ended(value: u16, calls: u16) -> RunRegisters
+    ensures { λ r. ⌜ registersModel r ≡ endRegisters value calls ⌝ }
+{
+    RunRegisters {
+        flag: 1,
+        cause: 0,
+        value: value,
+        calls: calls,
+        place: 0,
+    }
+}
+
+fn of_outcome(o: Outcome, m: Made) -> RunRegisters
+    requires { ⌜ m .calls ≤ maxCalls ⌝ }
+    ensures { λ r. ⌜ registersModel r ≡ registersOf (ran (outcomeModel o) (countsModel m)) ⌝ }
+{
+    let calls = m.calls as u16;
+    match o {
+        Outcome::Stop(x) => {
+            let c = numbers::of_stop(x);
+            RunRegisters {
+                flag: 2,
+                cause: c.cause,
+                value: 0,
+                calls: calls,
+                place: c.place,
+            }
+        }
+        Outcome::End(v) => match v {
+            Value::Bool(b) => ended(b as u16, calls),
+            Value::Num(n) => ended(n, calls),
+        },
+    }
+}
+
+pub fn of_run(x: Run) -> RunRegisters
+    requires { ⌜ FewCalls x ⌝ }
+    ensures { λ r. ⌜ registersModel r ≡ registersOf (runModel x) ⌝ }
+{
+    match x {
+        Run::Refused(f) => {
+            let c = numbers::of_refusal(f);
+            RunRegisters {
+                flag: 4,
+                cause: c.cause,
+                value: 0,
+                calls: 0,
+                place: c.place,
+            }
+        }
+        Run::Ran { outcome, made } => of_outcome(outcome, made),
+    }
+}
