@@ -3,11 +3,11 @@ use mathlib.Core.Bool.{Bool, true, false, _&&_}
 use mathlib.Core.List.{List}
 use mathlib.Core.Option.{Option, none, some}
 use mathlib.Core.Path.{_≡_}
-use Prim.Native.Nat.{ℕ, _+_, _*_, _/_, _<_, _≤_}
+use Prim.Native.Nat.{ℕ, zero, suc, _+_, _*_, _/_, _<_, _≤_}
 use lib.Dec.{leb, ltb, eqb}
 use lib.ListN.{length, getD}
 use Rattle.program.specs.Limits.{maxTypeDepth}
-use Rattle.program.specs.Bytes.{word16}
+use Rattle.program.specs.Bytes.{byte, word16}
 use Rattle.program.specs.Layout.{typeAt, kindByte, first, second, third}
 use Rattle.program.specs.Screening.{First, None}
 use Rattle.program.specs.Formats.{Part, unused, flag, anyNumber, privilege, principal, functionType, child, bodyChild, Kind, Boolean, Number, Variable, Function, Letrec, Call, If, Check, Enable, Sign, Test, Sum, Difference, Less, Post, kindOf, format}
@@ -54,6 +54,11 @@ foundOf (At t) = some t
 foundOf Nothing = none
 
 -- ---- types
+-- so many bytes as one number, lowest first
+unfoldable pub leWord : List ℕ → (at width : ℕ) → ℕ
+leWord s i zero = 0
+leWord s i (suc n) = byte s i + 256 * leWord s (i + 1) n
+
 -- the type table begins at `at`, and the record of type t lies in the sheet
 pub record TableAt (s : List ℕ) (at t : ℕ) : Type 0 where
   pub begins : (u : ℕ) → at + 10 * u ≡ typeAt s u
