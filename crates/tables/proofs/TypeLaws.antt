@@ -102,7 +102,7 @@ module _ (s : List ℕ) (c : Counts) (L : Laid s c) (t : ℕ) (l : t < types s) 
           ∙ sym (g ∙ ap (λ (x : TypeRecord). eqb (x .kind) t && eqb (x .zero) 0 && eqb (x .arg) 0 && eqb (x .res) 0 && eqb (x .latent) 0) read)
 
       pub base-good : b ≡ true → Deep s t 0
-      base-good f = record { right = base-is ∙ f; deep = λ k. shallow-base s t k low ∙ sym (le-leb 0 k (omega arith)); most = omega arith }
+      base-good f = record { right = base-is ∙ f; deep = λ k. shallow-base s t k low ∙ sym (le-leb 0 k (omega arith)) }
 
       pub base-bad : b ≡ false → typeOk s t ≡ false
       base-bad f = base-is ∙ f
@@ -163,27 +163,21 @@ module _ (s : List ℕ) (c : Counts) (L : Laid s c) (t : ℕ) (l : t < types s) 
             depth-over h = type-is ∙ lt-leb (m + 1) 12 (omega arith)
 
             pub depth-is : m < 12 → Deep s t (m + 1)
-            depth-is h = record { right = type-is ∙ le-leb (m + 1) 12 (omega arith); deep = deep-is; most = omega arith }
+            depth-is h = record { right = type-is ∙ le-leb (m + 1) 12 (omega arith); deep = deep-is }
 
 -- ---- the list of depths
 pub depths-none : (s d : List ℕ) → Depths s d 0
-depths-none s d = record { each = λ u h k. absurd (omega arith); few = λ u h. absurd (omega arith) }
+depths-none s d = record { each = λ u h k. absurd (omega arith) }
 
 module _ (s d : List ℕ) (t m : ℕ) (w : Depths s d t) (room : t < length d) (v : Deep s t m) where
   here : getD (set d t m) t 0 ≡ m
   here = getD-set-same d t m 0 room
 
   pub depths-more : Depths s (set d t m) (t + 1)
-  depths-more = record { each = each′; few = few′ }
+  depths-more = record { each = each′ }
     where
       each′ : (u : ℕ) → u < t + 1 → (k : ℕ) → shallow s k u ≡ leb (getD (set d t m) u 0) k
       each′ u h k = elim (ℕ-discrete u t) [
         | yes e ↦ ap (shallow s k) e ∙ v .deep k ∙ ap (λ (x : ℕ). leb x k) (sym here) ∙ ap (λ (x : ℕ). leb (getD (set d t m) x 0) k) (sym e)
         | no n ↦ w .each u (omega arith) k ∙ ap (λ (x : ℕ). leb x k) (sym (getD-set-other d t u m 0 n))
-      ]
-
-      few′ : (u : ℕ) → u < t + 1 → getD (set d t m) u 0 ≤ 12
-      few′ u h = elim (ℕ-discrete u t) [
-        | yes e ↦ omega (arith, ap (λ (x : ℕ). getD (set d t m) x 0) e, here, v .most)
-        | no n ↦ omega (arith, getD-set-other d t u m 0 n, w .few u (omega arith))
       ]
