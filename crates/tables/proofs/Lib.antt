@@ -1,3 +1,4 @@
 pub mod FieldLaws
 pub mod TermLaws
 pub mod TypeLaws
+pub mod WordLaws

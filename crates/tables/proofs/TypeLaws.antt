@@ -11,49 +11,16 @@ use lib.Seq.{getD-set-same, getD-set-other}
 use borrow.Author.Tests.{ltb-true, leb-true, leb-false, lt-ltb, le-ltb, le-leb, lt-leb, eq-eqb, ne-eqb, eqb-true}
 use Rattle.privileges.specs.Booleans.{and-left, and-right}
 use Rattle.program.specs.Tests.{also, orElse}
-use Rattle.program.specs.Bytes.{byte}
+use Rattle.program.specs.Bytes.{Bytes}
 use Rattle.program.specs.Layout.{principals, types, typeAt, typesOf}
 use Rattle.program.specs.Decoding.{baseOk, functionOk, shallow, sameBytes, fresh, typeOk}
 use Rattle.program.specs.Records.{typeAtByte, typeRecord}
-use Rattle.tables.specs.Internal.{Laid, TableAt, Depths, Deep}
+use Rattle.tables.specs.Internal.{leWord, Laid, TableAt, Depths, Deep}
 use Rattle.program.specs.Laws.Readable.{FieldsOk, fields-ok}
 use Rattle.program.specs.Laws.Records.{type-laid}
+use Rattle.tables.proofs.WordLaws.{eight-differ}
 use Rattle.program.specs.declared.records.Counts.{Counts}
 use Rattle.program.specs.declared.records.TypeRecord.{TypeRecord}
-
--- ---- two records, byte by byte from the last
-same-step : (s : List ℕ) (i j k : ℕ) → 0 < k → sameBytes s i j k ≡ (eqb (byte s (i + (k - 1))) (byte s (j + (k - 1))) && sameBytes s i j (k - 1))
-same-step s i j zero h = absurd (omega arith)
-same-step s i j (suc k) h = let e : suc k - 1 ≡ k = omega arith in ap (λ (x : ℕ). eqb (byte s (i + x)) (byte s (j + x)) && sameBytes s i j x) (sym e)
-
-module _ (s : List ℕ) (i j k : ℕ) (h : 0 < k) where
-  pub same-not : (byte s (i + (k - 1)) ≡ byte s (j + (k - 1)) → ⊥) → false ≡ sameBytes s i j k
-  same-not n = sym (same-step s i j k h ∙ ap (λ (x : Bool). x && sameBytes s i j (k - 1)) (ne-eqb (byte s (i + (k - 1))) (byte s (j + (k - 1))) n))
-
-  pub same-more : byte s (i + (k - 1)) ≡ byte s (j + (k - 1)) → sameBytes s i j k ≡ sameBytes s i j (k - 1)
-  same-more e = same-step s i j k h ∙ ap (λ (x : Bool). x && sameBytes s i j (k - 1)) (eq-eqb (byte s (i + (k - 1))) (byte s (j + (k - 1))) e)
-
-pub same-end : (s : List ℕ) (i j k : ℕ) → k ≤ 0 → true ≡ sameBytes s i j k
-same-end s i j zero h = refl
-same-end s i j (suc k) h = absurd (omega arith)
-
--- ---- records that differ in a byte
-byte-same : (s : List ℕ) (i j n k : ℕ) → sameBytes s i j n ≡ true → k < n → byte s (i + k) ≡ byte s (j + k)
-byte-same s i j zero k e h = absurd (omega arith)
-byte-same s i j (suc n) k e h = decide (leb n k) refl (byte-same s i j n k (and-right (eqb (byte s (i + n)) (byte s (j + n))) _ e))
-  where
-    decide : (b : Bool) → leb n k ≡ b → (k < n → byte s (i + k) ≡ byte s (j + k)) → byte s (i + k) ≡ byte s (j + k)
-    decide true q earlier =
-        let m : n ≡ k = omega (arith, leb-true n k q) in
-        subst (λ (x : ℕ). byte s (i + x) ≡ byte s (j + x)) m (eqb-true (byte s (i + n)) (byte s (j + n)) (and-left _ (sameBytes s i j n) e))
-    decide false q earlier = earlier (leb-false n k q)
-
-pub byte-differs : (s : List ℕ) (i j k : ℕ) → k < 10 → (byte s (i + k) ≡ byte s (j + k) → ⊥) → false ≡ sameBytes s i j 10
-byte-differs s i j k h n = decide (sameBytes s i j 10) refl
-  where
-    decide : (b : Bool) → sameBytes s i j 10 ≡ b → false ≡ sameBytes s i j 10
-    decide false e = sym e
-    decide true e = absurd (n (byte-same s i j 10 k e h))
 
 -- ---- no equal record before
 fresh-step : (s : List ℕ) (t j : ℕ) → 0 < j → fresh s t j ≡ (not (sameBytes s (typeAt s (j - 1)) (typeAt s t) 10) && fresh s t (j - 1))
@@ -75,6 +42,24 @@ module _ (s : List ℕ) (at t j : ℕ) (T : TableAt s at t) {b : Bool} (e : b �
 pub fresh-end : (s : List ℕ) (t j : ℕ) → j ≤ 0 → true ≡ fresh s t j
 fresh-end s t zero h = refl
 fresh-end s t (suc j) h = absurd (omega arith)
+
+-- a group of m records, none of which has the eight bytes
+module _ (s : List ℕ) (b : Bytes s) (at t : ℕ) (T : TableAt s at t) where
+  past : (n m : ℕ) → ((k : ℕ) → k < m → leWord s (at + 10 * n + 2 + 10 * k) 8 ≡ leWord s (at + 10 * t + 2) 8 → ⊥) → fresh s t (n + m) ≡ fresh s t n
+  past n zero f = let e : n + 0 ≡ n = omega arith in ap (fresh s t) e
+  past n (suc m) f =
+      let e : n + suc m ≡ suc (n + m) = omega arith in
+      let p : at + 10 * n + 2 + 10 * m ≡ at + 10 * (n + m) + 2 = omega arith in
+      ap (fresh s t) e ∙ (λ i. not (sameBytes s (sym (T .begins (n + m)) i) (sym (T .begins t) i) 10) && fresh s t (n + m))
+      ∙ ap (λ (x : Bool). not x && fresh s t (n + m)) (sym (eight-differ s b (at + 10 * (n + m)) (at + 10 * t) refl refl
+      (λ d. f m (omega arith) (ap (λ (x : ℕ). leWord s x 8) p ∙ d))))
+      ∙ past n m (λ k h. f k (omega arith))
+
+  pub fresh-group : (j m : ℕ) {eight : ℕ} → eight ≡ leWord s (at + 10 * t + 2) 8 → m ≤ j
+      → ((k : ℕ) → k < m → leWord s (at + 10 * (j - m) + 2 + 10 * k) 8 ≡ eight → ⊥) → fresh s t j ≡ fresh s t (j - m)
+  fresh-group j m e h f =
+      let p : j ≡ j - m + m = omega arith in
+      ap (fresh s t) p ∙ past (j - m) m (λ k l d. f k l (d ∙ sym e))
 
 -- ---- depth
 shallow-base : (s : List ℕ) (t k : ℕ) → t < 2 → shallow s k t ≡ true
@@ -117,7 +102,7 @@ module _ (s : List ℕ) (c : Counts) (L : Laid s c) (t : ℕ) (l : t < types s) 
           ∙ sym (g ∙ ap (λ (x : TypeRecord). eqb (x .kind) t && eqb (x .zero) 0 && eqb (x .arg) 0 && eqb (x .res) 0 && eqb (x .latent) 0) read)
 
       pub base-good : b ≡ true → Deep s t 0
-      base-good f = record { right = base-is ∙ f; deep = λ k. shallow-base s t k low ∙ sym (le-leb 0 k (omega arith)); most = omega arith }
+      base-good f = record { right = base-is ∙ f; deep = λ k. shallow-base s t k low ∙ sym (le-leb 0 k (omega arith)) }
 
       pub base-bad : b ≡ false → typeOk s t ≡ false
       base-bad f = base-is ∙ f
@@ -178,27 +163,21 @@ module _ (s : List ℕ) (c : Counts) (L : Laid s c) (t : ℕ) (l : t < types s) 
             depth-over h = type-is ∙ lt-leb (m + 1) 12 (omega arith)
 
             pub depth-is : m < 12 → Deep s t (m + 1)
-            depth-is h = record { right = type-is ∙ le-leb (m + 1) 12 (omega arith); deep = deep-is; most = omega arith }
+            depth-is h = record { right = type-is ∙ le-leb (m + 1) 12 (omega arith); deep = deep-is }
 
 -- ---- the list of depths
 pub depths-none : (s d : List ℕ) → Depths s d 0
-depths-none s d = record { each = λ u h k. absurd (omega arith); few = λ u h. absurd (omega arith) }
+depths-none s d = record { each = λ u h k. absurd (omega arith) }
 
 module _ (s d : List ℕ) (t m : ℕ) (w : Depths s d t) (room : t < length d) (v : Deep s t m) where
   here : getD (set d t m) t 0 ≡ m
   here = getD-set-same d t m 0 room
 
   pub depths-more : Depths s (set d t m) (t + 1)
-  depths-more = record { each = each′; few = few′ }
+  depths-more = record { each = each′ }
     where
       each′ : (u : ℕ) → u < t + 1 → (k : ℕ) → shallow s k u ≡ leb (getD (set d t m) u 0) k
       each′ u h k = elim (ℕ-discrete u t) [
         | yes e ↦ ap (shallow s k) e ∙ v .deep k ∙ ap (λ (x : ℕ). leb x k) (sym here) ∙ ap (λ (x : ℕ). leb (getD (set d t m) x 0) k) (sym e)
         | no n ↦ w .each u (omega arith) k ∙ ap (λ (x : ℕ). leb x k) (sym (getD-set-other d t u m 0 n))
-      ]
-
-      few′ : (u : ℕ) → u < t + 1 → getD (set d t m) u 0 ≤ 12
-      few′ u h = elim (ℕ-discrete u t) [
-        | yes e ↦ omega (arith, ap (λ (x : ℕ). getD (set d t m) x 0) e, here, v .most)
-        | no n ↦ omega (arith, getD-set-other d t u m 0 n, w .few u (omega arith))
       ]

@@ -3,11 +3,11 @@ use mathlib.Core.Bool.{Bool, true, false, _&&_}
 use mathlib.Core.List.{List}
 use mathlib.Core.Option.{Option, none, some}
 use mathlib.Core.Path.{_≡_}
-use Prim.Native.Nat.{ℕ, _+_, _*_, _/_, _<_, _≤_}
+use Prim.Native.Nat.{ℕ, zero, suc, _+_, _*_, _/_, _<_, _≤_}
 use lib.Dec.{leb, ltb, eqb}
 use lib.ListN.{length, getD}
-use Rattle.program.specs.Limits.{maxTypeDepth}
-use Rattle.program.specs.Bytes.{word16}
+use Rattle.program.specs.Limits.{maxPrincipals}
+use Rattle.program.specs.Bytes.{byte, word16}
 use Rattle.program.specs.Layout.{typeAt, kindByte, first, second, third}
 use Rattle.program.specs.Screening.{First, None}
 use Rattle.program.specs.Formats.{Part, unused, flag, anyNumber, privilege, principal, functionType, child, bodyChild, Kind, Boolean, Number, Variable, Function, Letrec, Call, If, Check, Enable, Sign, Test, Sum, Difference, Less, Post, kindOf, format}
@@ -54,21 +54,25 @@ foundOf (At t) = some t
 foundOf Nothing = none
 
 -- ---- types
+-- so many bytes as one number, lowest first
+unfoldable pub leWord : List ℕ → (at width : ℕ) → ℕ
+leWord s i zero = 0
+leWord s i (suc n) = byte s i + 256 * leWord s (i + 1) n
+
 -- the type table begins at `at`, and the record of type t lies in the sheet
 pub record TableAt (s : List ℕ) (at t : ℕ) : Type 0 where
   pub begins : (u : ℕ) → at + 10 * u ≡ typeAt s u
-  pub near : at ≤ 139
+  -- 11 bytes of fields before it, and four for each principal
+  pub near : at ≤ 11 + 4 * maxPrincipals
   pub inside : at + 10 * t + 10 ≤ length s
 
 -- the list has the depths of the first so many types
 pub record Depths (s d : List ℕ) (t : ℕ) : Type 0 where
   pub each : (u : ℕ) → u < t → (k : ℕ) → shallow s k u ≡ leb (getD d u 0) k
-  pub few : (u : ℕ) → u < t → getD d u 0 ≤ maxTypeDepth
 
 pub record Deep (s : List ℕ) (t d : ℕ) : Type 0 where
   pub right : typeOk s t ≡ true
   pub deep : (k : ℕ) → shallow s k t ≡ leb d k
-  pub most : d ≤ maxTypeDepth
 
 abbrev pub DepthIs : List ℕ → ℕ → Depth → Type 0
 DepthIs s t (Is d) = Deep s t d

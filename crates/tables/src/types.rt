@@ -1,13 +1,13 @@
 // The type table: refusal 5.
 ghost use mathlib.Core.Path.{_≡_};
-ghost use mathlib.Core.Bool.{_&&_};
-ghost use Prim.Native.Nat.{_+_, _<_, _≤_, max};
+ghost use mathlib.Core.Bool.{false, _&&_};
+ghost use Prim.Native.Nat.{ℕ, _+_, _*_, _<_, _≤_, max};
 ghost use lib.Dec.{eqb, ltb};
 ghost use lib.ListN.{length};
 ghost use Rattle.program.specs.Layout.{types};
 ghost use Rattle.program.specs.Screening.{lowest};
-ghost use Rattle.program.specs.Decoding.{sameBytes, fresh, typeOk};
-ghost use Rattle.tables.specs.Internal.{Laid, TableAt, Depths, DepthIs, foundOf};
+ghost use Rattle.program.specs.Decoding.{fresh, typeOk};
+ghost use Rattle.tables.specs.Internal.{leWord, Laid, TableAt, Depths, DepthIs, foundOf};
 use crate::search::Found;
 use accessors::type_record;
 use program::limits::MAX_TYPE_DEPTH;
@@ -15,46 +15,82 @@ use program::limits::TYPE_PLACES;
 use program::records::Counts;
 use program::records::TypeRecord;
 
+// How many records `is_fresh` passes at a time: the compiler writes a loop of fixed length out.
+const GROUP: usize = 8;
+
 // How deep a type is nested, or that its record is at fault.
 pub enum Depth {
     Is(u8),
     Fault,
 }
 
-// Whether the ten bytes at i and at j agree.
-fn same_record(s: &[u8], i: usize, j: usize) -> bool
-    requires { ⌜ (i + 10 ≤ length (now s)) × (j + 10 ≤ length (now s)) ⌝ }
-    ensures { λ r. ⌜ r ≡ sameBytes (now (s .entry)) i j 10 ⌝ }
+// So many bytes, at most 8, as one number, lowest first: words are only compared here, and of this order the compiler makes one load.
+fn le_word(s: &[u8], at: usize, width: usize) -> u64
+    requires { ⌜ (at + width ≤ length (now s)) × (width ≤ 8) ⌝ }
+    ensures { λ r. ⌜ r ≡ leWord (now (s .entry)) at width ⌝ }
 {
-    let mut k = 10;
-    while 0 < k {
-        k -= 1;
-        if s[i + k] != s[j + k] {
-            return false;
-        }
+    let mut w = 0;
+    let mut left = width;
+    while 0 < left {
+        left -= 1;
+        w = (s[at + left] as u64) + 256 * w;
     }
-    true
+    w
 }
 
-// Whether no type before t has its record. The table begins at `at`. The low bytes of the arguments are compared first: the largest table has 32,640
-// pairs of records, and most of them differ there.
-fn is_fresh(s: &[u8], at: usize, t: u16) -> bool
+// Whether the record of type t differs from those of the first n types. The table begins at `at`. Records are compared by a word of eight bytes, the
+// argument, result and latent set, which tell function types apart, then by one of two, the kind and the zero.
+fn differs(s: &[u8], at: usize, t: u16, n: usize) -> bool
     requires { ⌜ TableAt (now s) at t ⌝ }
-    ensures { λ r. ⌜ r ≡ fresh (now (s .entry)) t t ⌝ }
+    requires { ⌜ n ≤ t ⌝ }
+    ensures { λ r. ⌜ r ≡ fresh (now (s .entry)) t n ⌝ }
 {
     let here = at + 10 * (t as usize);
-    let arg = s[here + 3];
-    let mut j = t as usize;
+    let eight = le_word(s, here + 2, 8);
+    let two = le_word(s, here, 2);
+    let mut j = n;
     while 0 < j {
         j -= 1;
         let there = at + 10 * j;
-        if s[there + 3] == arg {
-            if same_record(s, there, here) {
+        if le_word(s, there + 2, 8) == eight {
+            if le_word(s, there, 2) == two {
                 return false;
             }
         }
     }
     true
+}
+
+// Whether a word of eight bytes stands at i or in the same place of one of the records after it, n in all. Callers rely on the answer no alone.
+fn met(s: &[u8], i: usize, n: usize, eight: u64) -> bool
+    requires { ⌜ i + 10 * n ≤ length (now s) + 2 ⌝ }
+    ensures { λ r. ⌜ (r ≡ false → (k : ℕ) → k < n → leWord (now (s .entry)) (i + 10 * k) 8 ≡ eight → ⊥) ⌝ }
+{
+    let mut k = n;
+    while 0 < k {
+        k -= 1;
+        if le_word(s, i + 10 * k, 8) == eight {
+            return true;
+        }
+    }
+    false
+}
+
+// Whether no type before t has its record. The largest table has 32,640 pairs of records, so groups in which the eight bytes of t are not met are
+// passed; `differs` compares the rest.
+fn is_fresh(s: &[u8], at: usize, t: u16) -> bool
+    requires { ⌜ TableAt (now s) at t ⌝ }
+    ensures { λ r. ⌜ r ≡ fresh (now (s .entry)) t t ⌝ }
+{
+    let eight = le_word(s, at + 10 * (t as usize) + 2, 8);
+    let mut j = t as usize;
+    while GROUP <= j {
+        if met(s, at + 10 * (j - GROUP) + 2, GROUP, eight) {
+            return differs(s, at, t, j);
+        }
+        j -= GROUP;
+    }
+    differs(s, at, t, j)
 }
 
 // Whether a record is that of the boolean, for t = 0, or of the number, for t = 1.
