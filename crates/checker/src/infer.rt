@@ -93,7 +93,7 @@ fn infer_if(s: &[u8], c: Counts, t: u16, x: TermRecord, b: Bindings, n: u8) -> I
         return j;
     };
     let k = infer(s, c, x.third, b, n);
-    steps::branched(t, cond, cond_needs, ty, needs, k)
+    steps::branched(s, c, t, cond, cond_needs, ty, needs, k)
 }
 
 fn infer_check(s: &[u8], c: Counts, t: u16, x: TermRecord, b: Bindings, n: u8) -> Inferred
@@ -136,7 +136,7 @@ fn infer_test(s: &[u8], c: Counts, t: u16, x: TermRecord, b: Bindings, n: u8) ->
         return j;
     };
     let k = infer(s, c, x.second, b, n);
-    steps::tested(x.small, t, ty, needs, k)
+    steps::tested(s, c, x.small, t, ty, needs, k)
 }
 
 fn infer_binary(s: &[u8], c: Counts, t: u16, x: TermRecord, b: Bindings, n: u8) -> Inferred

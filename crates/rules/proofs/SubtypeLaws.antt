@@ -1,6 +1,7 @@
--- What the test of two types answers, way by way. Assumes nothing.
-use mathlib.Core.Bool.{Bool, true, false, _&&_}
+-- What the test of two types answers, way by way, and the choice of the wider. Assumes nothing.
+use mathlib.Core.Bool.{Bool, true, false, cond, _&&_}
 use mathlib.Core.List.{List}
+use mathlib.Core.Option.{Option, none, some}
 use mathlib.Core.Path.{_≡_, refl, sym, ap, _∙_}
 use Prim.Native.Nat.{ℕ, zero, suc, _+_, _-_, _<_, _≤_}
 use native.Mathlib.Omega.{arith}
@@ -13,7 +14,7 @@ use Rattle.program.specs.Records.{typeRecord}
 use Rattle.program.specs.declared.records.Counts.{Counts}
 use Rattle.program.specs.declared.records.TypeRecord.{TypeRecord}
 use Rattle.program.specs.Laws.Types.{Lower, lower-types}
-use Rattle.typing.specs.Subtyping.{subtypeIn, subtype}
+use Rattle.typing.specs.Subtyping.{subtypeIn, subtype, wider}
 use Rattle.rules.specs.Inference.{Sheet}
 use Rattle.rules.specs.Laws.Records.{TypeParts, function-is, type-parts}
 
@@ -126,3 +127,18 @@ module _ {s : List ℕ} {c : Counts} (S : Sheet s c) (a b : ℕ) where
 
               pub sub-results : j ≡ true → {r : Bool} → r ≡ subtype (typesOf s) (f .res) (g .res) → r ≡ subtype (typesOf s) a b
               sub-results e h = h ∙ sym (functions ∙ rw (← hj, e, ← hl, el) refl)
+
+-- ---- the wider of two types
+module _ (T : Types) (a b : ℕ) {x : Bool} (hx : x ≡ subtype T a b) where
+  pub wider-first-fits : x ≡ true → some b ≡ wider T a b
+  unfolding wider
+  wider-first-fits e = rw (← hx, e) refl
+
+  module _ (e : x ≡ false) {y : Bool} (hy : y ≡ subtype T b a) where
+    pub wider-second-fits : y ≡ true → some a ≡ wider T a b
+    unfolding wider
+    wider-second-fits g = rw (← hx, e, ← hy, g) refl
+
+    pub wider-neither : y ≡ false → none ≡ wider T a b
+    unfolding wider
+    wider-neither g = rw (← hx, e, ← hy, g) refl

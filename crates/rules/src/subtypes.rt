@@ -1,11 +1,13 @@
-// Function types and subtyping.
+// Function types, subtyping, and the wider of two types.
+use crate::bindings::Found;
 use program::records::Counts;
 ghost use mathlib.Core.Bool.{_&&_};
 ghost use mathlib.Core.Path.{_≡_};
 ghost use lib.Dec.{leb, ltb};
 ghost use Rattle.program.specs.Layout.{typesOf};
-ghost use Rattle.typing.specs.Subtyping.{subtype as subtypeOf};
+ghost use Rattle.typing.specs.Subtyping.{subtype as subtypeOf, wider as widerOf};
 ghost use Rattle.rules.specs.Inference.{Sheet};
+ghost use Rattle.rules.specs.Steps.{foundOf};
 
 // Whether t is a function type of a sheet with these counts.
 pub fn is_function(c: Counts, t: u16) -> bool
@@ -40,4 +42,18 @@ pub fn subtype(s: &[u8], c: Counts, a: u16, b: u16) -> bool
         return false;
     }
     subtype(s, c, f.res, g.res)
+}
+
+// The wider of two types, if one is a subtype of the other. Equal types, the common case, pass the first test at once.
+pub fn wider(s: &[u8], c: Counts, a: u16, b: u16) -> Found
+    requires { ⌜ Sheet (now s) c ⌝ }
+    ensures { λ r. ⌜ foundOf r ≡ widerOf (typesOf (now (s .entry))) a b ⌝ }
+{
+    if subtype(s, c, a, b) {
+        return Found::At(b);
+    }
+    if subtype(s, c, b, a) {
+        return Found::At(a);
+    }
+    Found::Nothing
 }

@@ -433,7 +433,7 @@ pub +infer+infer-binary+infer-call+infer-check+infer-enable+infer-function+infer
     (λ c κs. let h = if-third (c .before .before .before .before .before .before .before .before .before .pre .1 .0)
     (c .before .before .before .before .before .before .before .before .before .pre .1 .1) in
     (omega (arith, c .before .before .before .before .before .before .before .before .before .pre .0, h .lower), h .ready))  -- infer-if-infer-requires-3
-    (λ c κs. search needs)  -- infer-if-branched-requires
+    (λ c κs. c .before .before .before .before .before .before .before .before .before .before .pre .1 .0 .ready .sheet)  -- infer-if-branched-requires
     (λ c. if-is (c .before .before .before .before .before .before .before .before .before .before .before .pre .1 .0) _
     (c .before .before .before .before .before .before .before .before .before .before .before .pre .1 .1)
     (c .before .before .before .before .before .before .before .i .given .1)
@@ -511,8 +511,10 @@ pub +infer+infer-binary+infer-call+infer-check+infer-enable+infer-function+infer
     (c .before .before .infer .ensures) (c .before .match .keys2))  -- infer-test-returns
     (λ c κs. let h = test-second (c .before .before .before .before .before .pre .1 .0) (c .before .before .before .before .before .pre .1 .1) in
     (omega (arith, c .before .before .before .before .before .pre .0, h .lower), h .ready))  -- infer-test-infer-requires-2
-    (λ c κs. test-privilege (c .before .before .before .before .before .before .pre .1 .0)
-    (c .before .before .before .before .before .before .pre .1 .1))  -- infer-test-tested-requires
+    (λ c κs. (
+      c .before .before .before .before .before .before .pre .1 .0 .ready .sheet,
+      test-privilege (c .before .before .before .before .before .before .pre .1 .0) (c .before .before .before .before .before .before .pre .1 .1),
+    ))  -- infer-test-tested-requires
     (λ c. test-is (c .before .before .before .before .before .before .before .pre .1 .0) _
     (c .before .before .before .before .before .before .before .pre .1 .1) (c .before .before .before .j .given .1)
     (c .before .before .before .before .before .infer .ensures) (c .before .infer2 .ensures) (c .tested .ensures))  -- infer-test-returns-2
