@@ -62,7 +62,7 @@ pub record Child (s : List ℕ) (c : Counts) (t y : ℕ) (b : Bindings) (n : ℕ
   pub lower : y < t
   pub ready : Ready s c y b n
 
-module _ {s : List ℕ} {c : Counts} {t : ℕ} {b : Bindings} {n : ℕ} {x : TermRecord} (W : ReadyAt s c t b n x) where
+module _ {s : List ℕ} {c : Counts} {l : List ℕ} {t : ℕ} {b : Bindings} {n : ℕ} {x : TermRecord} (W : ReadyAt s c l t b n x) where
   well : WellFormed s
   well = W .ready .sheet .well-formed
 

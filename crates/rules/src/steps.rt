@@ -2,6 +2,7 @@
 use crate::bindings::Bindings;
 use crate::bindings::Found;
 use crate::bindings::lookup;
+use crate::known::Known;
 use crate::subtypes::is_function;
 use crate::subtypes::subtype;
 use crate::subtypes::wider;
@@ -14,7 +15,8 @@ ghost use mathlib.Core.Path.{_≡_};
 ghost use Prim.Native.Nat.{_<_, _≤_};
 ghost use Rattle.program.specs.Layout.{typesOf};
 ghost use Rattle.typing.specs.Checking.{joined as joinedOf};
-ghost use Rattle.rules.specs.Inference.{inferredModel, context, Sheet};
+ghost use Rattle.rules.specs.Inference.{inferredModel, context};
+ghost use Rattle.rules.specs.Known.{Judging, Answered};
 ghost use Rattle.rules.specs.Steps.{
   foundOf,
   leafStep,
@@ -131,15 +133,25 @@ pub fn joined(t: u16, w: Found, needs: u32) -> Inferred
 }
 
 // Of a test of privilege p: the first branch's type and needs, of which p is taken out, and the second's judgement.
-pub fn tested(s: &[u8], c: Counts, p: u8, t: u16, ty1: u16, needs1: u32, j: Inferred) -> Inferred
-    requires { ⌜ Sheet (now s) c ⌝ }
+pub fn tested(
+    s: &[u8],
+    c: Counts,
+    known: &mut Known,
+    p: u8,
+    t: u16,
+    ty1: u16,
+    needs1: u32,
+    j: Inferred,
+) -> Inferred
+    requires { ⌜ Judging (now s) c (now known) ⌝ }
     requires { ⌜ p < 32 ⌝ }
-    ensures { λ r. ⌜ inferredModel r ≡ testStep (typesOf (now (s .entry))) p t ty1 needs1 (inferredModel j) ⌝ }
+    ensures { λ r. ⌜ Answered (typesOf (now (s .entry))) (inferredModel r) (testStep (typesOf (now (s .entry))) p t ty1 needs1 (inferredModel j))
+        (now (known .exit)) ⌝ }
 {
     let Inferred::Typed { ty, needs } = j else {
         return j;
     };
-    let w = wider(s, c, ty1, ty);
+    let w = wider(s, c, known, ty1, ty);
     let yes = privileges::remove(p, needs1);
     let both = privileges::union(yes, needs);
     joined(t, w, both)
@@ -149,6 +161,7 @@ pub fn tested(s: &[u8], c: Counts, p: u8, t: u16, ty1: u16, needs1: u32, j: Infe
 pub fn branched(
     s: &[u8],
     c: Counts,
+    known: &mut Known,
     t: u16,
     ty0: u16,
     needs0: u32,
@@ -156,8 +169,9 @@ pub fn branched(
     needs1: u32,
     j: Inferred,
 ) -> Inferred
-    requires { ⌜ Sheet (now s) c ⌝ }
-    ensures { λ r. ⌜ inferredModel r ≡ ifStep (typesOf (now (s .entry))) t ty0 needs0 ty1 needs1 (inferredModel j) ⌝ }
+    requires { ⌜ Judging (now s) c (now known) ⌝ }
+    ensures { λ r. ⌜ Answered (typesOf (now (s .entry))) (inferredModel r) (ifStep (typesOf (now (s .entry))) t ty0 needs0 ty1 needs1 (inferredModel j))
+        (now (known .exit)) ⌝ }
 {
     let Inferred::Typed { ty, needs } = j else {
         return j;
@@ -165,7 +179,7 @@ pub fn branched(
     if 0 < ty0 {
         return Inferred::Faulty(Fault::Type(t));
     }
-    let w = wider(s, c, ty1, ty);
+    let w = wider(s, c, known, ty1, ty);
     let both = privileges::union(needs1, needs);
     let all = privileges::union(needs0, both);
     joined(t, w, all)
@@ -232,9 +246,18 @@ pub fn letrec_of(f: TypeRecord, t: u16, ty1: u16, needs1: u32, rest: Inferred) -
 }
 
 // Of a call: the function's type and needs, and the argument's judgement.
-pub fn call_of(s: &[u8], c: Counts, t: u16, ty1: u16, needs1: u32, j: Inferred) -> Inferred
-    requires { ⌜ Sheet (now s) c ⌝ }
-    ensures { λ r. ⌜ inferredModel r ≡ callStep (typesOf (now (s .entry))) t ty1 needs1 (inferredModel j) ⌝ }
+pub fn call_of(
+    s: &[u8],
+    c: Counts,
+    known: &mut Known,
+    t: u16,
+    ty1: u16,
+    needs1: u32,
+    j: Inferred,
+) -> Inferred
+    requires { ⌜ Judging (now s) c (now known) ⌝ }
+    ensures { λ r. ⌜ Answered (typesOf (now (s .entry))) (inferredModel r) (callStep (typesOf (now (s .entry))) t ty1 needs1 (inferredModel j))
+        (now (known .exit)) ⌝ }
 {
     let Inferred::Typed { ty, needs } = j else {
         return j;
@@ -243,7 +266,7 @@ pub fn call_of(s: &[u8], c: Counts, t: u16, ty1: u16, needs1: u32, j: Inferred) 
         return Inferred::Faulty(Fault::Type(t));
     }
     let f = accessors::type_record(s, c, ty1);
-    if subtype(s, c, ty, f.arg) {
+    if subtype(s, c, known, ty, f.arg) {
         let both = privileges::union(needs1, needs);
         return Inferred::Typed {
             ty: f.res,

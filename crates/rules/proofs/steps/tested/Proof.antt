@@ -1,4 +1,5 @@
--- The judgement is `testStep`: the second branch's fault; or that of two branches, with the union of the second's needs and the first's without p.
+-- The judgement is `testStep`: the second branch's fault; or that of two branches, with the union of the second's needs and the first's without p. The
+-- table stays right.
 use borrow.Author.Needs.{needs}
 use Rattle.rules.specs.Steps.{testStep}
 use Rattle.rules.proofs.StepLaws.{stop, test-joined}
@@ -13,11 +14,13 @@ enum-told c = search needs
 
 returns : tie.Need-returns
 unfolding testStep
-returns c = stop _ (c .before .before .before .args .j) (c .before .match .keys2)
+returns c =
+    let start = c .before .before .before in
+    record { is = stop _ (start .args .j) (c .before .match .keys2); known = start .pre .0 .known }
 
 wider-requires : tie.Need-wider-requires
 wider-requires c κs =
-    let start = c .before .before .before .before in
+    let start = c .before .before .before .before .before in
     start .pre .0
 
 remove-requires : tie.Need-remove-requires
@@ -31,9 +34,13 @@ joined-requires c κs = search needs
 
 returns-2 : tie.Need-returns-2
 returns-2 c =
-    let at-j = c .before .before .before .before .before in
-    test-joined (at-j .j .given .1) _ _ _ _ _ (c .before .before .before .wider .ensures) (c .before .before .remove .ensures) (c .before .union .ensures)
-    (c .joined .ensures)
+    let at-wider = c .before .before .before in
+    let at-j = at-wider .before .before .before in
+    record {
+      is = test-joined (at-j .j .given .1) _ _ _ _ _ (at-wider .wider .ensures .is) (c .before .before .remove .ensures) (c .before .union .ensures)
+          (c .joined .ensures);
+      known = at-wider .wider .ensures .known;
+    }
 
 pub tested-spec : {M : Type 1} → statement M
 tested-spec =
