@@ -62,7 +62,7 @@ pub record Child (s : List ℕ) (c : Counts) (t y : ℕ) (b : Bindings) (n : ℕ
   pub lower : y < t
   pub ready : Ready s c y b n
 
-module _ {s : List ℕ} {c : Counts} {t : ℕ} {b : Bindings} {n : ℕ} {x : TermRecord} (W : ReadyAt s c t b n x) where
+module _ {s : List ℕ} {c : Counts} {l : List ℕ} {t : ℕ} {b : Bindings} {n : ℕ} {x : TermRecord} (W : ReadyAt s c l t b n x) where
   well : WellFormed s
   well = W .ready .sheet .well-formed
 
@@ -304,7 +304,7 @@ module _ {s : List ℕ} {c : Counts} {t : ℕ} {b : Bindings} {n : ℕ} {x : Ter
 
     -- ---- two children
     abbrev test-rest : (τ N : ℕ) → Judgement
-    test-rest τ N = testStep (x .small) t τ N (J (x .second))
+    test-rest τ N = testStep (typesOf s) (x .small) t τ N (J (x .second))
 
     test-as : x .kind ≡ 10 → J t ≡ (J (x .first) next test-rest)
     unfolding termJudgement infer testStep
@@ -314,8 +314,8 @@ module _ {s : List ℕ} {c : Counts} {t : ℕ} {b : Bindings} {n : ℕ} {x : Ter
     test-stops e j p h = stops test-rest (test-as e) j p h
 
     pub test-is : x .kind ≡ 10 → {j : Inferred} {τ N : ℕ} → j ≡ Typed τ N → inferredModel j ≡ J (x .first) → {k r : Judgement} → k ≡ J (x .second)
-        → r ≡ testStep (x .small) t τ N k → r ≡ J t
-    test-is e {τ = τ} {N = N} h p q r = ends (testStep (x .small) t τ N) q (goes test-rest (test-as e) h p) r
+        → r ≡ testStep (typesOf s) (x .small) t τ N k → r ≡ J t
+    test-is e {τ = τ} {N = N} h p q r = ends (testStep (typesOf s) (x .small) t τ N) q (goes test-rest (test-as e) h p) r
 
     abbrev call-rest : (φ N : ℕ) → Judgement
     call-rest φ N = callStep (typesOf s) t φ N (J (x .second))
@@ -354,7 +354,7 @@ module _ {s : List ℕ} {c : Counts} {t : ℕ} {b : Bindings} {n : ℕ} {x : Ter
 
     -- ---- three children
     abbrev branch-rest : (σ N τ M : ℕ) → Judgement
-    branch-rest σ N τ M = ifStep t σ N τ M (J (x .third))
+    branch-rest σ N τ M = ifStep (typesOf s) t σ N τ M (J (x .third))
 
     abbrev if-rest : (σ N : ℕ) → Judgement
     if-rest σ N = J (x .second) next branch-rest σ N
@@ -371,8 +371,8 @@ module _ {s : List ℕ} {c : Counts} {t : ℕ} {b : Bindings} {n : ℕ} {x : Ter
       branch-stops j q g = stops (branch-rest σ N) (goes if-rest (if-as e) h p) j q g
 
       pub if-is : {j : Inferred} {τ M : ℕ} → j ≡ Typed τ M → inferredModel j ≡ J (x .second) → {k r : Judgement} → k ≡ J (x .third)
-          → r ≡ ifStep t σ N τ M k → r ≡ J t
-      if-is {τ = τ} {M = M} g q v r = ends (ifStep t σ N τ M) v (goes (branch-rest σ N) (goes if-rest (if-as e) h p) g q) r
+          → r ≡ ifStep (typesOf s) t σ N τ M k → r ≡ J t
+      if-is {τ = τ} {M = M} g q v r = ends (ifStep (typesOf s) t σ N τ M) v (goes (branch-rest σ N) (goes if-rest (if-as e) h p) g q) r
 
     -- ---- binders; `inner` and `outer` are the bindings of the body and of the rest
     module _ (f : TypeRecord) (hf : f ≡ typeRecord s c (x .first)) (same : context b ≡ Γ) where

@@ -6,81 +6,117 @@ use program::records::Counts;
 use program::records::TermRecord;
 use rules::bindings::Bindings;
 use rules::bindings::push;
+use rules::known::Known;
 use rules::steps;
 use typing::answer::Inferred;
 ghost use mathlib.Core.Path.{_≡_};
 ghost use Prim.Native.Nat.{_<_, _≤_};
-ghost use Rattle.rules.specs.Inference.{inferredModel, context, termJudgement, Ready};
-ghost use Rattle.checker.specs.Internal.{ReadyAt};
+ghost use Rattle.program.specs.Layout.{typesOf};
+ghost use Rattle.rules.specs.Inference.{context, Ready};
+ghost use Rattle.rules.specs.Known.{Known as KnownOf};
+ghost use Rattle.checker.specs.Internal.{ReadyAt, Judged};
 
-// The type and needs of term t under the bindings b and the principal n, or its first fault.
-pub fn infer(s: &[u8], c: Counts, t: u16, b: Bindings, n: u8) -> Inferred
+// The type and needs of term t under the bindings b and the principal n, or its first fault. What is known of the sheet's types is handed on.
+pub fn infer(s: &[u8], c: Counts, known: &mut Known, t: u16, b: Bindings, n: u8) -> Inferred
     requires { ⌜ Ready (now s) c t b n ⌝ }
-    ensures { λ r. ⌜ inferredModel r ≡ termJudgement (now (s .entry)) (context b) n t ⌝ }
+    requires { ⌜ KnownOf (typesOf (now s)) (now known) ⌝ }
+    ensures { λ r. ⌜ Judged (now (s .entry)) (context b) n t r (now (known .exit)) ⌝ }
 {
     let x = term(s, c, t);
     let kind = x.kind;
     match kind {
         0..=2 => steps::leaf(t, x, b),
-        3 => infer_function(s, c, t, x, b, n),
-        4 => infer_letrec(s, c, t, x, b, n),
-        5 => infer_call(s, c, t, x, b, n),
-        6 => infer_if(s, c, t, x, b, n),
-        7 => infer_check(s, c, t, x, b, n),
-        8 => infer_enable(s, c, t, x, b, n),
-        9 => infer_sign(s, c, t, x, b, n),
-        10 => infer_test(s, c, t, x, b, n),
-        11..=13 => infer_binary(s, c, t, x, b, n),
-        _ => infer_post(s, c, t, x, b, n),
+        3 => infer_function(s, c, known, t, x, b, n),
+        4 => infer_letrec(s, c, known, t, x, b, n),
+        5 => infer_call(s, c, known, t, x, b, n),
+        6 => infer_if(s, c, known, t, x, b, n),
+        7 => infer_check(s, c, known, t, x, b, n),
+        8 => infer_enable(s, c, known, t, x, b, n),
+        9 => infer_sign(s, c, known, t, x, b, n),
+        10 => infer_test(s, c, known, t, x, b, n),
+        11..=13 => infer_binary(s, c, known, t, x, b, n),
+        _ => infer_post(s, c, known, t, x, b, n),
     }
 }
 
-fn infer_function(s: &[u8], c: Counts, t: u16, x: TermRecord, b: Bindings, n: u8) -> Inferred
-    requires { ⌜ ReadyAt (now s) c t b n x ⌝ }
+fn infer_function(
+    s: &[u8],
+    c: Counts,
+    known: &mut Known,
+    t: u16,
+    x: TermRecord,
+    b: Bindings,
+    n: u8,
+) -> Inferred
+    requires { ⌜ ReadyAt (now s) c (now known) t b n x ⌝ }
     requires { ⌜ x .kind ≡ 3 ⌝ }
-    ensures { λ r. ⌜ inferredModel r ≡ termJudgement (now (s .entry)) (context b) n t ⌝ }
+    ensures { λ r. ⌜ Judged (now (s .entry)) (context b) n t r (now (known .exit)) ⌝ }
 {
     let f = type_record(s, c, x.first);
     let inner = push(b, f.arg);
-    let j = infer(s, c, x.second, inner, n);
+    let j = infer(s, c, known, x.second, inner, n);
     steps::function_of(f, x.first, t, j)
 }
 
-fn infer_letrec(s: &[u8], c: Counts, t: u16, x: TermRecord, b: Bindings, n: u8) -> Inferred
-    requires { ⌜ ReadyAt (now s) c t b n x ⌝ }
+fn infer_letrec(
+    s: &[u8],
+    c: Counts,
+    known: &mut Known,
+    t: u16,
+    x: TermRecord,
+    b: Bindings,
+    n: u8,
+) -> Inferred
+    requires { ⌜ ReadyAt (now s) c (now known) t b n x ⌝ }
     requires { ⌜ x .kind ≡ 4 ⌝ }
-    ensures { λ r. ⌜ inferredModel r ≡ termJudgement (now (s .entry)) (context b) n t ⌝ }
+    ensures { λ r. ⌜ Judged (now (s .entry)) (context b) n t r (now (known .exit)) ⌝ }
 {
     let f = type_record(s, c, x.first);
     let outer = push(b, x.first);
     let inner = push(outer, f.arg);
-    let j = infer(s, c, x.second, inner, n);
+    let j = infer(s, c, known, x.second, inner, n);
     let Inferred::Typed { ty, needs } = j else {
         return j;
     };
-    let k = infer(s, c, x.third, outer, n);
+    let k = infer(s, c, known, x.third, outer, n);
     steps::letrec_of(f, t, ty, needs, k)
 }
 
-fn infer_call(s: &[u8], c: Counts, t: u16, x: TermRecord, b: Bindings, n: u8) -> Inferred
-    requires { ⌜ ReadyAt (now s) c t b n x ⌝ }
+fn infer_call(
+    s: &[u8],
+    c: Counts,
+    known: &mut Known,
+    t: u16,
+    x: TermRecord,
+    b: Bindings,
+    n: u8,
+) -> Inferred
+    requires { ⌜ ReadyAt (now s) c (now known) t b n x ⌝ }
     requires { ⌜ x .kind ≡ 5 ⌝ }
-    ensures { λ r. ⌜ inferredModel r ≡ termJudgement (now (s .entry)) (context b) n t ⌝ }
+    ensures { λ r. ⌜ Judged (now (s .entry)) (context b) n t r (now (known .exit)) ⌝ }
 {
-    let j = infer(s, c, x.first, b, n);
+    let j = infer(s, c, known, x.first, b, n);
     let Inferred::Typed { ty, needs } = j else {
         return j;
     };
-    let k = infer(s, c, x.second, b, n);
-    steps::call_of(s, c, t, ty, needs, k)
+    let k = infer(s, c, known, x.second, b, n);
+    steps::call_of(s, c, known, t, ty, needs, k)
 }
 
-fn infer_if(s: &[u8], c: Counts, t: u16, x: TermRecord, b: Bindings, n: u8) -> Inferred
-    requires { ⌜ ReadyAt (now s) c t b n x ⌝ }
+fn infer_if(
+    s: &[u8],
+    c: Counts,
+    known: &mut Known,
+    t: u16,
+    x: TermRecord,
+    b: Bindings,
+    n: u8,
+) -> Inferred
+    requires { ⌜ ReadyAt (now s) c (now known) t b n x ⌝ }
     requires { ⌜ x .kind ≡ 6 ⌝ }
-    ensures { λ r. ⌜ inferredModel r ≡ termJudgement (now (s .entry)) (context b) n t ⌝ }
+    ensures { λ r. ⌜ Judged (now (s .entry)) (context b) n t r (now (known .exit)) ⌝ }
 {
-    let i = infer(s, c, x.first, b, n);
+    let i = infer(s, c, known, x.first, b, n);
     let Inferred::Typed {
         ty: cond,
         needs: cond_needs,
@@ -88,76 +124,124 @@ fn infer_if(s: &[u8], c: Counts, t: u16, x: TermRecord, b: Bindings, n: u8) -> I
     else {
         return i;
     };
-    let j = infer(s, c, x.second, b, n);
+    let j = infer(s, c, known, x.second, b, n);
     let Inferred::Typed { ty, needs } = j else {
         return j;
     };
-    let k = infer(s, c, x.third, b, n);
-    steps::branched(t, cond, cond_needs, ty, needs, k)
+    let k = infer(s, c, known, x.third, b, n);
+    steps::branched(s, c, known, t, cond, cond_needs, ty, needs, k)
 }
 
-fn infer_check(s: &[u8], c: Counts, t: u16, x: TermRecord, b: Bindings, n: u8) -> Inferred
-    requires { ⌜ ReadyAt (now s) c t b n x ⌝ }
+fn infer_check(
+    s: &[u8],
+    c: Counts,
+    known: &mut Known,
+    t: u16,
+    x: TermRecord,
+    b: Bindings,
+    n: u8,
+) -> Inferred
+    requires { ⌜ ReadyAt (now s) c (now known) t b n x ⌝ }
     requires { ⌜ x .kind ≡ 7 ⌝ }
-    ensures { λ r. ⌜ inferredModel r ≡ termJudgement (now (s .entry)) (context b) n t ⌝ }
+    ensures { λ r. ⌜ Judged (now (s .entry)) (context b) n t r (now (known .exit)) ⌝ }
 {
-    let j = infer(s, c, x.first, b, n);
+    let j = infer(s, c, known, x.first, b, n);
     steps::checked(x.small, j)
 }
 
-fn infer_enable(s: &[u8], c: Counts, t: u16, x: TermRecord, b: Bindings, n: u8) -> Inferred
-    requires { ⌜ ReadyAt (now s) c t b n x ⌝ }
+fn infer_enable(
+    s: &[u8],
+    c: Counts,
+    known: &mut Known,
+    t: u16,
+    x: TermRecord,
+    b: Bindings,
+    n: u8,
+) -> Inferred
+    requires { ⌜ ReadyAt (now s) c (now known) t b n x ⌝ }
     requires { ⌜ x .kind ≡ 8 ⌝ }
-    ensures { λ r. ⌜ inferredModel r ≡ termJudgement (now (s .entry)) (context b) n t ⌝ }
+    ensures { λ r. ⌜ Judged (now (s .entry)) (context b) n t r (now (known .exit)) ⌝ }
 {
-    let j = infer(s, c, x.first, b, n);
+    let j = infer(s, c, known, x.first, b, n);
     let may = authority(s, n as u32);
     steps::enabled(may, x.small, j)
 }
 
 // The child is judged under the principal that signs it.
-fn infer_sign(s: &[u8], c: Counts, t: u16, x: TermRecord, b: Bindings, n: u8) -> Inferred
-    requires { ⌜ ReadyAt (now s) c t b n x ⌝ }
+fn infer_sign(
+    s: &[u8],
+    c: Counts,
+    known: &mut Known,
+    t: u16,
+    x: TermRecord,
+    b: Bindings,
+    n: u8,
+) -> Inferred
+    requires { ⌜ ReadyAt (now s) c (now known) t b n x ⌝ }
     requires { ⌜ x .kind ≡ 9 ⌝ }
-    ensures { λ r. ⌜ inferredModel r ≡ termJudgement (now (s .entry)) (context b) n t ⌝ }
+    ensures { λ r. ⌜ Judged (now (s .entry)) (context b) n t r (now (known .exit)) ⌝ }
 {
-    let j = infer(s, c, x.first, b, x.small);
+    let j = infer(s, c, known, x.first, b, x.small);
     let may = authority(s, x.small as u32);
     steps::signed(may, t, j)
 }
 
-fn infer_test(s: &[u8], c: Counts, t: u16, x: TermRecord, b: Bindings, n: u8) -> Inferred
-    requires { ⌜ ReadyAt (now s) c t b n x ⌝ }
+fn infer_test(
+    s: &[u8],
+    c: Counts,
+    known: &mut Known,
+    t: u16,
+    x: TermRecord,
+    b: Bindings,
+    n: u8,
+) -> Inferred
+    requires { ⌜ ReadyAt (now s) c (now known) t b n x ⌝ }
     requires { ⌜ x .kind ≡ 10 ⌝ }
-    ensures { λ r. ⌜ inferredModel r ≡ termJudgement (now (s .entry)) (context b) n t ⌝ }
+    ensures { λ r. ⌜ Judged (now (s .entry)) (context b) n t r (now (known .exit)) ⌝ }
 {
-    let j = infer(s, c, x.first, b, n);
+    let j = infer(s, c, known, x.first, b, n);
     let Inferred::Typed { ty, needs } = j else {
         return j;
     };
-    let k = infer(s, c, x.second, b, n);
-    steps::tested(x.small, t, ty, needs, k)
+    let k = infer(s, c, known, x.second, b, n);
+    steps::tested(s, c, known, x.small, t, ty, needs, k)
 }
 
-fn infer_binary(s: &[u8], c: Counts, t: u16, x: TermRecord, b: Bindings, n: u8) -> Inferred
-    requires { ⌜ ReadyAt (now s) c t b n x ⌝ }
+fn infer_binary(
+    s: &[u8],
+    c: Counts,
+    known: &mut Known,
+    t: u16,
+    x: TermRecord,
+    b: Bindings,
+    n: u8,
+) -> Inferred
+    requires { ⌜ ReadyAt (now s) c (now known) t b n x ⌝ }
     requires { ⌜ (11 ≤ x .kind) × (x .kind < 14) ⌝ }
-    ensures { λ r. ⌜ inferredModel r ≡ termJudgement (now (s .entry)) (context b) n t ⌝ }
+    ensures { λ r. ⌜ Judged (now (s .entry)) (context b) n t r (now (known .exit)) ⌝ }
 {
-    let j = infer(s, c, x.first, b, n);
+    let j = infer(s, c, known, x.first, b, n);
     let Inferred::Typed { ty, needs } = j else {
         return j;
     };
-    let k = infer(s, c, x.second, b, n);
+    let k = infer(s, c, known, x.second, b, n);
     let result = steps::result_of(x.kind);
     steps::computed(result, t, ty, needs, k)
 }
 
-fn infer_post(s: &[u8], c: Counts, t: u16, x: TermRecord, b: Bindings, n: u8) -> Inferred
-    requires { ⌜ ReadyAt (now s) c t b n x ⌝ }
+fn infer_post(
+    s: &[u8],
+    c: Counts,
+    known: &mut Known,
+    t: u16,
+    x: TermRecord,
+    b: Bindings,
+    n: u8,
+) -> Inferred
+    requires { ⌜ ReadyAt (now s) c (now known) t b n x ⌝ }
     requires { ⌜ x .kind ≡ 14 ⌝ }
-    ensures { λ r. ⌜ inferredModel r ≡ termJudgement (now (s .entry)) (context b) n t ⌝ }
+    ensures { λ r. ⌜ Judged (now (s .entry)) (context b) n t r (now (known .exit)) ⌝ }
 {
-    let j = infer(s, c, x.first, b, n);
+    let j = infer(s, c, known, x.first, b, n);
     steps::posted(t, j)
 }

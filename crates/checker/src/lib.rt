@@ -5,6 +5,8 @@ use crate::infer::infer;
 use program::answer::Decoded;
 use program::records::Counts;
 use rules::bindings::Bindings;
+use rules::known::KNOWN_WORDS;
+use rules::known::Known;
 use typing::answer::Fault;
 use typing::answer::Inferred;
 use typing::answer::Verdict;
@@ -36,7 +38,8 @@ fn infer_program(s: &[u8], c: Counts) -> Verdict
         types: [0; 32],
         len: 0,
     };
-    let j = infer(s, c, root, none, 0);
+    let mut known: Known = [0; KNOWN_WORDS];
+    let j = infer(s, c, &mut known, root, none, 0);
     conclude(terms, root, j)
 }
 

@@ -5,7 +5,7 @@ use Prim.Native.Nat.{ℕ}
 use Rattle.privileges.specs.Sets.{has, meet, union, insert, remove, subset}
 use Rattle.program.specs.Screening.{tell, screen}
 use Rattle.program.specs.Decoding.{decoding}
-use Rattle.typing.specs.Subtyping.{subtypeIn, subtype}
+use Rattle.typing.specs.Subtyping.{subtypeIn, subtype, wider}
 use Rattle.typing.specs.Rules.{removeAuthorised}
 use Rattle.typing.specs.Checking.{infer}
 use Rattle.typing.specs.Verdicts.{verdict}
@@ -30,7 +30,7 @@ sheet =
     ∷ 9 ∷ 0 ∷ 0 ∷ 3 ∷ 0 ∷ 0 ∷ 0 ∷ 0 ∷ []
 
 pub prints : printed sheet ≡ ascii "terms 5\nneeds 00000000\ntype num\nend num 7 calls 0 cells 0 posts 1\n"
-unfolding printed decimal decimalIn hexadecimal verdict decoding screen tell infer subtype subtypeIn removeAuthorised course eval apply evalWith addAuthorised has meet union insert remove subset
+unfolding printed decimal decimalIn hexadecimal verdict decoding screen tell infer subtype subtypeIn wider removeAuthorised course eval apply evalWith addAuthorised has meet union insert remove subset
 prints = refl
 
 -- ---- other sheets: one principal, types 0 and 1, and so many bytes of terms
@@ -50,7 +50,7 @@ pub stops : printed (sheetOf 2 32
     ∷ 7 ∷ 1 ∷ 0 ∷ 1 ∷ 0 ∷ 0 ∷ 0 ∷ 0
     ∷ 9 ∷ 0 ∷ 0 ∷ 2 ∷ 0 ∷ 0 ∷ 0 ∷ 0 ∷ []))
     ≡ ascii "terms 4\nneeds 00000002\ntype num\nstop 17 at 2 calls 0 cells 0 posts 0\n"
-unfolding printed decimal decimalIn hexadecimal verdict decoding screen tell infer subtype subtypeIn removeAuthorised course eval apply evalWith addAuthorised has meet union insert remove subset
+unfolding printed decimal decimalIn hexadecimal verdict decoding screen tell infer subtype subtypeIn wider removeAuthorised course eval apply evalWith addAuthorised has meet union insert remove subset
 stops = refl
 
 -- "With A(0) empty: refused 11 at 4"
@@ -61,13 +61,13 @@ pub refuses : printed (sheetOf 0 40
     ∷ 8 ∷ 1 ∷ 0 ∷ 2 ∷ 0 ∷ 0 ∷ 0 ∷ 0
     ∷ 9 ∷ 0 ∷ 0 ∷ 3 ∷ 0 ∷ 0 ∷ 0 ∷ 0 ∷ []))
     ≡ ascii "refused 11 at 4\n"
-unfolding printed decimal decimalIn hexadecimal verdict decoding screen tell infer subtype subtypeIn removeAuthorised course eval apply evalWith addAuthorised has meet union insert remove subset
+unfolding printed decimal decimalIn hexadecimal verdict decoding screen tell infer subtype subtypeIn wider removeAuthorised course eval apply evalWith addAuthorised has meet union insert remove subset
 refuses = refl
 
 -- "a boolean prints `bool 0` or `bool 1`"
 pub ends-true : printed (sheetOf 0 16 (0 ∷ 1 ∷ 0 ∷ 0 ∷ 0 ∷ 0 ∷ 0 ∷ 0 ∷ 9 ∷ 0 ∷ 0 ∷ 0 ∷ 0 ∷ 0 ∷ 0 ∷ 0 ∷ []))
     ≡ ascii "terms 2\nneeds 00000000\ntype bool\nend bool 1 calls 0 cells 0 posts 0\n"
-unfolding printed decimal decimalIn hexadecimal verdict decoding screen tell infer subtype subtypeIn removeAuthorised course eval apply evalWith addAuthorised has meet union insert remove subset
+unfolding printed decimal decimalIn hexadecimal verdict decoding screen tell infer subtype subtypeIn wider removeAuthorised course eval apply evalWith addAuthorised has meet union insert remove subset
 ends-true = refl
 
 -- "Empty file: 1."

@@ -1,3 +1,4 @@
 pub mod BindingLaws
+pub mod KnownLaws
 pub mod SubtypeLaws
 pub mod StepLaws

@@ -1,6 +1,7 @@
 -- A law for each way that a step of judging ends. Assumes nothing.
 use mathlib.Core.Bool.{Bool, true, false, _&&_}
 use mathlib.Core.List.{List}
+use mathlib.Core.Option.{Option}
 use mathlib.Core.Path.{_≡_, refl, sym, ap, _∙_}
 use Prim.Native.Nat.{ℕ, zero, suc, _<_, _≤_}
 use native.Mathlib.Omega.{arith}
@@ -9,14 +10,14 @@ use borrow.Author.Tests.{eq-eqb, ne-eqb}
 use denote.Enum.Declared.{tagOf}
 use Rattle.typing.proofs.answer.Inferred.{the-type}
 use Rattle.privileges.specs.Sets.{has, union, insert, remove, subset}
-use Rattle.program.specs.Layout.{typesOf}
+use Rattle.program.specs.Layout.{Types, typesOf}
 use Rattle.program.specs.Records.{typeRecord}
 use Rattle.program.specs.declared.records.Counts.{Counts}
 use Rattle.program.specs.declared.records.TermRecord.{TermRecord}
 use Rattle.program.specs.declared.records.TypeRecord.{TypeRecord}
-use Rattle.typing.specs.Subtyping.{subtype}
+use Rattle.typing.specs.Subtyping.{subtype, wider}
 use Rattle.typing.specs.Rules.{bound}
-use Rattle.typing.specs.Checking.{Judgement, typed, fault, _next_, require, variableType}
+use Rattle.typing.specs.Checking.{Judgement, typed, fault, _next_, require, variableType, joined}
 use Rattle.rules.specs.Inference.{inferredModel, Sheet}
 use Rattle.rules.specs.Steps.{foundOf, leafBy, leafStep, checkStep, enableStep, signStep, postStep, testStep, ifStep, binaryStep, bodyStep, functionStep, letrecStep, callStep, resultOf}
 use Rattle.typing.specs.declared.answer.Inferred.{Inferred}
@@ -62,6 +63,14 @@ pub result-number : (k : ℕ) → (k ≡ 13 → ⊥) → 1 ≡ resultOf k
 unfolding resultOf
 result-number k n = rw (ne-eqb k 13 n) refl
 
+-- ---- two branches
+module _ {w : Found} (t N : ℕ) where
+  pub joined-typed : {ty : ℕ} → w ≡ At ty → typed ty N ≡ joined t (foundOf w) N
+  joined-typed e = rw e refl
+
+  pub joined-fault : w ≡ Nothing → fault 10 t ≡ joined t (foundOf w) N
+  joined-fault e = rw e refl
+
 -- ---- a typed last child
 module _ {j : Inferred} {τ N : ℕ} (e : j ≡ Typed τ N) where
   pub check-typed : (p : ℕ) {M : ℕ} → M ≡ insert p N → typed τ M ≡ checkStep p (inferredModel j)
@@ -92,25 +101,20 @@ module _ {j : Inferred} {τ N : ℕ} (e : j ≡ Typed τ N) where
   unfolding postStep
   post-other t h = rw (e, ne-eqb τ 1 h) refl
 
-  pub test-same : (p t σ P : ℕ) {Y K : ℕ} → σ ≡ τ → Y ≡ remove p P → K ≡ union Y N → typed τ K ≡ testStep p t σ P (inferredModel j)
+  -- two branches, of which j is the second; w is the wider of their types
+  pub test-joined : (T : Types) (p t σ P : ℕ) {w : Option ℕ} {Y K : ℕ} {r : Judgement} → w ≡ wider T σ τ → Y ≡ remove p P → K ≡ union Y N
+      → r ≡ joined t w K → r ≡ testStep T p t σ P (inferredModel j)
   unfolding testStep
-  test-same p t σ P h y g = rw (e, eq-eqb σ τ h, g, y) refl
+  test-joined T p t σ P h y g r = rw (e, ← y, ← g, ← h) r
 
-  pub test-differs : (p t σ P : ℕ) → (σ ≡ τ → ⊥) → fault 10 t ≡ testStep p t σ P (inferredModel j)
-  unfolding testStep
-  test-differs p t σ P h = rw (e, ne-eqb σ τ h) refl
-
-  pub if-cond : (t ρ Q σ P : ℕ) → 0 < ρ → fault 10 t ≡ ifStep t ρ Q σ P (inferredModel j)
+  pub if-cond : (T : Types) (t ρ Q σ P : ℕ) → 0 < ρ → fault 10 t ≡ ifStep T t ρ Q σ P (inferredModel j)
   unfolding ifStep
-  if-cond t ρ Q σ P h = rw (e, ne-eqb ρ 0 (λ z. absurd (omega arith))) refl
+  if-cond T t ρ Q σ P h = rw (e, ne-eqb ρ 0 (λ z. absurd (omega arith))) refl
 
-  pub if-same : (t ρ Q σ P : ℕ) {K L : ℕ} → ρ ≤ 0 → σ ≡ τ → K ≡ union P N → L ≡ union Q K → typed τ L ≡ ifStep t ρ Q σ P (inferredModel j)
+  pub if-joined : (T : Types) (t ρ Q σ P : ℕ) {w : Option ℕ} {K L : ℕ} {r : Judgement} → ρ ≤ 0 → w ≡ wider T σ τ → K ≡ union P N → L ≡ union Q K
+      → r ≡ joined t w L → r ≡ ifStep T t ρ Q σ P (inferredModel j)
   unfolding ifStep
-  if-same t ρ Q σ P h q g l = rw (e, eq-eqb ρ 0 (omega arith), eq-eqb σ τ q, l, g) refl
-
-  pub if-differs : (t ρ Q σ P : ℕ) → ρ ≤ 0 → (σ ≡ τ → ⊥) → fault 10 t ≡ ifStep t ρ Q σ P (inferredModel j)
-  unfolding ifStep
-  if-differs t ρ Q σ P h q = rw (e, eq-eqb ρ 0 (omega arith), ne-eqb σ τ q) refl
+  if-joined T t ρ Q σ P z h g l r = rw (e, eq-eqb ρ 0 (omega arith), ← g, ← l, ← h) r
 
   pub binary-numbers : (r t σ P : ℕ) {K : ℕ} → σ ≡ 1 → τ ≡ 1 → K ≡ union P N → typed r K ≡ binaryStep r t σ P (inferredModel j)
   unfolding binaryStep

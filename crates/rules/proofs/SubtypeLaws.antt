@@ -1,6 +1,7 @@
--- What the test of two types answers, way by way. Assumes nothing.
-use mathlib.Core.Bool.{Bool, true, false, _&&_}
+-- What the test of two types answers, way by way, and the choice of the wider. Assumes nothing.
+use mathlib.Core.Bool.{Bool, true, false, cond, _&&_}
 use mathlib.Core.List.{List}
+use mathlib.Core.Option.{Option, none, some}
 use mathlib.Core.Path.{_≡_, refl, sym, ap, _∙_}
 use Prim.Native.Nat.{ℕ, zero, suc, _+_, _-_, _<_, _≤_}
 use native.Mathlib.Omega.{arith}
@@ -12,10 +13,14 @@ use Rattle.program.specs.Layout.{Types, typesOf}
 use Rattle.program.specs.Records.{typeRecord}
 use Rattle.program.specs.declared.records.Counts.{Counts}
 use Rattle.program.specs.declared.records.TypeRecord.{TypeRecord}
-use Rattle.program.specs.Laws.Types.{Lower, lower-types}
-use Rattle.typing.specs.Subtyping.{subtypeIn, subtype}
+use Rattle.program.specs.Limits.{maxTypes}
+use Rattle.program.specs.Laws.Types.{Lower, function-type, lower-types}
+use Rattle.typing.specs.Subtyping.{subtypeIn, subtype, wider}
+use Rattle.typing.specs.Laws.Subtyping.{subtype-sound, subtype-complete}
 use Rattle.rules.specs.Inference.{Sheet}
+use Rattle.rules.specs.Known.{knows, noted, Known, Answered}
 use Rattle.rules.specs.Laws.Records.{TypeParts, function-is, type-parts}
+use Rattle.rules.proofs.KnownLaws.{known-noted}
 
 -- ---- is_function
 pub function-low : (t n : ℕ) → t < 2 → false ≡ (leb 2 t && ltb t n)
@@ -65,9 +70,17 @@ also-false : (a : Bool) → (also a λ _. false) ≡ false
 also-false true = refl
 also-false false = refl
 
+-- a function type is one of the sheet's, of which there are at most 256
+pub small : {s : List ℕ} {c : Counts} → Sheet s c → (t : ℕ) {u : Bool} → u ≡ (leb 2 t && ltb t (c .types)) → u ≡ true → t < maxTypes
+small {s} S t h e = omega (arith, function-type s (S .well-formed) t (sym (function-is S t h) ∙ e) .inside, S .well-formed .types-most)
+
 module _ {s : List ℕ} {c : Counts} (S : Sheet s c) (a b : ℕ) where
   lower : Lower (typesOf s)
   lower = lower-types s (S .well-formed)
+
+  pub sub-known : {l : List ℕ} {k : Bool} → Known (typesOf s) l → a < maxTypes → b < maxTypes → k ≡ knows l a b → k ≡ true
+      → true ≡ subtype (typesOf s) a b
+  sub-known K ha hb p e = sym (subtype-complete (typesOf s) lower (K .fits a b ha hb (sym p ∙ e)))
 
   pub sub-equal : a ≡ b → true ≡ subtype (typesOf s) a b
   sub-equal e = sym (one-step (typesOf s) lower a b ∙ rw (eq-eqb a b e) refl)
@@ -126,3 +139,25 @@ module _ {s : List ℕ} {c : Counts} (S : Sheet s c) (a b : ℕ) where
 
               pub sub-results : j ≡ true → {r : Bool} → r ≡ subtype (typesOf s) (f .res) (g .res) → r ≡ subtype (typesOf s) a b
               sub-results e h = h ∙ sym (functions ∙ rw (← hj, e, ← hl, el) refl)
+
+              -- a pair that is a subtype pair may be noted
+              pub sub-noted : j ≡ true → {r : Bool} → r ≡ subtype (typesOf s) (f .res) (g .res) → r ≡ true → {l l′ : List ℕ} → Known (typesOf s) l
+                  → l′ ≡ noted l a b → Answered (typesOf s) true (subtype (typesOf s) a b) l′
+              sub-noted e h t {l} K n =
+                  let is : true ≡ subtype (typesOf s) a b = sym t ∙ sub-results e h in
+                  record { is = is; known = known-noted (typesOf s) l K a b (small S a hu eu) (small S b hv ev) (subtype-sound (typesOf s) a b (sym is)) n }
+
+-- ---- the wider of two types
+module _ (T : Types) (a b : ℕ) {x : Bool} (hx : x ≡ subtype T a b) where
+  pub wider-first-fits : x ≡ true → some b ≡ wider T a b
+  unfolding wider
+  wider-first-fits e = rw (← hx, e) refl
+
+  module _ (e : x ≡ false) {y : Bool} (hy : y ≡ subtype T b a) where
+    pub wider-second-fits : y ≡ true → some a ≡ wider T a b
+    unfolding wider
+    wider-second-fits g = rw (← hx, e, ← hy, g) refl
+
+    pub wider-neither : y ≡ false → none ≡ wider T a b
+    unfolding wider
+    wider-neither g = rw (← hx, e, ← hy, g) refl

@@ -1,3 +1,4 @@
 pub mod Inference
+pub mod Known
 pub mod Steps
 pub mod Laws

@@ -9,22 +9,23 @@ use Rattle.privileges.specs.Sets.{has, union, insert, remove, subset}
 use Rattle.program.specs.Layout.{Types}
 use Rattle.program.specs.declared.records.TermRecord.{TermRecord}
 use Rattle.program.specs.declared.records.TypeRecord.{TypeRecord}
-use Rattle.typing.specs.Subtyping.{subtype}
+use Rattle.typing.specs.Subtyping.{subtype, wider}
 use Rattle.typing.specs.Rules.{bound}
-use Rattle.typing.specs.Checking.{Judgement, typed, _next_, require, variableType}
+use Rattle.typing.specs.Checking.{Judgement, typed, _next_, require, variableType, joined}
 use Rattle.rules.specs.Inference.{context}
 use Rattle.rules.specs.declared.bindings.Bindings.{Bindings}
 use Rattle.rules.specs.declared.bindings.Found.{Found}
 use Rattle.rules.specs.declared.bindings.Found.the-variants.{At, Nothing}
 
+-- ---- a type that is looked for: of a binding, or of two branches
+abbrev pub foundOf : Found → Option ℕ
+foundOf (At ty) = some ty
+foundOf Nothing = none
+
 -- ---- bindings
 pub record Pushed (b : Bindings) (ty : ℕ) (r : Bindings) : Type 0 where
   pub context-is : context r ≡ ty ∷ context b
   pub len-is : r .len ≡ b .len + 1
-
-abbrev pub foundOf : Found → Option ℕ
-foundOf (At ty) = some ty
-foundOf Nothing = none
 
 -- ---- a term's judgement from that of its last child, the earlier ones being typed
 abbrev pub leafBy : (kind : ℕ) → Judgement → Judgement
@@ -47,11 +48,11 @@ signStep may at j = j next λ τ N. require (subset N may) 11 at (typed τ N)
 unfoldable pub postStep : (at : ℕ) → Judgement → Judgement
 postStep at j = j next λ τ N. require (eqb τ 1) 10 at (typed 1 N)
 
-unfoldable pub testStep : (p at τ N : ℕ) → Judgement → Judgement
-testStep p at τ N j = j next λ ρ M. require (eqb τ ρ) 10 at (typed ρ (union (remove p N) M))
+unfoldable pub testStep : Types → (p at τ N : ℕ) → Judgement → Judgement
+testStep T p at τ N j = j next λ ρ M. joined at (wider T τ ρ) (union (remove p N) M)
 
-unfoldable pub ifStep : (at σ N τ M : ℕ) → Judgement → Judgement
-ifStep at σ N τ M j = j next λ ρ K. require (eqb σ 0 && eqb τ ρ) 10 at (typed ρ (union N (union M K)))
+unfoldable pub ifStep : Types → (at σ N τ M : ℕ) → Judgement → Judgement
+ifStep T at σ N τ M j = j next λ ρ K. require (eqb σ 0) 10 at (joined at (wider T τ ρ) (union N (union M K)))
 
 unfoldable pub binaryStep : (result at τ N : ℕ) → Judgement → Judgement
 binaryStep σ at τ N j = j next λ ρ M. require (eqb τ 1 && eqb ρ 1) 10 at (typed σ (union N M))

@@ -2,8 +2,10 @@
 use crate::bindings::Bindings;
 use crate::bindings::Found;
 use crate::bindings::lookup;
+use crate::known::Known;
 use crate::subtypes::is_function;
 use crate::subtypes::subtype;
+use crate::subtypes::wider;
 use program::records::Counts;
 use program::records::TermRecord;
 use program::records::TypeRecord;
@@ -12,8 +14,11 @@ use typing::answer::Inferred;
 ghost use mathlib.Core.Path.{_≡_};
 ghost use Prim.Native.Nat.{_<_, _≤_};
 ghost use Rattle.program.specs.Layout.{typesOf};
-ghost use Rattle.rules.specs.Inference.{inferredModel, context, Sheet};
+ghost use Rattle.typing.specs.Checking.{joined as joinedOf};
+ghost use Rattle.rules.specs.Inference.{inferredModel, context};
+ghost use Rattle.rules.specs.Known.{Judging, Answered};
 ghost use Rattle.rules.specs.Steps.{
+  foundOf,
   leafStep,
   checkStep,
   enableStep,
@@ -114,27 +119,59 @@ pub fn posted(t: u16, j: Inferred) -> Inferred
     Inferred::Faulty(Fault::Type(t))
 }
 
+// Of two branches: the wider of their types, if there is one, and the needs of the term.
+pub fn joined(t: u16, w: Found, needs: u32) -> Inferred
+    ensures { λ r. ⌜ inferredModel r ≡ joinedOf t (foundOf w) needs ⌝ }
+{
+    match w {
+        Found::At(ty) => Inferred::Typed {
+            ty: ty,
+            needs: needs,
+        },
+        Found::Nothing => Inferred::Faulty(Fault::Type(t)),
+    }
+}
+
 // Of a test of privilege p: the first branch's type and needs, of which p is taken out, and the second's judgement.
-pub fn tested(p: u8, t: u16, ty1: u16, needs1: u32, j: Inferred) -> Inferred
+pub fn tested(
+    s: &[u8],
+    c: Counts,
+    known: &mut Known,
+    p: u8,
+    t: u16,
+    ty1: u16,
+    needs1: u32,
+    j: Inferred,
+) -> Inferred
+    requires { ⌜ Judging (now s) c (now known) ⌝ }
     requires { ⌜ p < 32 ⌝ }
-    ensures { λ r. ⌜ inferredModel r ≡ testStep p t ty1 needs1 (inferredModel j) ⌝ }
+    ensures { λ r. ⌜ Answered (typesOf (now (s .entry))) (inferredModel r) (testStep (typesOf (now (s .entry))) p t ty1 needs1 (inferredModel j))
+        (now (known .exit)) ⌝ }
 {
     let Inferred::Typed { ty, needs } = j else {
         return j;
     };
-    if ty1 == ty {
-        let yes = privileges::remove(p, needs1);
-        return Inferred::Typed {
-            ty: ty,
-            needs: privileges::union(yes, needs),
-        };
-    }
-    Inferred::Faulty(Fault::Type(t))
+    let w = wider(s, c, known, ty1, ty);
+    let yes = privileges::remove(p, needs1);
+    let both = privileges::union(yes, needs);
+    joined(t, w, both)
 }
 
 // Of an if: the condition's type and needs, the first branch's, and the second's judgement.
-pub fn branched(t: u16, ty0: u16, needs0: u32, ty1: u16, needs1: u32, j: Inferred) -> Inferred
-    ensures { λ r. ⌜ inferredModel r ≡ ifStep t ty0 needs0 ty1 needs1 (inferredModel j) ⌝ }
+pub fn branched(
+    s: &[u8],
+    c: Counts,
+    known: &mut Known,
+    t: u16,
+    ty0: u16,
+    needs0: u32,
+    ty1: u16,
+    needs1: u32,
+    j: Inferred,
+) -> Inferred
+    requires { ⌜ Judging (now s) c (now known) ⌝ }
+    ensures { λ r. ⌜ Answered (typesOf (now (s .entry))) (inferredModel r) (ifStep (typesOf (now (s .entry))) t ty0 needs0 ty1 needs1 (inferredModel j))
+        (now (known .exit)) ⌝ }
 {
     let Inferred::Typed { ty, needs } = j else {
         return j;
@@ -142,14 +179,10 @@ pub fn branched(t: u16, ty0: u16, needs0: u32, ty1: u16, needs1: u32, j: Inferre
     if 0 < ty0 {
         return Inferred::Faulty(Fault::Type(t));
     }
-    if ty1 == ty {
-        let both = privileges::union(needs1, needs);
-        return Inferred::Typed {
-            ty: ty,
-            needs: privileges::union(needs0, both),
-        };
-    }
-    Inferred::Faulty(Fault::Type(t))
+    let w = wider(s, c, known, ty1, ty);
+    let both = privileges::union(needs1, needs);
+    let all = privileges::union(needs0, both);
+    joined(t, w, all)
 }
 
 // Less gives a boolean, sum and difference a number.
@@ -213,9 +246,18 @@ pub fn letrec_of(f: TypeRecord, t: u16, ty1: u16, needs1: u32, rest: Inferred) -
 }
 
 // Of a call: the function's type and needs, and the argument's judgement.
-pub fn call_of(s: &[u8], c: Counts, t: u16, ty1: u16, needs1: u32, j: Inferred) -> Inferred
-    requires { ⌜ Sheet (now s) c ⌝ }
-    ensures { λ r. ⌜ inferredModel r ≡ callStep (typesOf (now (s .entry))) t ty1 needs1 (inferredModel j) ⌝ }
+pub fn call_of(
+    s: &[u8],
+    c: Counts,
+    known: &mut Known,
+    t: u16,
+    ty1: u16,
+    needs1: u32,
+    j: Inferred,
+) -> Inferred
+    requires { ⌜ Judging (now s) c (now known) ⌝ }
+    ensures { λ r. ⌜ Answered (typesOf (now (s .entry))) (inferredModel r) (callStep (typesOf (now (s .entry))) t ty1 needs1 (inferredModel j))
+        (now (known .exit)) ⌝ }
 {
     let Inferred::Typed { ty, needs } = j else {
         return j;
@@ -224,7 +266,7 @@ pub fn call_of(s: &[u8], c: Counts, t: u16, ty1: u16, needs1: u32, j: Inferred) 
         return Inferred::Faulty(Fault::Type(t));
     }
     let f = accessors::type_record(s, c, ty1);
-    if subtype(s, c, ty, f.arg) {
+    if subtype(s, c, known, ty, f.arg) {
         let both = privileges::union(needs1, needs);
         return Inferred::Typed {
             ty: f.res,

@@ -8,7 +8,7 @@ use Rattle.privileges.specs.Sets.{has, meet, union, insert, remove, subset}
 use Rattle.program.specs.Layout.{authority, root}
 use Rattle.program.specs.Screening.{tell, screen}
 use Rattle.program.specs.Decoding.{decoding}
-use Rattle.typing.specs.Subtyping.{subtypeIn, subtype}
+use Rattle.typing.specs.Subtyping.{subtypeIn, subtype, wider}
 use Rattle.typing.specs.Rules.{removeAuthorised}
 use Rattle.typing.specs.Checking.{infer}
 use Rattle.typing.specs.Verdicts.{Verdict, accepted, rejected, verdict}
@@ -215,7 +215,7 @@ abbrev pub largest : Sizes
 largest = record { cells = maxCells; posts = maxPosts; frames = frameNumbers }
 
 computed : map (observedBy largest) cases ≡ map due cases
-unfolding cases observedBy verdict decoding screen tell infer subtype subtypeIn removeAuthorised course eval apply evalWith addAuthorised has meet union insert remove subset
+unfolding cases observedBy verdict decoding screen tell infer subtype subtypeIn wider removeAuthorised course eval apply evalWith addAuthorised has meet union insert remove subset
 computed = refl
 
 -- The starred cases hold of the definitions, with buffers of the largest lengths, whatever they hold.

@@ -8,7 +8,7 @@ use lib.Dec.{eqb}
 use Rattle.privileges.specs.Sets.{union, insert, remove, subset}
 use Rattle.program.specs.Layout.{Types}
 use Rattle.program.specs.Terms.{Term, boolean, number, variable, function, letrec, call, if, check, enable, sign, test, binary, post}
-use Rattle.typing.specs.Subtyping.{subtype}
+use Rattle.typing.specs.Subtyping.{subtype, wider}
 use Rattle.typing.specs.Rules.{bound, removeAuthorised, resultType}
 
 pub data Judgement : Type 0 where
@@ -31,6 +31,11 @@ abbrev pub variableType : (at : ℕ) → Option ℕ → Judgement
 variableType at (some τ) = typed τ 0
 variableType at none = fault 9 at
 
+-- two branches, from the wider of their types: "a fitting pair of branches is no longer a fault" (02, W4), and any other is 10
+abbrev pub joined : (at : ℕ) → Option ℕ → (needs : ℕ) → Judgement
+joined at (some τ) N = typed τ N
+joined at none N = fault 10 at
+
 module _ (T : Types) (A : ℕ → ℕ) where
   -- the tests of a function's body: "10 type", "12 needs of a body"
   abbrev pub bodyFits : (at ty τ N : ℕ) → Judgement → Judgement
@@ -46,13 +51,13 @@ module _ (T : Types) (A : ℕ → ℕ) where
   infer Γ n (call at f a) = infer Γ n f next λ φ N. infer Γ n a next λ α M.
       require (T .isFun φ && subtype T α (T .arg φ)) 10 at (typed (T .res φ) (union (T .latent φ) (union N M)))
   infer Γ n (if at c y o) = infer Γ n c next λ σ N. infer Γ n y next λ τ M. infer Γ n o next λ ρ K.
-      require (eqb σ 0 && eqb τ ρ) 10 at (typed ρ (union N (union M K)))
+      require (eqb σ 0) 10 at (joined at (wider T τ ρ) (union N (union M K)))
   infer Γ n (check at p c) = infer Γ n c next λ τ N. typed τ (insert p N)
   infer Γ n (enable at p c) = infer Γ n c next λ τ N. typed τ (removeAuthorised A n p N)
   -- "11 needs of a sign"
   infer Γ n (sign at m c) = infer Γ m c next λ τ N. require (subset N (A m)) 11 at (typed τ N)
   -- 02, W1: "a test of p takes p out of the needs of its yes-branch before the union"
-  infer Γ n (test at p y o) = infer Γ n y next λ τ N. infer Γ n o next λ ρ M. require (eqb τ ρ) 10 at (typed ρ (union (remove p N) M))
+  infer Γ n (test at p y o) = infer Γ n y next λ τ N. infer Γ n o next λ ρ M. joined at (wider T τ ρ) (union (remove p N) M)
   infer Γ n (binary at op a b) = infer Γ n a next λ τ N. infer Γ n b next λ ρ M.
       require (eqb τ 1 && eqb ρ 1) 10 at (typed (resultType op) (union N M))
   infer Γ n (post at c) = infer Γ n c next λ τ N. require (eqb τ 1) 10 at (typed 1 N)

@@ -9,7 +9,7 @@ use Prim.Native.Nat.{ℕ, zero, suc}
 use Rattle.privileges.specs.Sets.{has, union, insert, remove, _⊆_}
 use Rattle.program.specs.Layout.{Types}
 use Rattle.program.specs.Terms.{Op, sum, difference, less, Term, boolean, number, variable, function, letrec, call, if, check, enable, sign, test, binary, post}
-use Rattle.typing.specs.Subtyping.{Subtype}
+use Rattle.typing.specs.Subtyping.{Subtype, Wider}
 
 -- a variable's type: "variable: first, 0 for the nearest binding"
 abbrev pub bound : List ℕ → (i : ℕ) → Option ℕ
@@ -27,18 +27,28 @@ resultType sum = 1
 resultType difference = 1
 resultType less = 0
 
+-- "branches of the same type", which is the type of both
+pub data Same (T : Types) : (a b c : ℕ) → Type 0 where
+  same : {a : ℕ} → Same T a a a
+
 -- What 02's requests change in 01's rules. It is a parameter of the rules, so that those of before are an instance of the same relation.
-pub record Variant : Type 0 where
+pub record Variant : Type 1 where
   -- what a test of p takes over from its yes-branch, whose needs are N
   pub yesNeeds : (p N : ℕ) → ℕ
+  -- the type c of an if or a test whose branches have the types a and b
+  pub Branches : Types → (a b c : ℕ) → Type 0
 
--- 01: "Test: branches of the same type; union."
+-- 01: "If: boolean condition, branches of the same type; union. Test: branches of the same type; union."
 abbrev pub base : Variant
-base = record { yesNeeds = λ p N. N }
+base = record { yesNeeds = λ p N. N; Branches = Same }
 
 -- 02, W1: "a test of p takes p out of the needs of its yes-branch before the union"
+abbrev pub afterW1 : Variant
+afterW1 = record { yesNeeds = λ p N. remove p N; Branches = Same }
+
+-- 02, W4: "If and test now take branches where one type fits the other, and have the wider type."
 abbrev pub current : Variant
-current = record { yesNeeds = λ p N. remove p N }
+current = record { yesNeeds = λ p N. remove p N; Branches = Wider }
 
 pub data Derives (W : Variant) (T : Types) (A : ℕ → ℕ) : (Γ : List ℕ) (n : ℕ) (c : Term) (τ N : ℕ) → Type 0 where
   -- "Booleans, numbers, variables and functions: needs empty." Figure 3: true, x, fun.
@@ -55,12 +65,12 @@ pub data Derives (W : Variant) (T : Types) (A : ℕ → ℕ) : (Γ : List ℕ) (
   -- "Call: the argument fits; needs are the latent set and both children's." Figure 3: e1 e2.
   d-call : {Γ : List ℕ} {n at φ α N M : ℕ} {f a : Term} → Derives W T A Γ n f φ N → Derives W T A Γ n a α M → T .isFun φ ≡ true
       → Subtype T α (T .arg φ) → Derives W T A Γ n (call at f a) (T .res φ) (union (T .latent φ) (union N M))
-  -- "If: boolean condition, branches of the same type; union." Figure 3: if.
-  d-if : {Γ : List ℕ} {n at τ N M K : ℕ} {c y o : Term} → Derives W T A Γ n c 0 N → Derives W T A Γ n y τ M → Derives W T A Γ n o τ K
-      → Derives W T A Γ n (if at c y o) τ (union N (union M K))
-  -- "Test: branches of the same type; union." Figure 3: test. W1 takes p out of the yes-branch's needs: `yesNeeds`.
-  d-test : {Γ : List ℕ} {n at p τ N M : ℕ} {y o : Term} → Derives W T A Γ n y τ N → Derives W T A Γ n o τ M
-      → Derives W T A Γ n (test at p y o) τ (union (W .yesNeeds p N) M)
+  -- "If: boolean condition, branches of the same type; union." Figure 3: if. W4 takes branches where one type fits the other: `Branches`.
+  d-if : {Γ : List ℕ} {n at τ ρ υ N M K : ℕ} {c y o : Term} → Derives W T A Γ n c 0 N → Derives W T A Γ n y τ M → Derives W T A Γ n o ρ K
+      → W .Branches T τ ρ υ → Derives W T A Γ n (if at c y o) υ (union N (union M K))
+  -- "Test: branches of the same type; union." Figure 3: test. W1 takes p out of the yes-branch's needs, `yesNeeds`; `Branches` as for if.
+  d-test : {Γ : List ℕ} {n at p τ ρ υ N M : ℕ} {y o : Term} → Derives W T A Γ n y τ N → Derives W T A Γ n o ρ M
+      → W .Branches T τ ρ υ → Derives W T A Γ n (test at p y o) υ (union (W .yesNeeds p N) M)
   -- "Check adds p." Figure 3: check.
   d-check : {Γ : List ℕ} {n at p τ N : ℕ} {c : Term} → Derives W T A Γ n c τ N → Derives W T A Γ n (check at p c) τ (insert p N)
   -- "Enable removes p if p is in A of the signing principal, else changes nothing." Figure 3: dopriv.

@@ -1,14 +1,16 @@
 -- The theorems about the rules: subtyping is an order that the test decides; a readable sheet is accepted exactly if it has a derivation; the
--- needs told are the least, and the type told is that of every derivation; what 01's own rules accept is accepted, with no more needs.
+-- needs told are the least, and the type told is that of every derivation; what 01's own rules accept is accepted, with no more needs, and what the
+-- rules before W4 accept, with the same type and needs.
 use mathlib.Core.Bool.{Bool, true, false, cond}
 use mathlib.Core.List.{List}
-use mathlib.Core.Logic.{_↔_}
-use mathlib.Core.Path.{_≡_, refl, _∙_, subst}
+use mathlib.Core.Logic.{_↔_, _⊎_, inl, inr}
+use mathlib.Core.Path.{_≡_, refl, sym, ap, _∙_, subst}
 use Prim.Native.Nat.{ℕ, _<_}
 use native.Mathlib.Omega.{arith}
 use lib.Dec.{ltb}
 use borrow.Author.Tests.{ltb-true, lt-ltb}
 use Rattle.privileges.specs.Sets.{_⊆_}
+use Rattle.privileges.specs.Laws.{⊆-antisym}
 use Rattle.program.specs.Bytes.{Bytes}
 use Rattle.program.specs.Layout.{authority, terms, root, typesOf}
 use Rattle.program.specs.Screening.{Screening, clear, found}
@@ -16,12 +18,12 @@ use Rattle.program.specs.Decoding.{decoding, Readable}
 use Rattle.program.specs.Laws.Readable.{well-formed}
 use Rattle.program.specs.Laws.Types.{lower-types, distinct-types}
 use Rattle.program.specs.Laws.Trees.{program-standard}
-use Rattle.typing.specs.Subtyping.{Subtype, sub-same, subtype}
-use Rattle.typing.specs.Rules.{base}
+use Rattle.typing.specs.Subtyping.{Subtype, sub-same, Wider, wider-second, wider-first, subtype}
+use Rattle.typing.specs.Rules.{Variant, base, afterW1, current}
 use Rattle.typing.specs.Checking.{Judgement, typed, fault}
 use Rattle.typing.specs.Verdicts.{accepted, rejected, concluded, ifReadable, judgement, verdict, SheetDerivesBy, SheetDerives}
-use Rattle.typing.specs.Laws.Subtyping.{sub-trans, sub-antisym, subtype-sound, subtype-complete}
-use Rattle.typing.specs.Laws.Checking.{infer-complete, infer-derives, derives-least}
+use Rattle.typing.specs.Laws.Subtyping.{sub-trans, sub-antisym, subtype-sound, subtype-complete, wider-above}
+use Rattle.typing.specs.Laws.Checking.{infer-complete, infer-afterW1, infer-derives, typed-least, derives-least}
 use Rattle.typing.specs.Laws.Variants.{relaxed, current-relaxes-base}
 
 -- ---- Theorem 1: subtyping
@@ -42,13 +44,32 @@ subtyping s bytes r =
       decided = λ a b. (subtype-sound (typesOf s) a b, subtype-complete (typesOf s) (lower-types s w));
     }
 
+-- "where one type fits the other, and have the wider type": of two types either can be the wider, whichever of them stands first
+pub wider-either : (s : List ℕ) → Bytes s → Readable s → (a b c : ℕ)
+    → Wider (typesOf s) a b c ↔ ((Subtype (typesOf s) a b × (c ≡ b)) ⊎ (Subtype (typesOf s) b a × (c ≡ a)))
+wider-either s bytes r a b c = (forth, back)
+  where
+    forth : {a b c : ℕ} → Wider (typesOf s) a b c → (Subtype (typesOf s) a b × (c ≡ b)) ⊎ (Subtype (typesOf s) b a × (c ≡ a))
+    forth (wider-second p) = inl (p, refl)
+    forth (wider-first q p) = inr (p, refl)
+
+    back : (Subtype (typesOf s) a b × (c ≡ b)) ⊎ (Subtype (typesOf s) b a × (c ≡ a)) → Wider (typesOf s) a b c
+    back (inl p) = subst (Wider (typesOf s) a b) (sym (p .1)) (wider-second (p .0))
+    back (inr p) =
+        let w = well-formed s r in
+        subst (Wider (typesOf s) a b) (sym (p .1)) (wider-above (typesOf s) (distinct-types s bytes w) (lower-types s w) (p .0))
+
 -- ---- Theorem 2: acceptance
 
--- a derivation with these, and none with another type or without some of these needs
-pub record LeastNeeds (s : List ℕ) (τ N : ℕ) : Type 0 where
-  pub derivation : SheetDerives s τ N
-  pub same-type : (σ M : ℕ) → SheetDerives s σ M → σ ≡ τ
-  pub least : (σ M : ℕ) → SheetDerives s σ M → N ⊆ M
+-- by the rules of a variant, a derivation with these, and none with another type or without some of these needs
+pub record LeastNeedsBy (W : Variant) (s : List ℕ) (τ N : ℕ) : Type 0 where
+  pub derivation : SheetDerivesBy W s τ N
+  pub same-type : (σ M : ℕ) → SheetDerivesBy W s σ M → σ ≡ τ
+  pub least : (σ M : ℕ) → SheetDerivesBy W s σ M → N ⊆ M
+
+-- by the rules in force
+abbrev pub LeastNeeds : List ℕ → (type needs : ℕ) → Type 0
+LeastNeeds s τ N = LeastNeedsBy current s τ N
 
 -- what an acceptance says
 pub record Acceptance (s : List ℕ) (n τ N : ℕ) : Type 0 where
@@ -87,21 +108,21 @@ module _ (s : List ℕ) (n τ N : ℕ) where
       go clear h f = concluded-accepted (judgement s) refl h f
       go (found c p) h f = rejected≢accepted f
 
+least-needs : (W : Variant) (s : List ℕ) (τ N : ℕ) → SheetDerivesBy W s τ N → ((σ M : ℕ) → SheetDerivesBy W s σ M → (σ ≡ τ) × N ⊆ M)
+    → LeastNeedsBy W s τ N
+least-needs W s τ N d l = record { derivation = d; same-type = λ σ M d′. l σ M d′ .0; least = λ σ M d′. l σ M d′ .1 }
+
 -- an accepted sheet is readable and derivable, with the least needs
 pub acceptance : (s : List ℕ) (n τ N : ℕ) → verdict s ≡ accepted n τ N → Acceptance s n τ N
 acceptance s n τ N e =
     let h = inferred s n τ N e in
     let w = well-formed s (h .readable) in
-    let l : (σ M : ℕ) → SheetDerives s σ M → (σ ≡ τ) × N ⊆ M = λ σ M d. derives-least (typesOf s) (authority s) (lower-types s w) (h .is) d in
+    let d = infer-derives (typesOf s) (authority s) (lower-types s w) (program-standard s w) (h .is) in
     record {
       readable = h .readable;
       count = h .count;
       root-type = h .root-type;
-      needs = record {
-        derivation = infer-derives (typesOf s) (authority s) (program-standard s w) (h .is);
-        same-type = λ σ M d. l σ M d .0;
-        least = λ σ M d. l σ M d .1;
-      };
+      needs = least-needs current s τ N d λ σ M d′. derives-least (typesOf s) (authority s) (lower-types s w) (h .is) d′;
     }
 
 abbrev pub Accepted : List ℕ → Type 0
@@ -117,17 +138,16 @@ pub record AcceptedInside (s : List ℕ) (τ N : ℕ) : Type 0 where
   pub is : verdict s ≡ accepted (terms s) τ needs
   pub inside : needs ⊆ N
 
-derived-accepted : (s : List ℕ) → Readable s → (τ N : ℕ) → τ < 2 → SheetDerives s τ N → AcceptedInside s τ N
+typed-accepted : (s : List ℕ) → Readable s → (τ N : ℕ) → τ < 2 → judgement s ≡ typed τ N → verdict s ≡ accepted (terms s) τ N
 unfolding verdict
+typed-accepted s r τ N l e =
+    (λ i. ifReadable (r i) (λ _. concluded (terms s) (root s) (e i)))
+    ∙ λ i. cond (lt-ltb τ 2 l i) (accepted (terms s) τ N) (rejected 13 (root s))
+
+derived-accepted : (s : List ℕ) → Readable s → (τ N : ℕ) → τ < 2 → SheetDerives s τ N → AcceptedInside s τ N
 derived-accepted s r τ N l d =
     let x = infer-complete (typesOf s) (authority s) (lower-types s (well-formed s r)) d in
-    record {
-      needs = x .least;
-      is =
-          (λ i. ifReadable (r i) (λ _. concluded (terms s) (root s) (x .is i)))
-          ∙ λ i. cond (lt-ltb τ 2 l i) (accepted (terms s) τ (x .least)) (rejected 13 (root s));
-      inside = x .inside;
-    }
+    record { needs = x .least; is = typed-accepted s r τ (x .least) l (x .is); inside = x .inside }
 
 -- 01, "The two runs of demand 3": "A readable sheet is accepted exactly when the rules give a derivation."
 pub accepted-exactly : (s : List ℕ) → Readable s → Accepted s ↔ Derivable s
@@ -143,3 +163,22 @@ accepted-exactly s r = (forth, back)
 -- A readable sheet that 01's own rules accept, of type τ and with needs N, is accepted, of the same type and with needs inside N.
 pub accepted-before : (s : List ℕ) → Readable s → (τ N : ℕ) → τ < 2 → SheetDerivesBy base s τ N → AcceptedInside s τ N
 accepted-before s r τ N l d = derived-accepted s r τ N l (relaxed current-relaxes-base d)
+
+-- ---- what W4 left as it was
+-- "A sheet accepted before has the same type and needs." A readable sheet that the rules before W4 accept, of type τ and with least needs N, is
+-- accepted with these.
+pub same-as-before : (s : List ℕ) → Readable s → (τ N : ℕ) → τ < 2 → LeastNeedsBy afterW1 s τ N → verdict s ≡ accepted (terms s) τ N
+same-as-before s r τ N l h =
+    let x = infer-afterW1 (typesOf s) (authority s) (lower-types s (well-formed s r)) (h .derivation) in
+    let e : x .least ≡ N = ⊆-antisym (x .least) N (x .inside) (h .least τ (x .least) (x .derives)) in
+    typed-accepted s r τ (x .least) l (x .is) ∙ ap (accepted (terms s) τ) e
+
+-- and by those rules every sheet that has a derivation has least needs
+pub least-before : (s : List ℕ) → Readable s → (τ N : ℕ) → SheetDerivesBy afterW1 s τ N → (M : ℕ) × LeastNeedsBy afterW1 s τ M
+least-before s r τ N d =
+    let L = lower-types s (well-formed s r) in
+    let x = infer-afterW1 (typesOf s) (authority s) L d in (
+      x .least,
+      least-needs afterW1 s τ (x .least) (x .derives) λ σ M d′.
+          typed-least (typesOf s) (authority s) (x .is) (infer-afterW1 (typesOf s) (authority s) L d′),
+    )

@@ -1,6 +1,6 @@
 //! What is timed.
 
-use sheets::extremes::{deepest, widest};
+use sheets::extremes::{costly_branches, deepest, widest};
 use sheets::load::{frame_sheet, FRAMES, LINES, PLANTS};
 
 pub struct Workload {
@@ -10,11 +10,16 @@ pub struct Workload {
     pub repeats: usize,
 }
 
-pub fn all() -> [Workload; 3] {
+pub fn all() -> [Workload; 4] {
     [
         clients_load(),
-        one("deepest sheet: nesting 32, 100 open calls", deepest()),
-        one("widest sheet: 256 types, 1,024 terms", widest()),
+        one("deepest sheet: nesting 32, 100 open calls", deepest(), 300),
+        one("widest sheet: 256 types, 1,024 terms", widest(), 300),
+        one(
+            "costly branches: 1,024 terms, tests of types 12 deep that differ at the bottom",
+            costly_branches(),
+            3,
+        ),
     ]
 }
 
@@ -34,11 +39,10 @@ fn clients_load() -> Workload {
     }
 }
 
-fn one(name: &str, sheet: Vec<u8>) -> Workload {
-    const REPEATS: usize = 300;
+fn one(name: &str, sheet: Vec<u8>, repeats: usize) -> Workload {
     Workload {
-        name: format!("{name}, {REPEATS} times"),
+        name: format!("{name}, {repeats} times"),
         sheets: vec![sheet],
-        repeats: REPEATS,
+        repeats,
     }
 }

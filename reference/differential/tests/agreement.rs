@@ -7,21 +7,32 @@ use sheets::hex;
 use sheets::request::Request;
 use sheets::rng::Rng;
 use sheets::tally::Tally;
+use sovzedal_reference::{typecheck_by, Rules};
 use std::process::ExitCode;
 use std::time::Instant;
 
 const SHEETS: u64 = 120_000;
+/// How many of these at least are accepted by the rules of W4 alone.
+const ENOUGH: usize = 2_000;
+
+/// What the sheets have reached.
+#[derive(Default)]
+struct Reached {
+    tally: Tally,
+    /// Sheets accepted that were refused before W4.
+    by_fitting_branches: usize,
+}
 
 fn main() -> ExitCode {
     let begun = Instant::now();
-    let mut tally = Tally::default();
+    let mut reached = Reached::default();
     let mut sheets = 0;
     for batch in settings::batches(SHEETS) {
         let items = batch.items.end - batch.items.start;
         println!("seed {}, {items} sheets", batch.seed);
         sheets += items;
         for index in batch.items {
-            if let Err(difference) = compare(batch.seed, index, &mut tally) {
+            if let Err(difference) = compare(batch.seed, index, &mut reached) {
                 println!("{difference}");
                 println!("again with {}", settings::again(batch.seed, index));
                 return ExitCode::FAILURE;
@@ -29,29 +40,38 @@ fn main() -> ExitCode {
         }
     }
     let seconds = begun.elapsed().as_secs_f64();
-    println!("{tally}");
+    println!("{}", reached.tally);
+    println!(
+        "{} sheets accepted for branches that fit",
+        reached.by_fitting_branches
+    );
     println!(
         "{sheets} sheets in {seconds:.1} s, {:.0} per second",
         sheets as f64 / seconds
     );
     if settings::are_whole() {
-        reached_everything(&tally)
+        reached_everything(&reached)
     } else {
         ExitCode::SUCCESS
     }
 }
 
-fn reached_everything(tally: &Tally) -> ExitCode {
+fn reached_everything(reached: &Reached) -> ExitCode {
+    let tally = &reached.tally;
     let (causes, kinds) = (tally.missing_causes(), tally.missing_kinds());
-    if causes.is_empty() && kinds.is_empty() {
-        return ExitCode::SUCCESS;
+    if !causes.is_empty() || !kinds.is_empty() {
+        println!("never reached: causes {causes:?}, kinds {kinds:?}");
+        return ExitCode::FAILURE;
     }
-    println!("never reached: causes {causes:?}, kinds {kinds:?}");
-    ExitCode::FAILURE
+    if reached.by_fitting_branches < ENOUGH {
+        println!("too few sheets with branches that fit, {ENOUGH} are asked");
+        return ExitCode::FAILURE;
+    }
+    ExitCode::SUCCESS
 }
 
 /// Puts all questions about one sheet to both implementations.
-fn compare(seed: u64, index: u64, tally: &mut Tally) -> Result<(), String> {
+fn compare(seed: u64, index: u64, reached: &mut Reached) -> Result<(), String> {
     let rng = &mut Rng::for_item(seed, index);
     let sample = sample(rng);
     let questions = [
@@ -76,12 +96,21 @@ fn compare(seed: u64, index: u64, tally: &mut Tally) -> Result<(), String> {
         if let Some(answer) = buffers.answer() {
             match entry {
                 Entry::Decode => {}
-                Entry::Typecheck => tally.count_judged(&sample.bytes, answer),
-                Entry::RunEager | Entry::RunLazy => tally.count_run(answer),
+                Entry::Typecheck => reached.count_judged(&sample.bytes, answer),
+                Entry::RunEager | Entry::RunLazy => reached.tally.count_run(answer),
             }
         }
     }
     Ok(())
+}
+
+impl Reached {
+    fn count_judged(&mut self, sheet: &[u8], answer: &[u32; ANSWER_NUMBERS]) {
+        self.tally.count_judged(sheet, answer);
+        if answer[0] == 0 && typecheck_by(Rules::BeforeW4, sheet).is_err() {
+            self.by_fitting_branches += 1;
+        }
+    }
 }
 
 /// Any number but 0 has the checks in force.

@@ -8,7 +8,7 @@ use sheets::request::{
     Request, FRAME_NUMBERS, MAX_CALLS, MAX_CELL_BYTES, MAX_OPEN_CALLS, MAX_POSTS,
 };
 use sheets::rng::Rng;
-use sheets::{cases, smallest, yes_branch};
+use sheets::{branches, cases, smallest, yes_branch};
 
 const SEED: u64 = 20;
 const GENERATED: usize = 240;
@@ -23,6 +23,7 @@ pub fn vectors() -> Vec<Vector> {
     vectors.extend(edges_of_sheets());
     vectors.extend(generated());
     vectors.extend(yes_branches());
+    vectors.extend(fitting_branches());
     vectors
 }
 
@@ -40,6 +41,13 @@ fn yes_branches() -> impl Iterator<Item = Vector> {
             sheet: case.sheet.clone(),
             request,
         })
+    })
+}
+
+fn fitting_branches() -> impl Iterator<Item = Vector> {
+    branches::all().into_iter().map(|case| Vector {
+        sheet: case.sheet,
+        request: case.request,
     })
 }
 

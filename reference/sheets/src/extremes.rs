@@ -127,6 +127,75 @@ fn fitting_pairs(types: &[TypeRecord]) -> Vec<(u16, u16)> {
     pairs
 }
 
+/// As many terms as a sheet can have, nearly half of them tests whose branches
+/// have types 12 deep that differ only at the bottom. On every floor both
+/// parts of one type have to be compared with those of the other, so that a
+/// judge that remembers nothing compares 4,095 pairs of functions for such a
+/// test, and half as many for types 11 deep.
+///
+/// A floor has three types, each of which fits the next. With two, the parts
+/// of a pair would be the same pair; with three, those of the upper two aren't.
+pub fn costly_branches() -> Vec<u8> {
+    let mut types = vec![TypeRecord::bool(), TypeRecord::number()];
+    types.extend([0, ONE, ONE | 1].map(|latent| TypeRecord::function(NUMBER, NUMBER, latent)));
+    for _ in 1..MAX_TYPE_DEPTH {
+        let [narrow, middle, wide] = last_three(&types);
+        // Arguments turn it round.
+        types.push(TypeRecord::function(wide, narrow, 0));
+        types.push(TypeRecord::function(middle, middle, 0));
+        types.push(TypeRecord::function(narrow, wide, 0));
+    }
+    let [narrow, middle, wide] = last_three(&types);
+    // No function takes one so deep, but there is one that takes its result.
+    let called = types[usize::from(wide)];
+    let taker = types.len() as u16;
+    types.push(TypeRecord::function(called.result, NUMBER, 0));
+
+    let around = |tests| {
+        let given = call(tests, variable(0));
+        let taken = call(function(taker, sign(0, number(0))), given);
+        // f(x) = f x has any function type.
+        let endless = || sign(0, call(variable(1), variable(0)));
+        let bound = [called.argument, wide, middle, narrow]
+            .into_iter()
+            .fold(taken, |rest, ty| letrec(ty, endless(), rest));
+        sign(0, bound)
+    };
+    // Above the tests stand the root, four binders and two calls.
+    let levels = MAX_NESTING - 7;
+    let count = (MAX_TERMS - around(number(0)).size()) / 2;
+    Records {
+        principals: vec![0],
+        types,
+        terms: around(tests_of_three(count, levels)).assemble(),
+    }
+    .to_bytes()
+}
+
+fn last_three(types: &[TypeRecord]) -> [u16; 3] {
+    let count = types.len() as u16;
+    [count - 3, count - 2, count - 1]
+}
+
+/// So many tests in a tree of so many levels. As far as that allows, each has
+/// the type of variable 1 in one branch, and in the other by turns those of
+/// variables 2 and 3.
+fn tests_of_three(count: usize, levels: usize) -> Tree {
+    if count < levels {
+        let by_turns = [2, 3].into_iter().cycle().take(count);
+        return by_turns.fold(variable(1), |inner, other| {
+            test(PRIVILEGE, inner, variable(other))
+        });
+    }
+    let left = (count - 1) / 2;
+    let right = count - 1 - left;
+    test(
+        PRIVILEGE,
+        tests_of_three(left, levels - 1),
+        tests_of_three(right, levels - 1),
+    )
+}
+
 fn balanced_sum(mut trees: Vec<Tree>) -> Tree {
     let right = trees.split_off(trees.len() / 2);
     match (trees.len(), right.len()) {

@@ -80,6 +80,7 @@ impl Grower<'_> {
     }
 
     fn compound(&mut self, ty: u16, site: Site) -> Option<Tree> {
+        let is_function = self.world.ty(ty).is_function();
         match self.rng.below(16) {
             0 => Some(self.conditional(ty, site)),
             1 => Some(self.test(ty, site)),
@@ -89,6 +90,9 @@ impl Grower<'_> {
             7..=9 => self.call(ty, site),
             10 => self.letrec(ty, site),
             11 => self.countdown(ty, site),
+            // More often than for others: only functions of two types fit.
+            12 if is_function => Some(self.conditional(ty, site)),
+            13 if is_function => Some(self.test(ty, site)),
             _ => Some(self.of_own_kind(ty, site)),
         }
     }
@@ -143,28 +147,41 @@ impl Grower<'_> {
     }
 
     fn conditional(&mut self, ty: u16, site: Site) -> Tree {
+        let [yes, no] = self.branch_types(ty, site);
         let [condition, branches] = self.split(site);
         let branch = site.below(branches.size / 2);
         when(
             self.grow(BOOL, condition),
-            self.grow(ty, branch),
-            self.grow(ty, branch),
+            self.grow(yes, branch),
+            self.grow(no, branch),
         )
     }
 
     /// The yes-branch may need what is tested, and often checks it at once.
     fn test(&mut self, ty: u16, site: Site) -> Tree {
+        let [yes_type, no_type] = self.branch_types(ty, site);
         let privilege = self.world.random_privilege(self.rng);
         let [yes, no] = self.split(site);
         let yes = yes.allowing(yes.allowed | 1 << privilege);
-        let has_room = yes.levels > self.world.least_height(ty);
+        let has_room = yes.levels > self.world.least_height(yes_type);
         let yes = if has_room && self.rng.percent(50) {
             let inner = yes.below(yes.size.saturating_sub(1));
-            check(privilege, self.grow(ty, inner))
+            check(privilege, self.grow(yes_type, inner))
         } else {
-            self.grow(ty, yes)
+            self.grow(yes_type, yes)
         };
-        test(privilege, yes, self.grow(ty, no))
+        test(privilege, yes, self.grow(no_type, no))
+    }
+
+    /// The types of two branches, of which `ty` is the wider: one has it, the
+    /// other a type that fits it.
+    fn branch_types(&mut self, ty: u16, site: Site) -> [u16; 2] {
+        let other = self.fitting(ty, site).unwrap_or(ty);
+        if self.rng.percent(50) {
+            [ty, other]
+        } else {
+            [other, ty]
+        }
     }
 
     fn check(&mut self, ty: u16, site: Site) -> Option<Tree> {
@@ -207,7 +224,7 @@ impl Grower<'_> {
     /// Any function that gives `ty`, on any argument that fits.
     fn call(&mut self, ty: u16, site: Site) -> Option<Tree> {
         let callee = self.callee(ty, site)?;
-        let given = self.argument(self.world.ty(callee).argument, site)?;
+        let given = self.fitting(self.world.ty(callee).argument, site)?;
         let [function, argument] = self.split(site);
         Some(call(
             self.grow(callee, function),
@@ -216,7 +233,7 @@ impl Grower<'_> {
     }
 
     /// A type that fits the one asked, by preference another one.
-    fn argument(&mut self, asked: u16, site: Site) -> Option<u16> {
+    fn fitting(&mut self, asked: u16, site: Site) -> Option<u16> {
         let fitting: Vec<u16> = (0..self.world.types.len() as u16)
             .filter(|&given| given != asked && self.world.fits(given, asked))
             .filter(|&given| self.has_height(given, site))

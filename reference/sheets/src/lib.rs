@@ -1,12 +1,13 @@
 //! Sheets to test with.
 //!
 //! [`tree`] and [`records`] assemble sheets. [`cases`], [`yes_branch`],
-//! [`smallest`], [`extremes`] and [`load`] hold the ones made by hand,
-//! [`generate`] draws others at random, [`request`] draws what to ask of
+//! [`branches`], [`smallest`], [`extremes`] and [`load`] hold the ones made by
+//! hand, [`generate`] draws others at random, [`request`] draws what to ask of
 //! their runs and [`session`] what a controller does with a register block,
 //! from a [`seed`]. Nothing here knows how a sheet is judged or run, except
 //! [`grow`], which builds sheets that the rules accept.
 
+pub mod branches;
 pub mod cases;
 pub mod damage;
 pub mod extremes;

@@ -17,10 +17,25 @@ pub struct Verdict {
     pub needs: Set,
 }
 
+/// The rules of today, or those from before a request that changed them, so
+/// that the two can be compared.
+#[derive(Clone, Copy, Debug, PartialEq, Eq)]
+pub enum Rules {
+    /// The branches of an if or a test have the same type.
+    BeforeW4,
+    Today,
+}
+
 /// Reads a sheet and judges it by the rules.
 pub fn typecheck(bytes: &[u8]) -> Result<Verdict, Refusal> {
+    typecheck_by(Rules::Today, bytes)
+}
+
+/// Reads a sheet and judges it by the rules of some time.
+pub fn typecheck_by(rules: Rules, bytes: &[u8]) -> Result<Verdict, Refusal> {
     let sheet = decode(bytes)?;
     let mut judge = Judge {
+        rules,
         sheet: &sheet,
         bindings: Vec::new(),
     };
@@ -53,14 +68,8 @@ impl Judgement {
     }
 }
 
-/// The type that two branches share, and the needs of each.
-struct Branches {
-    ty: TypeId,
-    yes: Set,
-    no: Set,
-}
-
 struct Judge<'a> {
+    rules: Rules,
     sheet: &'a Sheet,
     /// The types of the variables in scope, the nearest last.
     bindings: Vec<TypeId>,
@@ -79,20 +88,22 @@ impl Judge<'_> {
             Term::Call { function, argument } => self.call(id, function, argument, signer),
             Term::If { condition, yes, no } => {
                 let condition = self.judge(condition, signer)?;
-                let branches = self.branches(id, yes, no, signer)?;
+                let yes = self.judge(yes, signer)?;
+                let no = self.judge(no, signer)?;
                 require_type(id, condition.ty == Type::BOOL)?;
                 Ok(Judgement {
-                    ty: branches.ty,
-                    needs: condition.needs.union(branches.yes).union(branches.no),
+                    ty: self.wider(id, yes.ty, no.ty)?,
+                    needs: condition.needs.union(yes.needs).union(no.needs),
                 })
             }
             Term::Test { privilege, yes, no } => {
-                let branches = self.branches(id, yes, no, signer)?;
+                let yes = self.judge(yes, signer)?;
+                let no = self.judge(no, signer)?;
                 // The yes-branch runs only where the privilege is granted.
                 // Unlike an enable, that doesn't ask who signs.
                 Ok(Judgement {
-                    ty: branches.ty,
-                    needs: branches.yes.without(privilege).union(branches.no),
+                    ty: self.wider(id, yes.ty, no.ty)?,
+                    needs: yes.needs.without(privilege).union(no.needs),
                 })
             }
             Term::Check { privilege, inner } => {
@@ -184,22 +195,18 @@ impl Judge<'_> {
         })
     }
 
-    /// Two branches of the same type.
-    fn branches(
-        &mut self,
-        id: TermId,
-        yes: TermId,
-        no: TermId,
-        signer: Set,
-    ) -> Result<Branches, Refusal> {
-        let yes = self.judge(yes, signer)?;
-        let no = self.judge(no, signer)?;
-        require_type(id, yes.ty == no.ty)?;
-        Ok(Branches {
-            ty: yes.ty,
-            yes: yes.needs,
-            no: no.needs,
-        })
+    /// The type of an if or a test: of its branches' types the one that the
+    /// other fits. Types that fit each other are the same, so there are never
+    /// two to choose from.
+    fn wider(&self, id: TermId, yes: TypeId, no: TypeId) -> Result<TypeId, Refusal> {
+        let may_differ = self.rules == Rules::Today;
+        if yes == no || may_differ && fits(self.sheet, no, yes) {
+            Ok(yes)
+        } else if may_differ && fits(self.sheet, yes, no) {
+            Ok(no)
+        } else {
+            Err(Cause::TypeMismatch.at(id))
+        }
     }
 
     /// A term that takes numbers and gives a `result`.

@@ -18,7 +18,7 @@ mod sheet;
 
 pub use answer::Reply;
 pub use decode::decode;
-pub use judge::{typecheck, Verdict};
+pub use judge::{typecheck, typecheck_by, Rules, Verdict};
 pub use refusal::{Cause, Refusal};
 pub use report::report;
 pub use run::{

@@ -2,7 +2,7 @@
 
 use sheets::cases::*;
 use sheets::tree::*;
-use sheets::yes_branch;
+use sheets::{branches, yes_branch};
 use sovzedal_reference::*;
 
 const ONE: u32 = 1 << 1;
@@ -210,11 +210,11 @@ fn judged(sheet: &[u8]) -> Result<u32, (Cause, u32)> {
         .map_err(|refusal| (refusal.cause, refusal.place))
 }
 
-/// With less needed, more stacks grant it: on each of them the checks, in
-/// force, are met.
+/// With less needed, more stacks grant it, and with more sheets accepted there
+/// is more to run: on each of these stacks the checks, in force, are met.
 #[test]
 fn where_needs_are_granted_checks_may_be_passed_over() {
-    for case in yes_branch::all() {
+    for case in yes_branch::all().into_iter().chain(branches::all()) {
         let Ok(needs) = judged(&case.sheet) else {
             continue;
         };

@@ -6,7 +6,7 @@
 
 use sheets::smallest::{all, Smallest};
 use sovzedal_reference::registers::{at, status, Block, BLOCK_BYTES, RUN};
-use sovzedal_reference::{report, run_eager, Cause, Checks, Reply, Request};
+use sovzedal_reference::{report, run_eager, typecheck_by, Cause, Checks, Reply, Request, Rules};
 use sovzedal_reference::{FRAME_NUMBERS, MAX_CALLS, MAX_CELL_BYTES, MAX_OPEN_CALLS, MAX_POSTS};
 use std::path::{Path, PathBuf};
 use std::{env, fs};
@@ -28,6 +28,17 @@ fn examples_print_what_is_shown() {
         let section = section(&shown, name).expect("a section for each example");
         assert!(section.contains(&block), "README.md shows {name}'s print");
     }
+}
+
+/// As the readme says of it.
+#[test]
+fn the_choice_was_refused_before_w4() {
+    let path = repository().join("examples/choice.hex");
+    if !path.exists() {
+        return;
+    }
+    let before = typecheck_by(Rules::BeforeW4, &bytes(&read(&path))).unwrap_err();
+    assert_eq!((before.cause, before.place), (Cause::TypeMismatch, 14));
 }
 
 #[test]

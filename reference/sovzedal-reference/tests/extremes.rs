@@ -1,9 +1,10 @@
 //! The sheets at the limits are where they should be.
 
-use sheets::extremes::{deepest, endless_through, widest};
+use sheets::extremes::{costly_branches, deepest, endless_through, widest};
 use sheets::load::frame_sheet;
 use sheets::tree::Kind;
-use sovzedal_reference::{decode, report, run_eager, typecheck, Cause, Outcome, Request, Stop};
+use sovzedal_reference::{decode, report, run_eager, typecheck, typecheck_by};
+use sovzedal_reference::{Cause, Outcome, Request, Rules, Stop, Term};
 
 #[test]
 fn the_deepest_has_100_open_calls() {
@@ -19,6 +20,22 @@ fn the_widest_has_everything_there_is_room_for() {
         (32, 256, 1_024)
     );
     assert!(typecheck(&widest()).is_ok());
+}
+
+#[test]
+fn costly_branches_are_as_many_as_there_is_room_for() {
+    let sheet = decode(&costly_branches()).unwrap();
+    assert_eq!(sheet.terms.len(), 1_024);
+    // The other tests join two trees of tests of the same type.
+    let compares = |term: &&Term| match term {
+        Term::Test { no, .. } => matches!(sheet.term(*no), Term::Variable(_)),
+        _ => false,
+    };
+    let costly = sheet.terms.iter().filter(compares).count();
+    assert!(costly >= 460, "{costly} tests compare types");
+    assert!(typecheck(&costly_branches()).is_ok());
+    let before = typecheck_by(Rules::BeforeW4, &costly_branches());
+    assert_eq!(before.unwrap_err().cause, Cause::TypeMismatch);
 }
 
 #[test]

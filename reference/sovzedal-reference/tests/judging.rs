@@ -108,10 +108,31 @@ fn a_body_has_exactly_the_result_type() {
     assert_eq!(refusal.cause, Cause::TypeMismatch);
 }
 
+/// More of this stands in `branches.rs`.
 #[test]
-fn branches_have_the_same_type() {
-    let branches = when(boolean(true), quiet(), needy());
-    assert_eq!(refused(call(branches, number(1))).0, Cause::TypeMismatch);
+fn branches_have_the_wider_type() {
+    let branches = || when(boolean(true), quiet(), needy());
+    assert_eq!(needs(call(branches(), number(1))), 2);
+    // A body doesn't have its result's type if it only fits it.
+    let body = function(QUIET, sign(0, branches()));
+    assert_eq!(refused(body).0, Cause::TypeMismatch);
+}
+
+#[test]
+fn an_if_is_judged_after_its_branches() {
+    let unbound = || variable(UNBOUND);
+    let in_yes = when(number(1), unbound(), boolean(true));
+    assert_eq!(refused(in_yes), (Cause::UnboundVariable, 1));
+    let in_no = when(number(1), number(2), unbound());
+    assert_eq!(refused(in_no), (Cause::UnboundVariable, 2));
+    let condition = when(number(1), quiet(), needy());
+    assert_eq!(refused(condition), (Cause::TypeMismatch, 8));
+    let all_three = when(number(1), number(2), boolean(true));
+    assert_eq!(refused(all_three), (Cause::TypeMismatch, 3));
+    let branches = when(boolean(true), number(2), boolean(true));
+    assert_eq!(refused(branches), (Cause::TypeMismatch, 3));
+    let in_test = test(1, number(2), unbound());
+    assert_eq!(refused(in_test), (Cause::UnboundVariable, 1));
 }
 
 #[test]

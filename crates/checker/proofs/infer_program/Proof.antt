@@ -1,9 +1,10 @@
--- The root is a term, principal 0 is one of the sheet's, and judging the root adds fewer than 32 bindings (root-room), as `infer` requires. The verdict
--- that is concluded from its judgement is then the sheet's.
-use mathlib.Core.Path.{refl}
+-- The root is a term, principal 0 is one of the sheet's, and judging the root adds fewer than 32 bindings (root-room), as `infer` requires; of the types
+-- nothing is known yet (known-none). The verdict that is concluded from the root's judgement is then the sheet's.
 use native.Mathlib.Omega.{arith}
-use Rattle.checker.proofs.VerdictLaws.{some-terms, root-ready, program-is}
 use borrow.Author.Needs.{needs}
+use mathlib.Core.Path.{refl}
+use Rattle.rules.proofs.KnownLaws.{known-none}
+use Rattle.checker.proofs.VerdictLaws.{some-terms, root-ready, program-is}
 use Rattle.checker.proofs.infer_program.Statement.{statement}
 use Rattle.checker.proofs.infer_program.Tie as tie
 
@@ -11,13 +12,15 @@ sub-root : tie.Need-sub-root
 sub-root c = omega (arith, some-terms (c .before .pre))
 
 infer-requires : tie.Need-infer-requires
-infer-requires c κs = root-ready (c .before .pre) _ refl
+infer-requires c κs = (root-ready (c .before .before .pre) _ refl, known-none _ _ refl)
 
 conclude-requires : tie.Need-conclude-requires
 conclude-requires c κs = search needs
 
 returns : tie.Need-returns
-returns c = program-is (c .before .before .before .pre) (c .before .infer .ensures) (c .conclude .ensures)
+returns c =
+    let start = c .before .before .before .before in
+    program-is (start .pre) (c .before .infer .ensures .is) (c .conclude .ensures)
 
 pub infer-program-spec : {M : Type 1} → statement M
 infer-program-spec = tie.close (tie.spec sub-root infer-requires conclude-requires returns)

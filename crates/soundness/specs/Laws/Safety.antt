@@ -12,9 +12,9 @@ use Rattle.privileges.specs.Laws.{⊆-trans, ⊆-union-left, ⊆-union-right, �
 use Rattle.program.specs.Layout.{Types}
 use Rattle.program.specs.Terms.{Op, sum, difference, less, Term, function, sign}
 use Rattle.program.specs.Laws.Trees.{Signed, signed, Standard}
-use Rattle.typing.specs.Subtyping.{Subtype, sub-same}
+use Rattle.typing.specs.Subtyping.{Subtype, sub-same, Wider}
 use Rattle.typing.specs.Rules.{bound, removeAuthorised, resultType, current, Derives, d-boolean, d-number, d-variable, d-function, d-letrec, d-call, d-if, d-test, d-check, d-enable, d-sign, d-binary, d-post, d-widen}
-use Rattle.typing.specs.Laws.Subtyping.{sub-trans, sub-base, sub-isFun, sub-arg, sub-res, sub-latent}
+use Rattle.typing.specs.Laws.Subtyping.{sub-trans, sub-base, sub-isFun, sub-arg, sub-res, sub-latent, wider-bounds}
 use Rattle.semantics.specs.Values.{Value, bool, num, closure, Env, empty, bind, lookup, entered, Budget, budget, Result, ends, stops}
 use Rattle.semantics.specs.Meaning.{_then_, choose, found, branch, operate, compute, appendPost, takeCell, beginCall, tooDeep, enter, Evaluation, Application, evalWith, apply, eval}
 use Rattle.semantics.specs.Access.{rights, addAuthorised, eagerControl}
@@ -138,10 +138,11 @@ module _ (T : Types) (A : ℕ → ℕ) (base : Base T) where
       go (ends v u) s = h v u s
       go (stops c at u) s = record { same = refl; safe = s }
 
-  alike-choose : {τ : ℕ} (b : Bool) (y y′ n n′ : Budget → Result) (u : Budget) → (b ≡ true → Alike τ (y u) (y′ u)) → Alike τ (n u) (n′ u)
-      → Alike τ (choose b y n u) (choose b y′ n′ u)
-  alike-choose true y y′ n n′ u hy hn = hy refl
-  alike-choose false y y′ n n′ u hy hn = hn
+  -- a value of either branch's type is one of the wider type
+  alike-choose : {τ ρ υ : ℕ} → Wider T τ ρ υ → (b : Bool) (y y′ n n′ : Budget → Result) (u : Budget) → (b ≡ true → Alike τ (y u) (y′ u))
+      → Alike ρ (n u) (n′ u) → Alike υ (choose b y n u) (choose b y′ n′ u)
+  alike-choose h true y y′ n n′ u hy hn = alike-widen (y u) (y′ u) (wider-bounds T h .0) (hy refl)
+  alike-choose h false y y′ n n′ u hy hn = alike-widen (n u) (n′ u) (wider-bounds T h .1) hn
 
   alike-cell : (τ at : ℕ) (k l : Budget → Result) → ((u : Budget) → Alike τ (k u) (l u)) → (u : Budget) → Alike τ (takeCell at k u) (takeCell at l u)
   alike-cell τ at k l h (budget c zero r ps) = alike-stop 21 at τ _ (omega arith)
@@ -210,17 +211,17 @@ module _ (T : Types) (A : ℕ → ℕ) (base : Base T) where
         (λ v u₁ hv. alike-then (checked a (rights n P) e u₁) (skipped a (rights n P) e u₁) _ _
         (eval-alike d′ (w .1) e he P (⊆-trans (⊆-union-right N M) hNM) u₁)
         (λ x u₂ hx. alike-app at φ v x hf hv (widen x hx fit) n P (⊆-trans (⊆-union-left (T .latent φ) (union N M)) hP) u₂))
-    eval-alike (d-if {n = n} {at = at} {τ = τ} {N = N} {M = M} {K = K} {c = c} {y = y} {o = o} d d′ d″) w e he P hP u =
+    eval-alike (d-if {n = n} {at = at} {υ = υ} {N = N} {M = M} {K = K} {c = c} {y = y} {o = o} d d′ d″ h) w e he P hP u =
         let hMK : union M K ⊆ P = ⊆-trans (⊆-union-right N (union M K)) hP in
         alike-then (checked c (rights n P) e u) (skipped c (rights n P) e u) _ _ (eval-alike d (w .0) e he P (⊆-trans (⊆-union-left N (union M K)) hP) u)
         (λ v u₁ hv. bool-only
-        (λ v. Alike τ (branch at v (λ x. checked y (rights n P) e x) (λ x. checked o (rights n P) e x) u₁)
+        (λ v. Alike υ (branch at v (λ x. checked y (rights n P) e x) (λ x. checked o (rights n P) e x) u₁)
         (branch at v (λ x. skipped y (rights n P) e x) (λ x. skipped o (rights n P) e x) u₁))
-        (λ b. alike-choose b _ _ _ _ u₁ (λ _. eval-alike d′ (w .1) e he P (⊆-trans (⊆-union-left M K) hMK) u₁)
+        (λ b. alike-choose h b _ _ _ _ u₁ (λ _. eval-alike d′ (w .1) e he P (⊆-trans (⊆-union-left M K) hMK) u₁)
         (eval-alike d″ (w .2) e he P (⊆-trans (⊆-union-right M K) hMK) u₁)) v hv)
     -- the yes-branch runs only where p is granted
-    eval-alike (d-test {n = n} {p = p} {N = N} {M = M} d d′) w e he P hP u =
-        alike-choose (has p P) _ _ _ _ u
+    eval-alike (d-test {n = n} {p = p} {N = N} {M = M} d d′ h) w e he P hP u =
+        alike-choose h (has p P) _ _ _ _ u
         (λ granted. eval-alike d (w .0) e he P (remove-has p N P (⊆-trans (⊆-union-left (remove p N) M) hP) granted) u)
         (eval-alike d′ (w .1) e he P (⊆-trans (⊆-union-right (remove p N) M) hP) u)
     eval-alike (d-check {n = n} {at = at} {p = p} {τ = τ} {N = N} {c = c} d) w e he P hP u =

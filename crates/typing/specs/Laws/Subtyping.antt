@@ -1,6 +1,7 @@
--- Subtyping is an order on the types of a readable sheet, and the test decides it.
-use mathlib.Core.Bool.{Bool, true, false, true≢false, false≢true}
+-- Subtyping is an order on the types of a readable sheet, and the test decides it; and so with the wider of two types.
+use mathlib.Core.Bool.{Bool, true, false, cond, true≢false, false≢true}
 use mathlib.Core.Logic.{_⊎_, inl, inr, ⊎-elim}
+use mathlib.Core.Option.{none, some, Option·none-ne-some, Option·some-injective}
 use mathlib.Core.Path.{_≡_, refl, sym, _∙_, subst}
 use Prim.Native.Nat.{ℕ, zero, suc, _+_, _≤_}
 use native.Mathlib.Nat.{le-refl}
@@ -12,7 +13,7 @@ use Rattle.privileges.specs.Laws.{⊆-refl, ⊆-trans, ⊆-antisym, subset-⊆,
 use Rattle.program.specs.Tests.{also, orElse}
 use Rattle.program.specs.Layout.{Types}
 use Rattle.program.specs.Laws.Types.{Lower}
-use Rattle.typing.specs.Subtyping.{Subtype, sub-same, sub-fun, subtypeIn, subtype}
+use Rattle.typing.specs.Subtyping.{Subtype, sub-same, sub-fun, Wider, wider-second, wider-first, subtypeIn, subtype, wider}
 
 module _ (T : Types) where
   -- ---- transitive: cut on either side at once, since arguments exchange the sides
@@ -58,15 +59,6 @@ module _ (T : Types) where
   pub sub-latent : {a b : ℕ} → Subtype T a b → T .latent a ⊆ T .latent b
   sub-latent {a = a} sub-same = ⊆-refl (T .latent a)
   sub-latent (sub-fun ha hb x l y) = l
-
-  -- ---- antisymmetric, where function types with the same parts are the same
-  module _
-      (one : (a b : ℕ) → T .isFun a ≡ true → T .isFun b ≡ true → T .arg a ≡ T .arg b → T .res a ≡ T .res b → T .latent a ≡ T .latent b → a ≡ b)
-    where
-      pub sub-antisym : {a b : ℕ} → Subtype T a b → Subtype T b a → a ≡ b
-      sub-antisym sub-same q = refl
-      sub-antisym (sub-fun {a} {b} ha hb x l y) q =
-          one a b ha hb (sym (sub-antisym x (sub-arg q))) (sub-antisym y (sub-res q)) (⊆-antisym (T .latent a) (T .latent b) l (sub-latent q))
 
   -- ---- decided
   five : (a b c d e : Bool) → also a (λ _. also b (λ _. also c (λ _. also d (λ _. e)))) ≡ true
@@ -120,3 +112,51 @@ module _ (T : Types) where
   pub subtype-complete : Lower T → {a b : ℕ} → Subtype T a b → subtype T a b ≡ true
   unfolding subtype
   subtype-complete L {a} {b} f = in-complete L f (a + b) (le-refl (a + b))
+
+  -- ---- the wider of two types
+  module _ (L : Lower T) where
+    fails : (a b : ℕ) → subtype T a b ≡ false → Subtype T a b → ⊥
+    fails a b e h = true≢false (sym (subtype-complete L h) ∙ e)
+
+    refuted : {a b : ℕ} → (Subtype T a b → ⊥) → subtype T a b ≡ false
+    refuted {a} {b} n = go (subtype T a b) refl
+      where
+        go : (x : Bool) → subtype T a b ≡ x → subtype T a b ≡ false
+        go true e = absurd (n (subtype-sound a b e))
+        go false e = e
+
+    pub wider-sound : (a b c : ℕ) → wider T a b ≡ some c → Wider T a b c
+    unfolding wider
+    wider-sound a b c h = go (subtype T a b) refl (subtype T b a) refl
+      where
+        go : (x : Bool) → subtype T a b ≡ x → (y : Bool) → subtype T b a ≡ y → Wider T a b c
+        go true p y q = subst (Wider T a b) (Option·some-injective b c (simp p at h)) (wider-second (subtype-sound a b p))
+        go false p true q = subst (Wider T a b) (Option·some-injective a c (simp (p, q) at h)) (wider-first (fails a b p) (subtype-sound b a q))
+        go false p false q = absurd (Option·none-ne-some c (simp (p, q) at h))
+
+    pub wider-complete : {a b c : ℕ} → Wider T a b c → wider T a b ≡ some c
+    unfolding wider
+    wider-complete (wider-second {a} {b} h) = λ i. cond (subtype-complete L h i) (some b) (cond (subtype T b a) (some a) none)
+    wider-complete (wider-first {a} {b} n h) = λ i. cond (refuted n i) (some b) (cond (subtype-complete L h i) (some a) none)
+
+  -- both fit it
+  pub wider-bounds : {a b c : ℕ} → Wider T a b c → Subtype T a c × Subtype T b c
+  wider-bounds (wider-second h) = (h, sub-same)
+  wider-bounds (wider-first n h) = (sub-same, h)
+
+  -- ---- antisymmetric, where function types with the same parts are the same
+  module _
+      (one : (a b : ℕ) → T .isFun a ≡ true → T .isFun b ≡ true → T .arg a ≡ T .arg b → T .res a ≡ T .res b → T .latent a ≡ T .latent b → a ≡ b)
+    where
+      pub sub-antisym : {a b : ℕ} → Subtype T a b → Subtype T b a → a ≡ b
+      sub-antisym sub-same q = refl
+      sub-antisym (sub-fun {a} {b} ha hb x l y) q =
+          one a b ha hb (sym (sub-antisym x (sub-arg q))) (sub-antisym y (sub-res q)) (⊆-antisym (T .latent a) (T .latent b) l (sub-latent q))
+
+      -- so either of two types can be the wider, whichever of them stands first
+      pub wider-above : Lower T → {a b : ℕ} → Subtype T b a → Wider T a b a
+      wider-above L {a} {b} h = go (subtype T a b) refl
+        where
+          go : (x : Bool) → subtype T a b ≡ x → Wider T a b a
+          go true e = let p = subtype-sound a b e in subst (Wider T a b) (sub-antisym h p) (wider-second p)
+          go false e = wider-first (fails L a b e) h

@@ -1,8 +1,8 @@
--- The judgement is `ifStep`: the second branch's fault; fault 10 for a condition that is no boolean, type 0, or branches of different types; or their type,
--- with the union of all three needs.
-use Rattle.rules.specs.Steps.{ifStep}
-use Rattle.rules.proofs.StepLaws.{stop, if-cond, if-same, if-differs}
+-- The judgement is `ifStep`: the second branch's fault; fault 10 for a condition that is no boolean, type 0; or that of two branches, with the union of
+-- all three needs. The table stays right.
 use borrow.Author.Needs.{needs}
+use Rattle.rules.specs.Steps.{ifStep}
+use Rattle.rules.proofs.StepLaws.{stop, if-cond, if-joined}
 use Rattle.rules.proofs.steps.branched.Statement.{statement}
 use Rattle.rules.proofs.steps.branched.Tie as tie
 
@@ -14,10 +14,19 @@ enum-told c = search needs
 
 returns : tie.Need-returns
 unfolding ifStep
-returns c = stop _ (c .before .before .args .j) (c .before .match .keys2)
+returns c =
+    let start = c .before .before .before in
+    record { is = stop _ (start .args .j) (c .before .match .keys2); known = start .pre .known }
 
 returns-2 : tie.Need-returns-2
-returns-2 c = if-cond (c .before .before .j .given .1) _ _ _ _ _ (c .if1 .taken)
+returns-2 c =
+    let start = c .before .before .before .before .before in
+    record { is = if-cond (c .before .before .j .given .1) _ _ _ _ _ _ (c .if1 .taken); known = start .pre .known }
+
+wider-requires : tie.Need-wider-requires
+wider-requires c κs =
+    let start = c .before .before .before .before .before .before in
+    start .pre
 
 union-requires : tie.Need-union-requires
 union-requires c κs = search needs
@@ -25,14 +34,19 @@ union-requires c κs = search needs
 union-requires-2 : tie.Need-union-requires-2
 union-requires-2 c κs = search needs
 
+joined-requires : tie.Need-joined-requires
+joined-requires c κs = search needs
+
 returns-3 : tie.Need-returns-3
 returns-3 c =
-    let at-j = c .before .before .before .before .before in
-    if-same (at-j .j .given .1) _ _ _ _ _ (c .before .before .before .if1 .left) (c .before .before .if2 .taken) (c .before .union .ensures)
-    (c .union2 .ensures)
-
-returns-4 : tie.Need-returns-4
-returns-4 c = if-differs (c .before .before .before .j .given .1) _ _ _ _ _ (c .before .if1 .left) (c .if2 .left)
+    let at-wider = c .before .before .before in
+    let at-if1 = at-wider .before .before in
+    let at-j = at-if1 .before .before in
+    record {
+      is = if-joined (at-j .j .given .1) _ _ _ _ _ _ (at-if1 .if1 .left) (at-wider .wider .ensures .is) (c .before .before .union .ensures)
+          (c .before .union2 .ensures) (c .joined .ensures);
+      known = at-wider .wider .ensures .known;
+    }
 
 pub branched-spec : {M : Type 1} → statement M
 branched-spec =
@@ -42,7 +56,8 @@ branched-spec =
     enum-told
     returns
     returns-2
+    wider-requires
     union-requires
     union-requires-2
-    returns-3
-    returns-4)
+    joined-requires
+    returns-3)

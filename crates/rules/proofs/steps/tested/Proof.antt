@@ -1,8 +1,8 @@
--- The judgement is `testStep`: the second branch's fault; fault 10 for branches of different types; or their type, with the union of the second's needs and
--- the first's without p.
-use Rattle.rules.specs.Steps.{testStep}
-use Rattle.rules.proofs.StepLaws.{stop, test-same, test-differs}
+-- The judgement is `testStep`: the second branch's fault; or that of two branches, with the union of the second's needs and the first's without p. The
+-- table stays right.
 use borrow.Author.Needs.{needs}
+use Rattle.rules.specs.Steps.{testStep}
+use Rattle.rules.proofs.StepLaws.{stop, test-joined}
 use Rattle.rules.proofs.steps.tested.Statement.{statement}
 use Rattle.rules.proofs.steps.tested.Tie as tie
 
@@ -14,7 +14,14 @@ enum-told c = search needs
 
 returns : tie.Need-returns
 unfolding testStep
-returns c = stop _ (c .before .before .args .j) (c .before .match .keys2)
+returns c =
+    let start = c .before .before .before in
+    record { is = stop _ (start .args .j) (c .before .match .keys2); known = start .pre .0 .known }
+
+wider-requires : tie.Need-wider-requires
+wider-requires c κs =
+    let start = c .before .before .before .before .before in
+    start .pre .0
 
 remove-requires : tie.Need-remove-requires
 remove-requires c κs = search needs
@@ -22,14 +29,28 @@ remove-requires c κs = search needs
 union-requires : tie.Need-union-requires
 union-requires c κs = search needs
 
+joined-requires : tie.Need-joined-requires
+joined-requires c κs = search needs
+
 returns-2 : tie.Need-returns-2
 returns-2 c =
-    let at-j = c .before .before .before .before in
-    test-same (at-j .j .given .1) _ _ _ _ (c .before .before .if1 .taken) (c .before .remove .ensures) (c .union .ensures)
-
-returns-3 : tie.Need-returns-3
-returns-3 c = test-differs (c .before .before .j .given .1) _ _ _ _ (c .if1 .left)
+    let at-wider = c .before .before .before in
+    let at-j = at-wider .before .before .before in
+    record {
+      is = test-joined (at-j .j .given .1) _ _ _ _ _ (at-wider .wider .ensures .is) (c .before .before .remove .ensures) (c .before .union .ensures)
+          (c .joined .ensures);
+      known = at-wider .wider .ensures .known;
+    }
 
 pub tested-spec : {M : Type 1} → statement M
 tested-spec =
-    tie.close (tie.spec enum-known-j enum-told returns remove-requires union-requires returns-2 returns-3)
+    tie.close
+    (tie.spec
+    enum-known-j
+    enum-told
+    returns
+    wider-requires
+    remove-requires
+    union-requires
+    joined-requires
+    returns-2)
