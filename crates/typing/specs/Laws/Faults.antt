@@ -1,0 +1,116 @@
+-- A term is refused by 24, 25 or 26 only where the types in it are as these say, and the reader refuses by lower numbers.
+use mathlib.Core.Bool.{Bool, true, false, cond, _&&_}
+use mathlib.Core.List.{List, [], _∷_}
+use mathlib.Core.Option.{Option, none, some}
+use mathlib.Core.Path.{_≡_, refl, ap, _∙_, subst}
+use Prim.Native.Nat.{ℕ, _<_, _≤_}
+use native.Mathlib.Omega.{arith}
+use lib.Dec.{eqb, ltb}
+use borrow.Author.Tests.{eqb-true, ltb-true}
+use Rattle.privileges.specs.Booleans.{and-left, and-right}
+use Rattle.privileges.specs.Sets.{subset}
+use Rattle.program.specs.Layout.{Types}
+use Rattle.program.specs.Terms.{Term, boolean, number, variable, function, letrec, call, if, check, enable, sign, test, binary, post}
+use Rattle.program.specs.Screening.{Condition, found, First, first-here, first-later}
+use Rattle.program.specs.Decoding.{decodingConditions, decoding}
+use Rattle.program.specs.Laws.Screening.{found-first}
+use Rattle.typing.specs.Subtyping.{subtype, wider}
+use Rattle.typing.specs.Rules.{bound}
+use Rattle.typing.specs.Checking.{Judgement, typed, fault, _next_, require, variableType, joined, bodyFits, infer}
+use Rattle.typing.specs.Faults.{Within, here, in-function, in-letrec-body, in-letrec-rest, in-call-function, in-call-argument, in-if-condition, in-if-yes, in-if-no, in-check, in-enable, in-sign, in-test-yes, in-test-no, in-left, in-right, in-post, Wrong, not-a-function, unfit-argument, unfit-if, unfit-test, FaultyPart}
+
+-- a judgement of a term: typed, a fault with a lower number, or a fault of a part of it
+data Told (T : Types) (A : ℕ → ℕ) (Γ : List ℕ) (n : ℕ) (c : Term) : Judgement → Type 0 where
+  well : {τ N : ℕ} → Told T A Γ n c (typed τ N)
+  lower : {cause at : ℕ} → cause < 24 → Told T A Γ n c (fault cause at)
+  faulty : {cause at : ℕ} → FaultyPart T A Γ n c cause at → Told T A Γ n c (fault cause at)
+
+module _ {T : Types} {A : ℕ → ℕ} {Γ : List ℕ} {n : ℕ} {c : Term} where
+  -- a child first: what is within it is within the term
+  next-told : {Γ′ : List ℕ} {n′ : ℕ} {c′ : Term} (k : ℕ → ℕ → Judgement) → Told T A Γ′ n′ c′ (infer T A Γ′ n′ c′)
+      → ((Δ : List ℕ) (m : ℕ) (d : Term) → Within T Δ m d Γ′ n′ c′ → Within T Δ m d Γ n c)
+      → ((τ N : ℕ) → infer T A Γ′ n′ c′ ≡ typed τ N → Told T A Γ n c (k τ N)) → Told T A Γ n c (infer T A Γ′ n′ c′ next k)
+  next-told {Γ′} {n′} {c′} k t up h = go (infer T A Γ′ n′ c′) refl t
+    where
+      go : (j : Judgement) → infer T A Γ′ n′ c′ ≡ j → Told T A Γ′ n′ c′ j → Told T A Γ n c (j next k)
+      go (typed τ N) e well = h τ N e
+      go (fault cause at) e (lower l) = lower l
+      go (fault cause at) e (faulty f) = faulty (record {
+        bindings = f .bindings;
+        principal = f .principal;
+        part = f .part;
+        within = up (f .bindings) (f .principal) (f .part) (f .within);
+        wrong = f .wrong;
+      })
+
+  require-told : (b : Bool) (cause at : ℕ) {j : Judgement} → (b ≡ false → Told T A Γ n c (fault cause at)) → (b ≡ true → Told T A Γ n c j)
+      → Told T A Γ n c (require b cause at j)
+  require-told true cause at f h = h refl
+  require-told false cause at f h = f refl
+
+  lower-told : (b : Bool) (cause at : ℕ) {j : Judgement} → cause < 24 → (b ≡ true → Told T A Γ n c j) → Told T A Γ n c (require b cause at j)
+  lower-told b cause at l h = require-told b cause at (λ _. lower l) h
+
+  body-told : (at ty τ N : ℕ) {j : Judgement} → Told T A Γ n c j → Told T A Γ n c (bodyFits T A at ty τ N j)
+  body-told at ty τ N t = lower-told (eqb τ (T .res ty)) 10 at (omega arith) λ _. lower-told (subset N (T .latent ty)) 12 at (omega arith) λ _. t
+
+  self : {cause at : ℕ} → Wrong T A Γ n cause at c → Told T A Γ n c (fault cause at)
+  self w = faulty (record { bindings = Γ; principal = n; part = c; within = here; wrong = w })
+
+  -- branches of the types τ and ρ
+  branches-told : (at τ ρ N : ℕ) → (subtype T τ ρ ≡ false → subtype T ρ τ ≡ false → Wrong T A Γ n 26 at c) → Told T A Γ n c (joined at (wider T τ ρ) N)
+  unfolding wider
+  branches-told at τ ρ N h = go (subtype T τ ρ) (subtype T ρ τ) refl refl
+    where
+      go : (x y : Bool) → subtype T τ ρ ≡ x → subtype T ρ τ ≡ y → Told T A Γ n c (joined at (cond x (some ρ) (cond y (some τ) none)) N)
+      go true y e f = well
+      go false true e f = well
+      go false false e f = self (h e f)
+
+  variable-told : (at : ℕ) (o : Option ℕ) → Told T A Γ n c (variableType at o)
+  variable-told at none = lower {cause = 9} (omega arith)
+  variable-told at (some τ) = well
+
+module _ (T : Types) (A : ℕ → ℕ) where
+  told : (Γ : List ℕ) (n : ℕ) (c : Term) → Told T A Γ n c (infer T A Γ n c)
+  unfolding infer
+  told Γ n (boolean at b) = well
+  told Γ n (number at k) = well
+  told Γ n (variable at i) = variable-told at (bound Γ i)
+  told Γ n (function at ty body) = next-told _ (told (T .arg ty ∷ Γ) n body) (λ _ _ _ w. in-function w) λ τ N e. body-told at ty τ N well
+  told Γ n (letrec at ty body rest) = next-told _ (told (T .arg ty ∷ ty ∷ Γ) n body) (λ _ _ _ w. in-letrec-body w) λ τ N e.
+      next-told _ (told (ty ∷ Γ) n rest) (λ _ _ _ w. in-letrec-rest w) λ ρ M e′. body-told at ty τ N well
+  told Γ n (call at f a) = next-told _ (told Γ n f) (λ _ _ _ w. in-call-function w) λ φ N e.
+      next-told _ (told Γ n a) (λ _ _ _ w. in-call-argument w) λ α M e′. require-told (T .isFun φ) 24 at (λ h. self (not-a-function e e′ h)) λ h.
+      require-told (subtype T α (T .arg φ)) 25 at (λ h′. self (unfit-argument e e′ h h′)) λ _. well
+  told Γ n (if at c y o) = next-told _ (told Γ n c) (λ _ _ _ w. in-if-condition w) λ σ N e. next-told _ (told Γ n y) (λ _ _ _ w. in-if-yes w) λ τ M e′.
+      next-told _ (told Γ n o) (λ _ _ _ w. in-if-no w) λ ρ K e″. lower-told (eqb σ 0) 10 at (omega arith) λ h. branches-told at τ ρ _ λ p q.
+      unfit-if (e ∙ ap (λ (x : ℕ). typed x N) (eqb-true σ 0 h)) e′ e″ p q
+  told Γ n (check at p c) = next-told _ (told Γ n c) (λ _ _ _ w. in-check w) λ τ N e. well
+  told Γ n (enable at p c) = next-told _ (told Γ n c) (λ _ _ _ w. in-enable w) λ τ N e. well
+  told Γ n (sign at m c) = next-told _ (told Γ m c) (λ _ _ _ w. in-sign w) λ τ N e. lower-told (subset N (A m)) 11 at (omega arith) λ _. well
+  told Γ n (test at p y o) = next-told _ (told Γ n y) (λ _ _ _ w. in-test-yes w) λ τ N e. next-told _ (told Γ n o) (λ _ _ _ w. in-test-no w) λ ρ M e′.
+      branches-told at τ ρ _ λ q r. unfit-test e e′ q r
+  told Γ n (binary at op a b) = next-told _ (told Γ n a) (λ _ _ _ w. in-left w) λ τ N e. next-told _ (told Γ n b) (λ _ _ _ w. in-right w) λ ρ M e′.
+      lower-told (eqb τ 1 && eqb ρ 1) 10 at (omega arith) λ _. well
+  told Γ n (post at c) = next-told _ (told Γ n c) (λ _ _ _ w. in-post w) λ τ N e. lower-told (eqb τ 1) 10 at (omega arith) λ _. well
+
+  pub infer-faulty : (Γ : List ℕ) (n : ℕ) (c : Term) (cause at : ℕ) → infer T A Γ n c ≡ fault cause at → 24 ≤ cause → FaultyPart T A Γ n c cause at
+  infer-faulty Γ n c cause at e l = go (subst (Told T A Γ n c) e (told Γ n c)) l
+    where
+      go : {cause at : ℕ} → Told T A Γ n c (fault cause at) → 24 ≤ cause → FaultyPart T A Γ n c cause at
+      go (lower u) l = absurd (omega arith)
+      go (faulty f) l = f
+
+-- ---- the reader's numbers are lower
+abbrev low : List Condition → Bool
+low [] = true
+low (c ∷ cs) = ltb (c .cause) 24 && low cs
+
+first-low : {cause place : ℕ} {cs : List Condition} → First cause place cs → low cs ≡ true → cause < 24
+first-low (first-here {c} {cs} e f) h = subst (λ x. x < 24) e (ltb-true (c .cause) 24 (and-left (ltb (c .cause) 24) (low cs) h))
+first-low (first-later {c} {cs} f r) h = first-low r (and-right (ltb (c .cause) 24) (low cs) h)
+
+pub decoding-low : (s : List ℕ) (cause place : ℕ) → decoding s ≡ found cause place → cause < 24
+unfolding decoding
+decoding-low s cause place e = first-low (found-first (decodingConditions s) cause place e) refl
