@@ -72,31 +72,31 @@ module _ {T : Types} {A : ℕ → ℕ} {Γ : List ℕ} {n : ℕ} {c : Term} wher
   variable-explained at (some τ) = well
 
 module _ (T : Types) (A : ℕ → ℕ) where
-  told : (Γ : List ℕ) (n : ℕ) (c : Term) → Explained T A Γ n c (infer T A Γ n c)
+  explained : (Γ : List ℕ) (n : ℕ) (c : Term) → Explained T A Γ n c (infer T A Γ n c)
   unfolding infer
-  told Γ n (boolean at b) = well
-  told Γ n (number at k) = well
-  told Γ n (variable at i) = variable-explained at (bound Γ i)
-  told Γ n (function at ty body) = next-explained _ (told (T .arg ty ∷ Γ) n body) (λ _ _ _ w. in-function w) λ τ N e. body-explained at ty τ N well
-  told Γ n (letrec at ty body rest) = next-explained _ (told (T .arg ty ∷ ty ∷ Γ) n body) (λ _ _ _ w. in-letrec-body w) λ τ N e.
-      next-explained _ (told (ty ∷ Γ) n rest) (λ _ _ _ w. in-letrec-rest w) λ ρ M e′. body-explained at ty τ N well
-  told Γ n (call at f a) = next-explained _ (told Γ n f) (λ _ _ _ w. in-call-function w) λ φ N e.
-      next-explained _ (told Γ n a) (λ _ _ _ w. in-call-argument w) λ α M e′. require-explained (T .isFun φ) 24 at (λ h. self (not-a-function e e′ h)) λ h.
+  explained Γ n (boolean at b) = well
+  explained Γ n (number at k) = well
+  explained Γ n (variable at i) = variable-explained at (bound Γ i)
+  explained Γ n (function at ty body) = next-explained _ (explained (T .arg ty ∷ Γ) n body) (λ _ _ _ w. in-function w) λ τ N e. body-explained at ty τ N well
+  explained Γ n (letrec at ty body rest) = next-explained _ (explained (T .arg ty ∷ ty ∷ Γ) n body) (λ _ _ _ w. in-letrec-body w) λ τ N e.
+      next-explained _ (explained (ty ∷ Γ) n rest) (λ _ _ _ w. in-letrec-rest w) λ ρ M e′. body-explained at ty τ N well
+  explained Γ n (call at f a) = next-explained _ (explained Γ n f) (λ _ _ _ w. in-call-function w) λ φ N e.
+      next-explained _ (explained Γ n a) (λ _ _ _ w. in-call-argument w) λ α M e′. require-explained (T .isFun φ) 24 at (λ h. self (not-a-function e e′ h)) λ h.
       require-explained (subtype T α (T .arg φ)) 25 at (λ h′. self (unfit-argument e e′ h h′)) λ _. well
-  told Γ n (if at c y o) = next-explained _ (told Γ n c) (λ _ _ _ w. in-if-condition w) λ σ N e. next-explained _ (told Γ n y) (λ _ _ _ w. in-if-yes w) λ τ M e′.
-      next-explained _ (told Γ n o) (λ _ _ _ w. in-if-no w) λ ρ K e″. lower-explained (eqb σ 0) 10 at (omega arith) λ h. branches-explained at τ ρ _ λ p q.
+  explained Γ n (if at c y o) = next-explained _ (explained Γ n c) (λ _ _ _ w. in-if-condition w) λ σ N e. next-explained _ (explained Γ n y) (λ _ _ _ w. in-if-yes w) λ τ M e′.
+      next-explained _ (explained Γ n o) (λ _ _ _ w. in-if-no w) λ ρ K e″. lower-explained (eqb σ 0) 10 at (omega arith) λ h. branches-explained at τ ρ _ λ p q.
       unfit-if (e ∙ ap (λ (x : ℕ). typed x N) (eqb-true σ 0 h)) e′ e″ p q
-  told Γ n (check at p c) = next-explained _ (told Γ n c) (λ _ _ _ w. in-check w) λ τ N e. well
-  told Γ n (enable at p c) = next-explained _ (told Γ n c) (λ _ _ _ w. in-enable w) λ τ N e. well
-  told Γ n (sign at m c) = next-explained _ (told Γ m c) (λ _ _ _ w. in-sign w) λ τ N e. lower-explained (subset N (A m)) 11 at (omega arith) λ _. well
-  told Γ n (test at p y o) = next-explained _ (told Γ n y) (λ _ _ _ w. in-test-yes w) λ τ N e. next-explained _ (told Γ n o) (λ _ _ _ w. in-test-no w) λ ρ M e′.
+  explained Γ n (check at p c) = next-explained _ (explained Γ n c) (λ _ _ _ w. in-check w) λ τ N e. well
+  explained Γ n (enable at p c) = next-explained _ (explained Γ n c) (λ _ _ _ w. in-enable w) λ τ N e. well
+  explained Γ n (sign at m c) = next-explained _ (explained Γ m c) (λ _ _ _ w. in-sign w) λ τ N e. lower-explained (subset N (A m)) 11 at (omega arith) λ _. well
+  explained Γ n (test at p y o) = next-explained _ (explained Γ n y) (λ _ _ _ w. in-test-yes w) λ τ N e. next-explained _ (explained Γ n o) (λ _ _ _ w. in-test-no w) λ ρ M e′.
       branches-explained at τ ρ _ λ q r. unfit-test e e′ q r
-  told Γ n (binary at op a b) = next-explained _ (told Γ n a) (λ _ _ _ w. in-left w) λ τ N e. next-explained _ (told Γ n b) (λ _ _ _ w. in-right w) λ ρ M e′.
+  explained Γ n (binary at op a b) = next-explained _ (explained Γ n a) (λ _ _ _ w. in-left w) λ τ N e. next-explained _ (explained Γ n b) (λ _ _ _ w. in-right w) λ ρ M e′.
       lower-explained (eqb τ 1 && eqb ρ 1) 10 at (omega arith) λ _. well
-  told Γ n (post at c) = next-explained _ (told Γ n c) (λ _ _ _ w. in-post w) λ τ N e. lower-explained (eqb τ 1) 10 at (omega arith) λ _. well
+  explained Γ n (post at c) = next-explained _ (explained Γ n c) (λ _ _ _ w. in-post w) λ τ N e. lower-explained (eqb τ 1) 10 at (omega arith) λ _. well
 
   pub infer-faulty : (Γ : List ℕ) (n : ℕ) (c : Term) (cause at : ℕ) → infer T A Γ n c ≡ fault cause at → 24 ≤ cause → FaultyPart T A Γ n c cause at
-  infer-faulty Γ n c cause at e l = go (subst (Explained T A Γ n c) e (told Γ n c)) l
+  infer-faulty Γ n c cause at e l = go (subst (Explained T A Γ n c) e (explained Γ n c)) l
     where
       go : {cause at : ℕ} → Explained T A Γ n c (fault cause at) → 24 ≤ cause → FaultyPart T A Γ n c cause at
       go (lower u) l = absurd (omega arith)
