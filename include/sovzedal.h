@@ -15,7 +15,7 @@
  * Every function returns
  *   SOVZEDAL_OK       0  the sheet is readable, or accepted, or the run ended; or the register was read or written;
  *   SOVZEDAL_STOPPED  1  the run was stopped, for one of the causes 17 to 22;
- *   SOVZEDAL_REFUSED  2  refused, for one of the causes 1 to 16, or 23 for an address: every buffer but `answer` is as it was;
+ *   SOVZEDAL_REFUSED  2  refused, for one of the causes 1 to 16 and 24 to 26, or 23 for an address: every buffer but `answer` is as it was;
  *   SOVZEDAL_SHORT    3  `answer` has fewer than 8 entries, or `block` is not of 16 bytes: nothing was done and nothing written anywhere;
  * and writes exactly the first 8 entries of `answer`:
  *
@@ -46,7 +46,7 @@ extern "C" {
 
 /* The version of this interface, and of the format that it reads. */
 #define SOVZEDAL_VERSION_MAJOR 1
-#define SOVZEDAL_VERSION_MINOR 1
+#define SOVZEDAL_VERSION_MINOR 2
 #define SOVZEDAL_FORMAT 1
 
 /* What a function returns. */
@@ -78,8 +78,8 @@ enum {
     SOVZEDAL_NUMBER = 1
 };
 
-/* The causes, by the headings of docs/REFUSALS.md. 1 to 8 are told of a sheet that is not readable, 9 to 13 of one that the rules refuse, 14 to 16 of a
- * request to run one; 17 to 22 are stops; 23 is told of an address that a block does not have. */
+/* The causes, by the headings of docs/REFUSALS.md. 1 to 8 are told of a sheet that is not readable, 9 to 13 and 24 to 26 of one that the rules refuse,
+ * 14 to 16 of a request to run one; 17 to 22 are stops; 23 is told of an address that a block does not have. */
 enum {
     SOVZEDAL_CUT_SHORT = 1,
     SOVZEDAL_WRONG_TAG = 2,
@@ -103,7 +103,10 @@ enum {
     SOVZEDAL_CALLS_SPENT = 20,
     SOVZEDAL_NO_CELL = 21,
     SOVZEDAL_NO_POST = 22,
-    SOVZEDAL_ADDRESS = 23
+    SOVZEDAL_ADDRESS = 23,
+    SOVZEDAL_NOT_A_FUNCTION = 24,
+    SOVZEDAL_ARGUMENT = 25,
+    SOVZEDAL_BRANCHES = 26
 };
 
 enum {
@@ -162,7 +165,8 @@ static inline const char *sovzedal_cause_text(uint32_t cause)
         "start stack", "buffers", "allowance",
         "refused check", "stuck",
         "open calls", "calls spent", "no cell", "no place for a post",
-        "address"
+        "address",
+        "not a function", "argument", "branches"
     };
     return cause < sizeof texts / sizeof texts[0] ? texts[cause] : "unknown";
 }
@@ -177,7 +181,7 @@ uint32_t sovzedal_decode(const uint8_t *sheet, size_t sheet_len,
 /* Whether the rules accept a sheet, with its type and the least needs.
  *   sheet, sheet_len    the sheet and its length in bytes; only read
  *   answer, answer_len  the list for the answer and its length in entries
- * Refusals: 1 to 13. */
+ * Refusals: 1 to 13 and 24 to 26. */
 uint32_t sovzedal_typecheck(const uint8_t *sheet, size_t sheet_len,
                             uint32_t *answer, size_t answer_len);
 

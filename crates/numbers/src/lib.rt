@@ -28,7 +28,7 @@ pub fn of_reader(f: program::answer::Refusal) -> Code
     }
 }
 
-// 9 to 13.
+// 9 to 13, and 24 to 26.
 pub fn of_fault(f: Fault) -> Code
     ensures { λ r. ⌜ CodeIs (faultCause f) (faultPlace f) r ⌝ }
 {
@@ -48,6 +48,18 @@ pub fn of_fault(f: Fault) -> Code
         },
         Fault::RootType(t) => Code {
             cause: 13,
+            place: t,
+        },
+        Fault::NotFunction(t) => Code {
+            cause: 24,
+            place: t,
+        },
+        Fault::Argument(t) => Code {
+            cause: 25,
+            place: t,
+        },
+        Fault::Branches(t) => Code {
+            cause: 26,
             place: t,
         },
     }

@@ -68,7 +68,7 @@ module _ {w : Found} (t N : ℕ) where
   pub joined-typed : {ty : ℕ} → w ≡ At ty → typed ty N ≡ joined t (foundOf w) N
   joined-typed e = rw e refl
 
-  pub joined-fault : w ≡ Nothing → fault 10 t ≡ joined t (foundOf w) N
+  pub joined-fault : w ≡ Nothing → fault 26 t ≡ joined t (foundOf w) N
   joined-fault e = rw e refl
 
 -- ---- a typed last child
@@ -138,10 +138,10 @@ module _ {j : Inferred} {τ N : ℕ} (e : j ≡ Typed τ N) where
   letrec-body f t σ P g h = rw (e, ← g) h
 
   module _ {s : List ℕ} {c : Counts} (S : Sheet s c) (t φ P : ℕ) {b : Bool} (hb : b ≡ (leb 2 φ && ltb φ (c .types))) where
-    pub call-other : b ≡ false → fault 10 t ≡ callStep (typesOf s) t φ P (inferredModel j)
+    pub call-other : b ≡ false → fault 24 t ≡ callStep (typesOf s) t φ P (inferredModel j)
     unfolding callStep
-    call-other h = rw e (λ i. require ((sym (sym (function-is S φ hb) ∙ h) i) && subtype (typesOf s) τ (typesOf s .arg φ)) 10 t
-        (typed (typesOf s .res φ) (union (typesOf s .latent φ) (union P N))))
+    call-other h = rw e (λ i. require (sym (sym (function-is S φ hb) ∙ h) i) 24 t
+        (require (subtype (typesOf s) τ (typesOf s .arg φ)) 25 t (typed (typesOf s .res φ) (union (typesOf s .latent φ) (union P N)))))
 
     module _ (h : b ≡ true) {f : TypeRecord} (hf : f ≡ typeRecord s c φ) {a : Bool} (ha : a ≡ subtype (typesOf s) τ (f .arg)) where
       isFun : typesOf s .isFun φ ≡ true
@@ -153,15 +153,16 @@ module _ {j : Inferred} {τ N : ℕ} (e : j ≡ Typed τ N) where
       fits : subtype (typesOf s) τ (typesOf s .arg φ) ≡ a
       fits = sym (ha ∙ ap (subtype (typesOf s) τ) (p .arg-is))
 
-      pub call-unfit : a ≡ false → fault 10 t ≡ callStep (typesOf s) t φ P (inferredModel j)
+      pub call-unfit : a ≡ false → fault 25 t ≡ callStep (typesOf s) t φ P (inferredModel j)
       unfolding callStep
-      call-unfit g = rw e (λ i. require ((sym isFun i) && (sym (fits ∙ g) i)) 10 t (typed (typesOf s .res φ) (union (typesOf s .latent φ) (union P N))))
+      call-unfit g = rw e (λ i. require (sym isFun i) 24 t
+          (require (sym (fits ∙ g) i) 25 t (typed (typesOf s .res φ) (union (typesOf s .latent φ) (union P N)))))
 
       pub call-fits : a ≡ true → {K L : ℕ} → K ≡ union P N → L ≡ union (f .latent) K → typed (f .res) L ≡ callStep (typesOf s) t φ P (inferredModel j)
       unfolding callStep
       call-fits g k l =
           rw (e, l, k)
-          (λ i. require ((sym isFun i) && (sym (fits ∙ g) i)) 10 t (typed (p .res-is i) (union (p .latent-is i) (union P N))))
+          (λ i. require (sym isFun i) 24 t (require (sym (fits ∙ g) i) 25 t (typed (p .res-is i) (union (p .latent-is i) (union P N)))))
 
 -- ---- a function's body
 module _ (f : TypeRecord) (t τ N : ℕ) (j : Judgement) where

@@ -68,7 +68,7 @@ letrecStep f at τ N j = j next λ ρ M. bodyStep f at τ N (typed ρ (union (f 
 
 unfoldable pub callStep : Types → (at φ N : ℕ) → Judgement → Judgement
 callStep T at φ N j = j next λ α M.
-    require (T .isFun φ && subtype T α (T .arg φ)) 10 at (typed (T .res φ) (union (T .latent φ) (union N M)))
+    require (T .isFun φ) 24 at (require (subtype T α (T .arg φ)) 25 at (typed (T .res φ) (union (T .latent φ) (union N M))))
 
 -- the result of a sum (kind 11), a difference (12) or a less (13)
 unfoldable pub resultOf : (kind : ℕ) → ℕ

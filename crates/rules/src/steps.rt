@@ -128,7 +128,7 @@ pub fn joined(t: u16, w: Found, needs: u32) -> Inferred
             ty: ty,
             needs: needs,
         },
-        Found::Nothing => Inferred::Faulty(Fault::Type(t)),
+        Found::Nothing => Inferred::Faulty(Fault::Branches(t)),
     }
 }
 
@@ -263,7 +263,7 @@ pub fn call_of(
         return j;
     };
     if !is_function(c, ty1) {
-        return Inferred::Faulty(Fault::Type(t));
+        return Inferred::Faulty(Fault::NotFunction(t));
     }
     let f = accessors::type_record(s, c, ty1);
     if subtype(s, c, known, ty, f.arg) {
@@ -273,5 +273,5 @@ pub fn call_of(
             needs: privileges::union(f.latent, both),
         };
     }
-    Inferred::Faulty(Fault::Type(t))
+    Inferred::Faulty(Fault::Argument(t))
 }

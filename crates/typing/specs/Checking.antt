@@ -31,10 +31,11 @@ abbrev pub variableType : (at : ℕ) → Option ℕ → Judgement
 variableType at (some τ) = typed τ 0
 variableType at none = fault 9 at
 
--- two branches, from the wider of their types: "a fitting pair of branches is no longer a fault" (02, W4), and any other is 10
+-- two branches, from the wider of their types: "a fitting pair of branches is no longer a fault" (02, W4), and "branches of which neither fits the
+-- other" are 26 (W5)
 abbrev pub joined : (at : ℕ) → Option ℕ → (needs : ℕ) → Judgement
 joined at (some τ) N = typed τ N
-joined at none N = fault 10 at
+joined at none N = fault 26 at
 
 module _ (T : Types) (A : ℕ → ℕ) where
   -- the tests of a function's body: "10 type", "12 needs of a body"
@@ -48,8 +49,10 @@ module _ (T : Types) (A : ℕ → ℕ) where
   infer Γ n (function at ty body) = infer (T .arg ty ∷ Γ) n body next λ τ N. bodyFits at ty τ N (typed ty 0)
   infer Γ n (letrec at ty body rest) = infer (T .arg ty ∷ ty ∷ Γ) n body next λ τ N. infer (ty ∷ Γ) n rest next λ ρ M.
       bodyFits at ty τ N (typed ρ (union (T .latent ty) M))
+  -- 02, W5: "A call whose function part isn't a function, an argument that doesn't fit …: 24, 25"; "at one call 24 goes before 25"
   infer Γ n (call at f a) = infer Γ n f next λ φ N. infer Γ n a next λ α M.
-      require (T .isFun φ && subtype T α (T .arg φ)) 10 at (typed (T .res φ) (union (T .latent φ) (union N M)))
+      require (T .isFun φ) 24 at (require (subtype T α (T .arg φ)) 25 at (typed (T .res φ) (union (T .latent φ) (union N M))))
+  -- "at one if 10 before 26"
   infer Γ n (if at c y o) = infer Γ n c next λ σ N. infer Γ n y next λ τ M. infer Γ n o next λ ρ K.
       require (eqb σ 0) 10 at (joined at (wider T τ ρ) (union N (union M K)))
   infer Γ n (check at p c) = infer Γ n c next λ τ N. typed τ (insert p N)

@@ -2,3 +2,4 @@
 pub mod Subtyping
 pub mod Checking
 pub mod Variants
+pub mod Faults

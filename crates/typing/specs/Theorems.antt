@@ -1,11 +1,11 @@
 -- The theorems about the rules: subtyping is an order that the test decides; a readable sheet is accepted exactly if it has a derivation; the
 -- needs told are the least, and the type told is that of every derivation; what 01's own rules accept is accepted, with no more needs, and what the
--- rules before W4 accept, with the same type and needs.
+-- rules before W4 accept, with the same type and needs; and 24, 25 and 26 are told only where the types are as they say.
 use mathlib.Core.Bool.{Bool, true, false, cond}
-use mathlib.Core.List.{List}
+use mathlib.Core.List.{List, []}
 use mathlib.Core.Logic.{_↔_, _⊎_, inl, inr}
 use mathlib.Core.Path.{_≡_, refl, sym, ap, _∙_, subst}
-use Prim.Native.Nat.{ℕ, _<_}
+use Prim.Native.Nat.{ℕ, _<_, _≤_}
 use native.Mathlib.Omega.{arith}
 use lib.Dec.{ltb}
 use borrow.Author.Tests.{ltb-true, lt-ltb}
@@ -13,6 +13,7 @@ use Rattle.privileges.specs.Sets.{_⊆_}
 use Rattle.privileges.specs.Laws.{⊆-antisym}
 use Rattle.program.specs.Bytes.{Bytes}
 use Rattle.program.specs.Layout.{authority, terms, root, typesOf}
+use Rattle.program.specs.Terms.{program}
 use Rattle.program.specs.Screening.{Screening, clear, found}
 use Rattle.program.specs.Decoding.{decoding, Readable}
 use Rattle.program.specs.Laws.Readable.{well-formed}
@@ -21,10 +22,12 @@ use Rattle.program.specs.Laws.Trees.{program-standard}
 use Rattle.typing.specs.Subtyping.{Subtype, sub-same, Wider, wider-second, wider-first, subtype}
 use Rattle.typing.specs.Rules.{Variant, base, afterW1, current}
 use Rattle.typing.specs.Checking.{Judgement, typed, fault}
+use Rattle.typing.specs.Faults.{FaultyPart}
 use Rattle.typing.specs.Verdicts.{accepted, rejected, concluded, ifReadable, judgement, verdict, SheetDerivesBy, SheetDerives}
 use Rattle.typing.specs.Laws.Subtyping.{sub-trans, sub-antisym, subtype-sound, subtype-complete, wider-above}
 use Rattle.typing.specs.Laws.Checking.{infer-complete, infer-afterW1, infer-derives, typed-least, derives-least}
 use Rattle.typing.specs.Laws.Variants.{relaxed, current-relaxes-base}
+use Rattle.typing.specs.Laws.Faults.{infer-faulty, decoding-low}
 
 -- ---- Theorem 1: subtyping
 
@@ -182,3 +185,30 @@ least-before s r τ N d =
       least-needs afterW1 s τ (x .least) (x .derives) λ σ M d′.
           typed-least (typesOf s) (authority s) (x .is) (infer-afterW1 (typesOf s) (authority s) L d′),
     )
+
+-- ---- what W5's numbers say
+-- a term of the sheet, in the bindings and under the principal that it has there, is wrong as the number says, and its number is `at`
+abbrev pub TypeFault : List ℕ → (cause at : ℕ) → Type 0
+TypeFault s cause at = FaultyPart (typesOf s) (authority s) [] 0 (program s) cause at
+
+-- A sheet is refused by 24, 25 or 26 at a term only if that term is a call of what isn't a function, a call with an argument that doesn't fit, or an if
+-- or test with branches of which neither fits the other, in the bindings and under the principal that it has in the sheet, and its children have types
+-- (Faults: Wrong, Within). No other number from 24 on is told.
+pub type-faults : (s : List ℕ) (cause at : ℕ) → verdict s ≡ rejected cause at → 24 ≤ cause → TypeFault s cause at
+unfolding verdict
+type-faults s cause at e l = screened (decoding s) refl e
+  where
+    rooted : (b : Bool) (τ N : ℕ) → cond b (accepted (terms s) τ N) (rejected 13 (root s)) ≡ rejected cause at → TypeFault s cause at
+    rooted true τ N f = rejected≢accepted (sym f)
+    rooted false τ N f = absurd (let z : 13 ≡ cause = cc in omega arith)
+
+    judged : (j : Judgement) → judgement s ≡ j → concluded (terms s) (root s) j ≡ rejected cause at → TypeFault s cause at
+    judged (typed τ N) h f = rooted (ltb τ 2) τ N f
+    judged (fault c p) h f =
+        infer-faulty (typesOf s) (authority s) [] 0 (program s) cause at (h ∙ (let z : fault c p ≡ fault cause at = cc in z)) l
+
+    screened : (d : Screening) → decoding s ≡ d → ifReadable d (λ _. concluded (terms s) (root s) (judgement s)) ≡ rejected cause at → TypeFault s cause at
+    screened clear h f = judged (judgement s) refl f
+    screened (found c p) h f =
+        let k : c < 24 = decoding-low s c p h in
+        let z : c ≡ cause = cc in absurd (omega arith)

@@ -8,6 +8,9 @@ pub enum Fault {
     SignNeeds(u16),
     BodyNeeds(u16),
     RootType(u16),
+    NotFunction(u16),
+    Argument(u16),
+    Branches(u16),
 }
 
 // The type and needs of a term, or the first fault in it.

@@ -15,9 +15,8 @@ use sovzedal::{
 use std::process::ExitCode;
 use std::{env, fs};
 
-/// The headings of docs/REFUSALS.md that a verdict or a run can tell, by their
-/// numbers.
-const CAUSES: [&str; 23] = [
+/// The headings of docs/REFUSALS.md, by their numbers.
+const CAUSES: [&str; 27] = [
     "none",
     "cut short",
     "wrong tag",
@@ -41,6 +40,10 @@ const CAUSES: [&str; 23] = [
     "calls spent",
     "no cell",
     "no place for a post",
+    "address",
+    "not a function",
+    "argument",
+    "branches",
 ];
 
 fn main() -> ExitCode {

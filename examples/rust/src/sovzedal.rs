@@ -44,7 +44,7 @@ mod c {
     }
 }
 
-/// A sheet or a request that was refused: causes 1 to 16.
+/// A sheet or a request that was refused: causes 1 to 16 and 24 to 26.
 pub struct Refusal {
     pub cause: u32,
     pub place: u32,

@@ -1,6 +1,7 @@
 //! Which sheets and requests are recorded.
 
 use crate::vector::Vector;
+use sheets::cases::Case;
 use sheets::extremes::{deepest, widest};
 use sheets::generate::sample;
 use sheets::load::frame_sheet;
@@ -8,7 +9,7 @@ use sheets::request::{
     Request, FRAME_NUMBERS, MAX_CALLS, MAX_CELL_BYTES, MAX_OPEN_CALLS, MAX_POSTS,
 };
 use sheets::rng::Rng;
-use sheets::{branches, cases, smallest, yes_branch};
+use sheets::{branches, cases, smallest, type_faults, yes_branch};
 
 const SEED: u64 = 20;
 const GENERATED: usize = 240;
@@ -17,18 +18,20 @@ const LONGEST_GENERATED: usize = 2_000;
 
 pub fn vectors() -> Vec<Vector> {
     let mut vectors = Vec::new();
-    vectors.extend(named_cases());
+    vectors.extend(as_asked(cases::all()));
     vectors.extend(smallest_sheets());
     vectors.extend(edges_of_requests());
     vectors.extend(edges_of_sheets());
     vectors.extend(generated());
     vectors.extend(yes_branches());
-    vectors.extend(fitting_branches());
+    vectors.extend(as_asked(branches::all()));
+    vectors.extend(as_asked(type_faults::all()));
     vectors
 }
 
-fn named_cases() -> impl Iterator<Item = Vector> {
-    cases::all().into_iter().map(|case| Vector {
+/// Each with its own request.
+fn as_asked(cases: Vec<Case>) -> impl Iterator<Item = Vector> {
+    cases.into_iter().map(|case| Vector {
         sheet: case.sheet,
         request: case.request,
     })
@@ -41,13 +44,6 @@ fn yes_branches() -> impl Iterator<Item = Vector> {
             sheet: case.sheet.clone(),
             request,
         })
-    })
-}
-
-fn fitting_branches() -> impl Iterator<Item = Vector> {
-    branches::all().into_iter().map(|case| Vector {
-        sheet: case.sheet,
-        request: case.request,
     })
 }
 

@@ -1,11 +1,11 @@
 //! Sheets to test with.
 //!
 //! [`tree`] and [`records`] assemble sheets. [`cases`], [`yes_branch`],
-//! [`branches`], [`smallest`], [`extremes`] and [`load`] hold the ones made by
-//! hand, [`generate`] draws others at random, [`request`] draws what to ask of
-//! their runs and [`session`] what a controller does with a register block,
-//! from a [`seed`]. Nothing here knows how a sheet is judged or run, except
-//! [`grow`], which builds sheets that the rules accept.
+//! [`branches`], [`type_faults`], [`smallest`], [`extremes`] and [`load`] hold
+//! the ones made by hand, [`generate`] draws others at random, [`request`]
+//! draws what to ask of their runs and [`session`] what a controller does with
+//! a register block, from a [`seed`]. Nothing here knows how a sheet is judged
+//! or run, except [`grow`], which builds sheets that the rules accept.
 
 pub mod branches;
 pub mod cases;
@@ -23,6 +23,7 @@ pub mod smallest;
 pub mod spoil;
 pub mod tally;
 pub mod tree;
+pub mod type_faults;
 pub mod wild;
 pub mod world;
 pub mod yes_branch;

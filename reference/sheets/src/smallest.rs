@@ -13,9 +13,10 @@ pub struct Smallest {
     pub request: Request,
 }
 
-/// One for each cause that a sheet or a request can have, 1 to 22.
+/// One for each cause that a sheet or a request can have.
 pub fn all() -> Vec<Smallest> {
     (1..=22)
+        .chain(24..=26)
         .map(|cause| Smallest {
             cause,
             sheet: sheet(cause),
@@ -45,7 +46,14 @@ fn sheet(cause: u32) -> Vec<u8> {
         20 => doubling(|step| step),
         21 => doubling(|step| letrec(FIRST_FUNCTION, sign(0, variable(0)), beneath_binder(step))),
         22 => posting_thrice(),
-        _ => unreachable!("the causes are 1 to 22"),
+        24 => computing(call(boolean(false), boolean(false))),
+        25 => with_functions(
+            &[0],
+            &[bool_to_bool()],
+            sign(0, call(constant_function(), number(0))),
+        ),
+        26 => computing(test(0, boolean(false), number(0))),
+        _ => unreachable!("no sheet has another cause"),
     }
 }
 

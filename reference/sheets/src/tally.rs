@@ -3,7 +3,9 @@
 use crate::tree::Kind;
 use std::fmt;
 
-const CAUSES: usize = 22;
+const CAUSES: usize = 26;
+/// Told of an address and of no sheet.
+const ADDRESS: usize = 23;
 const KINDS: usize = Kind::ALL.len();
 
 const TERM_BYTES: usize = 8;
@@ -53,7 +55,7 @@ impl Tally {
 
     /// The causes that nothing has reached.
     pub fn missing_causes(&self) -> Vec<usize> {
-        (1..=CAUSES)
+        causes()
             .filter(|&cause| self.judged[cause] + self.ran[cause] == 0)
             .collect()
     }
@@ -63,6 +65,11 @@ impl Tally {
         let unseen = |kind: &Kind| self.kinds_accepted[*kind as usize] == 0;
         Kind::ALL.into_iter().filter(unseen).collect()
     }
+}
+
+/// The causes that a sheet or a request can have.
+fn causes() -> impl Iterator<Item = usize> {
+    (1..=CAUSES).filter(|&cause| cause != ADDRESS)
 }
 
 /// Counts the kinds in a sheet that can be read.
@@ -95,7 +102,7 @@ impl fmt::Display for Tally {
             self.runs, self.ended_bool, self.ended_number
         )?;
         writeln!(f, "cause     judge      runs")?;
-        for cause in 1..=CAUSES {
+        for cause in causes() {
             writeln!(
                 f,
                 "{cause:5} {:9} {:9}",

@@ -17,17 +17,27 @@ pub fn wild_part(rng: &mut Rng, world: &World, bindings: u16, size: usize) -> Tr
 /// The smallest trees that break a rule, whatever their surroundings.
 pub fn fault(rng: &mut Rng, world: &World) -> Tree {
     let privilege = world.random_privilege(rng);
-    match rng.below(7) {
+    let principal = world.random_principal(rng);
+    match rng.below(10) {
         0 => variable(rng.pick(&[33, 256, 65_535])),
         1 => sum(boolean(true), number(1)),
         2 => when(number(1), number(2), number(3)),
-        3 => call(number(1), variable(400)),
-        4 => test(privilege, number(0), boolean(false)),
-        5 => post(boolean(true)),
-        _ => sign(
-            world.random_principal(rng),
-            check(rng.below(32) as u8, number(4)),
-        ),
+        // Of two faults at one if the condition's is told.
+        3 => when(number(1), number(2), boolean(true)),
+        4 => call(number(1), variable(400)),
+        5 => call(number(1), boolean(true)),
+        6 => test(privilege, number(0), boolean(false)),
+        7 => post(boolean(true)),
+        8 => match world.random_function_type(rng) {
+            // No function takes functions of its own type.
+            Some(ty) => letrec(
+                ty,
+                sign(principal, call(variable(1), variable(1))),
+                number(0),
+            ),
+            None => post(boolean(false)),
+        },
+        _ => sign(principal, check(rng.below(32) as u8, number(4))),
     }
 }
 

@@ -1,4 +1,4 @@
-//! The rules: causes 9 to 13.
+//! The rules: causes 9 to 13 and 24 to 26.
 //!
 //! Needs are always the smallest that the rules allow. A derivation may widen
 //! them, but every condition bounds needs from above, so widening never helps.
@@ -21,8 +21,11 @@ pub struct Verdict {
 /// that the two can be compared.
 #[derive(Clone, Copy, Debug, PartialEq, Eq)]
 pub enum Rules {
-    /// The branches of an if or a test have the same type.
+    /// The branches of an if or a test have the same type, and all type faults
+    /// are told as 10.
     BeforeW4,
+    /// All type faults are told as 10.
+    BeforeW5,
     Today,
 }
 
@@ -186,9 +189,10 @@ impl Judge<'_> {
         let callee = self.judge(function, signer)?;
         let argument = self.judge(argument, signer)?;
         let Some(function) = self.sheet.function_type(callee.ty) else {
-            return Err(Cause::TypeMismatch.at(id));
+            return Err(self.type_fault(Cause::NotAFunction).at(id));
         };
-        require_type(id, fits(self.sheet, argument.ty, function.argument))?;
+        let argument_fits = fits(self.sheet, argument.ty, function.argument);
+        require(argument_fits, self.type_fault(Cause::Argument), id)?;
         Ok(Judgement {
             ty: function.result,
             needs: function.latent.union(callee.needs).union(argument.needs),
@@ -199,13 +203,21 @@ impl Judge<'_> {
     /// other fits. Types that fit each other are the same, so there are never
     /// two to choose from.
     fn wider(&self, id: TermId, yes: TypeId, no: TypeId) -> Result<TypeId, Refusal> {
-        let may_differ = self.rules == Rules::Today;
+        let may_differ = self.rules != Rules::BeforeW4;
         if yes == no || may_differ && fits(self.sheet, no, yes) {
             Ok(yes)
         } else if may_differ && fits(self.sheet, yes, no) {
             Ok(no)
         } else {
-            Err(Cause::TypeMismatch.at(id))
+            Err(self.type_fault(Cause::Branches).at(id))
+        }
+    }
+
+    /// What is told of a type fault that has this number today.
+    fn type_fault(&self, cause: Cause) -> Cause {
+        match self.rules {
+            Rules::BeforeW4 | Rules::BeforeW5 => Cause::TypeMismatch,
+            Rules::Today => cause,
         }
     }
 

@@ -1,7 +1,7 @@
 //! What can be told instead of a result, by the contract's numbers.
 
-/// Every cause of a refusal (1 to 16, and 23 for an address of the register
-/// block) or a stop (17 to 22).
+/// Every cause of a refusal (1 to 16, 23 for an address of the register block,
+/// 24 to 26) or a stop (17 to 22).
 #[derive(Clone, Copy, Debug, PartialEq, Eq)]
 #[repr(u32)]
 pub enum Cause {
@@ -14,6 +14,7 @@ pub enum Cause {
     Shape = 7,
     Nesting = 8,
     UnboundVariable = 9,
+    /// A type fault that has no number of its own.
     TypeMismatch = 10,
     SignNeeds = 11,
     BodyNeeds = 12,
@@ -28,6 +29,9 @@ pub enum Cause {
     NoCell = 21,
     NoPost = 22,
     Address = 23,
+    NotAFunction = 24,
+    Argument = 25,
+    Branches = 26,
 }
 
 impl Cause {

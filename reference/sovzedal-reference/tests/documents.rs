@@ -79,7 +79,8 @@ fn the_refusal_of_an_address_is_that_of_the_call_shown() {
     assert_eq!(block(section, "text"), Some(&*print));
 }
 
-/// The table, the headings and the header's texts name the causes alike.
+/// The table, the headings, the header's texts and those of the example in
+/// Rust name the causes alike.
 #[test]
 fn causes_have_one_name_each() {
     let (path, header) = (repository().join("docs/REFUSALS.md"), header());
@@ -103,14 +104,19 @@ fn causes_have_one_name_each() {
         .collect();
     assert_eq!(rows, headings);
 
-    let (_, texts) = header.split_once("texts[] = {").expect("the texts");
-    let (texts, _) = texts.split_once("};").expect("their end");
-    let texts: Vec<String> = (0..)
-        .zip(texts.split('"').skip(1).step_by(2))
-        .map(|(number, text)| format!("{number} {text}"))
-        .collect();
+    let example = read(&repository().join("examples/rust/src/main.rs"));
+    let numbered = |text: &str, begin: &str, end: &str| -> Vec<String> {
+        let (_, texts) = text.split_once(begin).expect("the texts");
+        let (texts, _) = texts.split_once(end).expect("their end");
+        (0..)
+            .zip(texts.split('"').skip(1).step_by(2))
+            .map(|(number, text)| format!("{number} {text}"))
+            .collect()
+    };
+    let texts = numbered(&header, "texts[] = {", "};");
     assert_eq!(texts[0], "0 none");
     assert_eq!(texts[1..], headings);
+    assert_eq!(texts, numbered(&example, "CAUSES: ", "];"));
 }
 
 #[test]
@@ -148,6 +154,9 @@ fn the_header_has_the_same_numbers() {
         ("NO_CELL", Cause::NoCell),
         ("NO_POST", Cause::NoPost),
         ("ADDRESS", Cause::Address),
+        ("NOT_A_FUNCTION", Cause::NotAFunction),
+        ("ARGUMENT", Cause::Argument),
+        ("BRANCHES", Cause::Branches),
     ];
     for (name, cause) in causes {
         assert_eq!(number(name), u64::from(cause.number()), "{name}");

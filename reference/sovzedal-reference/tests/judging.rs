@@ -1,4 +1,4 @@
-//! Causes 9 to 13, and which of several is told.
+//! Causes 9 to 13 and 24 to 26, and which of several is told.
 
 use sheets::cases::{computing, plain, with_functions};
 use sheets::records::{TypeRecord, BOOL, NUMBER};
@@ -72,7 +72,7 @@ fn enabling_helps_only_the_authorised() {
 fn functions_fit_where_more_is_allowed() {
     assert_eq!(needs(call(taking(TAKES_NEEDY), quiet())), 0);
     let more_than_allowed = call(taking(TAKES_QUIET), needy());
-    assert_eq!(refused(more_than_allowed).0, Cause::TypeMismatch);
+    assert_eq!(refused(more_than_allowed).0, Cause::Argument);
 }
 
 #[test]
@@ -130,7 +130,7 @@ fn an_if_is_judged_after_its_branches() {
     let all_three = when(number(1), number(2), boolean(true));
     assert_eq!(refused(all_three), (Cause::TypeMismatch, 3));
     let branches = when(boolean(true), number(2), boolean(true));
-    assert_eq!(refused(branches), (Cause::TypeMismatch, 3));
+    assert_eq!(refused(branches), (Cause::Branches, 3));
     let in_test = test(1, number(2), unbound());
     assert_eq!(refused(in_test), (Cause::UnboundVariable, 1));
 }

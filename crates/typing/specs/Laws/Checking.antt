@@ -79,8 +79,7 @@ module _ (T : Types) (A : ℕ → ℕ) where
   infer-sound L Γ n (letrec at ty body rest) w = next-sound _ (infer-sound L (T .arg ty ∷ ty ∷ Γ) n body (w .2)) λ τ N d.
       next-sound _ (infer-sound L (ty ∷ Γ) n rest (w .3)) λ ρ M d′. body-sound at ty λ e l. derived (d-letrec (w .0) (retype e d) l d′)
   infer-sound L Γ n (call at f a) w = next-sound _ (infer-sound L Γ n f (w .0)) λ φ N d. next-sound _ (infer-sound L Γ n a (w .1)) λ α M d′.
-      require-sound _ 10 at λ h. let fits : subtype T α (T .arg φ) ≡ true = and-right (T .isFun φ) (subtype T α (T .arg φ)) h in
-      derived (d-call d d′ (and-left (T .isFun φ) (subtype T α (T .arg φ)) h) (subtype-sound T α (T .arg φ) fits))
+      require-sound _ 24 at λ h. require-sound _ 25 at λ fits. derived (d-call d d′ h (subtype-sound T α (T .arg φ) fits))
   infer-sound L Γ n (if at c y o) w = next-sound _ (infer-sound L Γ n c (w .0)) λ σ N d. next-sound _ (infer-sound L Γ n y (w .1)) λ τ M d′.
       next-sound _ (infer-sound L Γ n o (w .2)) λ ρ K d″. require-sound _ 10 at λ h. branches-sound L at τ ρ _ λ υ b.
       d-if (retype (eqb-true σ 0 h) d) d′ d″ b
@@ -145,7 +144,7 @@ module _ (T : Types) (A : ℕ → ℕ) where
         let y = complete d′ in
         record {
           least = union (T .latent φ) (union (x .least) (y .least));
-          is = then _ (x .is) ∙ then _ (y .is) ∙ met _ 10 at _ (and-both hf (subtype-complete T L f));
+          is = then _ (x .is) ∙ then _ (y .is) ∙ met _ 24 at _ hf ∙ met _ 25 at _ (subtype-complete T L f);
           inside = union-mono (⊆-refl (T .latent φ)) (union-mono (x .inside) (y .inside));
           derives = d-call (x .derives) (y .derives) hf f;
         }

@@ -1,4 +1,4 @@
--- The judgement is `callStep`: the argument's fault; fault 10 if the first type is no function's or the argument's is no subtype of its argument type; or
+-- The judgement is `callStep`: the argument's fault; 24 if the first type is no function's; 25 if the argument's is no subtype of its argument type; or
 -- the function's result type, with the union of the latent set and both needs. The record that is read has the parts of the function's type. The table
 -- stays right.
 use borrow.Author.Needs.{needs}

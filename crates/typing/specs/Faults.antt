@@ -1,0 +1,51 @@
+-- Where a term stands in another, and what the type faults 24, 25 and 26 say of a term there.
+use mathlib.Core.Bool.{true, false}
+use mathlib.Core.List.{List, _∷_}
+use mathlib.Core.Path.{_≡_}
+use Prim.Native.Nat.{ℕ}
+use Rattle.program.specs.Layout.{Types}
+use Rattle.program.specs.Terms.{Op, Term, function, letrec, call, if, check, enable, sign, test, binary, post}
+use Rattle.typing.specs.Subtyping.{subtype}
+use Rattle.typing.specs.Checking.{typed, infer}
+
+-- Term d, in the bindings Δ and under the principal m, is the term c in Γ under n, or stands in it: a binder's parts have its bindings before the others,
+-- and a sign's part has the principal of the sign.
+pub data Within (T : Types) (Δ : List ℕ) (m : ℕ) (d : Term) : (Γ : List ℕ) (n : ℕ) (c : Term) → Type 0 where
+  here : Within T Δ m d Δ m d
+  in-function : {Γ : List ℕ} {n at ty : ℕ} {body : Term} → Within T Δ m d (T .arg ty ∷ Γ) n body → Within T Δ m d Γ n (function at ty body)
+  in-letrec-body : {Γ : List ℕ} {n at ty : ℕ} {body rest : Term} → Within T Δ m d (T .arg ty ∷ ty ∷ Γ) n body → Within T Δ m d Γ n (letrec at ty body rest)
+  in-letrec-rest : {Γ : List ℕ} {n at ty : ℕ} {body rest : Term} → Within T Δ m d (ty ∷ Γ) n rest → Within T Δ m d Γ n (letrec at ty body rest)
+  in-call-function : {Γ : List ℕ} {n at : ℕ} {f a : Term} → Within T Δ m d Γ n f → Within T Δ m d Γ n (call at f a)
+  in-call-argument : {Γ : List ℕ} {n at : ℕ} {f a : Term} → Within T Δ m d Γ n a → Within T Δ m d Γ n (call at f a)
+  in-if-condition : {Γ : List ℕ} {n at : ℕ} {c y o : Term} → Within T Δ m d Γ n c → Within T Δ m d Γ n (if at c y o)
+  in-if-yes : {Γ : List ℕ} {n at : ℕ} {c y o : Term} → Within T Δ m d Γ n y → Within T Δ m d Γ n (if at c y o)
+  in-if-no : {Γ : List ℕ} {n at : ℕ} {c y o : Term} → Within T Δ m d Γ n o → Within T Δ m d Γ n (if at c y o)
+  in-check : {Γ : List ℕ} {n at p : ℕ} {c : Term} → Within T Δ m d Γ n c → Within T Δ m d Γ n (check at p c)
+  in-enable : {Γ : List ℕ} {n at p : ℕ} {c : Term} → Within T Δ m d Γ n c → Within T Δ m d Γ n (enable at p c)
+  in-sign : {Γ : List ℕ} {n at k : ℕ} {c : Term} → Within T Δ m d Γ k c → Within T Δ m d Γ n (sign at k c)
+  in-test-yes : {Γ : List ℕ} {n at p : ℕ} {y o : Term} → Within T Δ m d Γ n y → Within T Δ m d Γ n (test at p y o)
+  in-test-no : {Γ : List ℕ} {n at p : ℕ} {y o : Term} → Within T Δ m d Γ n o → Within T Δ m d Γ n (test at p y o)
+  in-left : {Γ : List ℕ} {n at : ℕ} {op : Op} {a b : Term} → Within T Δ m d Γ n a → Within T Δ m d Γ n (binary at op a b)
+  in-right : {Γ : List ℕ} {n at : ℕ} {op : Op} {a b : Term} → Within T Δ m d Γ n b → Within T Δ m d Γ n (binary at op a b)
+  in-post : {Γ : List ℕ} {n at : ℕ} {c : Term} → Within T Δ m d Γ n c → Within T Δ m d Γ n (post at c)
+
+-- 02, W5: "A call whose function part isn't a function, an argument that doesn't fit, and branches of which neither fits the other". The term's number
+-- is `at`, and its children have types.
+pub data Wrong (T : Types) (A : ℕ → ℕ) (Γ : List ℕ) (n : ℕ) : (cause at : ℕ) → Term → Type 0 where
+  not-a-function : {at φ N α M : ℕ} {f a : Term} → infer T A Γ n f ≡ typed φ N → infer T A Γ n a ≡ typed α M → T .isFun φ ≡ false
+      → Wrong T A Γ n 24 at (call at f a)
+  unfit-argument : {at φ N α M : ℕ} {f a : Term} → infer T A Γ n f ≡ typed φ N → infer T A Γ n a ≡ typed α M → T .isFun φ ≡ true
+      → subtype T α (T .arg φ) ≡ false → Wrong T A Γ n 25 at (call at f a)
+  -- the condition is a boolean: "at one if 10 before 26"
+  unfit-if : {at N τ M ρ K : ℕ} {c y o : Term} → infer T A Γ n c ≡ typed 0 N → infer T A Γ n y ≡ typed τ M → infer T A Γ n o ≡ typed ρ K
+      → subtype T τ ρ ≡ false → subtype T ρ τ ≡ false → Wrong T A Γ n 26 at (if at c y o)
+  unfit-test : {at p τ N ρ M : ℕ} {y o : Term} → infer T A Γ n y ≡ typed τ N → infer T A Γ n o ≡ typed ρ M
+      → subtype T τ ρ ≡ false → subtype T ρ τ ≡ false → Wrong T A Γ n 26 at (test at p y o)
+
+-- a fault of a term: some term in it, in its bindings and under its principal, is wrong as the fault's number says
+pub record FaultyPart (T : Types) (A : ℕ → ℕ) (Γ : List ℕ) (n : ℕ) (c : Term) (cause at : ℕ) : Type 0 where
+  pub bindings : List ℕ
+  pub principal : ℕ
+  pub part : Term
+  pub within : Within T bindings principal part Γ n c
+  pub wrong : Wrong T A bindings principal cause at part
