@@ -1,9 +1,9 @@
 -- With the lengths asked for the answer is that of `run_eager`: what is screened first would turn that run back too (as-run). With others nothing is run: a
 -- sheet that cannot be read gets its own refusal (as-unread), and a readable one 15 (as-buffers), since an empty stack is never 14.
 use borrow.Author.Needs.{needs}
-use Rattle.registers.proofs.RunLaws.{as-run, as-unread, as-buffers}
-use Rattle.registers.proofs.largest.run_lent.Statement.{statement}
-use Rattle.registers.proofs.largest.run_lent.Tie as tie
+use Rattle.largest.proofs.RunLaws.{as-run, as-unread, as-buffers}
+use Rattle.largest.proofs.run_lent.Statement.{statement}
+use Rattle.largest.proofs.run_lent.Tie as tie
 
 slice-aggregate-run-eager : tie.Need-slice-aggregate-run-eager
 slice-aggregate-run-eager c = search needs

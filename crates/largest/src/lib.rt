@@ -2,7 +2,7 @@
 ghost use mathlib.Core.List.{[]};
 ghost use mathlib.Core.Path.{_≡_};
 ghost use Rattle.interp.specs.Answers.{buffersOf, after};
-ghost use Rattle.registers.specs.Largest.{request, lentRun};
+ghost use Rattle.largest.specs.Largest.{request, lentRun};
 use interp::answer::Refusal;
 use interp::answer::Run;
 use program::answer::Decoded;

@@ -1,0 +1,6 @@
+pub mod Queues
+pub mod Answers
+pub mod Internal
+pub mod Sessions
+pub mod Theorems
+pub mod Cases
