@@ -11,11 +11,11 @@ use Rattle.interp.specs.Answers.{buffersOf}
 use Rattle.registers.specs.Block.{Reading, readOf, raised, writeOf}
 use Rattle.registers.specs.Answers.{accessModel, writtenModel}
 use Rattle.registers.specs.declared.block.Written.{Written}
-use Rattle.capi.specs.Replies as replies
-use Rattle.capi.specs.Replies.{short, written, notDone, left}
+use Rattle.replies.specs.Replies as replies
+use Rattle.replies.specs.Replies.{short, written, notDone, left}
 use Rattle.capi.specs.Blocks.{accessed, readReply, accessReply, unfit, blockRead, leftBlock, afterWrite, blockWrite}
-use Rattle.capi.specs.Internal.{replyOf}
-use Rattle.capi.specs.declared.reply.Reply.{Reply}
+use Rattle.replies.specs.Internal.{replyOf}
+use Rattle.replies.specs.declared.Reply.{Reply}
 
 pub replied-by : (status cause byte : ℕ) (r : Bool)
     → record { status = status; numbers = cause ∷ 0 ∷ boolByte r ∷ byte ∷ 0 ∷ 0 ∷ 0 ∷ 0 ∷ [] } ≡ accessed status cause 0 r byte

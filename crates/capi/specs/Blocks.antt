@@ -6,7 +6,7 @@ use lib.Dec.{eqb}
 use lib.ListN.{length}
 use Rattle.semantics.specs.Runs.{Buffers}
 use Rattle.registers.specs.Block.{Reading, read-byte, read-refused, Access, access-done, access-refused, Written, readOf, raised, writeOf}
-use Rattle.capi.specs.Replies.{Reply, bit, short, written, notDone, left}
+use Rattle.replies.specs.Replies.{Reply, bit, short, written, notDone, left}
 
 -- a cause and its place, whether the interrupt is raised after the access, and the byte read; a run's own answer stands in the block
 abbrev pub accessed : (status cause place : ℕ) (raised : Bool) (byte : ℕ) → Reply

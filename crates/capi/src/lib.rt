@@ -3,20 +3,19 @@ ghost use mathlib.Core.List.{[]};
 ghost use mathlib.Core.Path.{_≡_};
 ghost use Rattle.semantics.specs.Runs.{eager as eagerRunner, lazy as lazyRunner, run};
 ghost use Rattle.interp.specs.Answers.{requestOf, buffersOf};
-ghost use Rattle.capi.specs.Replies.{decodeReply, typecheckReply, replied, called, enforces, left, leftAll};
+ghost use Rattle.replies.specs.Replies.{decodeReply, typecheckReply, replied, called, enforces, left, leftAll};
 ghost use Rattle.capi.specs.Blocks.{blockRead, leftBlock, blockWrite};
 
 mod block;
-mod reply;
 
 use block::load;
 use block::of_access;
 use block::of_read;
 use block::save;
-use reply::of_decoded;
-use reply::of_run;
-use reply::of_verdict;
-use reply::put;
+use replies::of_decoded;
+use replies::of_run;
+use replies::of_verdict;
+use replies::put;
 
 // What any bytes are as a sheet.
 #[no_mangle]

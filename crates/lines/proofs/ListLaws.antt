@@ -8,10 +8,6 @@ use native.Mathlib.Omega.{arith}
 use lib.ListN.{length, take, drop, getD, set, length-map, length-drop, length-take, drop-of-length-le}
 use lib.Seq.{length-take-le, take-suc, drop-cons, set-at, append-snoc, take-all}
 
--- what owning a struct with an array says of the array's length
-pub sized : {A B : Type 0} (f : A → B) (l : List A) (n : ℕ) → length (map f l) ≡ n → length l ≡ n
-sized f l n e = simp length-map at e
-
 pub map-set : {A B : Type 0} (f : A → B) (l : List A) (n : ℕ) (x : A) → map f (set l n x) ≡ set (map f l) n (f x)
 map-set f [] n x = refl
 map-set f (y ∷ l) zero x = refl
@@ -23,16 +19,6 @@ module _ {A : Type 0} where
   take-held zero l = refl
   take-held (suc n) [] = refl
   take-held (suc n) (x ∷ l) = ap (λ (r : List A). x ∷ r) (take-held n l)
-
-  -- a copy in progress, the first entries of b before the rest of t, with one entry more
-  pub copied-more : (b t x : List A) (i : ℕ) (d : A) → i < length b → i < length t → x ≡ take i b ++ drop i t → set x i (getD b i d) ≡ take (i + 1) b
-      ++ drop (i + 1) t
-  copied-more b t x i d h g e =
-      ap (λ (y : List A). set y i (getD b i d)) (e ∙ ap (λ (y : List A). take i b ++ y) (drop-cons t i d g))
-      ∙ set-at (take i b) (getD t i d) (drop (suc i) t) (getD b i d) i (length-take-le i b (omega arith))
-      ∙ sym (append-snoc (take i b) (getD b i d) (drop (suc i) t))
-      ∙ ap (λ (y : List A). y ++ drop (suc i) t) (sym (take-suc b i d h))
-      ∙ sym (ap (λ (n : ℕ). take n b ++ drop n t) (add-one i))
 
   -- a place that lies past the end is its end
   module _ (n : ℕ) (l : List A) where

@@ -14,7 +14,8 @@ use Rattle.lines.specs.Answers.{jobModel, noJob, queueModel}
 use Rattle.lines.specs.Internal.{hasJob, SizeIs}
 use Rattle.lines.specs.declared.state.Job.{Job}
 use Rattle.lines.specs.declared.state.Queue.{Queue}
-use Rattle.lines.proofs.ListLaws.{take-held, copied-more}
+use Rattle.program.specs.Laws.Lists.{copied-more}
+use Rattle.lines.proofs.ListLaws.{take-held}
 
 -- as many as its count says, and no more than it has places
 module _ (q : Queue) (eight : length (q .jobs) ≡ maxJobs) where

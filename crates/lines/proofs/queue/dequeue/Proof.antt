@@ -6,7 +6,7 @@ use mathlib.Core.List.{_++_}
 use mathlib.Core.Path.{_≡_, refl}
 use Prim.Native.Nat.{_+_, _-_, _≤_}
 use lib.ListN.{take, drop}
-use Rattle.lines.proofs.ListLaws.{sized}
+use Rattle.program.specs.Laws.Lists.{sized-by}
 use Rattle.lines.specs.Answers.{queueModel}
 use Rattle.lines.proofs.QueueLaws.{some-job, moved-more, one-less}
 use Rattle.lines.proofs.queue.dequeue.Statement.{statement}
@@ -68,7 +68,7 @@ loop-again c =
     let at-size = at-loop .before .before in
     let start = at-size .before in (
       omega arith,
-      moved-more (start .args .t1 .jobs) (at-loop .loop .i) (sized _ (start .args .t1 .jobs) 8 (start .good .0 .1 .1 .0 .1 .0 .1))
+      moved-more (start .args .t1 .jobs) (at-loop .loop .i) (sized-by _ (start .args .t1 .jobs) 8 (start .good .0 .1 .1 .0 .1 .0 .1))
           (omega (arith, at-size .size .ensures .most)) (at-loop .loop .inv .1) _,
     )
 
@@ -78,7 +78,7 @@ returns c =
     let at-size = at-loop .before .before in
     let start = at-size .before in
     one-less (start .args .t1) (at-size .size .result) (at-size .size .ensures) (at-loop .loop .i)
-    (sized _ (start .args .t1 .jobs) 8 (start .good .0 .1 .1 .0 .1 .0 .1)) (start .pre) (at-loop .loop .inv .0) (c .loop-test .left) (at-loop .loop .inv .1) _
+    (sized-by _ (start .args .t1 .jobs) 8 (start .good .0 .1 .1 .0 .1 .0 .1)) (start .pre) (at-loop .loop .inv .0) (c .loop-test .left) (at-loop .loop .inv .1) _
 
 pub dequeue-spec : {M : Type 1} → statement M
 dequeue-spec =

@@ -5,11 +5,12 @@ use Rattle.interp.specs.Answers.{outcomeModel, countsModel}
 use Rattle.interp.specs.declared.answer.Value.{Value}
 use Rattle.interp.specs.declared.answer.Outcome.{Outcome}
 use Rattle.interp.specs.declared.answer.Outcome.the-variants.{End}
-use Rattle.capi.specs.Replies.{finished}
-use Rattle.capi.proofs.ReplyLaws.{by, stopped-as, ended-bool}
+use Rattle.replies.specs.Replies.{finished}
+use Rattle.replies.specs.Laws.{by}
+use Rattle.replies.proofs.ReplyLaws.{stopped-as, ended-bool}
 use borrow.Author.Needs.{needs}
-use Rattle.capi.proofs.reply.of_outcome.Statement.{statement}
-use Rattle.capi.proofs.reply.of_outcome.Tie as tie
+use Rattle.replies.proofs.of_outcome.Statement.{statement}
+use Rattle.replies.proofs.of_outcome.Tie as tie
 
 enum-known-o : tie.Need-enum-known-o
 enum-known-o c = search needs

@@ -7,9 +7,9 @@ use Prim.Native.Nat.{_+_, _≤_, _-_}
 use native.Mathlib.Omega.{arith}
 use lib.ListN.{take, drop}
 use Rattle.program.specs.Laws.Lists.{sized}
-use Rattle.capi.proofs.ReplyLaws.{written-length, written-more, written-all}
-use Rattle.capi.proofs.reply.put.Statement.{statement}
-use Rattle.capi.proofs.reply.put.Tie as tie
+use Rattle.replies.specs.Laws.{written-length, written-more, written-all}
+use Rattle.replies.proofs.put.Statement.{statement}
+use Rattle.replies.proofs.put.Tie as tie
 
 abbrev Inv-loop : tie.InvT-loop
 Inv-loop reply answer₀ numbers i₀ answer i = (i ≤ 8) × (answer ≡ take i numbers ++ drop i answer₀)

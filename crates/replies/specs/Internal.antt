@@ -11,9 +11,9 @@ use Rattle.interp.specs.Answers.{countsModel}
 use Rattle.interp.specs.declared.answer.Made.{Made}
 use Rattle.interp.specs.declared.answer.Run.{Run}
 use Rattle.interp.specs.declared.answer.Run.the-variants.{Refused, Ran}
-use Rattle.capi.specs.Replies as replies
-use Rattle.capi.specs.Replies.{refusal}
-use Rattle.capi.specs.declared.reply.Reply.{Reply}
+use Rattle.replies.specs.Replies as replies
+use Rattle.replies.specs.Replies.{refusal}
+use Rattle.replies.specs.declared.Reply.{Reply}
 
 -- the reply in the words of Replies.antt
 abbrev pub replyOf : Reply → replies.Reply

@@ -3,12 +3,13 @@
 use mathlib.Core.Path.{subst}
 use Rattle.interp.specs.Answers.{runModel}
 use Rattle.interp.specs.declared.answer.Run.{Run}
-use Rattle.capi.specs.Internal.{Small}
-use Rattle.capi.specs.Replies.{runReply}
-use Rattle.capi.proofs.ReplyLaws.{by, refused-as}
+use Rattle.replies.specs.Internal.{Small}
+use Rattle.replies.specs.Replies.{runReply}
+use Rattle.replies.specs.Laws.{by}
+use Rattle.replies.proofs.ReplyLaws.{refused-as}
 use borrow.Author.Needs.{needs}
-use Rattle.capi.proofs.reply.of_run.Statement.{statement}
-use Rattle.capi.proofs.reply.of_run.Tie as tie
+use Rattle.replies.proofs.of_run.Statement.{statement}
+use Rattle.replies.proofs.of_run.Tie as tie
 
 enum-known-x : tie.Need-enum-known-x
 enum-known-x c = search needs

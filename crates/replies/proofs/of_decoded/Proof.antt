@@ -1,11 +1,12 @@
 -- `of_decoded` gives the reply that `ofDecoded` says, by case: a refusal as the cause and place that `of_reader` tells (refused-as), a readable sheet as
 -- its counts, where both replies are the same by computation.
-use Rattle.capi.specs.Internal.{ofDecoded}
-use Rattle.capi.proofs.ReplyLaws.{by, refused-as}
+use Rattle.replies.specs.Internal.{ofDecoded}
+use Rattle.replies.specs.Laws.{by}
+use Rattle.replies.proofs.ReplyLaws.{refused-as}
 use mathlib.Core.Path.{refl}
 use borrow.Author.Needs.{needs}
-use Rattle.capi.proofs.reply.of_decoded.Statement.{statement}
-use Rattle.capi.proofs.reply.of_decoded.Tie as tie
+use Rattle.replies.proofs.of_decoded.Statement.{statement}
+use Rattle.replies.proofs.of_decoded.Tie as tie
 
 enum-known-d : tie.Need-enum-known-d
 enum-known-d c = search needs

@@ -3,11 +3,12 @@
 use mathlib.Core.Path.{refl}
 use Rattle.typing.specs.Answers.{verdictModel}
 use Rattle.typing.specs.declared.answer.Verdict.{Verdict}
-use Rattle.capi.specs.Replies.{verdictReply}
-use Rattle.capi.proofs.ReplyLaws.{by, refused-as}
+use Rattle.replies.specs.Replies.{verdictReply}
+use Rattle.replies.specs.Laws.{by}
+use Rattle.replies.proofs.ReplyLaws.{refused-as}
 use borrow.Author.Needs.{needs}
-use Rattle.capi.proofs.reply.of_verdict.Statement.{statement}
-use Rattle.capi.proofs.reply.of_verdict.Tie as tie
+use Rattle.replies.proofs.of_verdict.Statement.{statement}
+use Rattle.replies.proofs.of_verdict.Tie as tie
 
 enum-known-v : tie.Need-enum-known-v
 enum-known-v c = search needs

@@ -1,12 +1,15 @@
--- What an entry for C leaves, from the promises of the functions that it calls.
+-- From the promises of the functions that an entry for C calls to what it leaves: the list is too short, or holds the reply. For the proofs of the
+-- crates above; nothing here has to be believed.
 use mathlib.Core.Bool.{cond}
-use mathlib.Core.List.{List, [], _∷_, _++_}
-use mathlib.Core.Path.{_≡_, sym, ap, _∙_}
-use Prim.Native.Nat.{ℕ, _<_, _≤_}
-use lib.ListN.{length, drop}
+use mathlib.Core.List.{List, [], _∷_, _++_, append-nil}
+use mathlib.Core.Path.{_≡_, refl, sym, ap, _∙_}
+use Prim.Native.Nat.{ℕ, zero, suc, _+_, _<_, _≤_}
+use native.Mathlib.Omega.{arith}
+use lib.ListN.{length, getD, set, take, drop, length-append, length-take, length-drop, drop-of-length-le}
 use borrow.Author.Tests.{lt-ltb, le-ltb}
 use Rattle.program.specs.Decoding.{decoding}
 use Rattle.program.specs.Answers.{decodedModel, Counted}
+use Rattle.program.specs.Laws.Lists.{copy-more}
 use Rattle.program.specs.declared.answer.Decoded.{Decoded}
 use Rattle.program.specs.declared.answer.Decoded.the-variants.{Readable, Refused as Unreadable}
 use Rattle.semantics.specs.Runs.{Request, Buffers, After, run}
@@ -14,10 +17,40 @@ use Rattle.semantics.specs.Theorems.{counts-few}
 use Rattle.interp.specs.Answers.{runModel, outcomeModel, countsModel}
 use Rattle.interp.specs.declared.answer.Run.{Run}
 use Rattle.interp.specs.declared.answer.Run.the-variants.{Refused, Ran}
-use Rattle.capi.specs.Replies as replies
-use Rattle.capi.specs.Replies.{screened, decodeReply, runReply, written, notDone, replied, Called, called, left, leftAll}
-use Rattle.capi.specs.Internal.{replyOf, ofDecoded, Small}
-use Rattle.capi.specs.declared.reply.Reply.{Reply}
+use Rattle.replies.specs.Replies as replies
+use Rattle.replies.specs.Replies.{screened, decodeReply, runReply, written, notDone, replied, Called, called, left, leftAll}
+use Rattle.replies.specs.Internal.{replyOf, ofDecoded, Small}
+use Rattle.replies.specs.declared.Reply.{Reply}
+
+-- a promise about the case that a match found
+pub by : {A : Type 0} (f : A → replies.Reply) {x y : A} {r : replies.Reply} → x ≡ y → r ≡ f y → r ≡ f x
+by f e h = h ∙ sym (ap f e)
+
+-- ---- writing the eight numbers
+pub take-whole : (xs : List ℕ) (n : ℕ) → length xs ≡ n → take n xs ≡ xs
+take-whole [] zero h = refl
+take-whole [] (suc n) h = refl
+take-whole (x ∷ xs) zero h = absurd (omega (arith, h))
+take-whole (x ∷ xs) (suc n) h = ap (λ (l : List ℕ). x ∷ l) (take-whole xs n (omega arith))
+
+-- the first n numbers of a list overwritten one by one, the first i already
+module _ (n : ℕ) (numbers before : List ℕ) (i : ℕ) {now : List ℕ} (size : length numbers ≡ n) where
+  pub written-length : n ≤ length before → i ≤ n → now ≡ take i numbers ++ drop i before → length now ≡ length before
+  written-length h k e = ap (λ (l : List ℕ). length l) e ∙ length-append (take i numbers) (drop i before)
+      ∙ omega (arith, length-take i numbers, length-drop i before, size)
+
+  pub written-more : n ≤ length before → i < n → now ≡ take i numbers ++ drop i before → set now i (getD numbers i 0) ≡ take (i + 1) numbers
+      ++ drop (i + 1) before
+  written-more h k e = copy-more numbers before now i (omega (arith, size)) (omega arith) e
+
+  pub written-all : i ≤ n → n ≤ i → now ≡ take i numbers ++ drop i before → now ≡ numbers ++ drop n before
+  written-all h k e =
+      let done : i ≡ n = omega arith in
+      e ∙ ap (λ (k : ℕ). take k numbers ++ drop k before) done ∙ ap (λ (l : List ℕ). l ++ drop n before) (take-whole numbers n size)
+
+  -- where the list has no more than these
+  pub written-over : length before ≡ n → i ≤ n → n ≤ i → now ≡ take i numbers ++ drop i before → now ≡ numbers
+  written-over l h k e = written-all h k e ∙ ap (λ (x : List ℕ). numbers ++ x) (drop-of-length-le before {i = n} (omega arith)) ∙ append-nil numbers
 
 -- ---- the list is too short
 module _ (answer : List ℕ) (h : length answer < 8) where
@@ -31,7 +64,7 @@ module _ (answer : List ℕ) (h : length answer < 8) where
 -- ---- it holds the reply
 module _ (answer : List ℕ) (h : 8 ≤ length answer) {x : Reply} {R : replies.Reply} (e : replyOf x ≡ R) {status : ℕ} {after : List ℕ}
     (put : (status ≡ x .status) × (after ≡ x .numbers ++ drop 8 answer)) where
-  in-place : left status after ≡ written R answer
+  pub in-place : left status after ≡ written R answer
   in-place = (λ i. left (put .0 i) (put .1 i)) ∙ (λ i. written (e i) answer)
 
   pub given : left status after ≡ replied answer R
