@@ -1,18 +1,13 @@
 -- What the entries for the four lines return and write: a status, the numbers of the answer, the state, and for a serve the buffers. 02, W6.
-use mathlib.Core.Bool.{Bool, not, cond, _||_}
+use mathlib.Core.Bool.{cond}
 use mathlib.Core.List.{List, [], _∷_, _++_}
 use Prim.Native.Nat.{ℕ}
-use lib.Dec.{ltb, eqb}
-use lib.ListN.{length, drop}
+use lib.ListN.{drop}
 use Rattle.program.specs.Screening.{Screening, clear, found}
 use Rattle.semantics.specs.Runs.{Buffers}
-use Rattle.replies.specs.Replies.{Reply, refusal, runReply, written, notDone, left}
+use Rattle.replies.specs.Replies.{Reply, refusal, runReply, unfit, written, notDone, left}
 use Rattle.lines.specs.Queues.{Job, State, Added, addOf, Told, idle, told, Served, serveOf}
 use Rattle.capi_lines.specs.States.{stateNumbers, stateRead, stateWritten}
-
--- A state of another length, or a list `answer` that is too short: 3; nothing is done, and nothing is written anywhere.
-abbrev pub unfit : (least : ℕ) (state answer : List ℕ) → Bool
-unfit least state answer = not (eqb (length state) stateNumbers) || ltb (length answer) least
 
 -- ---- a job is added
 
@@ -37,8 +32,9 @@ stateAfter (found c p) before s = before
 abbrev pub addLeft : (state answer : List ℕ) → Added → AddLeft
 addLeft state answer r = record { reply = written (addReply (r .answer)) answer; state = stateAfter (r .answer) state (r .state) }
 
+-- A state of another length, or a short list `answer`: 3; nothing is done, and nothing is written anywhere.
 abbrev pub linesAdd : (state : List ℕ) (line : ℕ) → Job → (store answer : List ℕ) → AddLeft
-linesAdd state l j store answer = cond (unfit 8 state answer) (record { reply = notDone answer; state = state })
+linesAdd state l j store answer = cond (unfit stateNumbers 8 state answer) (record { reply = notDone answer; state = state })
     (addLeft state answer (addOf (stateRead state) l j store))
 
 -- ---- a job is served
@@ -72,6 +68,7 @@ serveLeft state answer r = record {
   buffers = r .buffers;
 }
 
+-- the same, and the list `answer` has room for nine
 abbrev pub linesServe : (state store : List ℕ) → Buffers → (answer : List ℕ) → ServeLeft
-linesServe state store b answer = cond (unfit 9 state answer) (record { reply = notDone answer; state = state; buffers = b })
+linesServe state store b answer = cond (unfit stateNumbers 9 state answer) (record { reply = notDone answer; state = state; buffers = b })
     (serveLeft state answer (serveOf (stateRead state) store b))

@@ -11,10 +11,10 @@ pub mod state;
 use replies::put;
 use reply::of_added;
 use reply::of_served;
+use state::STATE_NUMBERS;
 use state::keep_added;
 use state::keep_served;
 use state::load;
-use state::STATE_NUMBERS;
 
 // A job for a line.
 pub fn add(

@@ -6,8 +6,8 @@ ghost use Rattle.capi_lines.specs.Entries.{addReply, serveReply};
 ghost use Rattle.capi_lines.specs.Internal.{numbered, SmallAnswer};
 use lines::state::Addition;
 use lines::state::Answer;
-use replies::of_run;
 use replies::Reply;
+use replies::of_run;
 
 // A status with a cause, 0 if there is none.
 fn plain(status: u32, cause: u32) -> Reply

@@ -21,11 +21,7 @@ pub const STATE_NUMBERS: usize = 102;
 fn allowance(x: u64) -> u32
     ensures { λ r. ⌜ r ≡ least x maxAllowance ⌝ }
 {
-    if x < 4294967295 {
-        x as u32
-    } else {
-        4294967295
-    }
+    if x < 4294967295 { x as u32 } else { 4294967295 }
 }
 
 fn load_job(state: &[u64], at: usize) -> Job
@@ -43,6 +39,7 @@ fn load_queue(state: &[u64], line: usize) -> Queue
     requires { ⌜ (length (now state) ≡ stateNumbers) × (line < maxLines) ⌝ }
     ensures { λ r. ⌜ queueModel r ≡ queueRead (now (state .entry)) line ⌝ }
 {
+    let count = state[2 + line] as usize;
     let at = 6 + 24 * line;
     Queue {
         jobs: [
@@ -55,7 +52,7 @@ fn load_queue(state: &[u64], line: usize) -> Queue
             load_job(state, at + 18),
             load_job(state, at + 21),
         ],
-        count: state[2 + line] as usize,
+        count: count,
     }
 }
 
@@ -63,6 +60,8 @@ pub fn load(state: &[u64]) -> Lines
     requires { ⌜ length (now state) ≡ stateNumbers ⌝ }
     ensures { λ r. ⌜ linesModel r ≡ stateRead (now (state .entry)) ⌝ }
 {
+    let turn = state[0] as usize;
+    let place = state[1] as usize;
     Lines {
         queues: [
             load_queue(state, 0),
@@ -70,8 +69,8 @@ pub fn load(state: &[u64]) -> Lines
             load_queue(state, 2),
             load_queue(state, 3),
         ],
-        turn: state[0] as usize,
-        place: state[1] as usize,
+        turn: turn,
+        place: place,
     }
 }
 

@@ -6,7 +6,7 @@ use Prim.Native.Nat.{ℕ, zero, suc, _+_, _-_, _%_, _^_, _<_, _≤_}
 use native.Mathlib.Nat.{add-zero}
 use native.Mathlib.Omega.{arith}
 use lib.Dec.{ltb, leb}
-use lib.ListN.{length, getD, set, List·getD-map}
+use lib.ListN.{length, getD, set}
 use borrow.Author.Tests.{lt-ltb, le-ltb, le-leb, lt-leb, leb-true, leb-false, not-true, not-false}
 use Rattle.program.specs.Screening.{Screening, clear, found, tell, screen, unless}
 use Rattle.interp.specs.Answers.{runModel}
@@ -20,6 +20,7 @@ use Rattle.lines.specs.Answers.{queueModel, linesModel}
 use Rattle.lines.specs.Internal.{hasJob, SizeIs, Next, Movable}
 use Rattle.lines.specs.declared.state.Queue.{Queue}
 use Rattle.lines.specs.declared.state.Lines.{Lines}
+use Rattle.lines.specs.Laws.{none, queue-is}
 use Rattle.lines.proofs.ListLaws.{map-set}
 
 -- ---- a part of the store
@@ -37,12 +38,6 @@ module _ (offset size n : ℕ) where
 -- ---- queues
 pub none-anywhere : (q : Queue) → queueModel q ≡ [] → linesModel (record { queues = q ∷ q ∷ q ∷ q ∷ []; turn = 0; place = 0 }) ≡ start
 none-anywhere q e = λ i. record { queues = e i ∷ e i ∷ e i ∷ e i ∷ []; turn = 0; place = 0 }
-
-abbrev pub none : Queue
-none = record { jobs = []; count = 0 }
-
-pub queue-is : (q : Lines) (l : ℕ) → queueAt (linesModel q) l ≡ queueModel (getD (q .queues) l none)
-queue-is q l = List·getD-map queueModel (q .queues) l none
 
 by-size : (js : List Job) → ltb 0 (length js) ≡ hasJob js
 by-size [] = refl

@@ -19,7 +19,7 @@ use Rattle.lines.specs.Internal.{hasJob, Next, Movable}
 use Rattle.largest.specs.Theorems.{lent-posts}
 use Rattle.lines.specs.declared.state.Lines.{Lines}
 use Rattle.lines.specs.declared.queue.Taken.{Taken}
-use Rattle.lines.proofs.LineLaws.{none, queue-is}
+use Rattle.lines.specs.Laws.{none, queue-is}
 
 module _ (q : Lines) (l : ℕ) (next : Next q l) (store cells posts : List ℕ) where
   abbrev S : State

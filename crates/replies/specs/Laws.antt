@@ -1,12 +1,13 @@
 -- From the promises of the functions that an entry for C calls to what it leaves: the list is too short, or holds the reply. For the proofs of the
 -- crates above; nothing here has to be believed.
-use mathlib.Core.Bool.{cond}
+use mathlib.Core.Bool.{Bool, true, false, not, cond, _||_}
 use mathlib.Core.List.{List, [], _∷_, _++_, append-nil}
 use mathlib.Core.Path.{_≡_, refl, sym, ap, _∙_}
 use Prim.Native.Nat.{ℕ, zero, suc, _+_, _<_, _≤_}
 use native.Mathlib.Omega.{arith}
 use lib.ListN.{length, getD, set, take, drop, length-append, length-take, length-drop, drop-of-length-le}
-use borrow.Author.Tests.{lt-ltb, le-ltb}
+use lib.Dec.{ltb}
+use borrow.Author.Tests.{lt-ltb, le-ltb, eq-eqb, ne-eqb}
 use Rattle.program.specs.Decoding.{decoding}
 use Rattle.program.specs.Answers.{decodedModel, Counted}
 use Rattle.program.specs.Laws.Lists.{copy-more}
@@ -18,7 +19,7 @@ use Rattle.interp.specs.Answers.{runModel, outcomeModel, countsModel}
 use Rattle.interp.specs.declared.answer.Run.{Run}
 use Rattle.interp.specs.declared.answer.Run.the-variants.{Refused, Ran}
 use Rattle.replies.specs.Replies as replies
-use Rattle.replies.specs.Replies.{screened, decodeReply, runReply, written, notDone, replied, Called, called, left, leftAll}
+use Rattle.replies.specs.Replies.{screened, decodeReply, unfit, runReply, written, notDone, replied, Called, called, left, leftAll}
 use Rattle.replies.specs.Internal.{replyOf, ofDecoded, Small}
 use Rattle.replies.specs.declared.Reply.{Reply}
 
@@ -51,6 +52,17 @@ module _ (n : ℕ) (numbers before : List ℕ) (i : ℕ) {now : List ℕ} (size 
   -- where the list has no more than these
   pub written-over : length before ≡ n → i ≤ n → n ≤ i → now ≡ take i numbers ++ drop i before → now ≡ numbers
   written-over l h k e = written-all h k e ∙ ap (λ (x : List ℕ). numbers ++ x) (drop-of-length-le before {i = n} (omega arith)) ∙ append-nil numbers
+
+-- ---- a list has another size, or the list for the answer is too short
+module _ (size least : ℕ) (list answer : List ℕ) where
+  pub other-size : (length list ≡ size → ⊥) → unfit size least list answer ≡ true
+  other-size ne = ap (λ (x : Bool). not x || ltb (length answer) least) (ne-eqb (length list) size ne)
+
+  pub too-short : length list ≡ size → length answer < least → unfit size least list answer ≡ true
+  too-short e h = λ i. not (eq-eqb (length list) size e i) || lt-ltb (length answer) least h i
+
+  pub fit : length list ≡ size → least ≤ length answer → unfit size least list answer ≡ false
+  fit e h = λ i. not (eq-eqb (length list) size e i) || le-ltb (length answer) least h i
 
 -- ---- the list is too short
 module _ (answer : List ℕ) (h : length answer < 8) where

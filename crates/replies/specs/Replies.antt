@@ -1,5 +1,5 @@
 -- What the C entries return and write: a status, and eight numbers in the caller's list `answer`, zero where something has no meaning.
-use mathlib.Core.Bool.{Bool, cond, not}
+use mathlib.Core.Bool.{Bool, cond, not, _||_}
 use mathlib.Core.List.{List, [], _∷_, _++_}
 use Prim.Native.Nat.{ℕ}
 use lib.Dec.{ltb, eqb}
@@ -53,6 +53,10 @@ runReply (ran o k) = finished o k
 -- A list shorter than eight: 3; nothing is done, and nothing is written anywhere.
 abbrev pub short : List ℕ → Bool
 short answer = ltb (length answer) 8
+
+-- The same where a list of an exact size is lent too, or the answer needs more room.
+abbrev pub unfit : (size least : ℕ) (list answer : List ℕ) → Bool
+unfit size least list answer = not (eqb (length list) size) || ltb (length answer) least
 
 abbrev pub written : Reply → List ℕ → Reply
 written r answer = record { status = r .status; numbers = r .numbers ++ drop 8 answer }
