@@ -120,3 +120,15 @@ many-places = (refl, refl)
 pub nobody-waits : serveOf start store (lent []) .answer ≡ idle
 unfolding serveOf turnFrom lentRun run screen tell course eval apply evalWith addAuthorised has meet union insert remove subset
 nobody-waits = refl
+
+-- "tested in that order": a part outside the store for a line whose queue is full is 28
+abbrev full : State
+full = record {
+  queues = (whole ∷ whole ∷ whole ∷ whole ∷ whole ∷ whole ∷ whole ∷ whole ∷ []) ∷ [] ∷ [] ∷ [] ∷ [];
+  turn = 0;
+  place = 0;
+}
+
+pub outside-first : (addOf full 0 beyond store .answer ≡ found 28 0) × (addOf full 0 whole store .answer ≡ found 29 0)
+unfolding addOf screen tell
+outside-first = (refl, refl)
