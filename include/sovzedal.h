@@ -163,9 +163,9 @@ enum {
 /* Native stack, in bytes, on x86-64. A run with `depth` open calls needs at most SOVZEDAL_STACK_BASE + depth * SOVZEDAL_STACK_PER_CALL, so a caller
  * with a small stack picks `depth` by it; SOVZEDAL_STACK is enough for any call. reference/stack measures what runs use and is held to these. */
 enum {
-    SOVZEDAL_STACK_BASE = 36864,
+    SOVZEDAL_STACK_BASE = 45056,
     SOVZEDAL_STACK_PER_CALL = 4352,
-    SOVZEDAL_STACK = 472064
+    SOVZEDAL_STACK = 480256
 };
 
 /* The heading of a cause in docs/REFUSALS.md; "none" for 0 and "unknown" for a number that is no cause. */
