@@ -296,10 +296,10 @@ fn a_job_has_its_turn_within_4_times_j_plus_1_runs() {
     let mut longest = [0; 8];
     for turn in 0..LINES {
         for line in 0..LINES {
-            for before in 0..8 {
+            for (before, longest) in longest.iter_mut().enumerate() {
                 let runs = runs_until_served(turn as u64, line, before);
                 assert!(runs <= 4 * (before + 1), "{runs} for {before}");
-                longest[before] = runs.max(longest[before]);
+                *longest = runs.max(*longest);
             }
         }
     }
