@@ -1,4 +1,5 @@
-/* Sovzedal: rule sheets decoded, type-checked and run, with or without their checks; and a block of registers for a controller that has them run.
+/* Sovzedal: rule sheets decoded, type-checked and run, with or without their checks; a block of registers for a controller that has them run; and four
+ * lines on which jobs wait to be run in turn.
  *
  * For x86-64. Link libsovzedal.a (README.md, "Embed it", has the command that writes it). Of the C library it needs memcpy and memset alone: no heap,
  * no system call, no global state, so that calls on buffers of their own may be made from several threads. A run recurses: SOVZEDAL_STACK bytes of
@@ -7,17 +8,20 @@
  * What the proof assumes of a C caller, for every function here:
  *   - each pointer is valid for as many elements as the length after it says, and is aligned for its type; with a length of 0 nothing is read or
  *     written through it, and it may be null;
- *   - no buffer that a function writes (`answer`, `cells`, `posts`, `frames`, `block`) overlaps another argument, and nobody else writes to any of
- *     them or to `sheet` and `start` until the call returns;
+ *   - no buffer that a function writes (`answer`, `cells`, `posts`, `frames`, `block`, `lines`) overlaps another argument, and nobody else writes to
+ *     any of them or to `sheet`, `start` and `store` until the call returns;
  *   - no length exceeds PTRDIFF_MAX bytes.
  * Under these each function does exactly what is said here, on any contents.
  *
  * Every function returns
- *   SOVZEDAL_OK       0  the sheet is readable, or accepted, or the run ended; or the register was read or written;
+ *   SOVZEDAL_OK       0  the sheet is readable, or accepted, or the run ended; or the register was read or written; or the job was added;
  *   SOVZEDAL_STOPPED  1  the run was stopped, for one of the causes 17 to 22;
- *   SOVZEDAL_REFUSED  2  refused, for one of the causes 1 to 16 and 24 to 26, or 23 for an address: every buffer but `answer` is as it was;
- *   SOVZEDAL_SHORT    3  `answer` has fewer than 8 entries, or `block` is not of 16 bytes: nothing was done and nothing written anywhere;
- * and writes exactly the first 8 entries of `answer`:
+ *   SOVZEDAL_REFUSED  2  refused, for one of the causes 1 to 16 and 24 to 29, or 23 for an address: every buffer but `answer` is as it was (but
+ *                        `lines` has given up a job that was served);
+ *   SOVZEDAL_SHORT    3  `answer` has fewer entries than are written, `block` is not of 16 bytes or `lines` not of 102 numbers: nothing was done and
+ *                        nothing written anywhere;
+ *   SOVZEDAL_IDLE     4  no line has a job: nothing was done, and every buffer but `answer` is as it was;
+ * and writes exactly the first 8 entries of `answer`, sovzedal_lines_serve the first 9:
  *
  *   entry   decode, readable   typecheck, accepted   run, ended or stopped                 block, accessed            refused   name, SOVZEDAL_AT_..
  *   0       0                  0                     0, or the stop's cause                0                          cause     CAUSE
@@ -28,8 +32,10 @@
  *   5       types              0                     cells made                            0                          0         CELLS, TYPES
  *   6       0                  0                     posts made                            0                          0         POSTS
  *   7       0                  needs                 0                                     0                          0         NEEDS
+ *   8                                                the line, where a job was served **                              line **   LINE
  *
- *   * with 23, as in the column before: whether the interrupt is raised, 0 or 1.
+ *   *  with 23, as in the column before: whether the interrupt is raised, 0 or 1.
+ *   ** written by sovzedal_lines_serve alone, also of a job that is refused. All entries are zero of a job added, and all nine with SOVZEDAL_IDLE.
  *
  * Types: 0 is the boolean, 1 the number. Needs are a set of privileges: bit k, worth 2^k, stands for privilege k. docs/REFUSALS.md explains the causes.
  * How a run went that a write to a block asked for is told by the block's registers and not here: that write returns SOVZEDAL_OK.
@@ -46,7 +52,7 @@ extern "C" {
 
 /* The version of this interface, and of the format that it reads. */
 #define SOVZEDAL_VERSION_MAJOR 1
-#define SOVZEDAL_VERSION_MINOR 2
+#define SOVZEDAL_VERSION_MINOR 3
 #define SOVZEDAL_FORMAT 1
 
 /* What a function returns. */
@@ -54,7 +60,8 @@ enum {
     SOVZEDAL_OK = 0,
     SOVZEDAL_STOPPED = 1,
     SOVZEDAL_REFUSED = 2,
-    SOVZEDAL_SHORT = 3
+    SOVZEDAL_SHORT = 3,
+    SOVZEDAL_IDLE = 4            /* sovzedal_lines_serve alone */
 };
 
 /* Where each part of an answer stands. */
@@ -70,7 +77,8 @@ enum {
     SOVZEDAL_AT_CELLS = 5,       /* of a run */
     SOVZEDAL_AT_TYPES = 5,       /* of a readable sheet */
     SOVZEDAL_AT_POSTS = 6,       /* of a run */
-    SOVZEDAL_AT_NEEDS = 7        /* of an accepted sheet */
+    SOVZEDAL_AT_NEEDS = 7,       /* of an accepted sheet */
+    SOVZEDAL_AT_LINE = 8         /* of a job that was served */
 };
 
 enum {
@@ -79,7 +87,8 @@ enum {
 };
 
 /* The causes, by the headings of docs/REFUSALS.md. 1 to 8 are told of a sheet that is not readable, 9 to 13 and 24 to 26 of one that the rules refuse,
- * 14 to 16 of a request to run one; 17 to 22 are stops; 23 is told of an address that a block does not have. */
+ * 14 to 16 of a request to run one; 17 to 22 are stops; 23 is told of an address that a block does not have, 27 to 29 of a job that no line takes,
+ * and 28 also of one whose turn comes when its part is no longer in the store. */
 enum {
     SOVZEDAL_CUT_SHORT = 1,
     SOVZEDAL_WRONG_TAG = 2,
@@ -106,11 +115,15 @@ enum {
     SOVZEDAL_ADDRESS = 23,
     SOVZEDAL_NOT_A_FUNCTION = 24,
     SOVZEDAL_ARGUMENT = 25,
-    SOVZEDAL_BRANCHES = 26
+    SOVZEDAL_BRANCHES = 26,
+    SOVZEDAL_NO_LINE = 27,
+    SOVZEDAL_OUTSIDE = 28,
+    SOVZEDAL_QUEUE_FULL = 29
 };
 
 enum {
-    SOVZEDAL_ANSWER = 8,         /* entries that are written of `answer` */
+    SOVZEDAL_ANSWER = 8,         /* entries that are written of `answer`, but by sovzedal_lines_serve */
+    SOVZEDAL_LINES_ANSWER = 9,   /* entries that sovzedal_lines_serve writes of `answer` */
     SOVZEDAL_MAX_SHEET = 10894,  /* bytes of the longest readable sheet */
     SOVZEDAL_MAX_START = 32,     /* numbers of the largest start stack: 16 frames */
     SOVZEDAL_MAX_CALLS = 4096,   /* the largest allowance of calls */
@@ -118,7 +131,8 @@ enum {
     SOVZEDAL_MAX_CELLS = 65536,  /* bytes of the largest cell store */
     SOVZEDAL_MAX_POSTS = 256,    /* entries of the largest post list */
     SOVZEDAL_FRAMES = 6496,      /* numbers of a lazy run's frame store, exactly */
-    SOVZEDAL_BLOCK = 16          /* bytes of a register block, exactly */
+    SOVZEDAL_BLOCK = 16,         /* bytes of a register block, exactly */
+    SOVZEDAL_LINES = 102         /* numbers of the lines' state, exactly */
 };
 
 /* The registers of a block, by their addresses. CALLS, VALUE, CALLS_MADE and PLACE are pairs: here stands the highest byte, and the lowest follows.
@@ -149,9 +163,9 @@ enum {
 /* Native stack, in bytes, on x86-64. A run with `depth` open calls needs at most SOVZEDAL_STACK_BASE + depth * SOVZEDAL_STACK_PER_CALL, so a caller
  * with a small stack picks `depth` by it; SOVZEDAL_STACK is enough for any call. reference/stack measures what runs use and is held to these. */
 enum {
-    SOVZEDAL_STACK_BASE = 36864,
+    SOVZEDAL_STACK_BASE = 45056,
     SOVZEDAL_STACK_PER_CALL = 4352,
-    SOVZEDAL_STACK = 472064
+    SOVZEDAL_STACK = 480256
 };
 
 /* The heading of a cause in docs/REFUSALS.md; "none" for 0 and "unknown" for a number that is no cause. */
@@ -166,7 +180,8 @@ static inline const char *sovzedal_cause_text(uint32_t cause)
         "refused check", "stuck",
         "open calls", "calls spent", "no cell", "no place for a post",
         "address",
-        "not a function", "argument", "branches"
+        "not a function", "argument", "branches",
+        "no such line", "outside the store", "queue full"
     };
     return cause < sizeof texts / sizeof texts[0] ? texts[cause] : "unknown";
 }
@@ -244,6 +259,49 @@ uint32_t sovzedal_block_read(const uint8_t *block, size_t block_len,
 uint32_t sovzedal_block_write(uint8_t *block, size_t block_len,
                               uint32_t address, uint8_t value,
                               const uint8_t *sheet, size_t sheet_len,
+                              uint8_t *cells, size_t cells_len,
+                              uint16_t *posts, size_t posts_len,
+                              uint32_t *answer, size_t answer_len);
+
+/* Four lines share the unit: 0 to 3, each with a queue of up to eight jobs. A job is a part of a lent store of sheets, by offset and length, with an
+ * allowance of calls. The state of the lines is SOVZEDAL_LINES numbers of 64 bits, at first all zero; only the two functions below are to change it:
+ *   0            the line whose turn it is
+ *   1            the place in the list of posts where the last job stopped
+ *   2 to 5       how many jobs wait on lines 0 to 3
+ *   6 to 101     24 numbers for each line, three for each of eight jobs, the oldest first: offset, length, calls. Job k of line n is at 6 + 24n + 3k
+ * Both functions take any numbers, and read the turn modulo 4, a count above 8 as 8 and calls above 4,294,967,295 as that. Where they write a state, they
+ * write all of it: the turn is below 4, and zero stands where no job waits. Nothing moves the place back: to begin a list anew, begin with a new state
+ * once no job waits. */
+
+/* Adds a job to a line, behind those that wait there.
+ *   lines, lines_len    the state of the lines and its length in numbers, exactly 102
+ *   line                the line, 0 to 3
+ *   offset, length      the part of the store that is the job's sheet, in bytes. It is looked at when the job is served, and not before
+ *   calls               how many calls its run may make. More than 4,096 are taken here, and refused by 16 when the job is served
+ *   store, store_len    the store of sheets and its length in bytes; of it only the length is looked at
+ *   answer, answer_len  the list for the answer and its length in entries
+ * Refusals, in this order: 27, of a line above 3; 28, of a part that is not all inside the store (an empty one may stand at its very end); 29, of a
+ * ninth job. The place is 0, and `lines` is as it was. */
+uint32_t sovzedal_lines_add(uint64_t *lines, size_t lines_len,
+                            uint32_t line, size_t offset, size_t length, uint32_t calls,
+                            const uint8_t *store, size_t store_len,
+                            uint32_t *answer, size_t answer_len);
+
+/* Serves one job: the oldest of the line whose turn it is or, where none waits there, of the next line that has one. Then it is the turn of the line
+ * after that one, and 0 comes after 3. So a job with j jobs before it in its queue is served within 4 * (j + 1) calls, whatever else is added.
+ *   lines, lines_len    the state of the lines and its length in numbers, exactly 102
+ *   store, store_len    the store of sheets and its length in bytes; only read
+ *   cells, cells_len    the cell store and its length in bytes, exactly 65,536
+ *   posts, posts_len    the list for posts and its length in entries. The run is lent what is left of it from the place in `lines` on, and that may
+ *                       be 256 entries at most; nothing is left if the list is shorter than that place
+ *   answer, answer_len  the list for the answer and its length in entries, at least 9; it tells what the run answers, and the line
+ * The run is one of sovzedal_run_eager on the empty start stack, with the job's calls, 100 open calls and the checks enforced. It leaves the cell store
+ * and what it is lent of the list as that does; the entries before the place are as they were. Unless it is refused, the place moves on by the posts made.
+ * A job that is refused has had its turn, too, and is gone; the place and the buffers are as they were.
+ * Refusals: 28, of a part that is not all inside the store as it is lent now; then 1 to 8; 15, of a cell store of another length or more than 256 entries
+ * left; 16. Stops: 17 to 22. With SOVZEDAL_IDLE no job waits, and nothing changed. */
+uint32_t sovzedal_lines_serve(uint64_t *lines, size_t lines_len,
+                              const uint8_t *store, size_t store_len,
                               uint8_t *cells, size_t cells_len,
                               uint16_t *posts, size_t posts_len,
                               uint32_t *answer, size_t answer_len);

@@ -1,21 +1,21 @@
 -- What the entries for a register block leave, from the promises of the functions that they call.
-use mathlib.Core.Bool.{Bool, true, false, not, cond, _||_}
+use mathlib.Core.Bool.{Bool, true, false, cond}
 use mathlib.Core.List.{List, [], _∷_, _++_}
 use mathlib.Core.Path.{_≡_, refl, sym, ap, _∙_}
-use Prim.Native.Nat.{ℕ, _<_, _≤_}
+use Prim.Native.Nat.{ℕ, _≤_}
 use lib.ListN.{length, drop}
 use mir.Val.{boolByte}
-use borrow.Author.Tests.{lt-ltb, le-ltb, eq-eqb, ne-eqb}
 use Rattle.semantics.specs.Runs.{Buffers}
 use Rattle.interp.specs.Answers.{buffersOf}
 use Rattle.registers.specs.Block.{Reading, readOf, raised, writeOf}
 use Rattle.registers.specs.Answers.{accessModel, writtenModel}
 use Rattle.registers.specs.declared.block.Written.{Written}
-use Rattle.capi.specs.Replies as replies
-use Rattle.capi.specs.Replies.{short, written, notDone, left}
-use Rattle.capi.specs.Blocks.{accessed, readReply, accessReply, unfit, blockRead, leftBlock, afterWrite, blockWrite}
-use Rattle.capi.specs.Internal.{replyOf}
-use Rattle.capi.specs.declared.reply.Reply.{Reply}
+use Rattle.replies.specs.Replies as replies
+use Rattle.replies.specs.Replies.{unfit, written, notDone, left}
+use Rattle.replies.specs.Laws.{fit}
+use Rattle.capi.specs.Blocks.{accessed, readReply, accessReply, blockRead, leftBlock, afterWrite, blockWrite}
+use Rattle.replies.specs.Internal.{replyOf}
+use Rattle.replies.specs.declared.Reply.{Reply}
 
 pub replied-by : (status cause byte : ℕ) (r : Bool)
     → record { status = status; numbers = cause ∷ 0 ∷ boolByte r ∷ byte ∷ 0 ∷ 0 ∷ 0 ∷ 0 ∷ [] } ≡ accessed status cause 0 r byte
@@ -23,20 +23,11 @@ replied-by status cause byte true = refl
 replied-by status cause byte false = refl
 
 module _ (block answer : List ℕ) where
-  -- ---- the block has another length, or the list is too short
-  pub other-length : (length block ≡ 16 → ⊥) → unfit block answer ≡ true
-  other-length ne = ap (λ (x : Bool). not x || short answer) (ne-eqb (length block) 16 ne)
-
-  pub too-short : length block ≡ 16 → length answer < 8 → unfit block answer ≡ true
-  too-short e h = λ i. not (eq-eqb (length block) 16 e i) || lt-ltb (length answer) 8 h i
-
-  fit : length block ≡ 16 → 8 ≤ length answer → unfit block answer ≡ false
-  fit e h = λ i. not (eq-eqb (length block) 16 e i) || le-ltb (length answer) 8 h i
-
-  pub read-away : (a : ℕ) → unfit block answer ≡ true → left 3 answer ≡ blockRead block a answer
+  -- ---- nothing is done
+  pub read-away : (a : ℕ) → unfit 16 8 block answer ≡ true → left 3 answer ≡ blockRead block a answer
   read-away a e = λ i. cond (sym e i) (notDone answer) (written (readReply (readOf block a) (raised block)) answer)
 
-  pub write-away : (a v : ℕ) (s : List ℕ) (b : Buffers) → unfit block answer ≡ true → leftBlock 3 answer block b ≡ blockWrite block a v s b answer
+  pub write-away : (a v : ℕ) (s : List ℕ) (b : Buffers) → unfit 16 8 block answer ≡ true → leftBlock 3 answer block b ≡ blockWrite block a v s b answer
   write-away a v s b e = λ i. cond (sym e i) (leftBlock 3 answer block b) (afterWrite answer (writeOf block a v s b))
 
   -- ---- the access is done
@@ -49,7 +40,7 @@ module _ (block answer : List ℕ) where
         → left status after ≡ blockRead block a answer
     read-given a f g e =
         in-place (e ∙ (λ i. readReply ((f ∙ ap (λ (l : List ℕ). readOf l a) load) i) ((g ∙ ap raised load) i)))
-        ∙ (λ i. cond (sym (fit size room) i) (notDone answer) (written (readReply (readOf block a) (raised block)) answer))
+        ∙ (λ i. cond (sym (fit 16 8 block answer size room) i) (notDone answer) (written (readReply (readOf block a) (raised block)) answer))
 
     pub write-given : (a v : ℕ) (s : List ℕ) (b : Buffers) (w : Written) {cells posts block′ : List ℕ} {r : Bool}
         → writtenModel w cells posts ≡ writeOf loaded a v s b → block′ ≡ w .block .bytes → r ≡ raised (w .block .bytes)
@@ -57,4 +48,4 @@ module _ (block answer : List ℕ) where
     write-given a v s b w {cells = cells} {posts = posts} f g h e =
         (λ i. record { reply = in-place (e ∙ ap (accessReply (accessModel (w .access))) h) i; block = g i; buffers = buffersOf cells posts [] })
         ∙ ap (afterWrite answer) (f ∙ ap (λ (l : List ℕ). writeOf l a v s b) load)
-        ∙ (λ i. cond (sym (fit size room) i) (leftBlock 3 answer block b) (afterWrite answer (writeOf block a v s b)))
+        ∙ (λ i. cond (sym (fit 16 8 block answer size room) i) (leftBlock 3 answer block b) (afterWrite answer (writeOf block a v s b)))

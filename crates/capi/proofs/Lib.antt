@@ -1,3 +1,1 @@
-pub mod ReplyLaws
-pub mod EntryLaws
 pub mod BlockLaws

@@ -1,12 +1,10 @@
 -- What the entries for a register block return and write: a status, eight numbers, the block, and for a write the buffers. 02, W2.
-use mathlib.Core.Bool.{Bool, not, cond, _||_}
+use mathlib.Core.Bool.{Bool, cond}
 use mathlib.Core.List.{List, [], _∷_}
 use Prim.Native.Nat.{ℕ}
-use lib.Dec.{eqb}
-use lib.ListN.{length}
 use Rattle.semantics.specs.Runs.{Buffers}
 use Rattle.registers.specs.Block.{Reading, read-byte, read-refused, Access, access-done, access-refused, Written, readOf, raised, writeOf}
-use Rattle.capi.specs.Replies.{Reply, bit, short, written, notDone, left}
+use Rattle.replies.specs.Replies.{Reply, bit, unfit, written, notDone, left}
 
 -- a cause and its place, whether the interrupt is raised after the access, and the byte read; a run's own answer stands in the block
 abbrev pub accessed : (status cause place : ℕ) (raised : Bool) (byte : ℕ) → Reply
@@ -21,11 +19,8 @@ accessReply access-done r = accessed 0 0 0 r 0
 accessReply (access-refused c p) r = accessed 2 c p r 0
 
 -- A block of another length than 16, or a short list: 3; nothing is done, and nothing is written anywhere.
-abbrev pub unfit : (block answer : List ℕ) → Bool
-unfit block answer = not (eqb (length block) 16) || short answer
-
 abbrev pub blockRead : (block : List ℕ) (address : ℕ) (answer : List ℕ) → Reply
-blockRead block a answer = cond (unfit block answer) (notDone answer) (written (readReply (readOf block a) (raised block)) answer)
+blockRead block a answer = cond (unfit 16 8 block answer) (notDone answer) (written (readReply (readOf block a) (raised block)) answer)
 
 -- what a write returned and left
 pub record BlockLeft : Type 0 where
@@ -40,5 +35,5 @@ abbrev pub afterWrite : (answer : List ℕ) → Written → BlockLeft
 afterWrite answer w = record { reply = written (accessReply (w .access) (raised (w .block))) answer; block = w .block; buffers = w .buffers }
 
 abbrev pub blockWrite : (block : List ℕ) (address value : ℕ) (s : List ℕ) → Buffers → (answer : List ℕ) → BlockLeft
-blockWrite block a v s b answer = cond (unfit block answer) (record { reply = notDone answer; block = block; buffers = b })
+blockWrite block a v s b answer = cond (unfit 16 8 block answer) (record { reply = notDone answer; block = block; buffers = b })
     (afterWrite answer (writeOf block a v s b))

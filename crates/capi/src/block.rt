@@ -3,11 +3,11 @@ ghost use mathlib.Core.Path.{_≡_};
 ghost use lib.ListN.{length};
 ghost use Rattle.registers.specs.Answers.{readModel, accessModel};
 ghost use Rattle.capi.specs.Blocks.{accessed as accessedOf, readReply, accessReply};
-ghost use Rattle.capi.specs.Internal.{replyOf};
-use crate::reply::Reply;
+ghost use Rattle.replies.specs.Internal.{replyOf};
 use registers::block::Access;
 use registers::block::Block;
 use registers::block::Read;
+use replies::Reply;
 
 pub fn load(block: &[u8]) -> Block
     requires { ⌜ length (now block) ≡ 16 ⌝ }

@@ -3,20 +3,21 @@ ghost use mathlib.Core.List.{[]};
 ghost use mathlib.Core.Path.{_≡_};
 ghost use Rattle.semantics.specs.Runs.{eager as eagerRunner, lazy as lazyRunner, run};
 ghost use Rattle.interp.specs.Answers.{requestOf, buffersOf};
-ghost use Rattle.capi.specs.Replies.{decodeReply, typecheckReply, replied, called, enforces, left, leftAll};
+ghost use Rattle.replies.specs.Replies.{decodeReply, typecheckReply, replied, called, enforces, left, leftAll};
+ghost use Rattle.lines.specs.Answers.{jobOf};
+ghost use Rattle.capi_lines.specs.Entries.{linesAdd, leftAdd, linesServe, leftServe};
 ghost use Rattle.capi.specs.Blocks.{blockRead, leftBlock, blockWrite};
 
 mod block;
-mod reply;
 
 use block::load;
 use block::of_access;
 use block::of_read;
 use block::save;
-use reply::of_decoded;
-use reply::of_run;
-use reply::of_verdict;
-use reply::put;
+use replies::of_decoded;
+use replies::of_run;
+use replies::of_verdict;
+use replies::put;
 
 // What any bytes are as a sheet.
 #[no_mangle]
@@ -141,4 +142,36 @@ pub extern "C" fn sovzedal_block_write(
     let access = w.access;
     save(b, block);
     put(of_access(access, registers::interrupt(b)), answer)
+}
+
+// A job for one of the four lines. Their state is a list of 102 numbers.
+#[no_mangle]
+pub extern "C" fn sovzedal_lines_add(
+    lines: &mut [u64],
+    line: u32,
+    offset: usize,
+    length: usize,
+    calls: u32,
+    store: &[u8],
+    answer: &mut [u32],
+) -> u32
+    ensures { λ r. ⌜ leftAdd r (now (answer .exit)) (now (lines .exit))
+        ≡ linesAdd (now (lines .entry)) line (jobOf offset length calls) (now (store .entry)) (now (answer .entry)) ⌝ }
+{
+    capi_lines::add(lines, line, offset, length, calls, store, answer)
+}
+
+// The next job of the four lines has its turn.
+#[no_mangle]
+pub extern "C" fn sovzedal_lines_serve(
+    lines: &mut [u64],
+    store: &[u8],
+    cells: &mut [u8],
+    posts: &mut [u16],
+    answer: &mut [u32],
+) -> u32
+    ensures { λ r. ⌜ leftServe r (now (answer .exit)) (now (lines .exit)) (buffersOf (now (cells .exit)) (now (posts .exit)) [])
+        ≡ linesServe (now (lines .entry)) (now (store .entry)) (buffersOf (now (cells .entry)) (now (posts .entry)) []) (now (answer .entry)) ⌝ }
+{
+    capi_lines::serve(lines, store, cells, posts, answer)
 }

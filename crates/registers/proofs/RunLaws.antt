@@ -1,4 +1,4 @@
--- Runs, from the promises of the decoder and of the eager runner to those of the block.
+-- Runs, from what a run in the largest buffers promises to the promises of the block.
 use mathlib.Core.Bool.{Bool, true, false, cond}
 use mathlib.Core.List.{List, []}
 use mathlib.Core.Path.{_≡_, refl, sym, ap, _∙_}
@@ -29,34 +29,19 @@ use Rattle.stores.specs.Stops.{stopCause, stopPlace}
 use Rattle.stores.specs.declared.state.Stop.{Stop}
 use Rattle.numbers.specs.Codes.{CodeIs}
 use Rattle.numbers.specs.declared.Code.{Code}
-use Rattle.registers.specs.Largest.{request, lentRun}
+use Rattle.largest.specs.Largest.{request, lentRun}
+use Rattle.largest.specs.Theorems.{lent-few}
 use Rattle.registers.specs.Block.{areLargest, allowance, registersOf, without, afterRun, Written, done, ranOn, commanded, isKept, Register, kept, fixed, writeTo, writeOf}
 use Rattle.registers.specs.Block as blocks
 use Rattle.registers.specs.Laws.{at-inside}
-use Rattle.registers.specs.Theorems.{unreadable-first, other-length, same-run, lent-few}
 use Rattle.registers.specs.Internal.{endRegisters, FewCalls, keptOf}
 
--- ---- the buffers have the lengths asked for, or not
-module _ (s : List ℕ) (calls : ℕ) (cells posts : List ℕ) where
-  abbrev lent : Bool → After
-  lent right = lentRun right s (request calls) (buffersOf cells posts [])
-
-  module _ (right : Bool) where
-    pub as-run : {x : After} → right ≡ true → x ≡ run s (request calls) (buffersOf cells posts []) → x ≡ lent right
-    as-run e h = h ∙ sym (ap lent e ∙ same-run s (request calls) (buffersOf cells posts []))
-
-    module _ {d : Decoded} (p : decodedModel d ≡ decoding s) where
-      pub as-unread : {f : Refusal} → d ≡ Unread f → after (Refused (Unreadable f)) cells posts [] ≡ lent right
-      as-unread e = sym (unreadable-first s (request calls) (buffersOf cells posts []) right _ _ (sym p ∙ ap decodedModel e))
-
-      pub as-buffers : {c : Counts} → right ≡ false → d ≡ Readable c → after (Refused BadBuffers) cells posts [] ≡ lent right
-      as-buffers f e = sym (ap lent f ∙ other-length s (request calls) (buffersOf cells posts []) (sym p ∙ ap decodedModel e) refl)
-
-    -- its calls
-    pub few-calls : (x : Run) (cells′ posts′ : List ℕ) → after x cells′ posts′ [] ≡ lent right → FewCalls x
-    few-calls (Refused f) cells′ posts′ e = tt
-    few-calls (Ran o m) cells′ posts′ e =
-        lent-few s (request calls) (buffersOf cells posts []) right (outcomeModel o) (countsModel m) (sym (ap (λ (a : After). a .answer) e)) .calls-most
+-- its calls
+pub few-calls : (s : List ℕ) (calls : ℕ) (cells posts : List ℕ) (right : Bool) (x : Run) (cells′ posts′ : List ℕ)
+    → after x cells′ posts′ [] ≡ lentRun right s (request calls) (buffersOf cells posts []) → FewCalls x
+few-calls s calls cells posts right (Refused f) cells′ posts′ e = tt
+few-calls s calls cells posts right (Ran o m) cells′ posts′ e =
+    lent-few s (request calls) (buffersOf cells posts []) right (outcomeModel o) (countsModel m) (sym (ap (λ (a : After). a .answer) e)) .calls-most
 
 -- ---- what its answer puts into the registers
 module _ (m : Made) where

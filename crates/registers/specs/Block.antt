@@ -9,7 +9,7 @@ use Rattle.privileges.specs.Sets.{meet, union}
 use Rattle.program.specs.Limits.{maxCells, maxPosts}
 use Rattle.program.specs.Bytes.{byte, word16}
 use Rattle.semantics.specs.Runs.{Buffers, Ground, ground-bool, ground-num, ended, stopped, Answer, refused, ran, zeros, After}
-use Rattle.registers.specs.Largest.{request, isLargest, lentRun}
+use Rattle.largest.specs.Largest.{request, isLargest, lentRun}
 
 -- "The block has 16, zero at first"
 abbrev pub newBlock : List ℕ

@@ -10,7 +10,7 @@ use Rattle.semantics.specs.Meaning.{evalWith, apply, eval}
 use Rattle.semantics.specs.Access.{addAuthorised}
 use Rattle.semantics.specs.Runs.{Buffers, zeros, course, run}
 use Rattle.interp.specs.Answers.{buffersOf}
-use Rattle.registers.specs.Largest.{lentRun}
+use Rattle.largest.specs.Largest.{lentRun}
 use Rattle.registers.specs.Block.{newBlock, without, withFlag, raised, writeOf}
 
 abbrev sheet : List ℕ

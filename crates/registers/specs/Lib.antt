@@ -1,4 +1,3 @@
-pub mod Largest
 pub mod Block
 pub mod Answers
 pub mod Internal

@@ -1,6 +1,6 @@
--- What a reader may count on: a run with the lengths asked for is 01's run, and with another length it is turned back in 15's turn; after a run the status
--- has one bit of three, and what has no meaning in the answer is zero; the interrupt is raised exactly while status and mask share a bit; the mask and the
--- allowance keep what is written; an address above 15 leaves the block; and a write that runs nothing leaves the buffers.
+-- What a reader may count on: after a run the status has one bit of three, and what has no meaning in the answer is zero; the interrupt is raised exactly
+-- while status and mask share a bit; the mask and the allowance keep what is written; an address above 15 leaves the block; and a write that runs nothing
+-- leaves the buffers.
 use mathlib.Core.Bool.{Bool, true, false, not, cond, true≢false}
 use mathlib.Core.List.{List, [], _∷_}
 use mathlib.Core.Logic.{_⊎_, inl, inr, _↔_}
@@ -22,82 +22,10 @@ use Rattle.program.specs.Decoding.{decodingConditions, decoding, Readable}
 use Rattle.program.specs.Laws.Screening.{screen-clear, screen-found}
 use Rattle.semantics.specs.Runs.{Request, Buffers, sizes, startOk, buffersOk, limitsOk, runConditions, Ground, ended, stopped, Outcome, Counts, Answer, refused, ran, After, run}
 use Rattle.semantics.specs.Theorems.{course-found, run-course, refused-untouched, Few, counts-few}
-use Rattle.registers.specs.Largest.{request, lentConditions, unlessFound, lentRun}
+use Rattle.largest.specs.Largest.{request, lentRun}
+use Rattle.largest.specs.Theorems.{lent-untouched}
 use Rattle.registers.specs.Block.{areLargest, allowance, blockRun, RunRegisters, registersOf, without, withFlag, afterRun, read-byte, read-refused, access-refused, readOf, raised, done, ranOn, commanded, isKept, Register, command, status, kept, fixed, absent, registerAt, writeTo, writeOf}
 use Rattle.registers.specs.Laws.{flag-low, flag-high, SomeBit, NoBit, find-bit, no-bit, at-kept, at-fixed, at-absent}
-
--- ---- "a buffer asked for as the largest and lent in another length is 15"
-refused≢ran : {c p : ℕ} {o : Outcome} {k : Counts} → refused c p ≡ ran o k → ⊥
-refused≢ran e = let z : _≡_ {A = ℕ} 0 1 = cc in omega arith
-
-module _ (s : List ℕ) (q : Request) (b : Buffers) where
-  abbrev refusedRun : (cause place : ℕ) → After
-  refusedRun c p = record { answer = refused c p; buffers = b }
-
-  lent-by : (right : Bool) {x : Screening} → screen (lentConditions right s q) ≡ x → lentRun right s q b ≡ unlessFound x b (λ _. run s q b)
-  unfolding lentRun
-  lent-by right e = λ i. unlessFound (e i) b (λ _. run s q b)
-
-  run-by : (c p : ℕ) → screen (runConditions s q (sizes b)) ≡ found c p → run s q b ≡ refusedRun c p
-  run-by c p e = run-course s q b _ (course-found s q b c p e)
-
-  -- what is left to ask once a sheet has been read
-  abbrev lentAsks : (start right : Bool) → Screening
-  lentAsks a r = screen (unless 14 a ∷ unless 15 r ∷ [])
-
-  lent-asks : Readable s → (right : Bool) {a : Bool} → startOk s q ≡ a → screen (lentConditions right s q) ≡ lentAsks a right
-  unfolding decoding
-  lent-asks r right e = screen-clear (decodingConditions s) (unless 14 (startOk s q) ∷ unless 15 right ∷ []) r ∙ (λ i. lentAsks (e i) right)
-
-  abbrev runAsks : (start : Bool) → Screening
-  runAsks a = screen (unless 14 a ∷ unless 15 (buffersOk (q .runner) (sizes b)) ∷ unless 16 (limitsOk q) ∷ [])
-
-  run-asks : Readable s → {a : Bool} → startOk s q ≡ a → screen (runConditions s q (sizes b)) ≡ runAsks a
-  unfolding decoding
-  run-asks r e =
-      screen-clear (decodingConditions s) (unless 14 (startOk s q) ∷ unless 15 (buffersOk (q .runner) (sizes b)) ∷ unless 16 (limitsOk q) ∷ []) r
-      ∙ (λ i. runAsks (e i))
-
-  readable-runs : Readable s → (a : Bool) → startOk s q ≡ a → lentRun true s q b ≡ run s q b
-  unfolding screen tell
-  readable-runs r true e = lent-by true (lent-asks r true e)
-  readable-runs r false e = lent-by true (lent-asks r true e) ∙ sym (run-by 14 0 (run-asks r e))
-
-  -- 1 to 8 come first,
-  pub unreadable-first : (right : Bool) (c p : ℕ) → decoding s ≡ found c p → lentRun right s q b ≡ refusedRun c p
-  unfolding decoding
-  unreadable-first right c p e = lent-by right (screen-found (decodingConditions s) _ c p e)
-
-  -- then 14, and then another length is 15, whatever the allowance.
-  pub other-length : Readable s → startOk s q ≡ true → lentRun false s q b ≡ refusedRun 15 0
-  unfolding screen tell
-  other-length r e = lent-by false (lent-asks r false e)
-
-  -- With the lengths asked for it is the run that anyone may ask for.
-  pub same-run : lentRun true s q b ≡ run s q b
-  unfolding decoding
-  same-run = go (decoding s) refl
-    where
-      go : (x : Screening) → decoding s ≡ x → lentRun true s q b ≡ run s q b
-      go clear e = readable-runs e (startOk s q) refl
-      go (found c p) e = unreadable-first true c p e ∙ sym (run-by c p (screen-found (decodingConditions s) _ c p e))
-
-  -- The counts and the buffers are therefore as in any run.
-  pub lent-few : (right : Bool) (o : Outcome) (k : Counts) → lentRun right s q b .answer ≡ ran o k → Few k
-  unfolding lentRun
-  lent-few right o k = go (screen (lentConditions right s q))
-    where
-      go : (x : Screening) → unlessFound x b (λ _. run s q b) .answer ≡ ran o k → Few k
-      go clear e = counts-few s q b o k e
-      go (found c p) e = absurd (refused≢ran e)
-
-  pub lent-untouched : (right : Bool) (c p : ℕ) → lentRun right s q b .answer ≡ refused c p → lentRun right s q b .buffers ≡ b
-  unfolding lentRun
-  lent-untouched right c p = go (screen (lentConditions right s q))
-    where
-      go : (x : Screening) → unlessFound x b (λ _. run s q b) .answer ≡ refused c p → unlessFound x b (λ _. run s q b) .buffers ≡ b
-      go clear e = refused-untouched s q b c p e
-      go (found d r) e = refl
 
 -- ---- "It sets one status bit and clears the other two"
 abbrev pub bitOf : Answer → ℕ

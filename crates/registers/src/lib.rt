@@ -9,7 +9,6 @@ ghost use Rattle.registers.specs.Answers.{readModel, writtenModel};
 ghost use Rattle.registers.specs.Internal.{keptOf};
 
 pub mod block;
-pub mod largest;
 mod outcome;
 mod update;
 

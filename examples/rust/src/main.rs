@@ -16,7 +16,7 @@ use std::process::ExitCode;
 use std::{env, fs};
 
 /// The headings of docs/REFUSALS.md, by their numbers.
-const CAUSES: [&str; 27] = [
+const CAUSES: [&str; 30] = [
     "none",
     "cut short",
     "wrong tag",
@@ -44,6 +44,9 @@ const CAUSES: [&str; 27] = [
     "not a function",
     "argument",
     "branches",
+    "no such line",
+    "outside the store",
+    "queue full",
 ];
 
 fn main() -> ExitCode {

@@ -152,6 +152,14 @@ impl FromBits for u16 {
     }
 }
 
+impl FromBits for u64 {
+    const PER_WORD: usize = 1;
+
+    fn push_all(word: u64, buffer: &mut Vec<Self>) {
+        buffer.push(word);
+    }
+}
+
 impl FromBits for u32 {
     const PER_WORD: usize = 2;
 

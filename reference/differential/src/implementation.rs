@@ -1,7 +1,12 @@
 //! The C interface, as far as slices can tell it.
 
+use sheets::lines::Job;
+
 /// How many numbers an answer has.
 pub const ANSWER_NUMBERS: usize = 8;
+
+/// How many it has where a job of the four lines is served: the line, too.
+pub const SERVE_NUMBERS: usize = 9;
 
 /// What a run is asked, beside its sheet and buffers.
 #[derive(Clone, Copy, Debug)]
@@ -13,9 +18,10 @@ pub struct RunArguments<'a> {
     pub enforce: u32,
 }
 
-/// Each function returns 0 (readable, accepted, ended, or a register read or
-/// written), 1 (stopped), 2 (refused) or 3 (`answer` is shorter than
-/// [`ANSWER_NUMBERS`], or `block` isn't of 16 bytes).
+/// Each function returns 0 (readable, accepted, ended, a register read or
+/// written, or a job added), 1 (stopped), 2 (refused), 3 (`answer` is shorter
+/// than [`ANSWER_NUMBERS`] or [`SERVE_NUMBERS`], `block` isn't of 16 bytes or
+/// `lines` not of 102 numbers) or 4 (no line has a job).
 pub trait Implementation {
     const NAME: &'static str;
 
@@ -39,6 +45,7 @@ pub trait Implementation {
         frames: &mut [u32],
         answer: &mut [u32],
     ) -> u32;
+
     fn block_read(block: &[u8], address: u32, answer: &mut [u32]) -> u32;
 
     fn block_write(
@@ -46,6 +53,16 @@ pub trait Implementation {
         address: u32,
         value: u8,
         sheet: &[u8],
+        cells: &mut [u8],
+        posts: &mut [u16],
+        answer: &mut [u32],
+    ) -> u32;
+
+    fn lines_add(lines: &mut [u64], line: u32, job: Job, store: &[u8], answer: &mut [u32]) -> u32;
+
+    fn lines_serve(
+        lines: &mut [u64],
+        store: &[u8],
         cells: &mut [u8],
         posts: &mut [u16],
         answer: &mut [u32],

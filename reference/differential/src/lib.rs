@@ -7,9 +7,11 @@ mod implementation;
 mod library;
 mod reference;
 pub mod settings;
+mod unit;
 
 pub use asked::{Asked, Buffers, Entry, Lent};
 pub use board::Board;
-pub use implementation::{Implementation, RunArguments, ANSWER_NUMBERS};
+pub use implementation::{Implementation, RunArguments, ANSWER_NUMBERS, SERVE_NUMBERS};
 pub use library::Library;
 pub use reference::Reference;
+pub use unit::Unit;

@@ -1,6 +1,7 @@
 //! The proved library.
 
 use crate::implementation::{Implementation, RunArguments};
+use sheets::lines::Job;
 
 /// `include/sovzedal.h`.
 mod c {
@@ -68,6 +69,32 @@ mod c {
             value: u8,
             sheet: *const u8,
             sheet_len: usize,
+            cells: *mut u8,
+            cells_len: usize,
+            posts: *mut u16,
+            posts_len: usize,
+            answer: *mut u32,
+            answer_len: usize,
+        ) -> u32;
+
+        pub fn sovzedal_lines_add(
+            lines: *mut u64,
+            lines_len: usize,
+            line: u32,
+            offset: usize,
+            length: usize,
+            calls: u32,
+            store: *const u8,
+            store_len: usize,
+            answer: *mut u32,
+            answer_len: usize,
+        ) -> u32;
+
+        pub fn sovzedal_lines_serve(
+            lines: *mut u64,
+            lines_len: usize,
+            store: *const u8,
+            store_len: usize,
             cells: *mut u8,
             cells_len: usize,
             posts: *mut u16,
@@ -191,6 +218,46 @@ impl Implementation for Library {
                 value,
                 sheet.as_ptr(),
                 sheet.len(),
+                cells.as_mut_ptr(),
+                cells.len(),
+                posts.as_mut_ptr(),
+                posts.len(),
+                answer.as_mut_ptr(),
+                answer.len(),
+            )
+        }
+    }
+
+    fn lines_add(lines: &mut [u64], line: u32, job: Job, store: &[u8], answer: &mut [u32]) -> u32 {
+        unsafe {
+            c::sovzedal_lines_add(
+                lines.as_mut_ptr(),
+                lines.len(),
+                line,
+                job.offset as usize,
+                job.length as usize,
+                job.calls,
+                store.as_ptr(),
+                store.len(),
+                answer.as_mut_ptr(),
+                answer.len(),
+            )
+        }
+    }
+
+    fn lines_serve(
+        lines: &mut [u64],
+        store: &[u8],
+        cells: &mut [u8],
+        posts: &mut [u16],
+        answer: &mut [u32],
+    ) -> u32 {
+        unsafe {
+            c::sovzedal_lines_serve(
+                lines.as_mut_ptr(),
+                lines.len(),
+                store.as_ptr(),
+                store.len(),
                 cells.as_mut_ptr(),
                 cells.len(),
                 posts.as_mut_ptr(),

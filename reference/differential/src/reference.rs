@@ -1,11 +1,17 @@
 //! The reference, behind the library's interface.
 
-use crate::implementation::{Implementation, RunArguments, ANSWER_NUMBERS};
+use crate::implementation::{Implementation, RunArguments, ANSWER_NUMBERS, SERVE_NUMBERS};
+use sheets::lines::Job;
+use sovzedal_reference::lines::{self, Lines, Served, State};
 use sovzedal_reference::registers::{Block, Loaded, BLOCK_BYTES};
 use sovzedal_reference::{decode, run_eager, run_lazy, typecheck, Checks, Reply, Request};
 
-/// What is returned where the answer has no room or the block isn't one.
+/// What is returned where the answer has no room, or the block or the lines
+/// aren't ones.
 const UNFIT: u32 = 3;
+
+/// What is returned where no line has a job.
+const IDLE: u32 = 4;
 
 pub struct Reference;
 
@@ -74,6 +80,51 @@ impl Implementation for Reference {
             *bytes = block.bytes;
             Reply::of_block(&block, written.map(|()| 0))
         })
+    }
+
+    fn lines_add(lines: &mut [u64], line: u32, job: Job, store: &[u8], answer: &mut [u32]) -> u32 {
+        let Ok(state) = <&mut State>::try_from(lines) else {
+            return UNFIT;
+        };
+        let job = lines::Job {
+            offset: job.offset,
+            length: job.length,
+            calls: job.calls,
+        };
+        reply_with(answer, || {
+            let mut lines = Lines::from(&*state);
+            lines.add(line, job, store)?;
+            *state = State::from(&lines);
+            Ok(())
+        })
+    }
+
+    fn lines_serve(
+        lines: &mut [u64],
+        store: &[u8],
+        cells: &mut [u8],
+        posts: &mut [u16],
+        answer: &mut [u32],
+    ) -> u32 {
+        let (Ok(state), Some(room)) = (
+            <&mut State>::try_from(lines),
+            answer.first_chunk_mut::<SERVE_NUMBERS>(),
+        ) else {
+            return UNFIT;
+        };
+        let mut lines = Lines::from(&*state);
+        let lent = lines::Lent {
+            store,
+            cells,
+            posts,
+        };
+        let Some(Served { line, answer }) = lines.serve(lent) else {
+            *room = [0; SERVE_NUMBERS];
+            return IDLE;
+        };
+        *state = State::from(&lines);
+        room[ANSWER_NUMBERS] = line as u32;
+        reply_with(room, || answer)
     }
 }
 

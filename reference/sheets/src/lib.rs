@@ -3,9 +3,10 @@
 //! [`tree`] and [`records`] assemble sheets. [`cases`], [`yes_branch`],
 //! [`branches`], [`type_faults`], [`smallest`], [`extremes`] and [`load`] hold
 //! the ones made by hand, [`generate`] draws others at random, [`request`]
-//! draws what to ask of their runs and [`session`] what a controller does with
-//! a register block, from a [`seed`]. Nothing here knows how a sheet is judged
-//! or run, except [`grow`], which builds sheets that the rules accept.
+//! draws what to ask of their runs, [`session`] what a controller does with a
+//! register block and [`lines`] what is queued on four lines, from a [`seed`].
+//! Nothing here knows how a sheet is judged or run, except [`grow`], which
+//! builds sheets that the rules accept.
 
 pub mod branches;
 pub mod cases;
@@ -13,6 +14,7 @@ pub mod damage;
 pub mod extremes;
 pub mod generate;
 pub mod grow;
+pub mod lines;
 pub mod load;
 pub mod records;
 pub mod request;

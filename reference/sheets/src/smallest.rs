@@ -1,4 +1,5 @@
-//! For each cause the smallest sheet known to reach it. 23 is told of no sheet.
+//! For each cause the smallest sheet known to reach it. 23 and 27 to 29 are told
+//! of no sheet.
 
 use crate::cases::{computing, endless, nested, plain, with_functions, FIRST_FUNCTION};
 use crate::records::{Records, TypeRecord, BOOL, NUMBER};

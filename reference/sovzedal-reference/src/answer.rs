@@ -29,6 +29,16 @@ impl From<Refusal> for Reply {
     }
 }
 
+/// Of a job that was added there is nothing to tell.
+impl From<()> for Reply {
+    fn from((): ()) -> Self {
+        Reply {
+            status: DONE,
+            answer: [0; 8],
+        }
+    }
+}
+
 impl From<Sheet> for Reply {
     fn from(sheet: Sheet) -> Self {
         let mut answer = [0; 8];

@@ -3,12 +3,14 @@
 //! This crate follows the contract's words and nothing else, so that it can be
 //! compared with the proved library. It reads a sheet into a tree
 //! ([`decode`]), judges it ([`typecheck`]) and interprets it ([`run_eager`],
-//! [`run_lazy`]), and has it run by a block of [`registers`]. Where the words
-//! leave a choice, `READINGS.md` names it.
+//! [`run_lazy`]), and has it run by a block of [`registers`] or in turn with
+//! others that wait on four [`lines`]. Where the words leave a choice,
+//! `READINGS.md` names it.
 
 mod answer;
 mod decode;
 mod judge;
+pub mod lines;
 mod refusal;
 pub mod registers;
 mod report;

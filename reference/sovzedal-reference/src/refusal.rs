@@ -1,7 +1,7 @@
 //! What can be told instead of a result, by the contract's numbers.
 
 /// Every cause of a refusal (1 to 16, 23 for an address of the register block,
-/// 24 to 26) or a stop (17 to 22).
+/// 24 to 26, 27 to 29 for a job of the four lines) or a stop (17 to 22).
 #[derive(Clone, Copy, Debug, PartialEq, Eq)]
 #[repr(u32)]
 pub enum Cause {
@@ -32,6 +32,9 @@ pub enum Cause {
     NotAFunction = 24,
     Argument = 25,
     Branches = 26,
+    NoLine = 27,
+    OutsideStore = 28,
+    QueueFull = 29,
 }
 
 impl Cause {
@@ -53,7 +56,7 @@ impl Cause {
     }
 }
 
-/// A sheet, a request or an address was turned back.
+/// A sheet, a request, an address or a job was turned back.
 #[derive(Clone, Copy, Debug, PartialEq, Eq)]
 pub struct Refusal {
     pub cause: Cause,

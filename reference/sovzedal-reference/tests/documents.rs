@@ -5,9 +5,12 @@
 //! there is nothing to compare.
 
 use sheets::smallest::{all, Smallest};
+use sovzedal_reference::lines::{Job, Lent, Lines, STATE_NUMBERS};
 use sovzedal_reference::registers::{at, status, Block, BLOCK_BYTES, RUN};
-use sovzedal_reference::{report, run_eager, typecheck_by, Cause, Checks, Reply, Request, Rules};
-use sovzedal_reference::{FRAME_NUMBERS, MAX_CALLS, MAX_CELL_BYTES, MAX_OPEN_CALLS, MAX_POSTS};
+use sovzedal_reference::{report, run_eager, typecheck_by, Cause, Checks, Refusal, Reply, Request};
+use sovzedal_reference::{
+    Rules, FRAME_NUMBERS, MAX_CALLS, MAX_CELL_BYTES, MAX_OPEN_CALLS, MAX_POSTS,
+};
 use std::path::{Path, PathBuf};
 use std::{env, fs};
 
@@ -75,8 +78,84 @@ fn the_refusal_of_an_address_is_that_of_the_call_shown() {
         .expect("a read of a block of 16 bytes");
     let address = address.parse().expect("an address");
     let refusal = Block::new().read(address).expect_err("a refusal");
-    let print = format!("refused {} at {}\n", refusal.cause.number(), refusal.place);
-    assert_eq!(block(section, "text"), Some(&*print));
+    assert_eq!(block(section, "text"), Some(&*refused(refusal)));
+}
+
+/// 27 to 29 have no sheet either: their calls are made on new lines.
+#[test]
+fn the_refusals_of_jobs_are_those_of_the_calls_shown() {
+    let path = repository().join("docs/REFUSALS.md");
+    if !path.exists() {
+        return;
+    }
+    let shown = read(&path);
+    for (cause, sessions) in [(27, 1), (28, 2), (29, 1)] {
+        let mut rest = section(&shown, &cause.to_string()).expect("a section for each cause");
+        assert_eq!(block(rest, "hex"), None);
+        for _ in 0..sessions {
+            let calls = block(rest, "c").expect("calls");
+            (_, rest) = rest.split_once(calls).unwrap();
+            let refusal = refused_in_the_end(calls);
+            assert_eq!(refusal.cause.number(), cause);
+            assert_eq!(block(rest, "text"), Some(&*refused(refusal)));
+        }
+        assert_eq!(block(rest, "c"), None);
+    }
+}
+
+/// Makes the calls shown, on new lines. The last one is refused, and no other.
+fn refused_in_the_end(calls: &str) -> Refusal {
+    let mut lines = Lines::new();
+    let mut told = Ok(());
+    let mut times = 1;
+    for call in calls.lines().map(str::trim) {
+        if let Some(rest) = call.strip_prefix("for (int job = 0; job < ") {
+            let (number, _) = rest.split_once("; job++)").expect("a loop");
+            times = number.parse().expect("a number of times");
+            continue;
+        }
+        for _ in 0..times {
+            assert_eq!(told, Ok(()), "refused before {call}");
+            told = make(&mut lines, call);
+        }
+        times = 1;
+    }
+    told.expect_err("a refusal")
+}
+
+/// Makes a call as it stands in C, of which the numbers are the arguments that
+/// matter.
+fn make(lines: &mut Lines, call: &str) -> Result<(), Refusal> {
+    let arguments = call
+        .strip_suffix(");")
+        .and_then(|call| call.strip_prefix("sovzedal_lines_"));
+    let (entry, arguments) = arguments.and_then(|it| it.split_once('(')).expect(call);
+    let numbers = arguments.split(", ").filter_map(|it| it.parse().ok());
+    let numbers: Vec<usize> = numbers.collect();
+    match (entry, &numbers[..]) {
+        ("add", &[STATE_NUMBERS, line, offset, length, calls, store, 8]) => {
+            let job = Job {
+                offset: offset as u64,
+                length: length as u64,
+                calls: calls as u32,
+            };
+            lines.add(line as u32, job, &vec![0; store])
+        }
+        ("serve", &[STATE_NUMBERS, store, cells, posts, 9]) => {
+            let lent = Lent {
+                store: &vec![0; store],
+                cells: &mut vec![0; cells],
+                posts: &mut vec![0; posts],
+            };
+            let served = lines.serve(lent).expect("a job");
+            served.answer.map(|_| ())
+        }
+        _ => panic!("{call}"),
+    }
+}
+
+fn refused(Refusal { cause, place }: Refusal) -> String {
+    format!("refused {} at {place}\n", cause.number())
 }
 
 /// The table, the headings, the header's texts and those of the example in
@@ -157,6 +236,9 @@ fn the_header_has_the_same_numbers() {
         ("NOT_A_FUNCTION", Cause::NotAFunction),
         ("ARGUMENT", Cause::Argument),
         ("BRANCHES", Cause::Branches),
+        ("NO_LINE", Cause::NoLine),
+        ("OUTSIDE", Cause::OutsideStore),
+        ("QUEUE_FULL", Cause::QueueFull),
     ];
     for (name, cause) in causes {
         assert_eq!(number(name), u64::from(cause.number()), "{name}");
@@ -168,6 +250,7 @@ fn the_header_has_the_same_numbers() {
         ("MAX_POSTS", MAX_POSTS),
         ("FRAMES", FRAME_NUMBERS),
         ("BLOCK", BLOCK_BYTES),
+        ("LINES", STATE_NUMBERS),
         ("REG_COMMAND", at::COMMAND),
         ("REG_STATUS", at::STATUS),
         ("REG_CAUSE", at::CAUSE),
@@ -217,9 +300,36 @@ fn the_controller_has_an_example_loaded() {
         return;
     }
     let controller = read(&directory.join("c/controller.c"));
-    let (_, table) = controller
-        .split_once("sheet[] = {\n")
-        .expect("the controller's sheet");
+    let sheet = table(&controller, "sheet[] = {\n");
+    assert_eq!(sheet, bytes(&read(&directory.join("loop.hex"))));
+    the_gate_asks_for_the_print_of("A");
+}
+
+/// So it is with the store that the four lines share, and its parts are where
+/// the example says.
+#[test]
+fn the_lines_have_examples_in_their_store() {
+    let directory = repository().join("examples");
+    if !directory.exists() {
+        return;
+    }
+    let example = read(&directory.join("c/lines.c"));
+    let store = table(&example, "store[] = {\n");
+    let mut offset = 0;
+    for name in ["hello", "plate"] {
+        let sheet = bytes(&read(&directory.join(format!("{name}.hex"))));
+        assert_eq!(store[offset..][..sheet.len()], sheet, "{name}");
+        let part = format!("{name} = {{ \"{name}\", {offset}, {} }};", sheet.len());
+        assert!(example.contains(&part), "{part}");
+        offset += sheet.len();
+    }
+    assert_eq!(store.len(), offset);
+    the_gate_asks_for_the_print_of("Four");
+}
+
+/// The bytes of a table in C, from `begin` on, without their comments.
+fn table(text: &str, begin: &str) -> Vec<u8> {
+    let (_, table) = text.split_once(begin).expect("a table");
     let (table, _) = table.split_once("};").expect("its end");
     let digits: String = table
         .lines()
@@ -227,10 +337,13 @@ fn the_controller_has_an_example_loaded() {
         .flat_map(|line| line.split("0x").skip(1))
         .map(|byte| &byte[..2])
         .collect();
-    assert_eq!(bytes(&digits), bytes(&read(&directory.join("loop.hex"))));
+    bytes(&digits)
+}
 
-    let shown = read(&directory.join("README.md"));
-    let section = section(&shown, "A").expect("the controller's section");
+/// In the section of the readme whose heading begins with this word.
+fn the_gate_asks_for_the_print_of(word: &str) {
+    let shown = read(&repository().join("examples/README.md"));
+    let section = section(&shown, word).expect("a section");
     let print = block(section, "text").expect("what it prints");
     let gate = repository().join(".ci/examples");
     if gate.exists() {

@@ -1,14 +1,16 @@
 //! Prints how much native stack the deepest runs use: 100 open calls, each
 //! made from as deep as nesting allows, through terms of one kind; what such a
-//! run uses with fewer open calls, and by a write to a register block.
+//! run uses with fewer open calls, by a write to a register block, and as a
+//! job of the four lines.
 
 mod paint;
 
 use differential::{
-    Asked, Board, Buffers, Entry, Implementation, Library, Reference, ANSWER_NUMBERS,
+    Asked, Board, Buffers, Entry, Implementation, Library, Reference, Unit, ANSWER_NUMBERS,
 };
 use sheets::extremes::{deepest, endless_through};
-use sheets::request::{Request, MAX_OPEN_CALLS};
+use sheets::lines::{Job, STATE_NUMBERS};
+use sheets::request::{Request, MAX_CALLS, MAX_OPEN_CALLS, MAX_POSTS};
 use sheets::rng::Rng;
 use sheets::session::{Access, BLOCK_BYTES};
 use sheets::tree::Kind;
@@ -58,6 +60,13 @@ fn main() {
         used_by_block::<Library>(&sheet),
         used_by_block::<Reference>(&sheet)
     );
+    println!("through calls, as a job of the four lines");
+    println!(
+        "{:12}{:12}{:24}",
+        "eager",
+        used_by_job::<Library>(&sheet),
+        used_by_job::<Reference>(&sheet)
+    );
 }
 
 fn print_line(name: &str, [a, b, c, d]: [usize; 4]) {
@@ -103,6 +112,21 @@ fn used_by_block<I: Implementation>(sheet: &[u8]) -> usize {
     })
 }
 
+/// The turn of a job that is the sheet, on the empty stack, with 4,096 calls
+/// allowed.
+fn used_by_job<I: Implementation>(sheet: &[u8]) -> usize {
+    let mut unit = Unit::random(&mut Rng::new(0), &[0; STATE_NUMBERS], MAX_POSTS);
+    let job = Job {
+        offset: 0,
+        length: sheet.len() as u64,
+        calls: MAX_CALLS,
+    };
+    unit.add::<I>(0, job, sheet);
+    paint::stack_used(|| {
+        unit.serve::<I>(sheet, MAX_POSTS);
+    })
+}
+
 #[cfg(test)]
 mod tests {
     use super::*;
@@ -139,6 +163,8 @@ mod tests {
             }
             let used = used_by_block::<Library>(&sheet);
             assert!(used <= most, "{kind:?} by a register block: {used}");
+            let used = used_by_job::<Library>(&sheet);
+            assert!(used <= most, "{kind:?} as a job of the four lines: {used}");
         }
     }
 }

@@ -1,7 +1,8 @@
--- `sovzedal_block_read` returns 3 and leaves the list as it was where the block has another length than 16 (other-length) or the list is shorter than eight
+-- `sovzedal_block_read` returns 3 and leaves the list as it was where the block has another length than 16 (other-size) or the list is shorter than eight
 -- (too-short). Else `put` leaves the reply to what `read` and `interrupt` tell of the block that `load` gives, which is the caller's (read-given).
 use borrow.Author.Needs.{needs}
-use Rattle.capi.proofs.BlockLaws.{other-length, too-short, read-away, read-given}
+use Rattle.replies.specs.Laws.{other-size, too-short}
+use Rattle.capi.proofs.BlockLaws.{read-away, read-given}
 use Rattle.capi.proofs.sovzedal_block_read.Statement.{statement}
 use Rattle.capi.proofs.sovzedal_block_read.Tie as tie
 
@@ -9,13 +10,13 @@ returns : tie.Need-returns
 returns c =
     let start = c .before .before .before in
     read-away (start .args .block .now) (start .args .answer .now) (start .args .address)
-    (other-length (start .args .block .now) (start .args .answer .now) (c .if1 .taken))
+    (other-size 16 8 (start .args .block .now) (start .args .answer .now) (c .if1 .taken))
 
 returns-2 : tie.Need-returns-2
 returns-2 c =
     let start = c .before .before .before .before in
     read-away (start .args .block .now) (start .args .answer .now) (start .args .address)
-    (too-short (start .args .block .now) (start .args .answer .now) (c .before .if1 .left) (c .if2 .taken))
+    (too-short 16 8 (start .args .block .now) (start .args .answer .now) (c .before .if1 .left) (c .if2 .taken))
 
 load-requires : tie.Need-load-requires
 load-requires c κs = c .before .if1 .left

@@ -1,9 +1,10 @@
--- `sovzedal_block_write` returns 3 and leaves everything as it was where the block has another length than 16 (other-length) or the list is shorter than
+-- `sovzedal_block_write` returns 3 and leaves everything as it was where the block has another length than 16 (other-size) or the list is shorter than
 -- eight (too-short). Else the buffers are as `write` leaves them, `save` puts its block into the caller's, and `put` leaves the reply (write-given).
 use borrow.Author.Needs.{needs}
 use mathlib.Core.List.{[]}
 use Rattle.interp.specs.Answers.{buffersOf}
-use Rattle.capi.proofs.BlockLaws.{other-length, too-short, write-away, write-given}
+use Rattle.replies.specs.Laws.{other-size, too-short}
+use Rattle.capi.proofs.BlockLaws.{write-away, write-given}
 use Rattle.capi.proofs.sovzedal_block_write.Statement.{statement}
 use Rattle.capi.proofs.sovzedal_block_write.Tie as tie
 
@@ -11,14 +12,14 @@ returns : tie.Need-returns
 returns c =
     let start = c .before .before .before .before .before .before in
     write-away (start .args .block .now) (start .args .answer .now) (start .args .address) (start .args .value) (start .args .sheet .now)
-    (buffersOf (start .args .cells .now) (start .args .posts .now) []) (other-length (start .args .block .now) (start .args .answer .now) (c .if1 .taken))
+    (buffersOf (start .args .cells .now) (start .args .posts .now) []) (other-size 16 8 (start .args .block .now) (start .args .answer .now) (c .if1 .taken))
 
 returns-2 : tie.Need-returns-2
 returns-2 c =
     let start = c .before .before .before .before .before .before .before in
     write-away (start .args .block .now) (start .args .answer .now) (start .args .address) (start .args .value) (start .args .sheet .now)
     (buffersOf (start .args .cells .now) (start .args .posts .now) [])
-    (too-short (start .args .block .now) (start .args .answer .now) (c .before .if1 .left) (c .if2 .taken))
+    (too-short 16 8 (start .args .block .now) (start .args .answer .now) (c .before .if1 .left) (c .if2 .taken))
 
 load-requires : tie.Need-load-requires
 load-requires c κs = c .before .before .if1 .left

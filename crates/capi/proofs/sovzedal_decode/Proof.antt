@@ -1,7 +1,7 @@
 -- `sovzedal_decode` returns 3 and leaves a list shorter than eight as it was (away). In any other list `put` leaves the reply of `of_decoded` (given),
 -- which is the definition's, since `decode` gives the definition's screening and the sheet's counts (decoded-as).
-use Rattle.capi.specs.Replies.{decodeReply}
-use Rattle.capi.proofs.EntryLaws.{away, given, decoded-as}
+use Rattle.replies.specs.Replies.{decodeReply}
+use Rattle.replies.specs.Laws.{away, given, decoded-as}
 use mathlib.Core.Path.{_∙_}
 use borrow.Author.Needs.{needs}
 use Rattle.capi.proofs.sovzedal_decode.Statement.{statement}

@@ -5,8 +5,8 @@ use mathlib.Core.List.{[]}
 use mathlib.Core.Path.{ap}
 use Rattle.semantics.specs.Runs.{eager, After, run}
 use Rattle.interp.specs.Answers.{requestOf, buffersOf}
-use Rattle.capi.specs.Replies.{enforces}
-use Rattle.capi.proofs.EntryLaws.{run-away, run-given, small}
+use Rattle.replies.specs.Replies.{enforces}
+use Rattle.replies.specs.Laws.{run-away, run-given, small}
 use borrow.Author.Needs.{needs}
 use Rattle.capi.proofs.sovzedal_run_eager.Statement.{statement}
 use Rattle.capi.proofs.sovzedal_run_eager.Tie as tie

@@ -4,8 +4,8 @@
 use mathlib.Core.Path.{ap}
 use Rattle.semantics.specs.Runs.{lazy, After, run}
 use Rattle.interp.specs.Answers.{requestOf, buffersOf}
-use Rattle.capi.specs.Replies.{enforces}
-use Rattle.capi.proofs.EntryLaws.{run-away, run-given, small}
+use Rattle.replies.specs.Replies.{enforces}
+use Rattle.replies.specs.Laws.{run-away, run-given, small}
 use borrow.Author.Needs.{needs}
 use Rattle.capi.proofs.sovzedal_run_lazy.Statement.{statement}
 use Rattle.capi.proofs.sovzedal_run_lazy.Tie as tie

@@ -1,7 +1,7 @@
 -- `sovzedal_typecheck` returns 3 and leaves a list shorter than eight as it was (away). In any other list `put` leaves the reply of `of_verdict` (given),
 -- which is the definition's, since `typecheck` gives the definition's verdict.
-use Rattle.capi.specs.Replies.{verdictReply, typecheckReply}
-use Rattle.capi.proofs.EntryLaws.{away, given}
+use Rattle.replies.specs.Replies.{verdictReply, typecheckReply}
+use Rattle.replies.specs.Laws.{away, given}
 use mathlib.Core.Path.{_∙_, ap}
 use borrow.Author.Needs.{needs}
 use Rattle.capi.proofs.sovzedal_typecheck.Statement.{statement}

@@ -6,7 +6,7 @@ use mathlib.Core.Path.{_≡_, refl}
 use Prim.Native.Nat.{_-_, _≤_}
 use lib.ListN.{take, drop}
 use Rattle.semantics.specs.Runs.{zeros}
-use Rattle.capi.proofs.ReplyLaws.{written-more, written-over}
+use Rattle.replies.specs.Laws.{written-more, written-over}
 use Rattle.capi.proofs.block.load.Statement.{statement}
 use Rattle.capi.proofs.block.load.Tie as tie
 

@@ -3,7 +3,7 @@ use borrow.Author.Needs.{needs}
 use Rattle.registers.specs.Answers.{accessModel}
 use Rattle.registers.specs.declared.block.Access.{Access}
 use Rattle.capi.specs.Blocks.{accessReply}
-use Rattle.capi.proofs.ReplyLaws.{by}
+use Rattle.replies.specs.Laws.{by}
 use Rattle.capi.proofs.block.of_access.Statement.{statement}
 use Rattle.capi.proofs.block.of_access.Tie as tie
 

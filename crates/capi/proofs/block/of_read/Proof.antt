@@ -3,7 +3,7 @@ use borrow.Author.Needs.{needs}
 use Rattle.registers.specs.Answers.{readModel}
 use Rattle.registers.specs.declared.block.Read.{Read}
 use Rattle.capi.specs.Blocks.{readReply}
-use Rattle.capi.proofs.ReplyLaws.{by}
+use Rattle.replies.specs.Laws.{by}
 use Rattle.capi.proofs.block.of_read.Statement.{statement}
 use Rattle.capi.proofs.block.of_read.Tie as tie
 

@@ -6,7 +6,7 @@ use mathlib.Core.Path.{_≡_, refl}
 use Prim.Native.Nat.{_-_, _≤_}
 use lib.ListN.{take, drop}
 use Rattle.program.specs.Laws.Lists.{sized}
-use Rattle.capi.proofs.ReplyLaws.{written-length, written-more, written-over}
+use Rattle.replies.specs.Laws.{written-length, written-more, written-over}
 use Rattle.capi.proofs.block.save.Statement.{statement}
 use Rattle.capi.proofs.block.save.Tie as tie
 

@@ -1,0 +1,101 @@
+-- What an entry for the lines leaves, from the promises of the functions that it calls.
+use mathlib.Core.Bool.{true, cond}
+use mathlib.Core.List.{List, [], _∷_, _++_}
+use mathlib.Core.Path.{_≡_, refl, sym, ap, _∙_}
+use Prim.Native.Nat.{ℕ, _<_, _≤_}
+use native.Mathlib.Omega.{arith}
+use lib.ListN.{length, getD, set, drop}
+use lib.Seq.{drop-cons, set-at}
+use Rattle.semantics.specs.Runs.{Buffers, ground-bool, ground-num, ended, stopped, Answer, refused, ran}
+use Rattle.interp.specs.Answers.{buffersOf, outcomeModel, countsModel}
+use Rattle.interp.specs.declared.answer.Run.the-variants.{Refused, Ran}
+use Rattle.replies.specs.Replies as replies
+use Rattle.replies.specs.Replies.{unfit, written, left}
+use Rattle.replies.specs.Internal.{replyOf}
+use Rattle.replies.specs.Laws.{fit, in-place}
+use Rattle.replies.specs.declared.Reply.{Reply}
+use Rattle.lines.specs.Queues as queues
+use Rattle.lines.specs.Queues.{Job, State, addOf, Told, idle, told, serveOf}
+use Rattle.lines.specs.Answers.{linesModel, additionModel, addedModel, answerModel, servedModel}
+use Rattle.lines.specs.Theorems.{served-few}
+use Rattle.lines.specs.declared.state.Lines.{Lines}
+use Rattle.lines.specs.declared.state.Addition.{Addition}
+use Rattle.lines.specs.declared.state.Added.{Added}
+use Rattle.lines.specs.declared.state.Answer as answers
+use Rattle.lines.specs.declared.state.Answer.the-variants.{Idle, Outside, Run}
+use Rattle.lines.specs.declared.state.Served.{Served}
+use Rattle.capi_lines.specs.States.{stateNumbers, stateRead, stateWritten}
+use Rattle.capi_lines.specs.Entries.{addReply, leftAdd, stateAfter, addLeft, linesAdd, serveReply, writtenNine, leftServe, servedState, serveLeft, linesServe}
+use Rattle.capi_lines.specs.Internal.{SmallAnswer}
+
+-- ---- the state afterwards, by the case that a match found
+pub kept-added : (before : List ℕ) (s : State) {x y : Addition} {now : List ℕ} → x ≡ y → now ≡ stateAfter (additionModel y) before s
+    → now ≡ stateAfter (additionModel x) before s
+kept-added before s e h = h ∙ sym (ap (λ (a : Addition). stateAfter (additionModel a) before s) e)
+
+pub kept-served : (before : List ℕ) (s : State) {x y : answers.Answer} {now : List ℕ} → x ≡ y → now ≡ servedState (answerModel y) before s
+    → now ≡ servedState (answerModel x) before s
+kept-served before s e h = h ∙ sym (ap (λ (a : answers.Answer). servedState (answerModel a) before s) e)
+
+-- ---- nothing is done
+module _ (state answer store : List ℕ) where
+  pub add-away : (l : ℕ) (j : Job) → unfit stateNumbers 8 state answer ≡ true → leftAdd 3 answer state ≡ linesAdd state l j store answer
+  add-away l j e = λ i. cond (sym e i) (leftAdd 3 answer state) (addLeft state answer (addOf (stateRead state) l j store))
+
+  pub serve-away : (b : Buffers) → unfit stateNumbers 9 state answer ≡ true → leftServe 3 answer state b ≡ linesServe state store b answer
+  serve-away b e = λ i. cond (sym e i) (leftServe 3 answer state b) (serveLeft state answer (serveOf (stateRead state) store b))
+
+-- ---- a job is added
+module _ (state answer store : List ℕ) (size : length state ≡ stateNumbers) (room : 8 ≤ length answer) (l : ℕ) (j : Job) (old : Lines)
+    (load : linesModel old ≡ stateRead state) where
+  pub add-given : (r : Added) → addedModel r ≡ addOf (linesModel old) l j store → {state′ : List ℕ}
+      → state′ ≡ stateAfter (additionModel (r .answer)) state (linesModel (r .lines)) → {x : Reply} → replyOf x ≡ addReply (additionModel (r .answer))
+      → {status : ℕ} {after : List ℕ} → (status ≡ x .status) × (after ≡ x .numbers ++ drop 8 answer)
+      → leftAdd status after state′ ≡ linesAdd state l j store answer
+  add-given r e f g put =
+      (λ i. record { reply = in-place answer room g put i; state = f i })
+      ∙ ap (addLeft state answer) (e ∙ ap (λ (s : State). addOf s l j store) load)
+      ∙ (λ i. cond (sym (fit stateNumbers 8 state answer size room) i) (leftAdd 3 answer state) (addLeft state answer (addOf (stateRead state) l j store)))
+
+-- ---- a job is served
+reply-eight : (t : Told) → length (serveReply t .numbers) ≡ 8
+reply-eight idle = refl
+reply-eight (told (refused c p)) = refl
+reply-eight (told (ran (ended (ground-bool b)) k)) = refl
+reply-eight (told (ran (ended (ground-num n)) k)) = refl
+reply-eight (told (ran (stopped c t) k)) = refl
+
+-- the ninth number follows the eight
+nine : (numbers answer : List ℕ) (l : ℕ) → length numbers ≡ 8 → 9 ≤ length answer → set (numbers ++ drop 8 answer) 8 l ≡ numbers ++ (l ∷ drop 9 answer)
+nine numbers answer l e h =
+    ap (λ (r : List ℕ). set (numbers ++ r) 8 l) (drop-cons answer 8 0 (omega arith)) ∙ set-at numbers (getD answer 8 0) (drop 9 answer) l 8 e
+
+module _ (state answer store : List ℕ) (size : length state ≡ stateNumbers) (room : 9 ≤ length answer) (b : Buffers) (old : Lines)
+    (load : linesModel old ≡ stateRead state) (r : Served) {cells posts : List ℕ} (e : servedModel r cells posts ≡ serveOf (linesModel old) store b) where
+  pub serve-given : {state′ : List ℕ} → state′ ≡ servedState (answerModel (r .answer)) state (linesModel (r .lines)) → {x : Reply}
+      → replyOf x ≡ serveReply (answerModel (r .answer)) → {status : ℕ} {after : List ℕ} → (status ≡ x .status) × (after ≡ x .numbers ++ drop 8 answer)
+      → leftServe status (set after 8 (r .line)) state′ (buffersOf cells posts []) ≡ linesServe state store b answer
+  serve-given f g {status = status} {after = after} put =
+      (λ i. record { reply = whole i; state = f i; buffers = buffersOf cells posts [] })
+      ∙ ap (serveLeft state answer) (e ∙ ap (λ (s : State). serveOf s store b) load)
+      ∙ (λ i. cond (sym (fit stateNumbers 9 state answer size room) i) (leftServe 3 answer state b) (serveLeft state answer (serveOf (stateRead state) store b)))
+    where
+      eight : left status after ≡ written (serveReply (answerModel (r .answer))) answer
+      eight = in-place answer (omega arith) g put
+
+      whole : left status (set after 8 (r .line)) ≡ writtenNine (serveReply (answerModel (r .answer))) (r .line) answer
+      whole =
+          (λ i. left (eight i .status) (set (eight i .numbers) 8 (r .line)))
+          ∙ ap (left (serveReply (answerModel (r .answer)) .status))
+          (nine (serveReply (answerModel (r .answer)) .numbers) answer (r .line) (reply-eight (answerModel (r .answer))) room)
+
+-- the counts of a job's run are those of a run
+module _ (s : State) (store : List ℕ) (b : Buffers) where
+  few : (x : answers.Answer) → answerModel x ≡ serveOf s store b .answer → SmallAnswer x
+  few Idle e = tt
+  few Outside e = tt
+  few (Run (Refused f)) e = tt
+  few (Run (Ran o m)) e = served-few s store b (outcomeModel o) (countsModel m) (sym e)
+
+  pub small-answer : (r : Served) {cells posts : List ℕ} → servedModel r cells posts ≡ serveOf s store b → SmallAnswer (r .answer)
+  small-answer r e = few (r .answer) (ap (λ (x : queues.Served). x .answer) e)

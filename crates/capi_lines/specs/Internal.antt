@@ -1,0 +1,17 @@
+-- What the contracts of internal functions say; no reader of an entry's promise needs it.
+use mathlib.Core.List.{[], _∷_}
+use Prim.Native.Nat.{ℕ}
+use Rattle.replies.specs.Replies.{Reply}
+use Rattle.replies.specs.Internal.{Small}
+use Rattle.lines.specs.declared.state.Answer.{Answer}
+use Rattle.lines.specs.declared.state.Answer.the-variants.{Idle, Outside, Run}
+
+-- a status with a cause
+abbrev pub numbered : (status cause : ℕ) → Reply
+numbered status c = record { status = status; numbers = c ∷ 0 ∷ 0 ∷ 0 ∷ 0 ∷ 0 ∷ 0 ∷ 0 ∷ [] }
+
+-- the counts of a job's run fit into 32 bits
+abbrev pub SmallAnswer : Answer → Type 0
+SmallAnswer Idle = Unit {0}
+SmallAnswer Outside = Unit {0}
+SmallAnswer (Run r) = Small r

@@ -1,0 +1,42 @@
+// The replies of the two entries. specs/Entries.antt says what each holds.
+ghost use mathlib.Core.Path.{_≡_};
+ghost use Rattle.replies.specs.Internal.{replyOf};
+ghost use Rattle.lines.specs.Answers.{additionModel, answerModel};
+ghost use Rattle.capi_lines.specs.Entries.{addReply, serveReply};
+ghost use Rattle.capi_lines.specs.Internal.{numbered, SmallAnswer};
+use lines::state::Addition;
+use lines::state::Answer;
+use replies::Reply;
+use replies::of_run;
+
+// A status with a cause, 0 if there is none.
+fn plain(status: u32, cause: u32) -> Reply
+    ensures { λ r. ⌜ replyOf r ≡ numbered status cause ⌝ }
+{
+    Reply {
+        status: status,
+        numbers: [cause, 0, 0, 0, 0, 0, 0, 0],
+    }
+}
+
+pub fn of_added(x: Addition) -> Reply
+    ensures { λ r. ⌜ replyOf r ≡ addReply (additionModel x) ⌝ }
+{
+    match x {
+        Addition::Done => plain(0, 0),
+        Addition::NoLine => plain(2, 27),
+        Addition::Outside => plain(2, 28),
+        Addition::Full => plain(2, 29),
+    }
+}
+
+pub fn of_served(x: Answer) -> Reply
+    requires { ⌜ SmallAnswer x ⌝ }
+    ensures { λ r. ⌜ replyOf r ≡ serveReply (answerModel x) ⌝ }
+{
+    match x {
+        Answer::Idle => plain(4, 0),
+        Answer::Outside => plain(2, 28),
+        Answer::Run(r) => of_run(r),
+    }
+}

@@ -1,0 +1,5 @@
+pub mod ListLaws
+pub mod QueueLaws
+pub mod LineLaws
+pub mod RunLaws
+pub mod ServeLaws

@@ -1,0 +1,50 @@
+-- Runs, from the promises of the decoder and of the eager runner to that of a job's run.
+use mathlib.Core.Bool.{Bool, true, false}
+use mathlib.Core.List.{List, [], _++_, append-nil}
+use mathlib.Core.Path.{_≡_, refl, sym, ap, _∙_}
+use Prim.Native.Nat.{ℕ, _+_, _-_, min}
+use native.Mathlib.Omega.{arith}
+use lib.Dec.{eqb}
+use lib.ListN.{length, take, drop, length-drop, drop-of-length-le}
+use lib.Seq.{take-all}
+use Rattle.program.specs.Limits.{maxCells}
+use Rattle.program.specs.Decoding.{decoding}
+use Rattle.program.specs.Answers.{decodedModel}
+use Rattle.program.specs.declared.answer.Refusal.{Refusal}
+use Rattle.program.specs.declared.answer.Decoded.{Decoded}
+use Rattle.program.specs.declared.answer.Decoded.the-variants.{Readable, Refused as Unread}
+use Rattle.program.specs.declared.records.Counts.{Counts}
+use Rattle.semantics.specs.Runs.{After, run}
+use Rattle.interp.specs.Answers.{buffersOf, after}
+use Rattle.interp.specs.declared.answer.Refusal.the-variants.{Unreadable, Buffers as BadBuffers}
+use Rattle.interp.specs.declared.answer.Run.{Run}
+use Rattle.interp.specs.declared.answer.Run.the-variants.{Refused}
+use Rattle.largest.specs.Largest.{request, lentRun}
+use Rattle.lines.specs.Queues.{Job, partOf, behind, jobRun}
+use Rattle.lines.proofs.ListLaws.{take-least, drop-least}
+use Rattle.largest.specs.Theorems.{unreadable-first, other-length, same-run}
+
+-- ---- the run of a job: a part of the store, and the list of posts from the place on
+module _ (job : Job) (place : ℕ) (store cells posts : List ℕ) (at : ℕ) (lower : at ≡ min place (length posts)) where
+  abbrev lent-on : List ℕ
+  lent-on = take (length posts - at) (drop at posts)
+
+  pub part-is : take (job .offset + job .length - job .offset) (drop (job .offset) store) ≡ partOf job store
+  part-is = let e : job .offset + job .length - job .offset ≡ job .length = omega arith in ap (λ (n : ℕ). take n (drop (job .offset) store)) e
+
+  pub rest-is : lent-on ≡ drop place posts
+  rest-is = take-all (length posts - at) (drop at posts) (omega (arith, length-drop at posts)) ∙ ap (λ (n : ℕ). drop n posts) lower ∙ drop-least place posts
+
+  pub back-is : (ys : List ℕ) → take at posts ++ (ys ++ drop (length posts - at) (drop at posts)) ≡ take place posts ++ ys
+  back-is ys =
+      (λ i. take (lower i) posts ++ (ys ++ drop-of-length-le (drop at posts) {i = length posts - at} (omega (arith, length-drop at posts)) i))
+      ∙ (λ i. take-least place posts i ++ append-nil ys i)
+
+  pub job-run : (r : Run) (cells′ ys : List ℕ)
+      → after r cells′ ys [] ≡ lentRun (eqb (length cells) maxCells) (take (job .offset + job .length - job .offset) (drop (job .offset) store))
+      (request (job .calls)) (buffersOf cells lent-on [])
+      → after r cells′ (take at posts ++ (ys ++ drop (length posts - at) (drop at posts))) [] ≡ jobRun job place store (buffersOf cells posts [])
+  job-run r cells′ ys e =
+      (λ i. after r cells′ (back-is ys i) [])
+      ∙ ap (behind place (buffersOf cells posts []))
+      (e ∙ (λ i. lentRun (eqb (length cells) maxCells) (part-is i) (request (job .calls)) (buffersOf cells (rest-is i) [])))

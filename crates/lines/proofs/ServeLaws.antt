@@ -1,0 +1,78 @@
+-- A serve, from the promises of what it calls to the state, the answer and the buffers that 02 asks for.
+use mathlib.Core.Bool.{Bool, true, false, not}
+use mathlib.Core.List.{List, [], _∷_}
+use mathlib.Core.Path.{_≡_, refl, sym, ap, _∙_}
+use Prim.Native.Nat.{ℕ, _+_, _^_, _<_, _≤_}
+use native.Mathlib.Nat.{add-zero}
+use native.Mathlib.Omega.{arith}
+use lib.ListN.{length, getD, drop, length-drop}
+use borrow.Author.Tests.{not-true}
+use Rattle.program.specs.Limits.{maxCells}
+use Rattle.semantics.specs.Runs.{Buffers, Answer, refused, After}
+use Rattle.interp.specs.Answers.{buffersOf, runModel, outcomeModel, countsModel, after}
+use Rattle.interp.specs.declared.answer.Run.{Run}
+use Rattle.interp.specs.declared.answer.Run.the-variants.{Refused, Ran}
+use Rattle.largest.specs.Largest.{request, isLargest}
+use Rattle.lines.specs.Queues.{maxLines, Job, State, inside, Turn, nobody, serves, turnAt, turnOf, partOf, restFrom, jobRun, jobAfter, postsOf, dequeued, idle, told, Served, servedAs, serveTurn, serveOf}
+use Rattle.lines.specs.Answers.{jobModel, queueModel, linesModel}
+use Rattle.lines.specs.Internal.{hasJob, Next, Movable}
+use Rattle.largest.specs.Theorems.{lent-posts}
+use Rattle.lines.specs.declared.state.Lines.{Lines}
+use Rattle.lines.specs.declared.queue.Taken.{Taken}
+use Rattle.lines.specs.Laws.{none, queue-is}
+
+module _ (q : Lines) (l : ℕ) (next : Next q l) (store cells posts : List ℕ) where
+  abbrev S : State
+  S = linesModel q
+
+  abbrev B : Buffers
+  B = buffersOf cells posts []
+
+  pub nobody-served : maxLines ≤ l → record { answer = idle; line = 0; state = S; buffers = B } ≡ serveOf S store B
+  unfolding serveOf
+  nobody-served h = sym (ap (λ (t : Turn). serveTurn t S store B) (next .or-nobody h))
+
+  module _ (below : l < maxLines) where
+    pub has-one : hasJob (queueModel (getD (q .queues) l none)) ≡ true
+    has-one = ap hasJob (sym (queue-is q l)) ∙ next .has-job below
+
+    module _ (taken : Taken) (parts : queueModel (getD (q .queues) l none) ≡ jobModel (taken .job) ∷ queueModel (taken .rest)) where
+      abbrev J : Job
+      J = jobModel (taken .job)
+
+      abbrev R : List Job
+      R = queueModel (taken .rest)
+
+      turn-is : turnOf S ≡ serves l J R
+      turn-is = next .turn-is below ∙ ap (λ (js : List Job). turnAt l js (λ _. nobody)) (queue-is q l ∙ parts)
+
+      by-inside : {x : Bool} → x ≡ inside J store → serveOf S store B ≡ servedAs S l R (jobAfter x J (q .place) store B)
+      unfolding serveOf
+      by-inside e = ap (λ (t : Turn). serveTurn t S store B) turn-is ∙ ap (λ (y : Bool). servedAs S l R (jobAfter y J (q .place) store B)) (sym e)
+
+      pub outside-served : (x : Bool) → x ≡ inside J store → x ≡ false → {s : State} → s ≡ dequeued S l R (q .place)
+          → record { answer = told (refused 28 0); line = l; state = s; buffers = B } ≡ serveOf S store B
+      outside-served x e f g =
+          (λ i. record { answer = told (refused 28 0); line = l; state = (g ∙ ap (dequeued S l R) (sym (add-zero (q .place)))) i; buffers = B })
+          ∙ sym (by-inside (sym f ∙ e))
+
+      pub run-served : (x : Bool) → x ≡ inside J store → x ≡ true → (r : Run) {cells′ posts′ : List ℕ} {s : State}
+          → after r cells′ posts′ [] ≡ jobRun J (q .place) store B → s ≡ dequeued S l R (q .place + postsOf (runModel r))
+          → record { answer = told (runModel r); line = l; state = s; buffers = buffersOf cells′ posts′ [] } ≡ serveOf S store B
+      run-served x e f r {cells′ = cells′} {posts′ = posts′} h g =
+          (λ i. record { answer = told (runModel r); line = l; state = g i; buffers = buffersOf cells′ posts′ [] }) ∙ ap (servedAs S l R) h
+          ∙ sym (by-inside (sym f ∙ e))
+
+      -- No run makes more posts than are left behind the place, so that the next place is at most the list's end, or stays.
+      pub may-move : (r : Run) {cells′ posts′ : List ℕ} → after r cells′ posts′ [] ≡ jobRun J (q .place) store B → q .place < 2 ^ 64 → length posts < 2 ^ 64
+          → Movable q l r
+      may-move r h p n = record { below = below; room = go r (ap (λ (a : After). a .answer) h) }
+        where
+          go : (r : Run) → runModel r ≡ jobRun J (q .place) store B .answer → q .place + postsOf (runModel r) < 2 ^ 64
+          go (Refused f) e = omega arith
+          go (Ran o m) e =
+              omega (
+                arith,
+                length-drop (q .place) posts,
+                lent-posts (partOf J store) (request (J .calls)) (restFrom (q .place) B) (isLargest maxCells cells) (outcomeModel o) (countsModel m) (sym e),
+              )

@@ -1,0 +1,7 @@
+pub mod Queues
+pub mod Answers
+pub mod Internal
+pub mod Laws
+pub mod Sessions
+pub mod Theorems
+pub mod Cases

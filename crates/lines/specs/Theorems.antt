@@ -1,0 +1,409 @@
+-- What a reader may count on, over any sequence of adds and serves, with any stores and buffers lent for each of them: a job with j jobs before it in its own
+-- queue has its turn within 4 × (j + 1) serves, whatever is added in between; of each line the jobs are served in the order in which they were added, and
+-- none is lost or served twice. And of one serve: nobody is served exactly when no line has a job; a refused job leaves the place and the buffers; what stands
+-- before the place in the list of posts stays.
+use mathlib.Core.Bool.{Bool, true, false, cond}
+use mathlib.Core.List.{List, [], _∷_, _++_, append-nil, append-assoc}
+use mathlib.Core.Logic.{_⊎_, inl, inr, _↔_}
+use mathlib.Core.Path.{_≡_, refl, sym, ap, _∙_, subst}
+use Prim.Native.Nat.{ℕ, zero, suc, _+_, _-_, _*_, _%_, _<_, _≤_}
+use native.Mathlib.Decide.{ℕ-discrete}
+use native.Mathlib.Omega.{arith}
+use lib.Dec.{eqb, ltb}
+use lib.ListN.{length, getD, set, take, drop, length-append, length-take, length-drop, length-set, take-append-drop, List·getD-append}
+use lib.Seq.{getD-set-same, getD-set-other}
+use borrow.Author.Tests.{eq-eqb, ne-eqb, ltb-true}
+use Rattle.program.specs.Screening.{Screening, clear, found, screen, unless}
+use Rattle.program.specs.Laws.Screening.{clear-none, none-cons, unless-none}
+use Rattle.program.specs.Limits.{maxCells}
+use Rattle.semantics.specs.Runs.{Buffers, Sizes, sizes, Outcome, Counts, Answer, refused, ran, After}
+use Rattle.semantics.specs.Theorems.{Few}
+use Rattle.largest.specs.Largest.{request, isLargest, lentRun}
+use Rattle.lines.specs.Sessions.{Operation, add, serve, stepped, session, servesIn, only, accepted, addedBy, inTurn, servedBy, addedIn, servedIn, Sound}
+use Rattle.largest.specs.Theorems.{lent-few, lent-untouched, lent-lengths}
+use Rattle.lines.specs.Queues.{maxLines, maxJobs, Job, State, start, queueAt, addConditions, enqueued, addedTo, addOf, inside, Turn, nobody, serves, turnAt, nextLine, turnFrom, turnOf, partOf, restFrom, behind, jobRun, jobAfter, postsOf, Told, idle, told, Served, servedAs, serveTurn, serveOf}
+
+-- ---- states that the entries make
+none-waits : (l : ℕ) → queueAt start l ≡ []
+none-waits zero = refl
+none-waits (suc zero) = refl
+none-waits (suc (suc zero)) = refl
+none-waits (suc (suc (suc zero))) = refl
+none-waits (suc (suc (suc (suc l)))) = refl
+
+pub start-sound : Sound start
+start-sound = record { four = refl; turn-below = omega arith; few = λ l. omega (arith, ap length (none-waits l)) }
+
+-- one queue is another one
+module _ (qs : List (List Job)) (four : length qs ≡ maxLines) (k : ℕ) (below : k < maxLines) (js : List Job) where
+  changed : {l : ℕ} → k ≡ l → getD (set qs k js) l [] ≡ js
+  changed e = subst (λ (l : ℕ). getD (set qs k js) l [] ≡ js) e (getD-set-same qs k js [] (omega arith))
+
+  others : {l : ℕ} → (k ≡ l → ⊥) → getD (set qs k js) l [] ≡ getD qs l []
+  others ne = getD-set-other qs k _ js [] λ e. ne (sym e)
+
+  still-few : length js ≤ maxJobs → ((l : ℕ) → length (getD qs l []) ≤ maxJobs) → (l : ℕ) → length (getD (set qs k js) l []) ≤ maxJobs
+  still-few h few l = go (ℕ-discrete k l)
+    where
+      go : Dec (k ≡ l) → length (getD (set qs k js) l []) ≤ maxJobs
+      go (yes e) = omega (arith, ap length (changed e))
+      go (no ne) = omega (arith, ap length (others ne), few l)
+
+  still-four : length (set qs k js) ≡ maxLines
+  still-four = length-set qs k js ∙ four
+
+-- what an add that is done shows
+record Open (s : State) (k : ℕ) : Type 0 where
+  below : k < maxLines
+  room : length (queueAt s k) < maxJobs
+
+is-open : (s : State) (k : ℕ) (j : Job) (store : List ℕ) → screen (addConditions s k j store) ≡ clear → Open s k
+is-open s k j store e =
+    let none = clear-none (addConditions s k j store) e in
+    record {
+      below = ltb-true k maxLines (unless-none 27 _ (none-cons none .0));
+      room = ltb-true (length (queueAt s k)) maxJobs (unless-none 29 _ (none-cons (none-cons (none-cons none .1) .1) .0));
+    }
+
+-- the line that has its turn has a job
+record Serving (s : State) (k : ℕ) (j : Job) (js : List Job) : Type 0 where
+  below : k < maxLines
+  front : queueAt s k ≡ j ∷ js
+
+serving : (n : ℕ) (s : State) (t k : ℕ) (j : Job) (js : List Job) → t < maxLines → turnFrom n s t ≡ serves k j js → Serving s k j js
+unfolding turnFrom
+serving zero s t k j js h e = absurd (let z : _≡_ {A = ℕ} 0 1 = cc in omega arith)
+serving (suc n) s t k j js h e = go (queueAt s t) refl e (serving n s (nextLine t) k j js (omega arith))
+  where
+    go : (q : List Job) → queueAt s t ≡ q → turnAt t q (λ _. turnFrom n s (nextLine t)) ≡ serves k j js
+        → (turnFrom n s (nextLine t) ≡ serves k j js → Serving s k j js) → Serving s k j js
+    go [] f g rest = rest g
+    go (x ∷ xs) f g rest =
+        let z : t ≡ k = cc in
+        record { below = omega arith; front = ap (queueAt s) (sym z) ∙ f ∙ (cc) }
+
+-- ---- each operation makes such a state of such a state
+add-sound : (s : State) (k : ℕ) (j : Job) (store : List ℕ) → Sound s → (x : Screening) → screen (addConditions s k j store) ≡ x → Sound (addedTo x s k j .state)
+add-sound s k j store h clear e =
+    let o = is-open s k j store e in
+    record {
+      four = still-four (s .queues) (h .four) k (o .below) (queueAt s k ++ (j ∷ []));
+      turn-below = h .turn-below;
+      few = still-few (s .queues) (h .four) k (o .below) (queueAt s k ++ (j ∷ [])) (omega (arith, length-append (queueAt s k) (j ∷ []), o .room)) (h .few);
+    }
+add-sound s k j store h (found c p) e = h
+
+serve-sound : (s : State) (store : List ℕ) (b : Buffers) → Sound s → (t : Turn) → turnOf s ≡ t → Sound (serveTurn t s store b .state)
+serve-sound s store b h nobody e = h
+serve-sound s store b h (serves k j js) e =
+    let v = serving maxLines s (s .turn) k j js (h .turn-below) e in
+    record {
+      four = still-four (s .queues) (h .four) k (v .below) js;
+      turn-below = omega arith;
+      few = still-few (s .queues) (h .four) k (v .below) js (omega (arith, ap length (v .front), h .few k)) (h .few);
+    }
+
+pub step-sound : (o : Operation) (s : State) → Sound s → Sound (stepped o s)
+unfolding addOf serveOf
+step-sound (add k j store) s h = add-sound s k j store h (screen (addConditions s k j store)) refl
+step-sound (serve store b) s h = serve-sound s store b h (turnOf s) refl
+
+pub session-sound : (os : List Operation) (s : State) → Sound s → Sound (session os s)
+session-sound [] s h = h
+session-sound (o ∷ os) s h = session-sound os (stepped o s) (step-sound o s h)
+
+-- ---- no job is lost, and none is served twice: what waited and was added is what was served and waits, in order
+is-only : {k l : ℕ} (j : Job) → k ≡ l → only l k j ≡ j ∷ []
+is-only {k} {l} j e = λ i. cond (eq-eqb k l e i) (j ∷ []) []
+
+is-other : {k l : ℕ} (j : Job) → (k ≡ l → ⊥) → only l k j ≡ []
+is-other {k} {l} j ne = λ i. cond (ne-eqb k l ne i) (j ∷ []) []
+
+module _ (l : ℕ) (s : State) (h : Sound s) where
+  add-balance : (k : ℕ) (j : Job) (store : List ℕ) (x : Screening) → screen (addConditions s k j store) ≡ x
+      → queueAt s l ++ accepted (addedTo x s k j .answer) l k j ≡ queueAt (addedTo x s k j .state) l
+  add-balance k j store (found c p) e = append-nil (queueAt s l)
+  add-balance k j store clear e = go (ℕ-discrete k l)
+    where
+      below : k < maxLines
+      below = is-open s k j store e .below
+
+      go : Dec (k ≡ l) → queueAt s l ++ only l k j ≡ queueAt (enqueued s k j) l
+      go (yes y) =
+          ap (λ (xs : List Job). queueAt s l ++ xs) (is-only j y) ∙ ap (λ (n : ℕ). queueAt s n ++ (j ∷ [])) (sym y)
+          ∙ sym (changed (s .queues) (h .four) k below (queueAt s k ++ (j ∷ [])) y)
+      go (no n) =
+          ap (λ (xs : List Job). queueAt s l ++ xs) (is-other j n) ∙ append-nil (queueAt s l)
+          ∙ sym (others (s .queues) (h .four) k below (queueAt s k ++ (j ∷ [])) n)
+
+  serve-balance : (store : List ℕ) (b : Buffers) (t : Turn) → turnOf s ≡ t → queueAt s l ≡ inTurn l t ++ queueAt (serveTurn t s store b .state) l
+  serve-balance store b nobody e = refl
+  serve-balance store b (serves k j js) e = go (ℕ-discrete k l)
+    where
+      v : Serving s k j js
+      v = serving maxLines s (s .turn) k j js (h .turn-below) e
+
+      go : Dec (k ≡ l) → queueAt s l ≡ only l k j ++ getD (set (s .queues) k js) l []
+      go (yes y) =
+          ap (queueAt s) (sym y) ∙ v .front ∙ sym (λ i. is-only j y i ++ changed (s .queues) (h .four) k (v .below) js y i)
+      go (no n) = sym (λ i. is-other j n i ++ others (s .queues) (h .four) k (v .below) js n i)
+
+  balance : (o : Operation) → queueAt s l ++ addedBy l o s ≡ servedBy l o s ++ queueAt (stepped o s) l
+  unfolding addOf serveOf
+  balance (add k j store) = add-balance k j store (screen (addConditions s k j store)) refl
+  balance (serve store b) = append-nil (queueAt s l) ∙ serve-balance store b (turnOf s) refl
+
+pub in-order : (l : ℕ) (os : List Operation) (s : State) → Sound s → queueAt s l ++ addedIn l os s ≡ servedIn l os s ++ queueAt (session os s) l
+in-order l [] s h = append-nil (queueAt s l)
+in-order l (o ∷ os) s h =
+    sym (append-assoc (queueAt s l) (addedBy l o s) (addedIn l os (stepped o s)))
+    ∙ ap (λ (xs : List Job). xs ++ addedIn l os (stepped o s)) (balance l s h o)
+    ∙ append-assoc (servedBy l o s) (queueAt (stepped o s) l) (addedIn l os (stepped o s))
+    ∙ ap (λ (xs : List Job). servedBy l o s ++ xs) (in-order l os (stepped o s) (step-sound o s h))
+    ∙ sym (append-assoc (servedBy l o s) (servedIn l os (stepped o s)) (queueAt (session os (stepped o s)) l))
+
+-- "The queues start empty, and only these entries change them": of each line, what was added is what was served, in that order, and then what waits.
+pub from-the-start : (l : ℕ) (os : List Operation) → addedIn l os start ≡ servedIn l os start ++ queueAt (session os start) l
+from-the-start l os = sym (ap (λ (xs : List Job). xs ++ addedIn l os start) (none-waits l)) ∙ in-order l os start start-sound
+
+-- ---- "A job with j jobs before it in its own queue has its turn within 4 × (j + 1) runs"
+-- how many lines have their turn before this one
+abbrev away : (turn line : ℕ) → ℕ
+away t l = (l + maxLines - t) % maxLines
+
+-- While a line has a job, somebody is served: it, or another line after whose turn it is nearer.
+record Nearer (s : State) (n t l : ℕ) : Type 0 where
+  line : ℕ
+  job : Job
+  rest : List Job
+  turn-is : turnFrom n s t ≡ serves line job rest
+  near : (line ≡ l) ⊎ (away (nextLine line) l < away t l)
+
+passes-by : (t l : ℕ) → t < maxLines → l < maxLines → (t ≡ l → ⊥) → away (nextLine t) l < away t l
+passes-by t l h g ne = omega arith
+
+another : (k t l : ℕ) → l < maxLines → away (nextLine k) l < away t l → k ≡ l → ⊥
+another k t l h g e = omega arith
+
+nearer : (n : ℕ) (s : State) (t l : ℕ) (j : Job) (js : List Job) → queueAt s l ≡ j ∷ js → t < maxLines → l < maxLines → away t l < n → Nearer s n t l
+unfolding turnFrom
+nearer zero s t l j js e h g a = absurd (omega arith)
+nearer (suc n) s t l j js e h g a = go (queueAt s t) refl (ℕ-discrete t l) (nearer n s (nextLine t) l j js e (omega arith) g)
+  where
+    further : (w : List Job) → queueAt s t ≡ w → turnFrom (suc n) s t ≡ turnAt t w (λ _. turnFrom n s (nextLine t))
+    further w f = λ i. turnAt t (f i) (λ _. turnFrom n s (nextLine t))
+
+    go : (w : List Job) → queueAt s t ≡ w → Dec (t ≡ l) → (away (nextLine t) l < n → Nearer s n (nextLine t) l) → Nearer s (suc n) t l
+    go (x ∷ xs) f (yes y) rest = record { line = t; job = x; rest = xs; turn-is = further (x ∷ xs) f; near = inl y }
+    go (x ∷ xs) f (no ne) rest = record { line = t; job = x; rest = xs; turn-is = further (x ∷ xs) f; near = inr (passes-by t l h g ne) }
+    go [] f (yes y) rest =
+        let z : _≡_ {A = List Job} [] (j ∷ js) = sym f ∙ ap (queueAt s) y ∙ e in
+        absurd (let q : _≡_ {A = ℕ} 0 1 = cc in omega arith)
+    go [] f (no ne) rest =
+        let less = passes-by t l h g ne in
+        let r = rest (omega arith) in
+        record {
+          line = r .line;
+          job = r .job;
+          rest = r .rest;
+          turn-is = further [] f ∙ r .turn-is;
+          near = elim (r .near) [ inl y ↦ inl y | inr y ↦ inr (omega (arith, y, less)) ];
+        }
+
+first-of : (xs : List Job) (n : ℕ) → n < length xs → (j : Job) × (js : List Job) × (xs ≡ j ∷ js)
+first-of [] n h = absurd (omega arith)
+first-of (x ∷ xs) n h = (x, xs, refl)
+
+module _ (l : ℕ) (below : l < maxLines) where
+  abbrev Reached : List Operation → State → ℕ → Type 0
+  Reached os s n = n < length (queueAt s l) → away (s .turn) l + 4 * n < servesIn os → n < length (servedIn l os s)
+
+  -- its own turn: one job less is before it
+  own-turn : (os : List Operation) (s s′ : State) (n : ℕ) (j : Job) → queueAt s l ≡ j ∷ queueAt s′ l → ((m : ℕ) → Reached os s′ m) → n < length (queueAt s l)
+      → away (s .turn) l + 4 * n < suc (servesIn os) → n < suc (length (servedIn l os s′))
+  own-turn os s s′ zero j e next h g = omega arith
+  own-turn os s s′ (suc n) j e next h g = omega (arith, next n (omega (arith, ap length e)) (omega arith))
+
+  -- a serve, of this line or of another one
+  serve-reached : (store : List ℕ) (b : Buffers) (os : List Operation) (s : State) → Sound s → ((s′ : State) → Sound s′ → (m : ℕ) → Reached os s′ m) → (n : ℕ)
+      → Reached (serve store b ∷ os) s n
+  unfolding serveOf
+  serve-reached store b os s h next n w g = go (r .near)
+    where
+      waiting : (j : Job) × (js : List Job) × (queueAt s l ≡ j ∷ js)
+      waiting = first-of (queueAt s l) n w
+
+      r : Nearer s maxLines (s .turn) l
+      r = nearer maxLines s (s .turn) l (waiting .0) (waiting .1) (waiting .2) (h .turn-below) below (omega arith)
+
+      s′ : State
+      s′ = serveOf s store b .state
+
+      turn-is : s′ .turn ≡ nextLine (r .line)
+      turn-is = ap (λ (t : Turn). serveTurn t s store b .state .turn) (r .turn-is)
+
+      split : {front : List Job} → inTurn l (turnOf s) ≡ front → queueAt s l ≡ front ++ queueAt s′ l
+      split e = serve-balance l s h store b (turnOf s) refl ∙ ap (λ (xs : List Job). xs ++ queueAt s′ l) e
+
+      counted : {front : List Job} → inTurn l (turnOf s) ≡ front → length (servedIn l (serve store b ∷ os) s) ≡ length (front ++ servedIn l os s′)
+      counted e = ap (λ (xs : List Job). length (xs ++ servedIn l os s′)) e
+
+      go : (r .line ≡ l) ⊎ (away (nextLine (r .line)) l < away (s .turn) l) → n < length (servedIn l (serve store b ∷ os) s)
+      go (inl y) =
+          let own = ap (inTurn l) (r .turn-is) ∙ is-only (r .job) y in
+          omega (arith, counted own, own-turn os s s′ n (r .job) (split own) (next s′ (step-sound (serve store b) s h)) w g)
+      go (inr y) =
+          let other = ap (inTurn l) (r .turn-is) ∙ is-other (r .job) (another (r .line) (s .turn) l below y) in
+          omega (arith, counted other, next s′ (step-sound (serve store b) s h) n (omega (arith, ap length (split other))) (omega (arith, turn-is)))
+
+  add-turn : (k : ℕ) (j : Job) (store : List ℕ) (s : State) → addOf s k j store .state .turn ≡ s .turn
+  unfolding addOf
+  add-turn k j store s = go (screen (addConditions s k j store))
+    where
+      go : (x : Screening) → addedTo x s k j .state .turn ≡ s .turn
+      go clear = refl
+      go (found c p) = refl
+
+  reached : (os : List Operation) (s : State) → Sound s → (n : ℕ) → Reached os s n
+  reached [] s h n w g = absurd (omega arith)
+  reached (add k j store ∷ os) s h n w g =
+      reached os (stepped (add k j store) s) (step-sound (add k j store) s h) n
+      (omega (arith, ap length (balance l s h (add k j store)), length-append (queueAt s l) (addedBy l (add k j store) s)))
+      (omega (arith, add-turn k j store s))
+  reached (serve store b ∷ os) s h n w g = serve-reached store b os s h (reached os) n w g
+
+  -- It is among the jobs of its line that had their turn, in its place: after the j before it.
+  pub record HasTurn (j : ℕ) (os : List Operation) (s : State) : Type 0 where
+    pub soon : j < length (servedIn l os s)
+    pub itself : (none : Job) → getD (servedIn l os s) j none ≡ getD (queueAt s l) j none
+
+  pub turn-comes : (j : ℕ) (os : List Operation) (s : State) → Sound s → j < length (queueAt s l) → 4 * (j + 1) ≤ servesIn os → HasTurn j os s
+  turn-comes j os s h w g =
+      let soon : j < length (servedIn l os s) = reached os s h j w (omega arith) in
+      record {
+        soon = soon;
+        itself = λ none.
+            sym (List·getD-append (servedIn l os s) (queueAt (session os s) l) none j soon)
+            ∙ sym (ap (λ (xs : List Job). getD xs j none) (in-order l os s h)) ∙ List·getD-append (queueAt s l) (addedIn l os s) none j w;
+      }
+
+-- ---- one serve
+-- "with no job nothing changes and the answer says so"
+abbrev pub AllEmpty : State → Type 0
+AllEmpty s = (l : ℕ) → l < maxLines → queueAt s l ≡ []
+
+nobody-there : (n : ℕ) (s : State) (t : ℕ) → t < maxLines → AllEmpty s → turnFrom n s t ≡ nobody
+unfolding turnFrom
+nobody-there zero s t h e = refl
+nobody-there (suc n) s t h e =
+    (λ i. turnAt t (e t h i) (λ _. turnFrom n s (nextLine t))) ∙ nobody-there n s (nextLine t) (omega arith) e
+
+module _ (s : State) (sound : Sound s) (store : List ℕ) (b : Buffers) where
+  pub nothing-changes : AllEmpty s → serveOf s store b ≡ record { answer = idle; line = 0; state = s; buffers = b }
+  unfolding serveOf
+  nothing-changes e = ap (λ (t : Turn). serveTurn t s store b) (nobody-there maxLines s (s .turn) (sound .turn-below) e)
+
+  nobody-empty : turnOf s ≡ nobody → AllEmpty s
+  nobody-empty e l h = go (queueAt s l) refl
+    where
+      go : (q : List Job) → queueAt s l ≡ q → queueAt s l ≡ []
+      go [] f = f
+      go (j ∷ js) f =
+          let r = nearer maxLines s (s .turn) l j js f (sound .turn-below) h (omega arith) in
+          let z : nobody ≡ serves (r .line) (r .job) (r .rest) = sym e ∙ r .turn-is in
+          absurd (let y : _≡_ {A = ℕ} 0 1 = cc in omega arith)
+
+  pub idle-exactly : (serveOf s store b .answer ≡ idle) ↔ AllEmpty s
+  unfolding serveOf
+  idle-exactly = (λ e. nobody-empty (go (turnOf s) e), λ e. ap (λ (r : Served). r .answer) (nothing-changes e))
+    where
+      go : (t : Turn) → serveTurn t s store b .answer ≡ idle → t ≡ nobody
+      go nobody e = refl
+      go (serves l j js) e = absurd (let y : _≡_ {A = ℕ} 0 1 = cc in omega arith)
+
+-- A refused job leaves the place and every buffer.
+pub record Left (s : State) (b : Buffers) (r : Served) : Type 0 where
+  pub place-stays : r .state .place ≡ s .place
+  pub buffers-stay : r .buffers ≡ b
+
+whole-again : (at : ℕ) (b : Buffers) (c p : ℕ) (x : After) → x ≡ record { answer = refused c p; buffers = restFrom at b }
+    → behind at b x ≡ record { answer = refused c p; buffers = b }
+whole-again at b c p x e = ap (behind at b) e ∙ (λ i. record {
+  answer = refused c p;
+  buffers = record { cells = b .cells; posts = take-append-drop at (b .posts) i; frames = b .frames };
+})
+
+take-front : (n : ℕ) (xs ys : List ℕ) → length ys ≡ length (drop n xs) → take n (take n xs ++ ys) ≡ take n xs
+take-front zero xs ys h = refl
+take-front (suc n) [] [] h = refl
+take-front (suc n) [] (y ∷ ys) h = absurd (omega arith)
+take-front (suc n) (x ∷ xs) ys h = ap (λ (l : List ℕ). x ∷ l) (take-front n xs ys h)
+
+module _ (s : State) (store : List ℕ) (b : Buffers) where
+  run-left : (j : Job) (c p : ℕ) → jobRun j (s .place) store b .answer ≡ refused c p
+      → jobRun j (s .place) store b ≡ record { answer = refused c p; buffers = b }
+  run-left j c p e = whole-again (s .place) b c p _ λ i. record {
+    answer = e i;
+    buffers = lent-untouched (partOf j store) (request (j .calls)) (restFrom (s .place) b) (isLargest maxCells (b .cells)) c p e i;
+  }
+
+  job-left : (inside : Bool) (j : Job) (c p : ℕ) → jobAfter inside j (s .place) store b .answer ≡ refused c p
+      → jobAfter inside j (s .place) store b .buffers ≡ b
+  job-left true j c p e = ap (λ (a : After). a .buffers) (run-left j c p e)
+  job-left false j c p e = refl
+
+  pub refused-leaves : (c p : ℕ) → serveOf s store b .answer ≡ told (refused c p) → Left s b (serveOf s store b)
+  unfolding serveOf
+  refused-leaves c p = go (turnOf s)
+    where
+      go : (t : Turn) → serveTurn t s store b .answer ≡ told (refused c p) → Left s b (serveTurn t s store b)
+      go nobody e = absurd (let y : _≡_ {A = ℕ} 0 1 = cc in omega arith)
+      go (serves l j js) e =
+          let f : jobAfter (inside j store) j (s .place) store b .answer ≡ refused c p = cc in
+          record { place-stays = omega (arith, ap postsOf f); buffers-stay = job-left (inside j store) j c p f }
+
+  -- The counts that are told are those of a run.
+  job-few : (inside : Bool) (j : Job) (o : Outcome) (k : Counts) → jobAfter inside j (s .place) store b .answer ≡ ran o k → Few k
+  job-few true j o k e = lent-few (partOf j store) (request (j .calls)) (restFrom (s .place) b) (isLargest maxCells (b .cells)) o k e
+  job-few false j o k e = absurd (let y : _≡_ {A = ℕ} 0 1 = cc in omega arith)
+
+  pub served-few : (o : Outcome) (k : Counts) → serveOf s store b .answer ≡ told (ran o k) → Few k
+  unfolding serveOf
+  served-few o k = go (turnOf s)
+    where
+      go : (t : Turn) → serveTurn t s store b .answer ≡ told (ran o k) → Few k
+      go nobody e = absurd (let y : _≡_ {A = ℕ} 0 1 = cc in omega arith)
+      go (serves l j js) e = job-few (inside j store) j o k (let f : jobAfter (inside j store) j (s .place) store b .answer ≡ ran o k = cc in f)
+
+  -- Every buffer keeps its length, and the entries before the place stay.
+  pub record Kept (r : Served) : Type 0 where
+    pub lengths : sizes (r .buffers) ≡ sizes b
+    pub before : take (s .place) (r .buffers .posts) ≡ take (s .place) (b .posts)
+
+  run-kept : (l : ℕ) (js : List Job) (a : After) → sizes (a .buffers) ≡ sizes (restFrom (s .place) b) → Kept (servedAs s l js (behind (s .place) b a))
+  run-kept l js a h =
+      let posts-are : length (a .buffers .posts) ≡ length (drop (s .place) (b .posts)) = ap (λ (z : Sizes). z .posts) h in
+      let all-are : length (take (s .place) (b .posts) ++ a .buffers .posts) ≡ length (b .posts) =
+      omega (
+        arith,
+        length-append (take (s .place) (b .posts)) (a .buffers .posts),
+        length-take (s .place) (b .posts),
+        length-drop (s .place) (b .posts),
+      ) in
+      record {
+        lengths = λ i. record { cells = h i .cells; posts = all-are i; frames = h i .frames };
+        before = take-front (s .place) (b .posts) (a .buffers .posts) posts-are;
+      }
+
+  pub serve-keeps : Kept (serveOf s store b)
+  unfolding serveOf
+  serve-keeps = go (turnOf s)
+    where
+      by-inside : (inside : Bool) (l : ℕ) (j : Job) (js : List Job) → Kept (servedAs s l js (jobAfter inside j (s .place) store b))
+      by-inside true l j js =
+          run-kept l js _ (lent-lengths (partOf j store) (request (j .calls)) (restFrom (s .place) b) (isLargest maxCells (b .cells)))
+      by-inside false l j js = record { lengths = refl; before = refl }
+
+      go : (t : Turn) → Kept (serveTurn t s store b)
+      go nobody = record { lengths = refl; before = refl }
+      go (serves l j js) = by-inside (inside j store) l j js

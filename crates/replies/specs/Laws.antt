@@ -1,0 +1,104 @@
+-- From the promises of the functions that an entry for C calls to what it leaves: the list is too short, or holds the reply. For the proofs of the
+-- crates above; nothing here has to be believed.
+use mathlib.Core.Bool.{Bool, true, false, not, cond, _||_}
+use mathlib.Core.List.{List, [], _∷_, _++_, append-nil}
+use mathlib.Core.Path.{_≡_, refl, sym, ap, _∙_}
+use Prim.Native.Nat.{ℕ, zero, suc, _+_, _<_, _≤_}
+use native.Mathlib.Omega.{arith}
+use lib.ListN.{length, getD, set, take, drop, length-append, length-take, length-drop, drop-of-length-le}
+use lib.Dec.{ltb}
+use borrow.Author.Tests.{lt-ltb, le-ltb, eq-eqb, ne-eqb}
+use Rattle.program.specs.Decoding.{decoding}
+use Rattle.program.specs.Answers.{decodedModel, Counted}
+use Rattle.program.specs.Laws.Lists.{copy-more}
+use Rattle.program.specs.declared.answer.Decoded.{Decoded}
+use Rattle.program.specs.declared.answer.Decoded.the-variants.{Readable, Refused as Unreadable}
+use Rattle.semantics.specs.Runs.{Request, Buffers, After, run}
+use Rattle.semantics.specs.Theorems.{counts-few}
+use Rattle.interp.specs.Answers.{runModel, outcomeModel, countsModel}
+use Rattle.interp.specs.declared.answer.Run.{Run}
+use Rattle.interp.specs.declared.answer.Run.the-variants.{Refused, Ran}
+use Rattle.replies.specs.Replies as replies
+use Rattle.replies.specs.Replies.{screened, decodeReply, unfit, runReply, written, notDone, replied, Called, called, left, leftAll}
+use Rattle.replies.specs.Internal.{replyOf, ofDecoded, Small}
+use Rattle.replies.specs.declared.Reply.{Reply}
+
+-- a promise about the case that a match found
+pub by : {A : Type 0} (f : A → replies.Reply) {x y : A} {r : replies.Reply} → x ≡ y → r ≡ f y → r ≡ f x
+by f e h = h ∙ sym (ap f e)
+
+-- ---- writing the eight numbers
+pub take-whole : (xs : List ℕ) (n : ℕ) → length xs ≡ n → take n xs ≡ xs
+take-whole [] zero h = refl
+take-whole [] (suc n) h = refl
+take-whole (x ∷ xs) zero h = absurd (omega (arith, h))
+take-whole (x ∷ xs) (suc n) h = ap (λ (l : List ℕ). x ∷ l) (take-whole xs n (omega arith))
+
+-- the first n numbers of a list overwritten one by one, the first i already
+module _ (n : ℕ) (numbers before : List ℕ) (i : ℕ) {now : List ℕ} (size : length numbers ≡ n) where
+  pub written-length : n ≤ length before → i ≤ n → now ≡ take i numbers ++ drop i before → length now ≡ length before
+  written-length h k e = ap (λ (l : List ℕ). length l) e ∙ length-append (take i numbers) (drop i before)
+      ∙ omega (arith, length-take i numbers, length-drop i before, size)
+
+  pub written-more : n ≤ length before → i < n → now ≡ take i numbers ++ drop i before → set now i (getD numbers i 0) ≡ take (i + 1) numbers
+      ++ drop (i + 1) before
+  written-more h k e = copy-more numbers before now i (omega (arith, size)) (omega arith) e
+
+  pub written-all : i ≤ n → n ≤ i → now ≡ take i numbers ++ drop i before → now ≡ numbers ++ drop n before
+  written-all h k e =
+      let done : i ≡ n = omega arith in
+      e ∙ ap (λ (k : ℕ). take k numbers ++ drop k before) done ∙ ap (λ (l : List ℕ). l ++ drop n before) (take-whole numbers n size)
+
+  -- where the list has no more than these
+  pub written-over : length before ≡ n → i ≤ n → n ≤ i → now ≡ take i numbers ++ drop i before → now ≡ numbers
+  written-over l h k e = written-all h k e ∙ ap (λ (x : List ℕ). numbers ++ x) (drop-of-length-le before {i = n} (omega arith)) ∙ append-nil numbers
+
+-- ---- a list has another size, or the list for the answer is too short
+module _ (size least : ℕ) (list answer : List ℕ) where
+  pub other-size : (length list ≡ size → ⊥) → unfit size least list answer ≡ true
+  other-size ne = ap (λ (x : Bool). not x || ltb (length answer) least) (ne-eqb (length list) size ne)
+
+  pub too-short : length list ≡ size → length answer < least → unfit size least list answer ≡ true
+  too-short e h = λ i. not (eq-eqb (length list) size e i) || lt-ltb (length answer) least h i
+
+  pub fit : length list ≡ size → least ≤ length answer → unfit size least list answer ≡ false
+  fit e h = λ i. not (eq-eqb (length list) size e i) || le-ltb (length answer) least h i
+
+-- ---- the list is too short
+module _ (answer : List ℕ) (h : length answer < 8) where
+  pub away : (r : replies.Reply) → left 3 answer ≡ replied answer r
+  away r = λ i. cond (sym (lt-ltb (length answer) 8 h) i) (notDone answer) (written r answer)
+
+  pub run-away : (b : Buffers) (a : After) → leftAll 3 answer b ≡ called answer b a
+  run-away b a = λ i. cond (sym (lt-ltb (length answer) 8 h) i) (leftAll 3 answer b)
+      (record { reply = written (runReply (a .answer)) answer; buffers = a .buffers })
+
+-- ---- it holds the reply
+module _ (answer : List ℕ) (h : 8 ≤ length answer) {x : Reply} {R : replies.Reply} (e : replyOf x ≡ R) {status : ℕ} {after : List ℕ}
+    (put : (status ≡ x .status) × (after ≡ x .numbers ++ drop 8 answer)) where
+  pub in-place : left status after ≡ written R answer
+  in-place = (λ i. left (put .0 i) (put .1 i)) ∙ (λ i. written (e i) answer)
+
+  pub given : left status after ≡ replied answer R
+  given = in-place ∙ (λ i. cond (sym (le-ltb (length answer) 8 h) i) (notDone answer) (written R answer))
+
+module _ (answer : List ℕ) (h : 8 ≤ length answer) (b b′ : Buffers) (a : After) (r : Run) {x : Reply} (e : replyOf x ≡ runReply (runModel r)) {status : ℕ}
+    {after : List ℕ} (put : (status ≡ x .status) × (after ≡ x .numbers ++ drop 8 answer)) where
+  abbrev whole : After → Called
+  whole y = record { reply = written (runReply (y .answer)) answer; buffers = y .buffers }
+
+  pub run-given : record { answer = runModel r; buffers = b′ } ≡ a → leftAll status after b′ ≡ called answer b a
+  run-given p =
+      (λ i. record { reply = in-place answer h e put i; buffers = b′ }) ∙ ap whole p
+      ∙ (λ i. cond (sym (le-ltb (length answer) 8 h) i) (leftAll 3 answer b) (whole a))
+
+-- ---- the reader's answer
+pub decoded-as : (s : List ℕ) (d : Decoded) → decodedModel d ≡ decoding s → Counted s d → ofDecoded d ≡ decodeReply s
+decoded-as s (Unreadable f) e k = λ i. screened s (e i)
+decoded-as s (Readable c) e k =
+    (λ i. record { status = 0; numbers = 0 ∷ 0 ∷ 0 ∷ k .terms-are i ∷ k .principals-are i ∷ k .types-are i ∷ 0 ∷ 0 ∷ [] }) ∙ (λ i. screened s (e i))
+
+-- ---- a run's counts are small
+pub small : (s : List ℕ) (q : Request) (b : Buffers) (r : Run) → runModel r ≡ run s q b .answer → Small r
+small s q b (Refused f) e = tt
+small s q b (Ran o m) e = counts-few s q b (outcomeModel o) (countsModel m) (sym e)

@@ -1,0 +1,123 @@
+// The numbers of an answer. specs/Replies.antt says which of the eight is which.
+ghost use mathlib.Core.List.{_++_};
+ghost use mathlib.Core.Path.{_≡_};
+ghost use Prim.Native.Nat.{_≤_};
+ghost use lib.ListN.{length, drop};
+ghost use Rattle.typing.specs.Answers.{verdictModel};
+ghost use Rattle.interp.specs.Answers.{runModel, outcomeModel, countsModel};
+ghost use Rattle.semantics.specs.Theorems.{Few};
+ghost use Rattle.replies.specs.Replies.{refusal, verdictReply, finished, runReply};
+ghost use Rattle.replies.specs.Internal.{replyOf, ofDecoded, withCounts, Small};
+use interp::answer::Made;
+use interp::answer::Outcome;
+use interp::answer::Run;
+use interp::answer::Value;
+use numbers::Code;
+use program::answer::Decoded;
+use typing::answer::Verdict;
+
+pub struct Reply {
+    pub status: u32,
+    pub numbers: [u32; 8],
+}
+
+fn refused(x: Code) -> Reply
+    ensures { λ r. ⌜ replyOf r ≡ refusal (x .cause) (x .place) ⌝ }
+{
+    Reply {
+        status: 2,
+        numbers: [x.cause as u32, x.place as u32, 0, 0, 0, 0, 0, 0],
+    }
+}
+
+pub fn of_decoded(d: Decoded) -> Reply
+    ensures { λ r. ⌜ replyOf r ≡ ofDecoded d ⌝ }
+{
+    match d {
+        Decoded::Refused(f) => refused(numbers::of_reader(f)),
+        Decoded::Readable(c) => Reply {
+            status: 0,
+            numbers: [
+                0,
+                0,
+                0,
+                c.terms as u32,
+                c.principals as u32,
+                c.types as u32,
+                0,
+                0,
+            ],
+        },
+    }
+}
+
+pub fn of_verdict(v: Verdict) -> Reply
+    ensures { λ r. ⌜ replyOf r ≡ verdictReply (verdictModel v) ⌝ }
+{
+    match v {
+        Verdict::Unreadable(f) => refused(numbers::of_reader(f)),
+        Verdict::Refused(f) => refused(numbers::of_fault(f)),
+        Verdict::Accepted { terms, ty, needs } => Reply {
+            status: 0,
+            numbers: [0, 0, ty as u32, terms as u32, 0, 0, 0, needs],
+        },
+    }
+}
+
+// What a run tells, with its counts.
+fn counted(status: u32, first: Code, sort: u32, value: u32, m: Made) -> Reply
+    requires { ⌜ Few (countsModel m) ⌝ }
+    ensures { λ r. ⌜ replyOf r ≡ withCounts status (first .cause) (first .place) sort value m ⌝ }
+{
+    Reply {
+        status: status,
+        numbers: [
+            first.cause as u32,
+            first.place as u32,
+            sort,
+            value,
+            m.calls as u32,
+            m.cells as u32,
+            m.posts as u32,
+            0,
+        ],
+    }
+}
+
+fn of_outcome(o: Outcome, m: Made) -> Reply
+    requires { ⌜ Few (countsModel m) ⌝ }
+    ensures { λ r. ⌜ replyOf r ≡ finished (outcomeModel o) (countsModel m) ⌝ }
+{
+    let none = Code { cause: 0, place: 0 };
+    match o {
+        Outcome::Stop(x) => counted(1, numbers::of_stop(x), 0, 0, m),
+        Outcome::End(v) => match v {
+            Value::Bool(b) => counted(0, none, 0, b as u32, m),
+            Value::Num(n) => counted(0, none, 1, n as u32, m),
+        },
+    }
+}
+
+pub fn of_run(x: Run) -> Reply
+    requires { ⌜ Small x ⌝ }
+    ensures { λ r. ⌜ replyOf r ≡ runReply (runModel x) ⌝ }
+{
+    match x {
+        Run::Refused(f) => refused(numbers::of_refusal(f)),
+        Run::Ran { outcome, made } => of_outcome(outcome, made),
+    }
+}
+
+// Writes the eight numbers into the caller's list and gives the status.
+pub fn put(reply: Reply, answer: &mut [u32]) -> u32
+    requires { ⌜ 8 ≤ length (now answer) ⌝ }
+    ensures { λ r. ⌜ (r ≡ reply .status) × (now (answer .exit) ≡ reply .numbers ++ drop 8 (now (answer .entry))) ⌝ }
+{
+    let numbers = reply.numbers;
+    let mut i = 0;
+    while i < 8 {
+        answer[i] = numbers[i];
+        i += 1;
+    }
+    reply.status
+}
