@@ -1,40 +1,41 @@
-/* Sovzedal: rule sheets decoded, type-checked and run, with or without their checks; a block of registers for a controller that has them run; and four
- * lines on which jobs wait to be run in turn.
+/* Sovzedal: rule sheets decoded, type-checked and run, with or without their checks; why a sheet needs a privilege; a block of registers for a
+ * controller that has sheets run; and four lines on which jobs wait to be run in turn.
  *
  * For x86-64. Link libsovzedal.a (README.md, "Embed it", has the command that writes it). Of the C library it needs memcpy and memset alone: no heap,
  * no system call, no global state, so that calls on buffers of their own may be made from several threads. A run recurses: SOVZEDAL_STACK bytes of
- * native stack are enough for any call, and a run that may have fewer calls open needs less (see there); decoding and type checking use far less.
+ * native stack are enough for any call, and a run that may have fewer calls open needs less (see there); what does not run uses far less.
  *
  * What the proof assumes of a C caller, for every function here:
  *   - each pointer is valid for as many elements as the length after it says, and is aligned for its type; with a length of 0 nothing is read or
  *     written through it, and it may be null;
- *   - no buffer that a function writes (`answer`, `cells`, `posts`, `frames`, `block`, `lines`) overlaps another argument, and nobody else writes to
- *     any of them or to `sheet`, `start` and `store` until the call returns;
+ *   - no buffer that a function writes (`answer`, `cells`, `posts`, `frames`, `block`, `lines`, `chain`) overlaps another argument, and nobody else
+ *     writes to any of them or to `sheet`, `start` and `store` until the call returns;
  *   - no length exceeds PTRDIFF_MAX bytes.
  * Under these each function does exactly what is said here, on any contents.
  *
  * Every function returns
- *   SOVZEDAL_OK       0  the sheet is readable, or accepted, or the run ended; or the register was read or written; or the job was added;
+ *   SOVZEDAL_OK       0  the sheet is readable, or accepted, or the run ended; or the register was read or written; or the job was added; or the
+ *                        privilege is explained, or not needed;
  *   SOVZEDAL_STOPPED  1  the run was stopped, for one of the causes 17 to 22;
- *   SOVZEDAL_REFUSED  2  refused, for one of the causes 1 to 16 and 24 to 29, or 23 for an address: every buffer but `answer` is as it was (but
+ *   SOVZEDAL_REFUSED  2  refused, for one of the causes 1 to 16 and 24 to 30, or 23 for an address: every buffer but `answer` is as it was (but
  *                        `lines` has given up a job that was served);
- *   SOVZEDAL_SHORT    3  `answer` has fewer entries than are written, `block` is not of 16 bytes or `lines` not of 102 numbers: nothing was done and
- *                        nothing written anywhere;
+ *   SOVZEDAL_SHORT    3  `answer` or `chain` has fewer entries than are written, `block` is not of 16 bytes or `lines` not of 102 numbers: nothing was
+ *                        done and nothing written anywhere;
  *   SOVZEDAL_IDLE     4  no line has a job: nothing was done, and every buffer but `answer` is as it was;
  * and writes exactly the first 8 entries of `answer`, sovzedal_lines_serve the first 9:
  *
- *   entry   decode, readable   typecheck, accepted   run, ended or stopped                 block, accessed            refused   name, SOVZEDAL_AT_..
- *   0       0                  0                     0, or the stop's cause                0                          cause     CAUSE
- *   1       0                  0                     0, or the stop's term                 0                          place     PLACE
- *   2       0                  root's type, 0 or 1   an end's value: 0 boolean, 1 number   interrupt raised, 0 or 1   0 *       TYPE, INTERRUPT
- *   3       terms              terms                 an end's value                        byte read; 0 if written    0         VALUE, TERMS
- *   4       principals         0                     calls made                            0                          0         CALLS, PRINCIPALS
- *   5       types              0                     cells made                            0                          0         CELLS, TYPES
- *   6       0                  0                     posts made                            0                          0         POSTS
- *   7       0                  needs                 0                                     0                          0         NEEDS
- *   8                                                the line, where a job was served **                              line **   LINE
+ *   entry   decode, readable   typecheck, accepted   explain, accepted   run, ended or stopped    block, accessed     refused   name, SOVZEDAL_AT_..
+ *   0       0                  0                     0                   0, or the stop's cause   0                   cause     CAUSE
+ *   1       0                  0                     0                   0, or the stop's term    0                   place     PLACE
+ *   2       0                  root's type           0                   type of an end's value   interrupt, 0 or 1   0 *       TYPE, INTERRUPT
+ *   3       terms              terms                 chain's length      an end's value           byte read, or 0     0         VALUE, TERMS, LENGTH
+ *   4       principals         0                     0                   calls made               0                   0         CALLS, PRINCIPALS
+ *   5       types              0                     0                   cells made               0                   0         CELLS, TYPES
+ *   6       0                  0                     0                   posts made               0                   0         POSTS
+ *   7       0                  needs                 0                   0                        0                   0         NEEDS
+ *   8                                                                    the line served **                           line **   LINE
  *
- *   *  with 23, as in the column before: whether the interrupt is raised, 0 or 1.
+ *   *  with 23, as in the column before: whether the interrupt is raised after the access, 0 or 1.
  *   ** written by sovzedal_lines_serve alone, also of a job that is refused. All entries are zero of a job added, and all nine with SOVZEDAL_IDLE.
  *
  * Types: 0 is the boolean, 1 the number. Needs are a set of privileges: bit k, worth 2^k, stands for privilege k. docs/REFUSALS.md explains the causes.
@@ -52,7 +53,7 @@ extern "C" {
 
 /* The version of this interface, and of the format that it reads. */
 #define SOVZEDAL_VERSION_MAJOR 1
-#define SOVZEDAL_VERSION_MINOR 3
+#define SOVZEDAL_VERSION_MINOR 4
 #define SOVZEDAL_FORMAT 1
 
 /* What a function returns. */
@@ -72,6 +73,7 @@ enum {
     SOVZEDAL_AT_INTERRUPT = 2,   /* of a block: 1 if its interrupt is raised after the access, else 0 */
     SOVZEDAL_AT_VALUE = 3,       /* of a run that ended, or of a register that was read */
     SOVZEDAL_AT_TERMS = 3,       /* of a readable or accepted sheet */
+    SOVZEDAL_AT_LENGTH = 3,      /* of a chain, in terms; 0 if the privilege is not needed */
     SOVZEDAL_AT_CALLS = 4,       /* of a run */
     SOVZEDAL_AT_PRINCIPALS = 4,  /* of a readable sheet */
     SOVZEDAL_AT_CELLS = 5,       /* of a run */
@@ -88,7 +90,7 @@ enum {
 
 /* The causes, by the headings of docs/REFUSALS.md. 1 to 8 are told of a sheet that is not readable, 9 to 13 and 24 to 26 of one that the rules refuse,
  * 14 to 16 of a request to run one; 17 to 22 are stops; 23 is told of an address that a block does not have, 27 to 29 of a job that no line takes,
- * and 28 also of one whose turn comes when its part is no longer in the store. */
+ * and 28 also of one whose turn comes when its part is no longer in the store; 30 is told of a privilege above 31. */
 enum {
     SOVZEDAL_CUT_SHORT = 1,
     SOVZEDAL_WRONG_TAG = 2,
@@ -118,7 +120,8 @@ enum {
     SOVZEDAL_BRANCHES = 26,
     SOVZEDAL_NO_LINE = 27,
     SOVZEDAL_OUTSIDE = 28,
-    SOVZEDAL_QUEUE_FULL = 29
+    SOVZEDAL_QUEUE_FULL = 29,
+    SOVZEDAL_PRIVILEGE = 30
 };
 
 enum {
@@ -132,7 +135,8 @@ enum {
     SOVZEDAL_MAX_POSTS = 256,    /* entries of the largest post list */
     SOVZEDAL_FRAMES = 6496,      /* numbers of a lazy run's frame store, exactly */
     SOVZEDAL_BLOCK = 16,         /* bytes of a register block, exactly */
-    SOVZEDAL_LINES = 102         /* numbers of the lines' state, exactly */
+    SOVZEDAL_LINES = 102,        /* numbers of the lines' state, exactly */
+    SOVZEDAL_CHAIN = 32          /* entries that are written of `chain` */
 };
 
 /* The registers of a block, by their addresses. CALLS, VALUE, CALLS_MADE and PLACE are pairs: here stands the highest byte, and the lowest follows.
@@ -181,7 +185,8 @@ static inline const char *sovzedal_cause_text(uint32_t cause)
         "open calls", "calls spent", "no cell", "no place for a post",
         "address",
         "not a function", "argument", "branches",
-        "no such line", "outside the store", "queue full"
+        "no such line", "outside the store", "queue full",
+        "no such privilege"
     };
     return cause < sizeof texts / sizeof texts[0] ? texts[cause] : "unknown";
 }
@@ -199,6 +204,24 @@ uint32_t sovzedal_decode(const uint8_t *sheet, size_t sheet_len,
  * Refusals: 1 to 13 and 24 to 26. */
 uint32_t sovzedal_typecheck(const uint8_t *sheet, size_t sheet_len,
                             uint32_t *answer, size_t answer_len);
+
+/* Why an accepted sheet needs a privilege: a chain of terms from the root, each a child of the one before and with the privilege among its own needs,
+ * down to the cause. That is a check of the privilege, or a call or letrec whose latent set holds it: the set of the type of what is called, or of the
+ * letrec's own type. The chain ends at the first cause on its way. Where several children have the need, it goes on with the first of them in the order
+ * of the term's parts; the yes-branch of a test of the privilege is passed over, since the test takes the privilege out of that branch's needs.
+ *   sheet, sheet_len    the sheet and its length in bytes; only read
+ *   privilege           the privilege, 0 to 31
+ *   chain, chain_len    the list for the chain and its length in entries, at least 32. After SOVZEDAL_OK the first 32 entries are the numbers of
+ *                       the chain's terms, from the root on, and then zeros, and the others are as they were. Zero is a term's number, too, so go
+ *                       by the length that the answer tells
+ *   answer, answer_len  the list for the answer and its length in entries; it tells the chain's length, which is 0 exactly if the privilege is not
+ *                       among the needs that sovzedal_typecheck tells
+ * Other causes may be behind the one that is told: mend that and ask again.
+ * Refusals, in this order: 1 to 13 and 24 to 26, as of sovzedal_typecheck; 30, of a privilege above 31, with the place 0. `chain` is as it was. */
+uint32_t sovzedal_explain(const uint8_t *sheet, size_t sheet_len,
+                          uint32_t privilege,
+                          uint16_t *chain, size_t chain_len,
+                          uint32_t *answer, size_t answer_len);
 
 /* Runs a readable sheet, accepted or not, holding the set of granted privileges.
  *   sheet, sheet_len    the sheet and its length in bytes; only read

@@ -2,20 +2,13 @@
  *
  *     run FILE
  *
- * A .hex file has two hexadecimal digits a byte. Blanks are skipped, and so is
- * everything from a # to the end of its line.
- *
  * The exit status is 0 if the sheet was accepted and its run ended, 1 if it was
  * refused or stopped, and 2 if the file could not be read.
  */
-#include <ctype.h>
 #include <inttypes.h>
 #include <stdio.h>
 
-#include "sovzedal.h"
-
-/* One byte more than the longest readable sheet: the library refuses it. */
-static uint8_t sheet[SOVZEDAL_MAX_SHEET + 1];
+#include "hex.h"
 
 /* The largest buffers that a run takes. */
 static uint8_t cells[SOVZEDAL_MAX_CELLS];
@@ -24,41 +17,6 @@ static uint16_t posts[SOVZEDAL_MAX_POSTS];
 static uint32_t answer[SOVZEDAL_ANSWER];
 
 static const char *const types[] = { "boolean", "number" };
-
-static unsigned digit(int c)
-{
-    return (unsigned)(isdigit(c) ? c - '0' : toupper(c) - 'A' + 10);
-}
-
-static void skip_line(FILE *file)
-{
-    int c;
-
-    do {
-        c = getc(file);
-    } while (c != EOF && c != '\n');
-}
-
-/* Fills `sheet`, as far as it goes, from a .hex file. Returns the number of
- * bytes, or -1 if the file is no .hex file. */
-static long read_sheet(FILE *file)
-{
-    size_t digits = 0;
-    int c;
-
-    while (digits < 2 * sizeof sheet && (c = getc(file)) != EOF) {
-        if (c == '#') {
-            skip_line(file);
-        } else if (isxdigit(c)) {
-            uint8_t *byte = &sheet[digits / 2];
-            *byte = (uint8_t)(*byte * 16u + digit(c));
-            digits++;
-        } else if (!isspace(c)) {
-            return -1;
-        }
-    }
-    return ferror(file) || digits % 2 != 0 ? -1 : (long)(digits / 2);
-}
 
 static void print_cause(const char *what)
 {
@@ -118,22 +76,14 @@ static int run(size_t sheet_len)
 
 int main(int argc, char **argv)
 {
-    FILE *file;
     long sheet_len;
 
     if (argc != 2) {
         fprintf(stderr, "usage: run FILE\n");
         return 2;
     }
-    file = fopen(argv[1], "r");
-    if (file == NULL) {
-        perror(argv[1]);
-        return 2;
-    }
-    sheet_len = read_sheet(file);
-    fclose(file);
+    sheet_len = load_sheet(argv[1]);
     if (sheet_len < 0) {
-        fprintf(stderr, "%s: not two hexadecimal digits a byte\n", argv[1]);
         return 2;
     }
     return judge((size_t)sheet_len) && run((size_t)sheet_len) ? 0 : 1;

@@ -6,6 +6,7 @@ ghost use Rattle.interp.specs.Answers.{requestOf, buffersOf};
 ghost use Rattle.replies.specs.Replies.{decodeReply, typecheckReply, replied, called, enforces, left, leftAll};
 ghost use Rattle.lines.specs.Answers.{jobOf};
 ghost use Rattle.capi_lines.specs.Entries.{linesAdd, leftAdd, linesServe, leftServe};
+ghost use Rattle.capi_explain.specs.Entries.{explainCall, leftExplain};
 ghost use Rattle.capi.specs.Blocks.{blockRead, leftBlock, blockWrite};
 
 mod block;
@@ -174,4 +175,18 @@ pub extern "C" fn sovzedal_lines_serve(
         ≡ linesServe (now (lines .entry)) (now (store .entry)) (buffersOf (now (cells .entry)) (now (posts .entry)) []) (now (answer .entry)) ⌝ }
 {
     capi_lines::serve(lines, store, cells, posts, answer)
+}
+
+// Why a sheet needs a privilege: the chain of terms, in a list of at least 32 places.
+#[no_mangle]
+pub extern "C" fn sovzedal_explain(
+    sheet: &[u8],
+    privilege: u32,
+    chain: &mut [u16],
+    answer: &mut [u32],
+) -> u32
+    ensures { λ r. ⌜ leftExplain r (now (answer .exit)) (now (chain .exit))
+        ≡ explainCall (now (sheet .entry)) privilege (now (chain .entry)) (now (answer .entry)) ⌝ }
+{
+    capi_explain::explain(sheet, privilege, chain, answer)
 }

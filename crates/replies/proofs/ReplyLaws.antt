@@ -11,9 +11,6 @@ use Rattle.numbers.specs.declared.Code.{Code}
 use Rattle.replies.specs.Replies.{Reply, refusal, finished}
 use Rattle.replies.specs.Internal.{withCounts}
 
-pub refused-as : {r : Reply} {x : Code} (cause place : ℕ) → r ≡ refusal (x .cause) (x .place) → CodeIs cause place x → r ≡ refusal cause place
-refused-as cause place h e = h ∙ (λ i. refusal (e .cause-is i) (e .place-is i))
-
 -- ---- a stop
 pub stopped-as : (m : Made) {r : Reply} {x : Code} (cause term : ℕ) → r ≡ withCounts 1 (x .cause) (x .place) 0 0 m → CodeIs cause term x → r
     ≡ finished (stopped cause term) (countsModel m)

@@ -16,16 +16,22 @@ use Rattle.program.specs.declared.answer.Decoded.the-variants.{Readable, Refuse
 use Rattle.semantics.specs.Runs.{Request, Buffers, After, run}
 use Rattle.semantics.specs.Theorems.{counts-few}
 use Rattle.interp.specs.Answers.{runModel, outcomeModel, countsModel}
+use Rattle.numbers.specs.Codes.{CodeIs}
+use Rattle.numbers.specs.declared.Code.{Code}
 use Rattle.interp.specs.declared.answer.Run.{Run}
 use Rattle.interp.specs.declared.answer.Run.the-variants.{Refused, Ran}
 use Rattle.replies.specs.Replies as replies
-use Rattle.replies.specs.Replies.{screened, decodeReply, unfit, runReply, written, notDone, replied, Called, called, left, leftAll}
+use Rattle.replies.specs.Replies.{refusal, screened, decodeReply, unfit, runReply, written, notDone, replied, Called, called, left, leftAll}
 use Rattle.replies.specs.Internal.{replyOf, ofDecoded, Small}
 use Rattle.replies.specs.declared.Reply.{Reply}
 
 -- a promise about the case that a match found
 pub by : {A : Type 0} (f : A → replies.Reply) {x y : A} {r : replies.Reply} → x ≡ y → r ≡ f y → r ≡ f x
 by f e h = h ∙ sym (ap f e)
+
+-- a refusal, by the code that tells it
+pub refused-as : {r : replies.Reply} {x : Code} (cause place : ℕ) → r ≡ refusal (x .cause) (x .place) → CodeIs cause place x → r ≡ refusal cause place
+refused-as cause place h e = h ∙ (λ i. refusal (e .cause-is i) (e .place-is i))
 
 -- ---- writing the eight numbers
 pub take-whole : (xs : List ℕ) (n : ℕ) → length xs ≡ n → take n xs ≡ xs

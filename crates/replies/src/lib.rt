@@ -21,7 +21,8 @@ pub struct Reply {
     pub numbers: [u32; 8],
 }
 
-fn refused(x: Code) -> Reply
+// A refusal, by its number and place.
+pub fn refused(x: Code) -> Reply
     ensures { λ r. ⌜ replyOf r ≡ refusal (x .cause) (x .place) ⌝ }
 {
     Reply {

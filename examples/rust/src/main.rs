@@ -16,7 +16,7 @@ use std::process::ExitCode;
 use std::{env, fs};
 
 /// The headings of docs/REFUSALS.md, by their numbers.
-const CAUSES: [&str; 30] = [
+const CAUSES: [&str; 31] = [
     "none",
     "cut short",
     "wrong tag",
@@ -47,6 +47,7 @@ const CAUSES: [&str; 30] = [
     "no such line",
     "outside the store",
     "queue full",
+    "no such privilege",
 ];
 
 fn main() -> ExitCode {

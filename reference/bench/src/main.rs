@@ -1,6 +1,7 @@
 //! Times the library against the reference: the same sheets, in one process,
 //! by turns, the best of several rounds.
 
+mod explaining;
 mod floor;
 mod timing;
 mod workload;
@@ -26,6 +27,7 @@ fn main() {
     for workload in workload::all() {
         print_workload(&mut bench, &workload);
     }
+    explaining::print();
     floor::print();
 }
 

@@ -8,6 +8,9 @@ pub const ANSWER_NUMBERS: usize = 8;
 /// How many it has where a job of the four lines is served: the line, too.
 pub const SERVE_NUMBERS: usize = 9;
 
+/// How many terms of a chain are written.
+pub const CHAIN_NUMBERS: usize = 32;
+
 /// What a run is asked, beside its sheet and buffers.
 #[derive(Clone, Copy, Debug)]
 pub struct RunArguments<'a> {
@@ -19,9 +22,10 @@ pub struct RunArguments<'a> {
 }
 
 /// Each function returns 0 (readable, accepted, ended, a register read or
-/// written, or a job added), 1 (stopped), 2 (refused), 3 (`answer` is shorter
-/// than [`ANSWER_NUMBERS`] or [`SERVE_NUMBERS`], `block` isn't of 16 bytes or
-/// `lines` not of 102 numbers) or 4 (no line has a job).
+/// written, a job added, or a need explained), 1 (stopped), 2 (refused), 3
+/// (`answer` is shorter than [`ANSWER_NUMBERS`] or [`SERVE_NUMBERS`], `block`
+/// isn't of 16 bytes, `lines` not of 102 numbers or `chain` is shorter than
+/// [`CHAIN_NUMBERS`]) or 4 (no line has a job).
 pub trait Implementation {
     const NAME: &'static str;
 
@@ -67,4 +71,6 @@ pub trait Implementation {
         posts: &mut [u16],
         answer: &mut [u32],
     ) -> u32;
+
+    fn explain(sheet: &[u8], privilege: u32, chain: &mut [u16], answer: &mut [u32]) -> u32;
 }

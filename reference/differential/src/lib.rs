@@ -3,15 +3,21 @@
 
 mod asked;
 mod board;
+mod happened;
 mod implementation;
 mod library;
 mod reference;
 pub mod settings;
 mod unit;
+mod why;
 
 pub use asked::{Asked, Buffers, Entry, Lent};
 pub use board::Board;
-pub use implementation::{Implementation, RunArguments, ANSWER_NUMBERS, SERVE_NUMBERS};
+pub use happened::Happened;
+pub use implementation::{
+    Implementation, RunArguments, ANSWER_NUMBERS, CHAIN_NUMBERS, SERVE_NUMBERS,
+};
 pub use library::Library;
 pub use reference::Reference;
 pub use unit::Unit;
+pub use why::Why;

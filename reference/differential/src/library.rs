@@ -102,6 +102,16 @@ mod c {
             answer: *mut u32,
             answer_len: usize,
         ) -> u32;
+
+        pub fn sovzedal_explain(
+            sheet: *const u8,
+            sheet_len: usize,
+            privilege: u32,
+            chain: *mut u16,
+            chain_len: usize,
+            answer: *mut u32,
+            answer_len: usize,
+        ) -> u32;
     }
 }
 
@@ -262,6 +272,20 @@ impl Implementation for Library {
                 cells.len(),
                 posts.as_mut_ptr(),
                 posts.len(),
+                answer.as_mut_ptr(),
+                answer.len(),
+            )
+        }
+    }
+
+    fn explain(sheet: &[u8], privilege: u32, chain: &mut [u16], answer: &mut [u32]) -> u32 {
+        unsafe {
+            c::sovzedal_explain(
+                sheet.as_ptr(),
+                sheet.len(),
+                privilege,
+                chain.as_mut_ptr(),
+                chain.len(),
                 answer.as_mut_ptr(),
                 answer.len(),
             )

@@ -4,10 +4,11 @@ use crate::implementation::{Implementation, RunArguments, ANSWER_NUMBERS, SERVE_
 use sheets::lines::Job;
 use sovzedal_reference::lines::{self, Lines, Served, State};
 use sovzedal_reference::registers::{Block, Loaded, BLOCK_BYTES};
-use sovzedal_reference::{decode, run_eager, run_lazy, typecheck, Checks, Reply, Request};
+use sovzedal_reference::{decode, explain, run_eager, run_lazy, typecheck};
+use sovzedal_reference::{Checks, Reply, Request, CHAIN_TERMS};
 
-/// What is returned where the answer has no room, or the block or the lines
-/// aren't ones.
+/// What is returned where the answer or a chain has no room, or the block or
+/// the lines aren't ones.
 const UNFIT: u32 = 3;
 
 /// What is returned where no line has a job.
@@ -125,6 +126,19 @@ impl Implementation for Reference {
         *state = State::from(&lines);
         room[ANSWER_NUMBERS] = line as u32;
         reply_with(room, || answer)
+    }
+
+    fn explain(sheet: &[u8], privilege: u32, chain: &mut [u16], answer: &mut [u32]) -> u32 {
+        let Some(room) = chain.first_chunk_mut::<CHAIN_TERMS>() else {
+            return UNFIT;
+        };
+        reply_with(answer, || {
+            let explanation = explain(sheet, privilege)?;
+            let terms = explanation.terms();
+            *room = [0; CHAIN_TERMS];
+            room[..terms.len()].copy_from_slice(terms);
+            Ok(Reply::from(&explanation))
+        })
     }
 }
 

@@ -1,12 +1,18 @@
-//! The library's judge on the costliest sheet known: the same answer as the
-//! reference's, and within a bound that leaves room for a busy machine.
+//! The library on the costliest sheets known: the same answers as the
+//! reference's, and within bounds that leave room for a busy machine.
 
-use differential::{Implementation, Library, Reference, ANSWER_NUMBERS};
-use sheets::extremes::costly_branches;
+use differential::{Implementation, Library, Reference, Why, ANSWER_NUMBERS};
+use sheets::extremes::{costly_branches, costly_need, deep_calls, deep_need, NEEDED};
+use sheets::rng::Rng;
 use std::time::{Duration, Instant};
 
 const MOST: Duration = Duration::from_millis(100);
 const ROUNDS: usize = 5;
+
+/// How much longer an explanation may take than a judgement of the sheet: once
+/// for each of 32 levels, and once more for a call on the way, of which the
+/// function part is judged to see its type.
+const MOST_JUDGEMENTS: u32 = 2 * 32;
 
 #[test]
 fn branches_of_deep_types_are_judged_soon() {
@@ -14,17 +20,52 @@ fn branches_of_deep_types_are_judged_soon() {
     let (library, reference) = (judge::<Library>(&sheet), judge::<Reference>(&sheet));
     assert_eq!(library, reference);
     assert_eq!(library.0, 0, "the sheet is accepted");
-    let fastest = (0..ROUNDS).map(|_| {
-        let begun = Instant::now();
+    let fastest = fastest(|| {
         judge::<Library>(&sheet);
-        begun.elapsed()
     });
-    let fastest = fastest.min().expect("a round");
     println!("costly branches judged in {fastest:?}");
     assert!(fastest <= MOST, "{fastest:?}, {MOST:?} are allowed");
+}
+
+#[test]
+fn deep_needs_are_explained_in_terms_times_nesting() {
+    let sheets = [
+        ("deep need", deep_need()),
+        ("deep calls", deep_calls()),
+        ("costly need", costly_need()),
+    ];
+    for (name, sheet) in sheets {
+        let library = explain::<Library>(&sheet);
+        assert_eq!(library, explain::<Reference>(&sheet), "{name}");
+        assert_eq!(library.0, 0, "{name} is accepted");
+        let judged = fastest(|| {
+            judge::<Library>(&sheet);
+        });
+        let explained = fastest(|| {
+            explain::<Library>(&sheet);
+        });
+        let times = explained.as_secs_f64() / judged.as_secs_f64();
+        println!("{name}: judged in {judged:?}, explained in {explained:?}, {times:.1} times that");
+        assert!(explained <= judged * MOST_JUDGEMENTS, "{name}");
+    }
 }
 
 fn judge<I: Implementation>(sheet: &[u8]) -> (u32, [u32; ANSWER_NUMBERS]) {
     let mut answer = [0; ANSWER_NUMBERS];
     (I::typecheck(sheet, &mut answer), answer)
+}
+
+fn explain<I: Implementation>(sheet: &[u8]) -> (u32, Why) {
+    let mut why = Why::fitting(&mut Rng::new(0));
+    (why.ask::<I>(sheet, NEEDED.into()), why)
+}
+
+/// The shortest time of several.
+fn fastest(work: impl Fn()) -> Duration {
+    let rounds = (0..ROUNDS).map(|_| {
+        let begun = Instant::now();
+        work();
+        begun.elapsed()
+    });
+    rounds.min().expect("a round")
 }

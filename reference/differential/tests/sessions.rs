@@ -2,13 +2,11 @@
 //! reference: each access returns the same, and every number in and around
 //! the block and every buffer is the same.
 
-use differential::{settings, Board, Lent, Library, Reference, ANSWER_NUMBERS};
+use differential::{settings, Board, Happened, Lent, Library, Reference, ANSWER_NUMBERS};
 use sheets::hex;
 use sheets::request::{MAX_CELL_BYTES, MAX_POSTS};
 use sheets::rng::Rng;
 use sheets::session::{random_accesses, random_block, random_sheet, Access, BLOCK_BYTES};
-use std::collections::BTreeMap;
-use std::fmt;
 use std::mem;
 use std::process::ExitCode;
 use std::time::Instant;
@@ -34,7 +32,7 @@ fn main() -> ExitCode {
             }
         }
     }
-    println!("{counts}");
+    println!("{}", counts.0);
     let seconds = begun.elapsed().as_secs_f64();
     println!("{sessions} sessions in {seconds:.1} s");
     let never = counts.never();
@@ -53,7 +51,7 @@ fn compare(seed: u64, index: u64, counts: &mut Counts) -> Result<(), String> {
     let mut boards = Boards::alike(Board::random(rng, &block));
     let mut sheet = random_sheet(rng);
     if block != [0; BLOCK_BYTES] {
-        counts.count("a block that no entry made");
+        counts.0.count("a block that no entry made");
     }
     for access in random_accesses(rng) {
         if rng.percent(10) {
@@ -189,9 +187,8 @@ impl Boards {
     }
 }
 
-/// How often what has happened.
 #[derive(Default)]
-struct Counts(BTreeMap<String, usize>);
+struct Counts(Happened);
 
 /// What has to happen, beside an end and each cause that a run can have.
 const EXPECTED: [&str; 16] = [
@@ -214,10 +211,6 @@ const EXPECTED: [&str; 16] = [
 ];
 
 impl Counts {
-    fn count(&mut self, what: impl Into<String>) {
-        *self.0.entry(what.into()).or_default() += 1;
-    }
-
     /// Counts an access by what it leaves on the board.
     fn count_access(
         &mut self,
@@ -228,34 +221,34 @@ impl Counts {
         board: &Board,
     ) {
         let answer = match board.answer.contents().first_chunk::<ANSWER_NUMBERS>() {
-            None => return self.count("a short answer"),
-            Some(_) if other == Other::Block => return self.count("a block of another length"),
+            None => return self.0.count("a short answer"),
+            Some(_) if other == Other::Block => return self.0.count("a block of another length"),
             Some(answer) => answer,
         };
         let was_raised = before[1] & before[3] != 0;
         match (was_raised, answer[2] != 0) {
-            (false, true) => self.count("the interrupt comes"),
-            (true, false) => self.count("the interrupt falls"),
+            (false, true) => self.0.count("the interrupt comes"),
+            (true, false) => self.0.count("the interrupt falls"),
             _ => {}
         }
         if answer[2] != 0 {
-            self.count("the interrupt is raised");
+            self.0.count("the interrupt is raised");
         }
         match (returned, access) {
-            (REFUSED, Access::Read { .. }) => self.count("23 at a read"),
-            (REFUSED, Access::Write { .. }) => self.count("23 at a write"),
-            (DONE, Access::Read { .. }) => self.count("a read"),
+            (REFUSED, Access::Read { .. }) => self.0.count("23 at a read"),
+            (REFUSED, Access::Write { .. }) => self.0.count("23 at a write"),
+            (DONE, Access::Read { .. }) => self.0.count("a read"),
             (DONE, Access::RUN) => self.count_run(other, before, board.block.contents()),
-            (DONE, Access::Write { address: 0, .. }) => self.count("another command than 1"),
-            (DONE, Access::Write { .. }) => self.count("a write that runs nothing"),
-            _ => self.count(format!("{returned} returned")),
+            (DONE, Access::Write { address: 0, .. }) => self.0.count("another command than 1"),
+            (DONE, Access::Write { .. }) => self.0.count("a write that runs nothing"),
+            _ => self.0.count(format!("{returned} returned")),
         }
     }
 
     fn count_run(&mut self, other: Other, before: &[u8], block: &[u8]) {
         const OUTCOMES: u8 = 0b111;
-        self.count("a run");
-        self.count(match (block[1] & OUTCOMES, block[2]) {
+        self.0.count("a run");
+        self.0.count(match (block[1] & OUTCOMES, block[2]) {
             (0b001, 0) => "ended".to_string(),
             (0b010, cause) => format!("stopped by {cause:2}"),
             (0b100, 15) => format!("refused by 15, by {other:?}"),
@@ -263,7 +256,7 @@ impl Counts {
             told => format!("told {told:?}"),
         });
         if before[1] & !OUTCOMES != 0 {
-            self.count("a run where status has other bits");
+            self.0.count("a run where status has other bits");
         }
         let pairs = [
             (6, "a run ended, value in both bytes"),
@@ -272,7 +265,7 @@ impl Counts {
         ];
         for (at, what) in pairs {
             if block[at] != 0 && block[at + 1] != 0 {
-                self.count(what);
+                self.0.count(what);
             }
         }
     }
@@ -283,21 +276,11 @@ impl Counts {
         let buffers = [Other::Cells, Other::Posts].map(|n| format!("refused by 15, by {n:?}"));
         let stops = (17..=22).map(|n| format!("stopped by {n:2}"));
         let expected = EXPECTED.map(String::from).into_iter();
-        expected
+        let expected = expected
             .chain(["ended".to_string()])
             .chain(refusals)
             .chain(buffers)
-            .chain(stops)
-            .filter(|what| !self.0.contains_key(what))
-            .collect()
-    }
-}
-
-impl fmt::Display for Counts {
-    fn fmt(&self, f: &mut fmt::Formatter) -> fmt::Result {
-        for (what, times) in &self.0 {
-            writeln!(f, "{times:9}  {what}")?;
-        }
-        Ok(())
+            .chain(stops);
+        self.0.never(expected)
     }
 }

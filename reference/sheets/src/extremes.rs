@@ -1,7 +1,7 @@
 //! Sheets at the limits of what can be read and run.
 
-use crate::cases::{with_functions, FIRST_FUNCTION};
-use crate::records::{Records, TypeRecord, NUMBER};
+use crate::cases::{plain, with_functions, FIRST_FUNCTION};
+use crate::records::{Records, TypeRecord, BOOL, NUMBER};
 use crate::tree::*;
 
 const MAX_NESTING: usize = 32;
@@ -13,6 +13,13 @@ const MAX_TYPE_DEPTH: u16 = 12;
 /// The privilege that the deepest sheet checks, and the set of it alone.
 const PRIVILEGE: u8 = 1;
 const ONE: u32 = 1 << PRIVILEGE;
+
+/// The privilege that the sheets with a need have.
+pub const NEEDED: u8 = 2;
+
+/// How many terms a chain from the root to a cause has at most. Every cause
+/// has a child, so that it isn't nested as deep as a term may be.
+pub const MAX_CHAIN: usize = MAX_NESTING - 1;
 
 /// Nested 32 deep with 100 open calls. Each call goes through as many signs
 /// as nesting allows and a check, so a lazy run walks ever more frames.
@@ -136,6 +143,20 @@ fn fitting_pairs(types: &[TypeRecord]) -> Vec<(u16, u16)> {
 /// A floor has three types, each of which fits the next. With two, the parts
 /// of a pair would be the same pair; with three, those of the upper two aren't.
 pub fn costly_branches() -> Vec<u8> {
+    costly(0, |tests| tests)
+}
+
+/// The same below a check of a privilege that the sheet needs, and that below
+/// as many signs as leave the most to compare over and over to a judge who
+/// goes down to the check from the root and at each step judges all that is
+/// below.
+pub fn costly_need() -> Vec<u8> {
+    const SIGNS: usize = 10;
+    costly(SIGNS, |tests| check(NEEDED, tests))
+}
+
+/// Tests below so many signs, which `inner` may put something around.
+fn costly(signs: usize, inner: fn(Tree) -> Tree) -> Vec<u8> {
     let mut types = vec![TypeRecord::bool(), TypeRecord::number()];
     types.extend([0, ONE, ONE | 1].map(|latent| TypeRecord::function(NUMBER, NUMBER, latent)));
     for _ in 1..MAX_TYPE_DEPTH {
@@ -152,24 +173,93 @@ pub fn costly_branches() -> Vec<u8> {
     types.push(TypeRecord::function(called.result, NUMBER, 0));
 
     let around = |tests| {
-        let given = call(tests, variable(0));
+        let given = call(inner(tests), variable(0));
         let taken = call(function(taker, sign(0, number(0))), given);
         // f(x) = f x has any function type.
         let endless = || sign(0, call(variable(1), variable(0)));
         let bound = [called.argument, wide, middle, narrow]
             .into_iter()
             .fold(taken, |rest, ty| letrec(ty, endless(), rest));
-        sign(0, bound)
+        signed(1 + signs, bound)
     };
-    // Above the tests stand the root, four binders and two calls.
-    let levels = MAX_NESTING - 7;
+    // Above the tests stand signs, four binders, two calls and what `inner` puts.
+    let levels = MAX_NESTING - (1 + signs + 6 + inner(number(0)).height() - 1);
     let count = (MAX_TERMS - around(number(0)).size()) / 2;
     Records {
-        principals: vec![0],
+        principals: vec![1 << NEEDED],
         types,
         terms: around(tests_of_three(count, levels)).assemble(),
     }
     .to_bytes()
+}
+
+/// As many terms as a sheet can have, and a need for one of the deepest. Its
+/// chain goes down through signs to ifs that have nearly all of the terms
+/// below them, and there to the last child each time. So no sheet has more to
+/// judge if at each step all that is below is judged, once.
+pub fn deep_need() -> Vec<u8> {
+    plain(&[1 << NEEDED], signed(ABOVE_IFS, needing_ifs(ABOVE_IFS)))
+}
+
+/// The same below calls, of which the function part has all that is below. Who
+/// judges that part a second time, to see whether the call is the cause, has
+/// more to do.
+pub fn deep_calls() -> Vec<u8> {
+    // A call takes one level, and one of a chosen function two.
+    const LONG: usize = MAX_TYPE_DEPTH as usize + 1;
+    const PAIRS: usize = 4;
+    const SIGNS: usize = ABOVE_IFS - 2 - LONG - 2 * PAIRS;
+    let (short, long) = (FIRST_FUNCTION, FIRST_FUNCTION + MAX_TYPE_DEPTH - 1);
+    let mut types = vec![TypeRecord::function(NUMBER, BOOL, 0)];
+    types.extend((short..long).map(|ty| TypeRecord::function(NUMBER, ty, 0)));
+    // f(x) = f x has any function type.
+    let bound = |ty, rest| letrec(ty, sign(0, call(variable(1), variable(0))), rest);
+    let chosen = |condition, index| when(condition, variable(index), variable(index));
+    let around = |ifs| {
+        let on_all =
+            (0..MAX_TYPE_DEPTH).fold(chosen(ifs, 0), |function, _| call(function, number(0)));
+        let pairs = (0..PAIRS).fold(on_all, |inner, _| call(chosen(inner, 1), number(0)));
+        signed(SIGNS, bound(short, bound(long, pairs)))
+    };
+    let others = around(boolean(true)).size() - 1;
+    with_functions(&[1 << NEEDED], &types, around(needing_ifs(others)))
+}
+
+/// How many levels ifs leave above them that take all the terms there are.
+const ABOVE_IFS: usize = MAX_NESTING - IFS - 2;
+const IFS: usize = 5;
+
+/// Ifs in the last branch of which are others, and in the end a check. As far
+/// as nesting and the terms allow that other ones take, the other branches are
+/// full.
+fn needing_ifs(others: usize) -> Tree {
+    let needed = check(NEEDED, boolean(true));
+    (0..IFS).fold(needed, |last, below| {
+        let full = (3_usize.pow(below as u32 + 2) - 1) / 2;
+        let room = MAX_TERMS - others - last.size() - 1;
+        let first = full.min(room / 2);
+        let second = full.min(room - first);
+        when(of_booleans(first), of_booleans(second), last)
+    })
+}
+
+/// A low tree of so many terms.
+fn of_booleans(terms: usize) -> Tree {
+    match terms {
+        0 | 1 => boolean(true),
+        2 => enable(PRIVILEGE, boolean(true)),
+        3 => test(PRIVILEGE, boolean(true), boolean(false)),
+        _ => when(
+            of_booleans((terms - 1) / 3),
+            of_booleans(terms / 3),
+            of_booleans((terms + 1) / 3),
+        ),
+    }
+}
+
+/// The tree below so many signs.
+fn signed(signs: usize, tree: Tree) -> Tree {
+    (0..signs).fold(tree, |inner, _| sign(0, inner))
 }
 
 fn last_three(types: &[TypeRecord]) -> [u16; 3] {

@@ -122,7 +122,8 @@ fn random_size(rng: &mut Rng) -> usize {
     }
 }
 
-fn assemble(rng: &mut Rng, world: &World, tree: &Tree) -> Records {
+/// The records of a tree, half of the time with its terms in a random order.
+pub(crate) fn assemble(rng: &mut Rng, world: &World, tree: &Tree) -> Records {
     let terms = if rng.percent(50) {
         tree.assemble()
     } else {

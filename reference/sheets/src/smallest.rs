@@ -1,4 +1,4 @@
-//! For each cause the smallest sheet known to reach it. 23 and 27 to 29 are told
+//! For each cause the smallest sheet known to reach it. 23 and 27 to 30 are told
 //! of no sheet.
 
 use crate::cases::{computing, endless, nested, plain, with_functions, FIRST_FUNCTION};

@@ -103,6 +103,30 @@ impl Tree {
         panic!("a tree has no term past its size");
     }
 
+    /// The way down to the term that [`Tree::assemble`] gives this number, by
+    /// which child it goes on with: a term comes after all that is below it.
+    pub fn way_to(&self, number: usize) -> Vec<usize> {
+        let mut below = 0;
+        for (place, child) in self.children.iter().enumerate() {
+            let size = child.size();
+            if number < below + size {
+                let mut way = child.way_to(number - below);
+                way.insert(0, place);
+                return way;
+            }
+            below += size;
+        }
+        Vec::new()
+    }
+
+    /// The term at the end of a way down.
+    pub fn at_mut(&mut self, way: &[usize]) -> &mut Tree {
+        match way {
+            [] => self,
+            [place, rest @ ..] => self.children[*place].at_mut(rest),
+        }
+    }
+
     /// The record, its children not yet filled in.
     fn record(&self) -> TermRecord {
         TermRecord {
@@ -238,6 +262,16 @@ mod tests {
                 );
             }
         }
+    }
+
+    #[test]
+    fn ways_lead_to_the_records_numbers() {
+        let mut tree = sign(0, sum(sum(number(1), number(2)), post(number(3))));
+        for (number, record) in tree.assemble().iter().enumerate() {
+            let way = tree.way_to(number);
+            assert_eq!(tree.at_mut(&way).record().kind, record.kind);
+        }
+        assert_eq!(tree.way_to(1), [0, 0, 1]);
     }
 
     #[test]

@@ -1,5 +1,6 @@
 //! Results in the numbers of the C interface.
 
+use crate::explain::Explanation;
 use crate::judge::Verdict;
 use crate::refusal::Refusal;
 use crate::registers::Block;
@@ -58,6 +59,18 @@ impl From<Verdict> for Reply {
         answer[2] = u32::from(verdict.ty);
         answer[3] = verdict.terms as u32;
         answer[7] = verdict.needs.bits();
+        Reply {
+            status: DONE,
+            answer,
+        }
+    }
+}
+
+/// The terms themselves stand in a list of their own.
+impl From<&Explanation> for Reply {
+    fn from(explanation: &Explanation) -> Self {
+        let mut answer = [0; 8];
+        answer[3] = explanation.terms().len() as u32;
         Reply {
             status: DONE,
             answer,

@@ -36,30 +36,59 @@ pub fn typecheck(bytes: &[u8]) -> Result<Verdict, Refusal> {
 
 /// Reads a sheet and judges it by the rules of some time.
 pub fn typecheck_by(rules: Rules, bytes: &[u8]) -> Result<Verdict, Refusal> {
-    let sheet = decode(bytes)?;
-    let mut judge = Judge {
-        rules,
-        sheet: &sheet,
-        bindings: Vec::new(),
-    };
-    let root = sheet.root();
-    // The root is a sign, so the signer given here is never asked.
-    let Judgement { ty, needs } = judge.judge(root, Set::EMPTY)?;
-    if ty != Type::BOOL && ty != Type::NUMBER {
-        return Err(Cause::RootType.at(root));
-    }
+    let accepted = accepted_by(rules, bytes)?;
+    let Judgement { ty, needs } = accepted.judgement(accepted.sheet.root());
     Ok(Verdict {
-        terms: sheet.terms.len(),
+        terms: accepted.sheet.terms.len(),
         ty,
         needs,
     })
 }
 
 /// A term's type and needs.
-#[derive(Clone, Copy)]
-struct Judgement {
-    ty: TypeId,
-    needs: Set,
+#[derive(Clone, Copy, Debug, PartialEq, Eq)]
+pub struct Judgement {
+    pub ty: TypeId,
+    pub needs: Set,
+}
+
+/// A sheet that the rules accept, and what they say of each of its terms.
+#[derive(Clone, Debug)]
+pub struct Accepted {
+    pub sheet: Sheet,
+    /// None is missing: all terms are below the root.
+    judgements: Vec<Option<Judgement>>,
+}
+
+impl Accepted {
+    /// Reads a sheet and judges it by the rules.
+    pub fn new(bytes: &[u8]) -> Result<Self, Refusal> {
+        accepted_by(Rules::Today, bytes)
+    }
+
+    /// The term's type and needs in its bindings and under its principal. A
+    /// term stands in one place only, so there is one of each.
+    pub fn judgement(&self, id: TermId) -> Judgement {
+        self.judgements[usize::from(id)].expect("every term was judged")
+    }
+}
+
+fn accepted_by(rules: Rules, bytes: &[u8]) -> Result<Accepted, Refusal> {
+    let sheet = decode(bytes)?;
+    let mut judge = Judge {
+        rules,
+        sheet: &sheet,
+        bindings: Vec::new(),
+        judgements: vec![None; sheet.terms.len()],
+    };
+    let root = sheet.root();
+    // The root is a sign, so the signer given here is never asked.
+    let Judgement { ty, .. } = judge.judge(root, Set::EMPTY)?;
+    if ty != Type::BOOL && ty != Type::NUMBER {
+        return Err(Cause::RootType.at(root));
+    }
+    let judgements = judge.judgements;
+    Ok(Accepted { sheet, judgements })
 }
 
 impl Judgement {
@@ -76,12 +105,20 @@ struct Judge<'a> {
     sheet: &'a Sheet,
     /// The types of the variables in scope, the nearest last.
     bindings: Vec<TypeId>,
+    /// Those of the terms judged so far.
+    judgements: Vec<Option<Judgement>>,
 }
 
 impl Judge<'_> {
     /// Judges the children in order and then the term itself. `signer` is
     /// what the signing principal may use.
     fn judge(&mut self, id: TermId, signer: Set) -> Result<Judgement, Refusal> {
+        let judgement = self.judge_kind(id, signer)?;
+        self.judgements[usize::from(id)] = Some(judgement);
+        Ok(judgement)
+    }
+
+    fn judge_kind(&mut self, id: TermId, signer: Set) -> Result<Judgement, Refusal> {
         match self.sheet.term(id) {
             Term::Bool(_) => Ok(Judgement::needing_nothing(Type::BOOL)),
             Term::Number(_) => Ok(Judgement::needing_nothing(Type::NUMBER)),

@@ -2,13 +2,14 @@
 //!
 //! This crate follows the contract's words and nothing else, so that it can be
 //! compared with the proved library. It reads a sheet into a tree
-//! ([`decode`]), judges it ([`typecheck`]) and interprets it ([`run_eager`],
-//! [`run_lazy`]), and has it run by a block of [`registers`] or in turn with
-//! others that wait on four [`lines`]. Where the words leave a choice,
-//! `READINGS.md` names it.
+//! ([`decode`]), judges it ([`typecheck`]), tells where a need comes from
+//! ([`explain`]) and interprets it ([`run_eager`], [`run_lazy`]), and has it
+//! run by a block of [`registers`] or in turn with others that wait on four
+//! [`lines`]. Where the words leave a choice, `READINGS.md` names it.
 
 mod answer;
 mod decode;
+mod explain;
 mod judge;
 pub mod lines;
 mod refusal;
@@ -20,7 +21,8 @@ mod sheet;
 
 pub use answer::Reply;
 pub use decode::decode;
-pub use judge::{typecheck, typecheck_by, Rules, Verdict};
+pub use explain::{explain, Explanation, CHAIN_TERMS};
+pub use judge::{typecheck, typecheck_by, Accepted, Judgement, Rules, Verdict};
 pub use refusal::{Cause, Refusal};
 pub use report::report;
 pub use run::{

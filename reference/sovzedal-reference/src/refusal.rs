@@ -1,7 +1,8 @@
 //! What can be told instead of a result, by the contract's numbers.
 
 /// Every cause of a refusal (1 to 16, 23 for an address of the register block,
-/// 24 to 26, 27 to 29 for a job of the four lines) or a stop (17 to 22).
+/// 24 to 26, 27 to 29 for a job of the four lines, 30 for a privilege that is
+/// asked about) or a stop (17 to 22).
 #[derive(Clone, Copy, Debug, PartialEq, Eq)]
 #[repr(u32)]
 pub enum Cause {
@@ -35,6 +36,7 @@ pub enum Cause {
     NoLine = 27,
     OutsideStore = 28,
     QueueFull = 29,
+    NoPrivilege = 30,
 }
 
 impl Cause {
@@ -56,7 +58,7 @@ impl Cause {
     }
 }
 
-/// A sheet, a request, an address or a job was turned back.
+/// A sheet, a request, an address, a job or a privilege was turned back.
 #[derive(Clone, Copy, Debug, PartialEq, Eq)]
 pub struct Refusal {
     pub cause: Cause,

@@ -7,9 +7,10 @@
 use sheets::smallest::{all, Smallest};
 use sovzedal_reference::lines::{Job, Lent, Lines, STATE_NUMBERS};
 use sovzedal_reference::registers::{at, status, Block, BLOCK_BYTES, RUN};
-use sovzedal_reference::{report, run_eager, typecheck_by, Cause, Checks, Refusal, Reply, Request};
+use sovzedal_reference::{decode, explain, report, run_eager, typecheck, typecheck_by};
+use sovzedal_reference::{Cause, Checks, Refusal, Reply, Request, Rules, Set, Term};
 use sovzedal_reference::{
-    Rules, FRAME_NUMBERS, MAX_CALLS, MAX_CELL_BYTES, MAX_OPEN_CALLS, MAX_POSTS,
+    CHAIN_TERMS, FRAME_NUMBERS, MAX_CALLS, MAX_CELL_BYTES, MAX_OPEN_CALLS, MAX_POSTS,
 };
 use std::path::{Path, PathBuf};
 use std::{env, fs};
@@ -154,6 +155,35 @@ fn make(lines: &mut Lines, call: &str) -> Result<(), Refusal> {
     }
 }
 
+/// 30 is told of an accepted sheet, which is shown with the call.
+#[test]
+fn the_refusal_of_a_privilege_is_that_of_the_call_shown() {
+    let path = repository().join("docs/REFUSALS.md");
+    if !path.exists() {
+        return;
+    }
+    let shown = read(&path);
+    let section = section(&shown, "30").expect("a section for 30");
+    let sheet = bytes(block(section, "hex").expect("a sheet"));
+    let call = block(section, "c").expect("a call");
+    let begin = format!("sovzedal_explain(sheet, {}, ", sheet.len());
+    let end = format!(", chain, {CHAIN_TERMS}, answer, 8);\n");
+    let privilege = call
+        .strip_prefix(&begin)
+        .and_then(|rest| rest.strip_suffix(&end))
+        .expect("a question about the sheet");
+    let privilege: u32 = privilege.parse().expect("a privilege");
+    let refusal = explain(&sheet, privilege).expect_err("a refusal");
+    assert_eq!(refusal.cause, Cause::NoPrivilege);
+    assert_eq!(block(section, "text"), Some(&*refused(refusal)));
+    // The least there isn't, and the others aren't needed.
+    assert_eq!(privilege, 32);
+    for privilege in 0..32 {
+        let explanation = explain(&sheet, privilege).expect("an accepted sheet");
+        assert!(explanation.terms().is_empty());
+    }
+}
+
 fn refused(Refusal { cause, place }: Refusal) -> String {
     format!("refused {} at {place}\n", cause.number())
 }
@@ -239,6 +269,7 @@ fn the_header_has_the_same_numbers() {
         ("NO_LINE", Cause::NoLine),
         ("OUTSIDE", Cause::OutsideStore),
         ("QUEUE_FULL", Cause::QueueFull),
+        ("PRIVILEGE", Cause::NoPrivilege),
     ];
     for (name, cause) in causes {
         assert_eq!(number(name), u64::from(cause.number()), "{name}");
@@ -251,6 +282,7 @@ fn the_header_has_the_same_numbers() {
         ("FRAMES", FRAME_NUMBERS),
         ("BLOCK", BLOCK_BYTES),
         ("LINES", STATE_NUMBERS),
+        ("CHAIN", CHAIN_TERMS),
         ("REG_COMMAND", at::COMMAND),
         ("REG_STATUS", at::STATUS),
         ("REG_CAUSE", at::CAUSE),
@@ -325,6 +357,41 @@ fn the_lines_have_examples_in_their_store() {
     }
     assert_eq!(store.len(), offset);
     the_gate_asks_for_the_print_of("Four");
+}
+
+/// The frame's need is explained by the chain that the readme has in words and
+/// prints, and it is gone if `mark` has type 2, as the readme says.
+#[test]
+fn the_frame_is_explained_by_its_chain() {
+    let directory = repository().join("examples");
+    if !directory.exists() {
+        return;
+    }
+    let frame = bytes(&read(&directory.join("frame.hex")));
+    let explanation = explain(&frame, 0).expect("an accepted sheet");
+    let chain = explanation.terms();
+    let numbers: Vec<String> = chain.iter().map(u16::to_string).collect();
+    let shown = read(&directory.join("README.md"));
+    let words = section(&shown, "frame.hex").expect("a section");
+    let listed = format!("tells the chain {}.", numbers.join(", "));
+    assert!(words.contains(&listed), "{listed}");
+
+    let print = block(section(&shown, "Why").expect("a section"), "text").expect("a print");
+    let printed = print.lines().skip(2).map(|line| {
+        let (number, _) = line.trim_start().split_once(": ").expect("a term");
+        number.to_string()
+    });
+    assert_eq!(printed.collect::<Vec<String>>(), numbers);
+    the_gate_asks_for_the_print_of("Why");
+
+    const MARK: usize = 22;
+    let sheet = decode(&frame).expect("a readable sheet");
+    assert!(matches!(sheet.terms[MARK], Term::Function { ty: 3, .. }));
+    let mut mended = frame.clone();
+    let record = frame.len() - 8 * (sheet.terms.len() - MARK);
+    mended[record + 3] = 2;
+    let verdict = typecheck(&mended).expect("an accepted sheet");
+    assert_eq!(verdict.needs, Set::EMPTY);
 }
 
 /// The bytes of a table in C, from `begin` on, without their comments.

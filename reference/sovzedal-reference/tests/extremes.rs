@@ -1,9 +1,12 @@
 //! The sheets at the limits are where they should be.
 
-use sheets::extremes::{costly_branches, deepest, endless_through, widest};
+use sheets::extremes::{
+    costly_branches, costly_need, deep_calls, deep_need, deepest, endless_through, widest,
+    MAX_CHAIN, NEEDED,
+};
 use sheets::load::frame_sheet;
 use sheets::tree::Kind;
-use sovzedal_reference::{decode, report, run_eager, typecheck, typecheck_by};
+use sovzedal_reference::{decode, explain, report, run_eager, typecheck, typecheck_by};
 use sovzedal_reference::{Cause, Outcome, Request, Rules, Stop, Term};
 
 #[test]
@@ -36,6 +39,24 @@ fn costly_branches_are_as_many_as_there_is_room_for() {
     assert!(typecheck(&costly_branches()).is_ok());
     let before = typecheck_by(Rules::BeforeW4, &costly_branches());
     assert_eq!(before.unwrap_err().cause, Cause::TypeMismatch);
+}
+
+#[test]
+fn deep_needs_are_as_deep_as_there_is_room_for() {
+    let sheets = [
+        (deep_need(), 1_024, MAX_CHAIN),
+        (deep_calls(), 1_024, MAX_CHAIN),
+        (costly_need(), 1_023, 18),
+    ];
+    for (sheet, terms, length) in sheets {
+        let read = decode(&sheet).unwrap();
+        assert_eq!(read.terms.len(), terms);
+        let explanation = explain(&sheet, NEEDED.into()).unwrap();
+        let chain = explanation.terms();
+        assert_eq!(chain.len(), length);
+        let cause = read.term(chain[length - 1]);
+        assert!(matches!(cause, Term::Check { .. }), "{cause:?}");
+    }
 }
 
 #[test]

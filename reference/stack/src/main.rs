@@ -1,14 +1,14 @@
 //! Prints how much native stack the deepest runs use: 100 open calls, each
 //! made from as deep as nesting allows, through terms of one kind; what such a
 //! run uses with fewer open calls, by a write to a register block, and as a
-//! job of the four lines.
+//! job of the four lines; and what it takes to explain a need.
 
 mod paint;
 
 use differential::{
-    Asked, Board, Buffers, Entry, Implementation, Library, Reference, Unit, ANSWER_NUMBERS,
+    Asked, Board, Buffers, Entry, Implementation, Library, Reference, Unit, Why, ANSWER_NUMBERS,
 };
-use sheets::extremes::{deepest, endless_through};
+use sheets::extremes::{costly_need, deep_calls, deep_need, deepest, endless_through, NEEDED};
 use sheets::lines::{Job, STATE_NUMBERS};
 use sheets::request::{Request, MAX_CALLS, MAX_OPEN_CALLS, MAX_POSTS};
 use sheets::rng::Rng;
@@ -67,6 +67,23 @@ fn main() {
         used_by_job::<Library>(&sheet),
         used_by_job::<Reference>(&sheet)
     );
+    println!("explaining a need");
+    for (name, sheet) in needing() {
+        println!(
+            "{name:12}{:12}{:24}",
+            used_to_explain::<Library>(&sheet),
+            used_to_explain::<Reference>(&sheet)
+        );
+    }
+}
+
+/// Sheets whose need is as deep as can be.
+fn needing() -> [(&'static str, Vec<u8>); 3] {
+    [
+        ("deep", deep_need()),
+        ("calls", deep_calls()),
+        ("costly", costly_need()),
+    ]
 }
 
 fn print_line(name: &str, [a, b, c, d]: [usize; 4]) {
@@ -127,6 +144,13 @@ fn used_by_job<I: Implementation>(sheet: &[u8]) -> usize {
     })
 }
 
+fn used_to_explain<I: Implementation>(sheet: &[u8]) -> usize {
+    let mut why = Why::fitting(&mut Rng::new(0));
+    paint::stack_used(|| {
+        why.ask::<I>(sheet, NEEDED.into());
+    })
+}
+
 #[cfg(test)]
 mod tests {
     use super::*;
@@ -165,6 +189,18 @@ mod tests {
             assert!(used <= most, "{kind:?} by a register block: {used}");
             let used = used_by_job::<Library>(&sheet);
             assert!(used <= most, "{kind:?} as a job of the four lines: {used}");
+        }
+    }
+
+    /// That takes far less than any run.
+    #[test]
+    fn explanations_stay_within_what_a_run_without_calls_may_use() {
+        let base = header("SOVZEDAL_STACK_BASE ");
+        let through = KINDS.map(endless_through);
+        let deep = needing().map(|(_, sheet)| sheet);
+        for sheet in through.iter().chain(&deep) {
+            let used = used_to_explain::<Library>(sheet);
+            assert!(used <= base, "{used}, {base} are allowed");
         }
     }
 }

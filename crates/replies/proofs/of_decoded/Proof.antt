@@ -1,8 +1,7 @@
 -- `of_decoded` gives the reply that `ofDecoded` says, by case: a refusal as the cause and place that `of_reader` tells (refused-as), a readable sheet as
 -- its counts, where both replies are the same by computation.
 use Rattle.replies.specs.Internal.{ofDecoded}
-use Rattle.replies.specs.Laws.{by}
-use Rattle.replies.proofs.ReplyLaws.{refused-as}
+use Rattle.replies.specs.Laws.{by, refused-as}
 use mathlib.Core.Path.{refl}
 use borrow.Author.Needs.{needs}
 use Rattle.replies.proofs.of_decoded.Statement.{statement}

@@ -5,8 +5,7 @@ use Rattle.interp.specs.Answers.{runModel}
 use Rattle.interp.specs.declared.answer.Run.{Run}
 use Rattle.replies.specs.Internal.{Small}
 use Rattle.replies.specs.Replies.{runReply}
-use Rattle.replies.specs.Laws.{by}
-use Rattle.replies.proofs.ReplyLaws.{refused-as}
+use Rattle.replies.specs.Laws.{by, refused-as}
 use borrow.Author.Needs.{needs}
 use Rattle.replies.proofs.of_run.Statement.{statement}
 use Rattle.replies.proofs.of_run.Tie as tie

@@ -4,8 +4,7 @@ use mathlib.Core.Path.{refl}
 use Rattle.typing.specs.Answers.{verdictModel}
 use Rattle.typing.specs.declared.answer.Verdict.{Verdict}
 use Rattle.replies.specs.Replies.{verdictReply}
-use Rattle.replies.specs.Laws.{by}
-use Rattle.replies.proofs.ReplyLaws.{refused-as}
+use Rattle.replies.specs.Laws.{by, refused-as}
 use borrow.Author.Needs.{needs}
 use Rattle.replies.proofs.of_verdict.Statement.{statement}
 use Rattle.replies.proofs.of_verdict.Tie as tie

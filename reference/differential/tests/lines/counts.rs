@@ -1,11 +1,9 @@
 //! What has happened in the sessions, and what has to.
 
 use crate::{Call, Other};
-use differential::ANSWER_NUMBERS;
+use differential::{Happened, ANSWER_NUMBERS};
 use sheets::lines::*;
 use sheets::request::{MAX_CALLS, MAX_POSTS};
-use std::collections::BTreeMap;
-use std::fmt;
 
 const DONE: u32 = 0;
 const STOPPED: u32 = 1;
@@ -53,9 +51,8 @@ impl Told<'_> {
     }
 }
 
-/// How often what has happened.
 #[derive(Default)]
-pub struct Counts(BTreeMap<String, usize>);
+pub struct Counts(pub Happened);
 
 /// What has to happen, beside the refusals by 1 to 8 and the stops.
 const EXPECTED: [&str; 50] = [
@@ -112,16 +109,6 @@ const EXPECTED: [&str; 50] = [
 ];
 
 impl Counts {
-    fn count(&mut self, what: impl Into<String>) {
-        *self.0.entry(what.into()).or_default() += 1;
-    }
-
-    fn count_if(&mut self, condition: bool, what: &str) {
-        if condition {
-            self.count(what);
-        }
-    }
-
     pub fn count_call(&mut self, told: &Told) {
         if told.returned == UNFIT {
             return self.count_unfit(told);
@@ -135,12 +122,12 @@ impl Counts {
     fn count_unfit(&mut self, told: &Told) {
         let numbers = told.answer.len();
         match told.call {
-            _ if told.other == Other::Lines => self.count("lines of another length"),
-            Call::Add { .. } => self.count("a short answer at add"),
+            _ if told.other == Other::Lines => self.0.count("lines of another length"),
+            Call::Add { .. } => self.0.count("a short answer at add"),
             Call::Serve { .. } if numbers == ANSWER_NUMBERS => {
-                self.count("an answer of 8 numbers at serve");
+                self.0.count("an answer of 8 numbers at serve");
             }
-            Call::Serve { .. } => self.count("a short answer at serve"),
+            Call::Serve { .. } => self.0.count("a short answer at serve"),
         }
     }
 
@@ -155,46 +142,54 @@ impl Counts {
         let waiting = (line < 4).then(|| told.waiting(line as usize));
         match (told.returned, told.cause()) {
             (DONE, 0) => {
-                self.count("added");
+                self.0.count("added");
                 let at_end = offset + length == told.store as u64;
-                self.count_if(
+                self.0.count_if(
                     at_end && length == 0,
                     "added, an empty part at the very end",
                 );
-                self.count_if(at_end && length > 0, "added, a part up to the very end");
-                self.count_if(waiting == Some(7), "added, the queue is full now");
-                self.count_if(calls > MAX_CALLS, "added, more than 4096 calls");
+                self.0
+                    .count_if(at_end && length > 0, "added, a part up to the very end");
+                self.0
+                    .count_if(waiting == Some(7), "added, the queue is full now");
+                self.0
+                    .count_if(calls > MAX_CALLS, "added, more than 4096 calls");
                 self.count_made_by_none(told);
             }
             (REFUSED, 27) => {
-                self.count("27");
-                self.count_if(!inside, "27 and the part is outside");
+                self.0.count("27");
+                self.0.count_if(!inside, "27 and the part is outside");
             }
             (REFUSED, 28) => {
-                self.count("28 at add");
-                self.count_if(past, "28 at add, a sum past 64 bits");
-                self.count_if(!past, "28 at add, no sum past 64 bits");
-                self.count_if(waiting == Some(8), "28 at add and the queue is full");
+                self.0.count("28 at add");
+                self.0.count_if(past, "28 at add, a sum past 64 bits");
+                self.0.count_if(!past, "28 at add, no sum past 64 bits");
+                self.0
+                    .count_if(waiting == Some(8), "28 at add and the queue is full");
             }
-            (REFUSED, 29) => self.count("29"),
-            (returned, cause) => self.count(format!("{returned} returned by add, cause {cause}")),
+            (REFUSED, 29) => self.0.count("29"),
+            (returned, cause) => self
+                .0
+                .count(format!("{returned} returned by add, cause {cause}")),
         }
     }
 
     fn count_serve(&mut self, told: &Told, posts: usize) {
         if told.returned == IDLE {
-            self.count("idle");
-            self.count_if(told.place() > 0, "idle and the list has been written to");
+            self.0.count("idle");
+            self.0
+                .count_if(told.place() > 0, "idle and the list has been written to");
             let made = told.turn() as u64 == told.before[TURN]
                 && told.before[JOBS..].iter().all(|&number| number == 0);
-            return self.count_if(!made, "lines that no entry made: idle");
+            return self.0.count_if(!made, "lines that no entry made: idle");
         }
         self.count_made_by_none(told);
         let line = told.answer[ANSWER_NUMBERS] as usize;
         let skipped = (line + LINES - told.turn()) % LINES;
-        self.count(format!("served, {skipped} empty lines skipped"));
-        self.count(format!("served line {line}"));
-        self.count_if(
+        self.0
+            .count(format!("served, {skipped} empty lines skipped"));
+        self.0.count(format!("served line {line}"));
+        self.0.count_if(
             told.waiting(line) == QUEUE_JOBS,
             "served, the queue was full",
         );
@@ -210,38 +205,40 @@ impl Counts {
         let in_the_middle = place > 0 && place < lent;
         match (told.returned, told.cause()) {
             (DONE, 0) => {
-                self.count("ended");
-                self.count_if(
+                self.0.count("ended");
+                self.0.count_if(
                     made && in_the_middle,
                     "ended, posts in the middle of the list",
                 );
             }
             (STOPPED, cause) => {
-                self.count(format!("stopped by {cause:2}"));
-                self.count_if(
+                self.0.count(format!("stopped by {cause:2}"));
+                self.0.count_if(
                     made && in_the_middle,
                     "stopped, posts in the middle of the list",
                 );
-                self.count_if(
+                self.0.count_if(
                     cause == 22 && made && in_the_middle,
                     "stopped by 22 in the middle of the list",
                 );
-                self.count_if(
+                self.0.count_if(
                     cause == 22 && lent < place,
                     "stopped by 22 with a list that is shorter than the place",
                 );
             }
-            (returned, cause) => self.count(format!("{returned} returned by serve, cause {cause}")),
+            (returned, cause) => self
+                .0
+                .count(format!("{returned} returned by serve, cause {cause}")),
         }
-        self.count_if(
+        self.0.count_if(
             in_the_middle && lent - place == MAX_POSTS as u64,
             "run with all 256 entries left in the middle of the list",
         );
-        self.count_if(
+        self.0.count_if(
             place > 0 && lent == place,
             "run with a list that ends at the place",
         );
-        self.count_if(
+        self.0.count_if(
             lent < place,
             "run with a list that is shorter than the place",
         );
@@ -254,14 +251,15 @@ impl Counts {
         let (buffers, allowance) = (cells || left, calls > u64::from(MAX_CALLS));
         match cause {
             15 => {
-                self.count_if(cells, "refused by 15, by the cell store");
-                self.count_if(!cells && left, "refused by 15, by what is left of the list");
-                self.count_if(
+                self.0.count_if(cells, "refused by 15, by the cell store");
+                self.0
+                    .count_if(!cells && left, "refused by 15, by what is left of the list");
+                self.0.count_if(
                     left && told.place() > 0,
                     "refused by 15 in the middle of the list",
                 );
             }
-            _ => self.count(format!("refused by {cause:2}")),
+            _ => self.0.count(format!("refused by {cause:2}")),
         }
         let group = match cause {
             1..=8 => "1 to 8".to_string(),
@@ -269,7 +267,8 @@ impl Counts {
         };
         let follow = [(buffers && cause != 15, 15), (allowance && cause != 16, 16)];
         for (_, later) in follow.into_iter().filter(|(would, _)| *would) {
-            self.count(format!("refused by {group} where {later} would follow"));
+            self.0
+                .count(format!("refused by {group} where {later} would follow"));
         }
     }
 
@@ -296,7 +295,7 @@ impl Counts {
             ),
         ];
         for (_, what) in made_by_none.into_iter().filter(|(has, _)| *has) {
-            self.count(format!("lines that no entry made: {what}"));
+            self.0.count(format!("lines that no entry made: {what}"));
         }
     }
 
@@ -305,19 +304,6 @@ impl Counts {
         let refusals = (1..=8).map(|n| format!("refused by {n:2}"));
         let stops = (17..=22).map(|n| format!("stopped by {n:2}"));
         let expected = EXPECTED.map(String::from).into_iter();
-        expected
-            .chain(refusals)
-            .chain(stops)
-            .filter(|what| !self.0.contains_key(what))
-            .collect()
-    }
-}
-
-impl fmt::Display for Counts {
-    fn fmt(&self, f: &mut fmt::Formatter) -> fmt::Result {
-        for (what, times) in &self.0 {
-            writeln!(f, "{times:9}  {what}")?;
-        }
-        Ok(())
+        self.0.never(expected.chain(refusals).chain(stops))
     }
 }

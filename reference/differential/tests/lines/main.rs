@@ -34,7 +34,7 @@ fn main() -> ExitCode {
             }
         }
     }
-    println!("{counts}");
+    println!("{}", counts.0);
     let seconds = begun.elapsed().as_secs_f64();
     println!("{sessions} sessions of four lines in {seconds:.1} s");
     let never = counts.never();

@@ -1,0 +1,5 @@
+pub mod PlaceLaws
+pub mod CauseLaws
+pub mod NextLaws
+pub mod TraceLaws
+pub mod EntryLaws

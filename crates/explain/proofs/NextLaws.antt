@@ -1,0 +1,119 @@
+-- The next place of the chain from the children by their position. All that these proofs ask of which children are followed is in `followed-is`.
+-- Assumes nothing.
+use mathlib.Core.Bool.{Bool, true, false, cond, true≢false, false≢true}
+use mathlib.Core.List.{List, [], _∷_}
+use mathlib.Core.Option.{Option, none, some}
+use mathlib.Core.Path.{_≡_, refl, sym, ap, _∙_}
+use Prim.Native.Nat.{ℕ, _<_}
+use lib.Dec.{eqb}
+use denote.Enum.Declared.{tagOf}
+use Rattle.privileges.specs.Sets.{has}
+use Rattle.program.specs.Layout.{Types, authority, typesOf}
+use Rattle.program.specs.Terms.{boolean, number, variable, function, letrec, call, if, check, enable, sign, test, binary, post}
+use Rattle.program.specs.declared.records.Counts.{Counts}
+use Rattle.typing.specs.declared.answer.Inferred.{Inferred}
+use Rattle.typing.specs.declared.answer.Inferred.the-variants.{Typed}
+use Rattle.typing.proofs.answer.Inferred.{the-type}
+use Rattle.rules.specs.Inference.{inferredModel, context, termJudgement}
+use Rattle.rules.specs.Known.{Answered}
+use Rattle.explain.specs.Explaining.{Placed, placed, needing, needs, followed, firstNeeding, next}
+use Rattle.explain.specs.Internal.{placedAt, Children, childrenOf, childrenAt, childAt, Reached, causeAt, nextAt, neededBy, Stepped}
+use Rattle.explain.specs.declared.places.Place.{Place}
+use Rattle.explain.specs.declared.places.Child.{Child}
+use Rattle.explain.proofs.CauseLaws.{untyped-needs}
+
+-- ---- the children that are followed, in order
+abbrev listed : Option Placed → List Placed → List Placed
+listed none l = l
+listed (some x) l = x ∷ l
+
+abbrev those : List (Option Placed) → List Placed
+those [] = []
+those (o ∷ os) = listed o (those os)
+
+abbrev in-order : Children → List (Option Placed)
+in-order k = k .first ∷ k .second ∷ k .third ∷ []
+
+tested : (z : Bool) (x y : Placed) → cond z (y ∷ []) (x ∷ y ∷ []) ≡ listed (cond z none (some x)) (y ∷ [])
+tested true x y = refl
+tested false x y = refl
+
+followed-is : (T : Types) (A : ℕ → ℕ) (p : ℕ) (x : Placed) → followed T A p x ≡ those (in-order (childrenOf T p x))
+unfolding followed
+followed-is T A p (placed Γ n (boolean at b)) = refl
+followed-is T A p (placed Γ n (number at k)) = refl
+followed-is T A p (placed Γ n (variable at i)) = refl
+followed-is T A p (placed Γ n (function at ty body)) = refl
+followed-is T A p (placed Γ n (letrec at ty body rest)) = refl
+followed-is T A p (placed Γ n (call at f a)) = refl
+followed-is T A p (placed Γ n (if at c y o)) = refl
+followed-is T A p (placed Γ n (check at q c)) = refl
+followed-is T A p (placed Γ n (enable at q c)) = refl
+followed-is T A p (placed Γ n (sign at m c)) = refl
+followed-is T A p (placed Γ n (test at q y o)) = tested (eqb q p) (placed Γ n y) (placed Γ n o)
+followed-is T A p (placed Γ n (binary at op a b)) = refl
+followed-is T A p (placed Γ n (post at c)) = refl
+
+-- ---- whether a child needs the privilege
+pub absent-needs : (s : List ℕ) (p : ℕ) (y : Child) → y .present ≡ false → false ≡ neededBy s p (childAt s y)
+absent-needs s p y e = rw e
+
+module _ (s : List ℕ) (p : ℕ) (y : Child) (here : y .present ≡ true) (j : Inferred)
+    (q : inferredModel j ≡ termJudgement s (context (y .place .bindings)) (y .place .principal) (y .place .term)) where
+  present-needs : needing p (inferredModel j) ≡ neededBy s p (childAt s y)
+  unfolding termJudgement needs
+  present-needs = rw here (ap (needing p) q)
+
+  pub typed-needs : {τ N : ℕ} → j ≡ Typed τ N → {r : Bool} → r ≡ has p N → r ≡ neededBy s p (childAt s y)
+  typed-needs e f = f ∙ ap (λ (j : Inferred). needing p (inferredModel j)) (sym e) ∙ present-needs
+
+  pub fault-needs : tagOf the-type j ≡ 1 → false ≡ neededBy s p (childAt s y)
+  fault-needs e = untyped-needs p j e ∙ present-needs
+
+-- ---- the first of them that does
+module _ (s : List ℕ) (p : ℕ) where
+  abbrev among : List Placed → Option Placed
+  among l = firstNeeding (typesOf s) (authority s) p l
+
+  taken : (o : Option Placed) (l : List Placed) → neededBy s p o ≡ true → o ≡ among (listed o l)
+  taken none l e = absurd (false≢true e)
+  taken (some x) l e = rw e
+
+  passed : (o : Option Placed) (l : List Placed) → neededBy s p o ≡ false → among l ≡ among (listed o l)
+  passed none l e = refl
+  passed (some x) l e = rw e
+
+-- ---- one child after the other: the next place is among those that are left
+pub record Left (s : List ℕ) (p : ℕ) (due : Option Placed) (os : List (Option Placed)) : Type 0 where
+  due-is : due ≡ among s p (those os)
+
+-- a cause ends the chain
+pub cause-ends : {s : List ℕ} {c : Counts} (p : ℕ) (at : Place) {l : List ℕ} {z : Bool} {r : Child} → Answered (typesOf s) z (causeAt s p at) l → z ≡ true
+    → r .present ≡ false → Stepped s c p r (nextAt s p at) l
+unfolding next
+cause-ends p at a e f = record { is = rw (f, sym (a .is) ∙ e); following = λ g. absurd (true≢false (sym g ∙ f)) }
+
+-- else one of the children is the next
+pub all-left : (s : List ℕ) (p : ℕ) (at : Place) {l : List ℕ} {z : Bool} → Answered (typesOf s) z (causeAt s p at) l → z ≡ false
+    → Left s p (nextAt s p at) (in-order (childrenAt s p at))
+unfolding next
+all-left s p at a e = record { due-is = rw (sym (a .is) ∙ e) (ap (among s p) (followed-is (typesOf s) (authority s) p (placedAt s at))) }
+
+module _ {s : List ℕ} {c : Counts} {p : ℕ} {o : Option Placed} {os : List (Option Placed)} {due : Option Placed} {y : Child} {l : List ℕ} {z : Bool}
+    (q : Left s p due (o ∷ os)) (w : Reached s c y o) (a : Answered (typesOf s) z (neededBy s p (childAt s y)) l) where
+  needed-is : neededBy s p o ≡ z
+  needed-is = ap (neededBy s p) (sym (w .is)) ∙ sym (a .is)
+
+  -- a child that does not need the privilege is passed
+  pub others-left : z ≡ false → Left s p due os
+  others-left e = record { due-is = q .due-is ∙ sym (passed s p o (those os) (needed-is ∙ e)) }
+
+  -- and one that does is the next
+  pub child-next : p < 32 → z ≡ true → Stepped s c p y due l
+  child-next small e = record {
+    is = w .is ∙ taken s p o (those os) (needed-is ∙ e) ∙ sym (q .due-is);
+    following = λ g. record { ready = w .ready g; known = a .known; privilege = small; needing = rw g at (sym (a .is) ∙ e) };
+  }
+
+pub none-left : {s : List ℕ} {c : Counts} {p : ℕ} {l : List ℕ} {due : Option Placed} {r : Child} → Left s p due [] → r .present ≡ false → Stepped s c p r due l
+none-left q f = record { is = rw f (sym (q .due-is)); following = λ g. absurd (true≢false (sym g ∙ f)) }

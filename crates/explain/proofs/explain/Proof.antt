@@ -1,0 +1,46 @@
+-- A sheet that the reader refuses has that for its verdict, and one that is read is well-formed and has its counts.
+use borrow.Author.Needs.{needs}
+use Rattle.checker.proofs.VerdictLaws.{unreadable-is, readable-sheet}
+use Rattle.explain.proofs.EntryLaws.{unreadable-told}
+use Rattle.explain.proofs.explain.Statement.{statement}
+use Rattle.explain.proofs.explain.Tie as tie
+
+decode-requires : tie.Need-decode-requires
+decode-requires c κs = search needs
+
+enum-known-d : tie.Need-enum-known-d
+enum-known-d c = search needs
+
+without-chain-requires : tie.Need-without-chain-requires
+without-chain-requires c κs = search needs
+
+enum-known-d-2 : tie.Need-enum-known-d-2
+enum-known-d-2 c = search needs
+
+explain-readable-requires : tie.Need-explain-readable-requires
+explain-readable-requires c κs =
+    let at-decode = c .before .before .before in
+    let start = at-decode .before .before in
+    readable-sheet (start .args .sheet .now) (at-decode .decode .ensures .0) (c .before .d2 .given .1) (at-decode .decode .ensures .1)
+
+returns : tie.Need-returns
+returns c =
+    let at-decode = c .before .before .before .before in
+    let start = at-decode .before .before in
+    unreadable-told (start .args .sheet .now) (start .args .privilege) (c .without-chain .ensures)
+    (unreadable-is (start .args .sheet .now) (at-decode .decode .ensures .0) (c .before .before .d .given .1))
+
+returns-2 : tie.Need-returns-2
+returns-2 c = search needs
+
+pub explain-spec : {M : Type 1} → statement M
+explain-spec =
+    tie.close
+    (tie.spec
+    decode-requires
+    enum-known-d
+    without-chain-requires
+    enum-known-d-2
+    explain-readable-requires
+    returns
+    returns-2)

@@ -1,0 +1,7 @@
+pub mod Explaining
+pub mod Answers
+pub mod Internal
+pub mod Chains
+pub mod Laws
+pub mod Theorems
+pub mod Cases

@@ -1,0 +1,95 @@
+// The chain of terms from the root to a cause.
+use crate::answer::Explained;
+use crate::answer::Explanation;
+use crate::causes::is_cause;
+use crate::places::Child;
+use crate::places::Place;
+use crate::places::absent;
+use crate::places::first_child;
+use crate::places::second_child;
+use crate::places::third_child;
+use checker::infer::infer;
+use program::records::Counts;
+use rules::bindings::Bindings;
+use rules::known::KNOWN_WORDS;
+use rules::known::Known;
+use typing::answer::Inferred;
+ghost use mathlib.Core.List.{map};
+ghost use Rattle.program.specs.Layout.{typesOf};
+ghost use Rattle.rules.specs.Known.{Answered};
+ghost use Rattle.explain.specs.Explaining.{explained, placedNumber, chainOf};
+ghost use Rattle.explain.specs.Answers.{Told};
+ghost use Rattle.explain.specs.Internal.{childAt, neededBy, nextAt, Candidate, Following, Stepped, Traceable};
+
+// Whether there is a child that needs privilege p.
+fn child_needs(s: &[u8], c: Counts, known: &mut Known, y: Child, p: u8) -> bool
+    requires { ⌜ Candidate (now s) c (now known) p y ⌝ }
+    ensures { λ r. ⌜ Answered (typesOf (now (s .entry))) r (neededBy (now (s .entry)) p (childAt (now (s .entry)) y)) (now (known .exit)) ⌝ }
+{
+    if !y.present {
+        return false;
+    }
+    let at = y.place;
+    let j = infer(s, c, known, at.term, at.bindings, at.principal);
+    let Inferred::Typed { ty: _, needs } = j else {
+        return false;
+    };
+    privileges::contains(p, needs)
+}
+
+// The next place of the chain: none after a cause, else the child at the lowest position that needs privilege p.
+fn next_place(s: &[u8], c: Counts, known: &mut Known, at: Place, p: u8) -> Child
+    requires { ⌜ Following (now s) c (now known) p at ⌝ }
+    ensures { λ r. ⌜ Stepped (now (s .entry)) c p r (nextAt (now (s .entry)) p at) (now (known .exit)) ⌝ }
+{
+    if is_cause(s, c, known, at, p) {
+        return absent(at);
+    }
+    let first = first_child(s, c, at, p);
+    if child_needs(s, c, known, first, p) {
+        return first;
+    }
+    let second = second_child(s, c, at);
+    if child_needs(s, c, known, second, p) {
+        return second;
+    }
+    let third = third_child(s, c, at);
+    if child_needs(s, c, known, third, p) {
+        return third;
+    }
+    absent(at)
+}
+
+// The chain of a readable sheet whose root needs privilege p: at most 32 terms, the sheet's nesting.
+pub fn trace(s: &[u8], c: Counts, p: u8) -> Explained
+    requires { ⌜ Traceable (now s) c p ⌝ }
+    ensures { λ r. ⌜ Told r (explained (map placedNumber (chainOf (now (s .entry)) p))) ⌝ }
+{
+    let mut known: Known = [0; KNOWN_WORDS];
+    let mut terms = [0u16; 32];
+    let mut at = Place {
+        term: c.terms - 1,
+        bindings: Bindings {
+            types: [0; 32],
+            len: 0,
+        },
+        principal: 0,
+    };
+    let mut len: usize = 0;
+    while len < 32 {
+        terms[len] = at.term;
+        len += 1;
+        let y = next_place(s, c, &mut known, at, p);
+        if !y.present {
+            return Explained {
+                answer: Explanation::Chain(len),
+                terms: terms,
+            };
+        }
+        at = y.place;
+    }
+    Explained {
+        answer: Explanation::Chain(len),
+        terms: terms,
+    }
+}

@@ -1,0 +1,70 @@
+// Why a sheet needs a privilege: the chain of terms from the root to the cause.
+pub mod answer;
+mod causes;
+mod chain;
+mod places;
+
+use crate::answer::Explained;
+use crate::answer::Explanation;
+use crate::chain::trace;
+use program::answer::Decoded;
+use program::records::Counts;
+use typing::answer::Verdict;
+ghost use mathlib.Core.Path.{_≡_};
+ghost use lib.Dec.{leb};
+ghost use Rattle.rules.specs.Inference.{Sheet};
+ghost use Rattle.explain.specs.Explaining.{tracedIn, explanation};
+ghost use Rattle.explain.specs.Answers.{Told};
+ghost use Rattle.explain.specs.Internal.{unchained, RootNeeds};
+
+// Why the sheet needs a privilege, on any bytes and any number: the type checker's refusals, then 30, then that it is not needed or the chain.
+pub fn explain(sheet: &[u8], privilege: u32) -> Explained
+    ensures { λ r. ⌜ Told r (explanation (now (sheet .entry)) privilege) ⌝ }
+{
+    let d = decoder::decode(sheet);
+    match d {
+        Decoded::Refused(f) => without_chain(Explanation::Unreadable(f)),
+        Decoded::Readable(c) => explain_readable(sheet, c, privilege),
+    }
+}
+
+// The same of a readable sheet with its counts; the type checker reads it once more.
+fn explain_readable(s: &[u8], c: Counts, privilege: u32) -> Explained
+    requires { ⌜ Sheet (now s) c ⌝ }
+    ensures { λ r. ⌜ Told r (explanation (now (s .entry)) privilege) ⌝ }
+{
+    let v = checker::typecheck(s);
+    match v {
+        Verdict::Unreadable(f) => without_chain(Explanation::Unreadable(f)),
+        Verdict::Refused(f) => without_chain(Explanation::Refused(f)),
+        Verdict::Accepted {
+            terms: _,
+            ty: _,
+            needs,
+        } => explain_needs(s, c, needs, privilege),
+    }
+}
+
+// Why an accepted sheet with these needs has the privilege among them.
+fn explain_needs(s: &[u8], c: Counts, needs: u32, privilege: u32) -> Explained
+    requires { ⌜ RootNeeds (now s) c needs ⌝ }
+    ensures { λ r. ⌜ Told r (tracedIn (now (s .entry)) privilege needs (leb privilege 31)) ⌝ }
+{
+    if 31 < privilege {
+        return without_chain(Explanation::NoPrivilege);
+    }
+    let p = privilege as u8;
+    if privileges::contains(p, needs) {
+        return trace(s, c, p);
+    }
+    without_chain(Explanation::NotNeeded)
+}
+
+fn without_chain(answer: Explanation) -> Explained
+    ensures { λ r. ⌜ r ≡ unchained answer ⌝ }
+{
+    Explained {
+        answer: answer,
+        terms: [0; 32],
+    }
+}

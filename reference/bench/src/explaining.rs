@@ -1,0 +1,59 @@
+//! What it costs to explain a need that is as deep as can be, beside what it
+//! costs to judge the sheet.
+
+use differential::{Implementation, Library, Reference, Why, ANSWER_NUMBERS};
+use sheets::extremes::{costly_need, deep_calls, deep_need, NEEDED};
+use sheets::rng::Rng;
+use std::time::Instant;
+
+const REPEATS: u32 = 100;
+const ROUNDS: u32 = 21;
+
+pub fn print() {
+    println!();
+    println!("explaining a need of a sheet with 1,024 terms, in microseconds");
+    println!(
+        "  {:12}{:>12}{:>12}{:>9}{:>12}",
+        "", "typecheck", "explain", "times", "reference"
+    );
+    let sheets = [
+        ("deep need", deep_need()),
+        ("deep calls", deep_calls()),
+        ("costly need", costly_need()),
+    ];
+    for (name, sheet) in sheets {
+        let mut answer = [0; ANSWER_NUMBERS];
+        let judged = best_time(|| {
+            Library::typecheck(&sheet, &mut answer);
+        });
+        let [library, reference] = [time::<Library>(&sheet), time::<Reference>(&sheet)];
+        println!(
+            "  {name:12}{:12.3}{:12.3}{:9.1}{:12.3}",
+            judged * 1e6,
+            library * 1e6,
+            library / judged,
+            reference * 1e6
+        );
+    }
+}
+
+/// Seconds for one explanation.
+fn time<I: Implementation>(sheet: &[u8]) -> f64 {
+    let mut why = Why::fitting(&mut Rng::new(0));
+    best_time(|| {
+        why.ask::<I>(sheet, NEEDED.into());
+    })
+}
+
+/// Seconds for one round of work, the best of several.
+fn best_time(mut work: impl FnMut()) -> f64 {
+    (0..ROUNDS)
+        .map(|_| {
+            let begun = Instant::now();
+            for _ in 0..REPEATS {
+                work();
+            }
+            begun.elapsed().as_secs_f64() / f64::from(REPEATS)
+        })
+        .fold(f64::INFINITY, f64::min)
+}

@@ -1,0 +1,288 @@
+//! What has been explained, and what has to be.
+
+use crate::sentences::{steps, Question};
+use differential::{Happened, ANSWER_NUMBERS, CHAIN_NUMBERS};
+use sheets::extremes::MAX_CHAIN;
+use sovzedal_reference::{Accepted, Term, TermId};
+
+const DONE: u32 = 0;
+const REFUSED: u32 = 2;
+const UNFIT: u32 = 3;
+
+/// What has to happen, beside chains of every length and each cause that the
+/// judge can tell.
+const EXPECTED: [&str; 53] = [
+    "ends in a check",
+    "ends in a call",
+    "ends in a letrec",
+    "goes on from sign, child 1",
+    "goes on from enable of another, child 1",
+    "goes on from check of another, child 1",
+    "goes on from post, child 1",
+    "goes on from sum, child 1",
+    "goes on from sum, child 2",
+    "goes on from difference, child 1",
+    "goes on from difference, child 2",
+    "goes on from less, child 1",
+    "goes on from less, child 2",
+    "goes on from call, child 1",
+    "goes on from call, child 2",
+    "goes on from letrec, child 2",
+    "goes on from if, child 1",
+    "goes on from if, child 2",
+    "goes on from if, child 3",
+    "goes on from test of another, child 1",
+    "goes on from test of another, child 2",
+    "goes on from test of it, child 2",
+    "a test of it, both branches need it",
+    "several children qualify",
+    "several children qualify, the first has a higher number",
+    "three children qualify",
+    "a later child qualifies, and an earlier one needs nothing of it",
+    "a check that is a cause, its child needs it",
+    "a call that is a cause, its function needs it",
+    "a call that is a cause, its argument needs it",
+    "a letrec that is a cause, its body needs it",
+    "a letrec that is a cause, its rest needs it",
+    "a need of two privileges",
+    "needed, and an enable hides it elsewhere",
+    "needed, and a test hides it elsewhere",
+    "needed, and a body needs it",
+    "not needed",
+    "not needed, an enable hides it",
+    "not needed, a test hides it",
+    "not needed, a body needs it",
+    "not needed, nothing has to do with it",
+    "an enable hides nothing of whom may not use it",
+    "30",
+    "30 for one that is needed, but for a multiple of 32",
+    "30 for one that is needed, but for a multiple of 256",
+    "a short chain",
+    "a chain of one too few",
+    "a short answer",
+    "both short",
+    "short, and the sheet is refused",
+    "short, and 30 would follow",
+    "a longer chain",
+    "a longer answer",
+];
+
+/// A question, and all that both implementations told of it.
+pub struct Told<'a> {
+    /// The sheet, if it is accepted.
+    pub accepted: Option<&'a Accepted>,
+    /// What the library's judge tells, 0 if the sheet is refused.
+    pub needs: u32,
+    pub privilege: u32,
+    pub returned: u32,
+    /// The lengths of the lists that were lent.
+    pub chain: usize,
+    pub answer: usize,
+    /// 0 if none was told.
+    pub cause: u32,
+}
+
+#[derive(Default)]
+pub struct Counts(pub Happened);
+
+impl Counts {
+    /// Counts what was told, but for a chain.
+    pub fn count(&mut self, told: &Told) {
+        let happened = &mut self.0;
+        let above = told.privilege > 31;
+        if told.returned == UNFIT {
+            let [chain, answer] = [told.chain < CHAIN_NUMBERS, told.answer < ANSWER_NUMBERS];
+            happened.count(match (chain, answer) {
+                (true, true) => "both short",
+                (true, false) => "a short chain",
+                _ => "a short answer",
+            });
+            happened.count_if(told.chain == CHAIN_NUMBERS - 1, "a chain of one too few");
+            happened.count_if(told.accepted.is_none(), "short, and the sheet is refused");
+            happened.count_if(
+                told.accepted.is_some() && above,
+                "short, and 30 would follow",
+            );
+            return;
+        }
+        happened.count_if(told.chain > CHAIN_NUMBERS, "a longer chain");
+        happened.count_if(told.answer > ANSWER_NUMBERS, "a longer answer");
+        match (told.returned, told.cause) {
+            (DONE, 0) => {}
+            (REFUSED, 30) => {
+                let needed = |bits: u32| told.needs >> bits & 1 == 1;
+                let low = told.privilege % 256;
+                happened.count("30");
+                happened.count_if(
+                    needed(told.privilege % 32),
+                    "30 for one that is needed, but for a multiple of 32",
+                );
+                happened.count_if(
+                    low < 32 && needed(low),
+                    "30 for one that is needed, but for a multiple of 256",
+                );
+            }
+            (REFUSED, cause) => happened.count(refused_by(cause, above)),
+            (returned, cause) => happened.count(format!("{returned} returned, cause {cause}")),
+        }
+    }
+
+    /// Counts the answer to a question about an accepted sheet.
+    pub fn count_chain(&mut self, question: &Question, needs: u32, chain: &[TermId]) {
+        let hidden = Hidden::of(question);
+        let happened = &mut self.0;
+        happened.count_if(
+            hidden.in_vain,
+            "an enable hides nothing of whom may not use it",
+        );
+        let Some(&last) = chain.last() else {
+            happened.count("not needed");
+            happened.count_if(hidden.by_enable, "not needed, an enable hides it");
+            happened.count_if(hidden.by_test, "not needed, a test hides it");
+            happened.count_if(hidden.in_body, "not needed, a body needs it");
+            happened.count_if(!hidden.anywhere, "not needed, nothing has to do with it");
+            return;
+        };
+        happened.count(of_length(chain.len()));
+        happened.count_if(needs.count_ones() > 1, "a need of two privileges");
+        happened.count_if(hidden.by_enable, "needed, and an enable hides it elsewhere");
+        happened.count_if(hidden.by_test, "needed, and a test hides it elsewhere");
+        happened.count_if(hidden.in_body, "needed, and a body needs it");
+        self.count_cause(question, last);
+        for (term, next) in steps(chain) {
+            self.count_step(question, term, next);
+        }
+    }
+
+    fn count_cause(&mut self, question: &Question, cause: TermId) {
+        let happened = &mut self.0;
+        let needs = |child| question.needs(child);
+        match question.term(cause) {
+            Term::Check { inner, .. } => {
+                happened.count("ends in a check");
+                happened.count_if(needs(inner), "a check that is a cause, its child needs it");
+            }
+            Term::Call { function, argument } => {
+                happened.count("ends in a call");
+                happened.count_if(
+                    needs(function),
+                    "a call that is a cause, its function needs it",
+                );
+                happened.count_if(
+                    needs(argument),
+                    "a call that is a cause, its argument needs it",
+                );
+            }
+            Term::Letrec { body, rest, .. } => {
+                happened.count("ends in a letrec");
+                happened.count_if(needs(body), "a letrec that is a cause, its body needs it");
+                happened.count_if(needs(rest), "a letrec that is a cause, its rest needs it");
+            }
+            other => happened.count(format!("ends in {other:?}")),
+        }
+    }
+
+    fn count_step(&mut self, question: &Question, term: TermId, next: TermId) {
+        let happened = &mut self.0;
+        let children: Vec<TermId> = question.term(term).children().collect();
+        let position = children.iter().position(|&child| child == next);
+        let position = position.expect("a child") + 1;
+        let name = name(question, term);
+        happened.count(format!("goes on from {name}, child {position}"));
+
+        let qualifying = question.qualifying(term);
+        happened.count_if(qualifying.len() > 1, "several children qualify");
+        happened.count_if(qualifying.len() > 2, "three children qualify");
+        happened.count_if(
+            qualifying.iter().any(|&other| other < next),
+            "several children qualify, the first has a higher number",
+        );
+        happened.count_if(
+            children[0] != next && !question.needs(children[0]),
+            "a later child qualifies, and an earlier one needs nothing of it",
+        );
+        let yes_branch = question.yes_branch(term);
+        happened.count_if(
+            yes_branch.is_some_and(|yes| question.needs(yes)),
+            "a test of it, both branches need it",
+        );
+    }
+
+    /// What should have happened and never did.
+    pub fn never(&self) -> Vec<String> {
+        let told = (1..=13).chain(24..=26);
+        let refusals = told.flat_map(|cause| [false, true].map(|above| refused_by(cause, above)));
+        let lengths = (2..=MAX_CHAIN).map(of_length);
+        let expected = EXPECTED.map(String::from).into_iter();
+        self.0.never(expected.chain(lengths).chain(refusals))
+    }
+}
+
+fn refused_by(cause: u32, above: bool) -> String {
+    let privilege = if above { ", privilege above 31" } else { "" };
+    format!("refused by {cause:2}{privilege}")
+}
+
+fn of_length(terms: usize) -> String {
+    format!("chain of {terms:2} terms")
+}
+
+/// The kind of a term that a chain goes on from, and of a check, enable or
+/// test whether it names the privilege.
+fn name(question: &Question, id: TermId) -> String {
+    let of = |privilege| {
+        if privilege == question.privilege {
+            "it"
+        } else {
+            "another"
+        }
+    };
+    match question.term(id) {
+        Term::Check { privilege, .. } => format!("check of {}", of(privilege)),
+        Term::Enable { privilege, .. } => format!("enable of {}", of(privilege)),
+        Term::Test { privilege, .. } => format!("test of {}", of(privilege)),
+        Term::Sign { .. } => "sign".into(),
+        Term::Post(_) => "post".into(),
+        Term::Sum(..) => "sum".into(),
+        Term::Difference(..) => "difference".into(),
+        Term::Less(..) => "less".into(),
+        Term::Call { .. } => "call".into(),
+        Term::Letrec { .. } => "letrec".into(),
+        Term::If { .. } => "if".into(),
+        other => format!("{other:?}"),
+    }
+}
+
+/// Where in a sheet the privilege is needed and something takes it out.
+#[derive(Default)]
+struct Hidden {
+    by_enable: bool,
+    by_test: bool,
+    in_body: bool,
+    /// By an enable of a principal that may not use it.
+    in_vain: bool,
+    anywhere: bool,
+}
+
+impl Hidden {
+    fn of(question: &Question) -> Self {
+        let mut hidden = Self::default();
+        for id in 0..=question.accepted.sheet.root() {
+            let needs = question.needs(id);
+            hidden.anywhere |= needs;
+            match question.term(id) {
+                Term::Enable { privilege, inner } if privilege == question.privilege => {
+                    hidden.by_enable |= question.needs(inner) && !needs;
+                    hidden.in_vain |= question.needs(inner) && needs;
+                }
+                Term::Test { .. } => {
+                    let yes = question.yes_branch(id);
+                    hidden.by_test |= yes.is_some_and(|yes| question.needs(yes)) && !needs;
+                }
+                Term::Function { body, .. } => hidden.in_body |= question.needs(body),
+                _ => {}
+            }
+        }
+        hidden
+    }
+}

@@ -1,0 +1,213 @@
+//! The cases of request W7: where a need comes from, and where there is none.
+
+use crate::cases::with_functions;
+use crate::records::{TypeRecord, NUMBER};
+use crate::tree::*;
+
+/// The privilege that is asked about.
+pub const ASKED: u8 = 1;
+/// Another one.
+pub const OTHER: u8 = 2;
+
+/// A principal that may use both, one that may use neither, and one that may
+/// use the first alone.
+const ABLE: u8 = 0;
+const UNABLE: u8 = 1;
+const ALSO_ABLE: u8 = 2;
+
+/// Numbers to numbers, with an empty latent set and with the privilege in it;
+/// a function that takes one of the latter, and one that gives one. Neither
+/// has it in its own latent set.
+const QUIET: u16 = 2;
+const NEEDY: u16 = 3;
+const TAKES_NEEDY: u16 = 4;
+const GIVES_NEEDY: u16 = 5;
+
+#[derive(Clone, Debug)]
+pub struct Explained {
+    pub name: &'static str,
+    pub sheet: Vec<u8>,
+}
+
+pub fn all() -> Vec<Explained> {
+    let able = 1 << ASKED | 1 << OTHER;
+    let functions = [
+        TypeRecord::function(NUMBER, NUMBER, 0),
+        TypeRecord::function(NUMBER, NUMBER, 1 << ASKED),
+        TypeRecord::function(NEEDY, NUMBER, 0),
+        TypeRecord::function(NUMBER, NEEDY, 0),
+    ];
+    let explained = |(name, tree)| Explained {
+        name,
+        sheet: with_functions(&[able, 0, 1 << ASKED], &functions, sign(ABLE, tree)),
+    };
+    [causes(), ways(), causes_on_the_way(), hidden()]
+        .into_iter()
+        .flatten()
+        .map(explained)
+        .collect()
+}
+
+/// What a chain can end in.
+fn causes() -> Vec<(&'static str, Tree)> {
+    vec![
+        ("a check", checked(7)),
+        ("a call", call(needy(), number(7))),
+        ("a binder", letrec(NEEDY, needy_body(), number(7))),
+        (
+            "a binder whose body needs nothing",
+            letrec(NEEDY, sign(ABLE, variable(0)), number(7)),
+        ),
+        (
+            "a call of the wider of two",
+            call(when(boolean(true), quiet(), needy()), number(7)),
+        ),
+        (
+            "a call of what a call gives",
+            call(call(gives_needy(), number(7)), number(8)),
+        ),
+        (
+            "a call of what a bound function gives",
+            letrec(
+                GIVES_NEEDY,
+                sign(ABLE, needy()),
+                letrec(
+                    QUIET,
+                    sign(ABLE, variable(0)),
+                    call(call(variable(1), number(7)), number(8)),
+                ),
+            ),
+        ),
+    ]
+}
+
+/// Which child a chain goes on with.
+fn ways() -> Vec<(&'static str, Tree)> {
+    vec![
+        ("sum, both", sum(checked(7), checked(8))),
+        ("sum, the second", sum(number(7), checked(8))),
+        (
+            "if, all three",
+            when(check(ASKED, boolean(true)), checked(7), checked(8)),
+        ),
+        (
+            "if, both branches",
+            when(boolean(true), checked(7), checked(8)),
+        ),
+        (
+            "if, the no-branch",
+            when(boolean(true), number(7), checked(8)),
+        ),
+        ("call, both parts", call(check(ASKED, quiet()), checked(7))),
+        ("call, the argument", call(quiet(), checked(7))),
+        (
+            "binder, the rest",
+            letrec(QUIET, sign(ABLE, variable(0)), checked(7)),
+        ),
+        (
+            "test of it, both branches",
+            test(ASKED, checked(7), checked(8)),
+        ),
+        (
+            "test of it, twice",
+            test(ASKED, number(0), test(ASKED, checked(7), checked(8))),
+        ),
+        (
+            "test of another, both branches",
+            test(OTHER, checked(7), checked(8)),
+        ),
+        (
+            "test of another, the no-branch",
+            test(OTHER, number(7), checked(8)),
+        ),
+        (
+            "another principal",
+            sum(number(7), sign(ALSO_ABLE, checked(8))),
+        ),
+        (
+            "one kind below the other",
+            post(difference(
+                number(7),
+                when(less(number(1), checked(2)), number(3), number(4)),
+            )),
+        ),
+    ]
+}
+
+/// Terms that are a cause themselves, and others that look like one.
+fn causes_on_the_way() -> Vec<(&'static str, Tree)> {
+    vec![
+        ("a check of a check", check(ASKED, checked(7))),
+        ("a check of another around", check(OTHER, checked(7))),
+        ("a call on a check", call(needy(), checked(7))),
+        ("a call of a check", call(check(ASKED, needy()), number(7))),
+        (
+            "a binder and a call of what it binds",
+            letrec(NEEDY, needy_body(), call(variable(0), number(7))),
+        ),
+        ("a call on a call", call(quiet(), call(needy(), number(7)))),
+        (
+            "a call that is given what needs it",
+            call(takes_needy(), check(ASKED, needy())),
+        ),
+    ]
+}
+
+/// Needs that something takes out.
+fn hidden() -> Vec<(&'static str, Tree)> {
+    vec![
+        ("a number", number(7)),
+        ("a check of another", check(OTHER, number(7))),
+        ("an enable", enable(ASKED, checked(7))),
+        ("an enable of another", enable(OTHER, checked(7))),
+        (
+            "an enable beside a check",
+            sum(enable(ASKED, checked(7)), checked(8)),
+        ),
+        ("the yes-branch", test(ASKED, checked(7), number(0))),
+        (
+            "the yes-branch of another",
+            test(OTHER, checked(7), number(0)),
+        ),
+        (
+            "an enable in vain in the yes-branch",
+            sign(UNABLE, test(ASKED, enable(ASKED, checked(7)), number(0))),
+        ),
+        (
+            "a function that is given and not called",
+            call(takes_needy(), needy()),
+        ),
+        (
+            "a function that is called in another's body",
+            call(function(QUIET, sign(ABLE, enabled_call())), number(7)),
+        ),
+    ]
+}
+
+fn checked(value: u16) -> Tree {
+    check(ASKED, number(value))
+}
+
+fn needy_body() -> Tree {
+    sign(ABLE, check(ASKED, variable(0)))
+}
+
+fn needy() -> Tree {
+    function(NEEDY, needy_body())
+}
+
+fn quiet() -> Tree {
+    function(QUIET, sign(ABLE, variable(0)))
+}
+
+fn takes_needy() -> Tree {
+    function(TAKES_NEEDY, sign(ABLE, number(0)))
+}
+
+fn gives_needy() -> Tree {
+    function(GIVES_NEEDY, sign(ABLE, needy()))
+}
+
+fn enabled_call() -> Tree {
+    enable(ASKED, call(needy(), variable(0)))
+}
