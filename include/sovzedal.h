@@ -17,7 +17,7 @@
  *   SOVZEDAL_OK       0  the sheet is readable, or accepted, or the run ended; or the register was read or written; or the job was added; or the
  *                        privilege is explained, or not needed;
  *   SOVZEDAL_STOPPED  1  the run was stopped, for one of the causes 17 to 22;
- *   SOVZEDAL_REFUSED  2  refused, for one of the causes 1 to 16 and 24 to 30, or 23 for an address: every buffer but `answer` is as it was (but
+ *   SOVZEDAL_REFUSED  2  refused, for one of the causes 1 to 16 and 24 to 31, or 23 for an address: every buffer but `answer` is as it was (but
  *                        `lines` has given up a job that was served);
  *   SOVZEDAL_SHORT    3  `answer` or `chain` has fewer entries than are written, `block` is not of 16 bytes or `lines` not of 102 numbers: nothing was
  *                        done and nothing written anywhere;
@@ -39,6 +39,8 @@
  *   ** written by sovzedal_lines_serve alone, also of a job that is refused. All entries are zero of a job added, and all nine with SOVZEDAL_IDLE.
  *
  * Types: 0 is the boolean, 1 the number. Needs are a set of privileges: bit k, worth 2^k, stands for privilege k. docs/REFUSALS.md explains the causes.
+ * An entry of a list of posts is channel * 65,536 + number: the lowest 16 bits are the number, and the others the channel, 0 to 15. A sheet of format 1
+ * posts on channel 0 alone, so that its entries are its numbers.
  * How a run went that a write to a block asked for is told by the block's registers and not here: that write returns SOVZEDAL_OK.
  */
 #ifndef SOVZEDAL_H
@@ -51,10 +53,11 @@
 extern "C" {
 #endif
 
-/* The version of this interface, and of the format that it reads. */
-#define SOVZEDAL_VERSION_MAJOR 1
-#define SOVZEDAL_VERSION_MINOR 4
-#define SOVZEDAL_FORMAT 1
+/* The version of this interface, and the latest format that it reads: sheets of format 1 are read, too. Before version 2 of the interface, lists of posts
+ * had entries of 16 bits. */
+#define SOVZEDAL_VERSION_MAJOR 2
+#define SOVZEDAL_VERSION_MINOR 0
+#define SOVZEDAL_FORMAT 2
 
 /* What a function returns. */
 enum {
@@ -88,9 +91,9 @@ enum {
     SOVZEDAL_NUMBER = 1
 };
 
-/* The causes, by the headings of docs/REFUSALS.md. 1 to 8 are told of a sheet that is not readable, 9 to 13 and 24 to 26 of one that the rules refuse,
- * 14 to 16 of a request to run one; 17 to 22 are stops; 23 is told of an address that a block does not have, 27 to 29 of a job that no line takes,
- * and 28 also of one whose turn comes when its part is no longer in the store; 30 is told of a privilege above 31. */
+/* The causes, by the headings of docs/REFUSALS.md. 1 to 8 and 31 are told of a sheet that is not readable, 9 to 13 and 24 to 26 of one that the rules
+ * refuse, 14 to 16 of a request to run one; 17 to 22 are stops; 23 is told of an address that a block does not have, 27 to 29 of a job that no line
+ * takes, and 28 also of one whose turn comes when its part is no longer in the store; 30 is told of a privilege above 31. */
 enum {
     SOVZEDAL_CUT_SHORT = 1,
     SOVZEDAL_WRONG_TAG = 2,
@@ -121,18 +124,20 @@ enum {
     SOVZEDAL_NO_LINE = 27,
     SOVZEDAL_OUTSIDE = 28,
     SOVZEDAL_QUEUE_FULL = 29,
-    SOVZEDAL_PRIVILEGE = 30
+    SOVZEDAL_PRIVILEGE = 30,
+    SOVZEDAL_GUARD = 31
 };
 
 enum {
     SOVZEDAL_ANSWER = 8,         /* entries that are written of `answer`, but by sovzedal_lines_serve */
     SOVZEDAL_LINES_ANSWER = 9,   /* entries that sovzedal_lines_serve writes of `answer` */
-    SOVZEDAL_MAX_SHEET = 10894,  /* bytes of the longest readable sheet */
+    SOVZEDAL_MAX_SHEET = 10913,  /* bytes of the longest readable sheet */
     SOVZEDAL_MAX_START = 32,     /* numbers of the largest start stack: 16 frames */
     SOVZEDAL_MAX_CALLS = 4096,   /* the largest allowance of calls */
     SOVZEDAL_MAX_DEPTH = 100,    /* the largest allowance of open calls */
     SOVZEDAL_MAX_CELLS = 65536,  /* bytes of the largest cell store */
     SOVZEDAL_MAX_POSTS = 256,    /* entries of the largest post list */
+    SOVZEDAL_CHANNELS = 16,      /* channels that a sheet can post on */
     SOVZEDAL_FRAMES = 6496,      /* numbers of a lazy run's frame store, exactly */
     SOVZEDAL_BLOCK = 16,         /* bytes of a register block, exactly */
     SOVZEDAL_LINES = 102,        /* numbers of the lines' state, exactly */
@@ -186,29 +191,42 @@ static inline const char *sovzedal_cause_text(uint32_t cause)
         "address",
         "not a function", "argument", "branches",
         "no such line", "outside the store", "queue full",
-        "no such privilege"
+        "no such privilege",
+        "guard"
     };
     return cause < sizeof texts / sizeof texts[0] ? texts[cause] : "unknown";
+}
+
+/* The channel and the number of an entry of a list of posts. */
+static inline uint32_t sovzedal_post_channel(uint32_t entry)
+{
+    return entry >> 16;
+}
+
+static inline uint32_t sovzedal_post_number(uint32_t entry)
+{
+    return entry & 0xFFFF;
 }
 
 /* Whether any bytes are a readable sheet.
  *   sheet, sheet_len    the sheet and its length in bytes; only read
  *   answer, answer_len  the list for the answer and its length in entries
- * Refusals: 1 to 8. */
+ * Refusals: 1 to 8, then 31, of a sheet of format 2 and with the channel as the place. */
 uint32_t sovzedal_decode(const uint8_t *sheet, size_t sheet_len,
                          uint32_t *answer, size_t answer_len);
 
 /* Whether the rules accept a sheet, with its type and the least needs.
  *   sheet, sheet_len    the sheet and its length in bytes; only read
  *   answer, answer_len  the list for the answer and its length in entries
- * Refusals: 1 to 13 and 24 to 26. */
+ * Refusals: 1 to 8, then 31, then 9 to 13 and 24 to 26. */
 uint32_t sovzedal_typecheck(const uint8_t *sheet, size_t sheet_len,
                             uint32_t *answer, size_t answer_len);
 
 /* Why an accepted sheet needs a privilege: a chain of terms from the root, each a child of the one before and with the privilege among its own needs,
- * down to the cause. That is a check of the privilege, or a call or letrec whose latent set holds it: the set of the type of what is called, or of the
- * letrec's own type. The chain ends at the first cause on its way. Where several children have the need, it goes on with the first of them in the order
- * of the term's parts; the yes-branch of a test of the privilege is passed over, since the test takes the privilege out of that branch's needs.
+ * down to the cause. That is a check of the privilege, a post on a channel that it guards, or a call or letrec whose latent set holds it: the set of the
+ * type of what is called, or of the letrec's own type. The chain ends at the first cause on its way. Where several children have the need, it goes on
+ * with the first of them in the order of the term's parts; the yes-branch of a test of the privilege is passed over, since the test takes the privilege
+ * out of that branch's needs.
  *   sheet, sheet_len    the sheet and its length in bytes; only read
  *   privilege           the privilege, 0 to 31
  *   chain, chain_len    the list for the chain and its length in entries, at least 32. After SOVZEDAL_OK the first 32 entries are the numbers of
@@ -217,7 +235,7 @@ uint32_t sovzedal_typecheck(const uint8_t *sheet, size_t sheet_len,
  *   answer, answer_len  the list for the answer and its length in entries; it tells the chain's length, which is 0 exactly if the privilege is not
  *                       among the needs that sovzedal_typecheck tells
  * Other causes may be behind the one that is told: mend that and ask again.
- * Refusals, in this order: 1 to 13 and 24 to 26, as of sovzedal_typecheck; 30, of a privilege above 31, with the place 0. `chain` is as it was. */
+ * Refusals, in this order: 1 to 13, 24 to 26 and 31, as of sovzedal_typecheck; 30, of a privilege above 31, with the place 0. `chain` is as it was. */
 uint32_t sovzedal_explain(const uint8_t *sheet, size_t sheet_len,
                           uint32_t privilege,
                           uint16_t *chain, size_t chain_len,
@@ -229,18 +247,18 @@ uint32_t sovzedal_explain(const uint8_t *sheet, size_t sheet_len,
  *                       counts numbers, not frames; only read
  *   calls               how many calls may be made, at most 4,096
  *   depth               how many calls may be open at a time, at most 100
- *   enforce             0 skips the checks; anything else enforces them
+ *   enforce             0 skips the checks and the guards of posts; anything else enforces them
  *   cells, cells_len    the cell store and its length in bytes, at most 65,536; a cell takes eight. It may hold anything; after a run that was not
  *                       refused all of it is zero
  *   posts, posts_len    the list for posts and its length in entries, at most 256. After a run that was not refused its first entries are the posts
- *                       made, in order, and the others are as they were
+ *                       made, in order, each as channel * 65,536 + number, and the others are as they were
  *   answer, answer_len  the list for the answer and its length in entries
- * Refusals: 1 to 8, 14, 15, 16. Stops: 17 to 22. */
+ * Refusals, in this order: 1 to 8, 31, 14, 15, 16. Stops: 17 to 22. */
 uint32_t sovzedal_run_eager(const uint8_t *sheet, size_t sheet_len,
                             const uint32_t *start, size_t start_len,
                             uint32_t calls, uint32_t depth, uint32_t enforce,
                             uint8_t *cells, size_t cells_len,
-                            uint16_t *posts, size_t posts_len,
+                            uint32_t *posts, size_t posts_len,
                             uint32_t *answer, size_t answer_len);
 
 /* The same, walking the frames of a store. It gives the same answer.
@@ -251,7 +269,7 @@ uint32_t sovzedal_run_lazy(const uint8_t *sheet, size_t sheet_len,
                            const uint32_t *start, size_t start_len,
                            uint32_t calls, uint32_t depth, uint32_t enforce,
                            uint8_t *cells, size_t cells_len,
-                           uint16_t *posts, size_t posts_len,
+                           uint32_t *posts, size_t posts_len,
                            uint32_t *frames, size_t frames_len,
                            uint32_t *answer, size_t answer_len);
 
@@ -277,13 +295,13 @@ uint32_t sovzedal_block_read(const uint8_t *block, size_t block_len,
  * Sheet and buffers are looked at only by a run. That is one of sovzedal_run_eager on the empty start stack, with the calls that CALLS allows, 100 open
  * calls and the checks enforced, and it leaves the buffers as that does. It sets one bit of STATUS and clears the other two of the three, makes COMMAND
  * zero and puts its answer into CAUSE, VALUE, CALLS_MADE and PLACE: zero in each that has no meaning in that answer. STATUS_REFUSED comes with one of
- * the causes 1 to 8, 15 (a buffer of another length) and 16 (more than 4,096 calls), found in this order, and leaves the buffers as they were.
+ * the causes 1 to 8, 31, 15 (a buffer of another length) and 16 (more than 4,096 calls), found in this order, and leaves the buffers as they were.
  * Refusals: 23, of an address above 15; block and buffers are as they were. */
 uint32_t sovzedal_block_write(uint8_t *block, size_t block_len,
                               uint32_t address, uint8_t value,
                               const uint8_t *sheet, size_t sheet_len,
                               uint8_t *cells, size_t cells_len,
-                              uint16_t *posts, size_t posts_len,
+                              uint32_t *posts, size_t posts_len,
                               uint32_t *answer, size_t answer_len);
 
 /* Four lines share the unit: 0 to 3, each with a queue of up to eight jobs. A job is a part of a lent store of sheets, by offset and length, with an
@@ -321,12 +339,12 @@ uint32_t sovzedal_lines_add(uint64_t *lines, size_t lines_len,
  * The run is one of sovzedal_run_eager on the empty start stack, with the job's calls, 100 open calls and the checks enforced. It leaves the cell store
  * and what it is lent of the list as that does; the entries before the place are as they were. Unless it is refused, the place moves on by the posts made.
  * A job that is refused has had its turn, too, and is gone; the place and the buffers are as they were.
- * Refusals: 28, of a part that is not all inside the store as it is lent now; then 1 to 8; 15, of a cell store of another length or more than 256 entries
+ * Refusals: 28, of a part that is not all inside the store as it is lent now; then 1 to 8; 31; 15, of a cell store of another length or more than 256 entries
  * left; 16. Stops: 17 to 22. With SOVZEDAL_IDLE no job waits, and nothing changed. */
 uint32_t sovzedal_lines_serve(uint64_t *lines, size_t lines_len,
                               const uint8_t *store, size_t store_len,
                               uint8_t *cells, size_t cells_len,
-                              uint16_t *posts, size_t posts_len,
+                              uint32_t *posts, size_t posts_len,
                               uint32_t *answer, size_t answer_len);
 
 #ifdef __cplusplus

@@ -44,7 +44,7 @@ static uint8_t block[SOVZEDAL_BLOCK];
 
 /* The largest buffers: a block's runs take no others. */
 static uint8_t cells[SOVZEDAL_MAX_CELLS];
-static uint16_t posts[SOVZEDAL_MAX_POSTS];
+static uint32_t posts[SOVZEDAL_MAX_POSTS];
 
 static uint32_t answer[SOVZEDAL_ANSWER];
 

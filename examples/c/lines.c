@@ -60,8 +60,9 @@ static uint64_t lines[SOVZEDAL_LINES];
 /* The largest cell store: the lines' runs take no other. */
 static uint8_t cells[SOVZEDAL_MAX_CELLS];
 
-/* The list that the jobs share. Five posts fit. */
-static uint16_t posts[5];
+/* The list that the jobs share. Five posts fit. The sheets in the store are of
+ * format 1, so that an entry is the number that was posted. */
+static uint32_t posts[5];
 static const size_t posts_len = sizeof posts / sizeof posts[0];
 
 static uint32_t answer[SOVZEDAL_LINES_ANSWER];
@@ -133,7 +134,7 @@ int main(void)
 
     printf("posts:");
     for (post = 0; post < posts_len; post++) {
-        printf(" %" PRIu16, posts[post]);
+        printf(" %" PRIu32, posts[post]);
     }
     printf("\n");
     return 0;

@@ -12,7 +12,7 @@
 
 /* The largest buffers that a run takes. */
 static uint8_t cells[SOVZEDAL_MAX_CELLS];
-static uint16_t posts[SOVZEDAL_MAX_POSTS];
+static uint32_t posts[SOVZEDAL_MAX_POSTS];
 
 static uint32_t answer[SOVZEDAL_ANSWER];
 
@@ -41,6 +41,33 @@ static int judge(size_t sheet_len)
     return status == SOVZEDAL_OK;
 }
 
+/* Says what was posted on each channel, in order. Nothing is said of the others. */
+static void print_posts(uint32_t made)
+{
+    uint32_t channel, post;
+
+    if (made == 0) {
+        printf("no posts\n");
+    }
+    for (channel = 0; channel < SOVZEDAL_CHANNELS; channel++) {
+        int any = 0;
+
+        for (post = 0; post < made; post++) {
+            if (sovzedal_post_channel(posts[post]) != channel) {
+                continue;
+            }
+            if (!any) {
+                printf("posts on channel %" PRIu32 ":", channel);
+            }
+            printf(" %" PRIu32, sovzedal_post_number(posts[post]));
+            any = 1;
+        }
+        if (any) {
+            printf("\n");
+        }
+    }
+}
+
 /* Runs the sheet eagerly with its checks in force, on the empty stack, and says
  * how that went. Returns whether the run ended. */
 static int run(size_t sheet_len)
@@ -66,11 +93,7 @@ static int run(size_t sheet_len)
     printf(", calls %" PRIu32 ", cells %" PRIu32 ", posts %" PRIu32 "\n",
            answer[SOVZEDAL_AT_CALLS], answer[SOVZEDAL_AT_CELLS], answer[SOVZEDAL_AT_POSTS]);
 
-    printf("posts:");
-    for (uint32_t i = 0; i < answer[SOVZEDAL_AT_POSTS]; i++) {
-        printf(" %" PRIu16, posts[i]);
-    }
-    printf(answer[SOVZEDAL_AT_POSTS] == 0 ? " none\n" : "\n");
+    print_posts(answer[SOVZEDAL_AT_POSTS]);
     return status == SOVZEDAL_OK;
 }
 

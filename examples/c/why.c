@@ -23,17 +23,38 @@ static const char *const kinds[] = {
 
 enum {
     CHECK = 7,
+    POST = 14,
+    HEADER = 3,      /* bytes of a field's header: its tag, and its length in two */
     TERM_RECORD = 8  /* bytes of a term's record */
 };
 
-/* The terms' records are the last bytes of a readable sheet. */
-static unsigned kind_of(uint16_t term, uint32_t terms, size_t sheet_len)
+/* Of a readable sheet. The terms' records are the content of the fourth field. */
+static unsigned kind_of(uint16_t term)
 {
-    return sheet[sheet_len - TERM_RECORD * (terms - term)];
+    size_t at = 0;
+    int field;
+
+    for (field = 1; field < 4; field++) {
+        at += HEADER + 256u * sheet[at + 1] + sheet[at + 2];
+    }
+    return sheet[at + HEADER + TERM_RECORD * term];
+}
+
+/* What makes a term of this kind a cause. */
+static const char *reason(unsigned kind)
+{
+    switch (kind) {
+    case CHECK:
+        return "which names it";
+    case POST:
+        return "whose channel it guards";
+    default:
+        return "whose latent set holds it";
+    }
 }
 
 /* Prints the chain of a need, a term a line. */
-static void explain(uint32_t privilege, uint32_t terms, size_t sheet_len)
+static void explain(uint32_t privilege, size_t sheet_len)
 {
     uint32_t length, place;
     unsigned kind = 0;
@@ -43,16 +64,16 @@ static void explain(uint32_t privilege, uint32_t terms, size_t sheet_len)
     length = answer[SOVZEDAL_AT_LENGTH];
     printf("privilege %" PRIu32 " is needed by\n", privilege);
     for (place = 0; place < length; place++) {
-        kind = kind_of(chain[place], terms, sheet_len);
+        kind = kind_of(chain[place]);
         printf("  %" PRIu16 ": %s", chain[place], kinds[kind]);
         printf(place + 1 < length ? "\n" : ", ");
     }
-    printf(kind == CHECK ? "which names it\n" : "whose latent set holds it\n");
+    printf("%s\n", reason(kind));
 }
 
 int main(int argc, char **argv)
 {
-    uint32_t privilege, terms, needs;
+    uint32_t privilege, needs;
     long sheet_len;
 
     if (argc != 2) {
@@ -69,12 +90,11 @@ int main(int argc, char **argv)
                answer[SOVZEDAL_AT_PLACE]);
         return 1;
     }
-    terms = answer[SOVZEDAL_AT_TERMS];
     needs = answer[SOVZEDAL_AT_NEEDS];
     printf("needs %08" PRIX32 "\n", needs);
     for (privilege = 0; privilege < 32; privilege++) {
         if (needs >> privilege & 1) {
-            explain(privilege, terms, (size_t)sheet_len);
+            explain(privilege, (size_t)sheet_len);
         }
     }
     return 0;

@@ -1,16 +1,17 @@
 -- What the functions on records make is what the definitions say.
-use mathlib.Core.Bool.{Bool, cond}
+use mathlib.Core.Bool.{Bool, cond, _&&_}
 use mathlib.Core.List.{List}
 use mathlib.Core.Path.{_≡_, sym, ap, _∙_}
 use Prim.Native.Nat.{ℕ, _+_, _*_, _<_, _≤_}
-use lib.Dec.{leb}
+use lib.Dec.{leb, ltb}
 use lib.ListN.{length}
-use borrow.Author.Tests.{lt-leb, le-leb}
+use borrow.Author.Tests.{lt-leb, le-leb, lt-ltb, le-ltb}
+use Rattle.program.specs.Limits.{noGuard}
 use Rattle.program.specs.Bytes.{byte, word16, word32}
 use Rattle.program.specs.declared.records.Counts.{Counts}
 use Rattle.program.specs.declared.records.TermRecord.{TermRecord}
 use Rattle.program.specs.declared.records.TypeRecord.{TypeRecord}
-use Rattle.program.specs.Records.{termAtByte, noTerm, termRecord, typeAtByte, noType, typeRecord, authorityRecord}
+use Rattle.program.specs.Records.{termAtByte, noTerm, termRecord, typeAtByte, noType, typeRecord, authorityRecord, guardRecord}
 
 -- one test decides a record
 chosen-none : {A : Type 0} (n l : ℕ) (x y : A) → l < n → y ≡ cond (leb n l) x y
@@ -26,16 +27,23 @@ module _ (s : List ℕ) (c : Counts) (t : ℕ) where
   abbrev typeByte : ℕ
   typeByte = 11 + 4 * c .principals + 10 * t
 
-  pub no-term : length s < termByte + 8 → noTerm ≡ termRecord s c t
+  -- past the table
+  pub no-term : c .terms ≤ t → noTerm ≡ termRecord s c t
   unfolding termRecord
-  no-term h = chosen-none (termByte + 8) (length s) (termAtByte s termByte) noTerm h
+  no-term h = λ i. cond (sym (le-ltb t (c .terms) h) i && leb (termByte + 8) (length s)) (termAtByte s termByte) noTerm
 
-  pub a-term : {x y z : ℕ} → termByte + 8 ≤ length s → x ≡ word16 s (termByte + 2) → y ≡ word16 s (termByte + 4) → z ≡ word16 s (termByte + 6)
+  -- past the end of the sheet
+  pub cut-term : t < c .terms → length s < termByte + 8 → noTerm ≡ termRecord s c t
+  unfolding termRecord
+  cut-term g h = λ i. cond (sym (lt-ltb t (c .terms) g) i && sym (lt-leb (termByte + 8) (length s) h) i) (termAtByte s termByte) noTerm
+
+  pub a-term : {x y z : ℕ} → t < c .terms → termByte + 8 ≤ length s → x ≡ word16 s (termByte + 2) → y ≡ word16 s (termByte + 4)
+      → z ≡ word16 s (termByte + 6)
       → _≡_ {A = TermRecord} (record { kind = byte s termByte; small = byte s (termByte + 1); first = x; second = y; third = z }) (termRecord s c t)
   unfolding termRecord
-  a-term h p q r =
+  a-term g h p q r =
       (λ i. record { kind = byte s termByte; small = byte s (termByte + 1); first = p i; second = q i; third = r i })
-      ∙ chosen-some (termByte + 8) (length s) (termAtByte s termByte) noTerm h
+      ∙ (λ i. cond (sym (lt-ltb t (c .terms) g) i && sym (le-leb (termByte + 8) (length s) h) i) (termAtByte s termByte) noTerm)
 
   pub no-type : length s < typeByte + 10 → noType ≡ typeRecord s c t
   unfolding typeRecord
@@ -55,3 +63,15 @@ no-authority s n h = chosen-none (8 + 4 * n + 4) (length s) (word32 s (8 + 4 * n
 pub an-authority : (s : List ℕ) (n : ℕ) {x : ℕ} → 8 + 4 * n + 4 ≤ length s → x ≡ word32 s (8 + 4 * n) → x ≡ authorityRecord s n
 unfolding authorityRecord
 an-authority s n h e = e ∙ chosen-some (8 + 4 * n + 4) (length s) (word32 s (8 + 4 * n)) 0 h
+
+module _ (s : List ℕ) (c : Counts) (channel : ℕ) where
+  abbrev guardPlace : ℕ
+  guardPlace = 17 + 4 * c .principals + 10 * c .types + 8 * c .terms + channel
+
+  pub no-guard : length s ≤ guardPlace → noGuard ≡ guardRecord s c channel
+  unfolding guardRecord
+  no-guard h = λ i. cond (sym (le-ltb guardPlace (length s) h) i) (byte s guardPlace) noGuard
+
+  pub a-guard : guardPlace < length s → byte s guardPlace ≡ guardRecord s c channel
+  unfolding guardRecord
+  a-guard h = λ i. cond (sym (lt-ltb guardPlace (length s) h) i) (byte s guardPlace) noGuard

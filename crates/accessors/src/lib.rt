@@ -1,9 +1,11 @@
-// A sheet's records by their numbers. Each function tests once that the record lies in the sheet; one that does not is all zeros.
+// A sheet's records and guards by their numbers. Each function tests that what it reads lies in the sheet; a record that does not is all zeros, and a
+// channel has no guard.
 ghost use mathlib.Core.Path.{_≡_};
 ghost use Prim.Native.Nat.{_+_, _≤_};
 ghost use lib.ListN.{length};
 ghost use Rattle.program.specs.Bytes.{word16, word32};
-ghost use Rattle.program.specs.Records.{termRecord, typeRecord, authorityRecord};
+ghost use Rattle.program.specs.Records.{termRecord, typeRecord, authorityRecord, guardRecord};
+use program::limits::NO_GUARD;
 use program::records::Counts;
 use program::records::TermRecord;
 use program::records::TypeRecord;
@@ -24,12 +26,12 @@ pub fn be32(s: &[u8], at: usize) -> u32
     (be16(s, at) as u32) * 65536 + (be16(s, at + 2) as u32)
 }
 
-// The record of term t.
+// The record of term t. Past the table there is none, though guards may follow it.
 pub fn term(s: &[u8], c: Counts, t: u16) -> TermRecord
     ensures { λ r. ⌜ r ≡ termRecord (now (s .entry)) c t ⌝ }
 {
     let at = 14 + 4 * (c.principals as usize) + 10 * (c.types as usize) + 8 * (t as usize);
-    if s.len() < at + 8 {
+    if c.terms <= t || s.len() < at + 8 {
         return TermRecord {
             kind: 0,
             small: 0,
@@ -79,4 +81,19 @@ pub fn authority(s: &[u8], n: u32) -> u32
         return 0;
     }
     be32(s, at)
+}
+
+// The guard byte of a channel.
+pub fn guard(s: &[u8], c: Counts, channel: u8) -> u8
+    ensures { λ r. ⌜ r ≡ guardRecord (now (s .entry)) c channel ⌝ }
+{
+    let at = 17
+        + 4 * (c.principals as usize)
+        + 10 * (c.types as usize)
+        + 8 * (c.terms as usize)
+        + (channel as usize);
+    if s.len() <= at {
+        return NO_GUARD;
+    }
+    s[at]
 }

@@ -28,7 +28,7 @@ fn run_either(
     depth: u32,
     enforce: bool,
     cells: &mut [u8],
-    posts: &mut [u16],
+    posts: &mut [u32],
     frames: &mut [u32],
 ) -> Run
     ensures { λ r. ⌜ after r (now (cells .exit)) (now (posts .exit)) (now (frames .exit))
@@ -49,11 +49,11 @@ pub fn compare(
     depth: u32,
     lazy: bool,
     cells: &mut [u8],
-    posts: &mut [u16],
+    posts: &mut [u32],
     frames: &mut [u32],
     lazy2: bool,
     cells2: &mut [u8],
-    posts2: &mut [u16],
+    posts2: &mut [u32],
     frames2: &mut [u32],
 ) -> Compared
     ensures { λ r. ⌜ verdictModel (r .verdict) ≡ verdict (now (sheet .entry)) ⌝ }

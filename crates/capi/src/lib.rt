@@ -51,7 +51,7 @@ pub extern "C" fn sovzedal_run_eager(
     depth: u32,
     enforce: u32,
     cells: &mut [u8],
-    posts: &mut [u16],
+    posts: &mut [u32],
     answer: &mut [u32],
 ) -> u32
     ensures { λ r. ⌜ leftAll r (now (answer .exit)) (buffersOf (now (cells .exit)) (now (posts .exit)) [])
@@ -75,7 +75,7 @@ pub extern "C" fn sovzedal_run_lazy(
     depth: u32,
     enforce: u32,
     cells: &mut [u8],
-    posts: &mut [u16],
+    posts: &mut [u32],
     frames: &mut [u32],
     answer: &mut [u32],
 ) -> u32
@@ -124,7 +124,7 @@ pub extern "C" fn sovzedal_block_write(
     value: u8,
     sheet: &[u8],
     cells: &mut [u8],
-    posts: &mut [u16],
+    posts: &mut [u32],
     answer: &mut [u32],
 ) -> u32
     ensures { λ r. ⌜ leftBlock r (now (answer .exit)) (now (block .exit)) (buffersOf (now (cells .exit)) (now (posts .exit)) [])
@@ -168,7 +168,7 @@ pub extern "C" fn sovzedal_lines_serve(
     lines: &mut [u64],
     store: &[u8],
     cells: &mut [u8],
-    posts: &mut [u16],
+    posts: &mut [u32],
     answer: &mut [u32],
 ) -> u32
     ensures { λ r. ⌜ leftServe r (now (answer .exit)) (now (lines .exit)) (buffersOf (now (cells .exit)) (now (posts .exit)) [])

@@ -98,8 +98,8 @@ module _ (s : List ℕ) (p : ℕ) (chain answer : List ℕ) where
   pub given : maxNesting ≤ length chain → 8 ≤ length answer → (r : Explained) → Told r (explanation s p) → {chain′ : List ℕ}
       → chain′ ≡ listAfter (r .answer) (r .terms) chain → {x : Reply} → replyOf x ≡ replyFor (r .answer) → {status : ℕ} {after : List ℕ}
       → (status ≡ x .status) × (after ≡ x .numbers ++ drop 8 answer) → leftExplain status after chain′ ≡ explainCall s p chain answer
-  given h g r told f e put =
-      (λ i. record { reply = in-place answer g (e ∙ reply-by (r .terms) (r .answer) as-long) put i; chain = (f ∙ list-by (r .terms) chain (r .answer) as-terms) i })
+  given h g r told {chain′ = chain′} f e put =
+      (λ i. record { reply = in-place answer g (e ∙ reply-by (r .terms) (r .answer) as-long) put i; chain = list-after i })
       ∙ ap (explainLeft answer chain) (told .answer-is)
       ∙ (λ i. cond (sym (wide h g) i) (leftExplain 3 answer chain) (explainLeft answer chain (explanation s p)))
     where
@@ -108,3 +108,6 @@ module _ (s : List ℕ) (p : ℕ) (chain answer : List ℕ) where
 
       as-terms : r .terms ≡ padded (chainTerms (answerModel (r .answer) (r .terms)))
       as-terms = told .terms-are ∙ sym (ap (λ (x : ExplainedOf). padded (chainTerms x)) (told .answer-is))
+
+      list-after : chain′ ≡ chainAfter (answerModel (r .answer) (r .terms)) chain
+      list-after = f ∙ list-by (r .terms) chain (r .answer) as-terms

@@ -1,5 +1,5 @@
 -- What an entry for the lines leaves, from the promises of the functions that it calls.
-use mathlib.Core.Bool.{true, cond}
+use mathlib.Core.Bool.{true, false, cond}
 use mathlib.Core.List.{List, [], _∷_, _++_}
 use mathlib.Core.Path.{_≡_, refl, sym, ap, _∙_}
 use Prim.Native.Nat.{ℕ, _<_, _≤_}
@@ -78,8 +78,11 @@ module _ (state answer store : List ℕ) (size : length state ≡ stateNumbers) 
   serve-given f g {status = status} {after = after} put =
       (λ i. record { reply = whole i; state = f i; buffers = buffersOf cells posts [] })
       ∙ ap (serveLeft state answer) (e ∙ ap (λ (s : State). serveOf s store b) load)
-      ∙ (λ i. cond (sym (fit stateNumbers 9 state answer size room) i) (leftServe 3 answer state b) (serveLeft state answer (serveOf (stateRead state) store b)))
+      ∙ (λ i. cond (sym fits i) (leftServe 3 answer state b) (serveLeft state answer (serveOf (stateRead state) store b)))
     where
+      fits : unfit stateNumbers 9 state answer ≡ false
+      fits = fit stateNumbers 9 state answer size room
+
       eight : left status after ≡ written (serveReply (answerModel (r .answer))) answer
       eight = in-place answer (omega arith) g put
 

@@ -48,7 +48,7 @@ pub fn serve(
     state: &mut [u64],
     store: &[u8],
     cells: &mut [u8],
-    posts: &mut [u16],
+    posts: &mut [u32],
     answer: &mut [u32],
 ) -> u32
     ensures { λ r. ⌜ leftServe r (now (answer .exit)) (now (state .exit)) (buffersOf (now (cells .exit)) (now (posts .exit)) [])

@@ -11,21 +11,23 @@ use borrow.Author.Tests.{leb-true, ltb-true}
 use denote.Enum.Declared.{tagOf}
 use Rattle.typing.proofs.answer.Inferred.{the-type}
 use Rattle.privileges.specs.Sets.{union, subset}
-use Rattle.program.specs.Layout.{principals, termAt, authority, typesOf}
+use Rattle.program.specs.Limits.{maxChannels}
+use Rattle.program.specs.Layout.{principals, termAt, channels, guardByte, guardIn, guardOf, authority, typesOf}
 use Rattle.program.specs.Formats.{Kind, Boolean, Number, Variable, Function, Letrec, Call, If, Check, Enable, Sign, Test, Sum, Difference, Less, Post, kindOf, format}
 use Rattle.program.specs.Terms.{node, tree}
 use Rattle.program.specs.Decoding.{partOk}
-use Rattle.program.specs.Records.{termAtByte, typeRecord, authorityRecord}
+use Rattle.program.specs.Records.{termAtByte, typeRecord, authorityRecord, guardRecord}
 use Rattle.program.specs.declared.records.Counts.{Counts}
 use Rattle.program.specs.declared.records.TermRecord.{TermRecord}
 use Rattle.program.specs.declared.records.TypeRecord.{TypeRecord}
 use Rattle.program.specs.Laws.Readable.{WellFormed}
-use Rattle.program.specs.Laws.Records.{term-is, authority-is}
+use Rattle.program.specs.Laws.Guards.{channels-most}
+use Rattle.program.specs.Laws.Records.{term-is, authority-is, guard-is}
 use Rattle.program.specs.Laws.Trees.{Below, below, parts, tree-node}
 use Rattle.typing.specs.Rules.{removeAuthorised}
 use Rattle.typing.specs.Checking.{Judgement, typed, _next_, require, bodyFits, infer}
 use Rattle.rules.specs.Inference.{inferredModel, context, room, roomAt, termJudgement, Ready}
-use Rattle.rules.specs.Steps.{Pushed, leafStep, checkStep, enableStep, signStep, postStep, testStep, ifStep, binaryStep, bodyStep, functionStep, letrecStep, callStep, resultOf}
+use Rattle.rules.specs.Steps.{Pushed, leafStep, checkStep, enableStep, signStep, postStep, GuardByte, testStep, ifStep, binaryStep, bodyStep, functionStep, letrecStep, callStep, resultOf}
 use Rattle.checker.specs.Internal.{ReadyAt}
 use Rattle.typing.specs.declared.answer.Inferred.{Inferred}
 use Rattle.typing.specs.declared.answer.Inferred.the-variants.{Typed}
@@ -67,7 +69,7 @@ module _ {s : List ℕ} {c : Counts} {l : List ℕ} {t : ℕ} {b : Bindings} {n 
   well = W .ready .sheet .well-formed
 
   parts-are : x ≡ termAtByte s (termAt s t)
-  parts-are = W .record-is ∙ term-is s well c (W .ready .sheet .counts) t
+  parts-are = W .record-is ∙ term-is s well c (W .ready .sheet .counts) t (W .ready .inside)
 
   pub kind-most : x .kind ≤ 14
   kind-most = subst (λ (x : TermRecord). x .kind ≤ 14) (sym parts-are) (parts s well t (W .ready .inside) .kind-ok)
@@ -88,17 +90,17 @@ module _ {s : List ℕ} {c : Counts} {l : List ℕ} {t : ℕ} {b : Bindings} {n 
         (subst (λ (x : TermRecord). partOk s t (format (kindOf (x .kind)) .first) (x .first) ≡ true) (sym parts-are)
         (parts s well t (W .ready .inside) .first-ok))
 
-    tree-as : tree s t ≡ node K t (x .small) (x .first) (x .second) (x .third) (tree s)
-    tree-as = subst (λ (x : TermRecord). tree s t ≡ node (kindOf (x .kind)) t (x .small) (x .first) (x .second) (x .third) (tree s)) (sym parts-are)
+    tree-as : tree s t ≡ node (guardOf s) K t (x .small) (x .first) (x .second) (x .third) (tree s)
+    tree-as = subst (λ (x : TermRecord). tree s t ≡ node (guardOf s) (kindOf (x .kind)) t (x .small) (x .first) (x .second) (x .third) (tree s)) (sym parts-are)
         (tree-node s well t (W .ready .inside))
-        ∙ ap (λ (k : Kind). node k t (x .small) (x .first) (x .second) (x .third) (tree s)) e
+        ∙ ap (λ (k : Kind). node (guardOf s) k t (x .small) (x .first) (x .second) (x .third) (tree s)) e
 
-    room-as : roomAt s t ≡ room (node K t (x .small) (x .first) (x .second) (x .third) (tree s))
+    room-as : roomAt s t ≡ room (node (guardOf s) K t (x .small) (x .first) (x .second) (x .third) (tree s))
     unfolding roomAt
     room-as = ap room tree-as
 
     inferred-as : (Γ : List ℕ) (n : ℕ) → termJudgement s Γ n t
-        ≡ infer (typesOf s) (authority s) Γ n (node K t (x .small) (x .first) (x .second) (x .third) (tree s))
+        ≡ infer (typesOf s) (authority s) Γ n (node (guardOf s) K t (x .small) (x .first) (x .second) (x .third) (tree s))
     unfolding termJudgement
     inferred-as Γ n = ap (infer (typesOf s) (authority s) Γ n) tree-as
 
@@ -140,6 +142,16 @@ module _ {s : List ℕ} {c : Counts} {l : List ℕ} {t : ℕ} {b : Bindings} {n 
 
   pub test-privilege : x .kind ≡ 10 → x .small < 32
   test-privilege e = omega (arith, leb-true (x .small) 31 (small-as Test (named e)))
+
+  post-channel : x .kind ≡ 14 → x .small < maxChannels
+  post-channel e = omega (arith, ltb-true (x .small) (channels s) (small-as Post (named e)), channels-most s)
+
+  -- a post's channel is one of the 16, so that what is read is its guard
+  pub post-guard : x .kind ≡ 14 → {g : ℕ} → g ≡ guardRecord s c (x .small) → g ≡ guardByte s (x .small)
+  post-guard e a = a ∙ guard-is s well c (W .ready .sheet .counts) (x .small) (post-channel e)
+
+  pub post-guard-byte : x .kind ≡ 14 → {g : ℕ} → g ≡ guardRecord s c (x .small) → GuardByte g
+  post-guard-byte e a = subst GuardByte (sym (post-guard e a)) (well .guard-ok (x .small) (post-channel e))
 
   left : (y z : ℕ) → y < t → roomAt s t ≡ max (roomAt s y) (roomAt s z) → Child s c t y b n
   left y z h e = plain y h (omega (arith, e, le-max-left (roomAt s y) (roomAt s z)))
@@ -295,12 +307,12 @@ module _ {s : List ℕ} {c : Counts} {l : List ℕ} {t : ℕ} {b : Bindings} {n 
         ≡ signStep may t j → r ≡ J t
     sign-is e {may} a p q = ends (signStep may t) p (sign-as e a) q
 
-    post-as : x .kind ≡ 14 → J t ≡ postStep t (J (x .first))
+    post-as : x .kind ≡ 14 → {g : ℕ} → g ≡ guardRecord s c (x .small) → J t ≡ postStep (guardIn g) t (J (x .first))
     unfolding termJudgement infer postStep
-    post-as e = inferred-as Post (named e) Γ n
+    post-as e a = inferred-as Post (named e) Γ n ∙ ap (λ (g : ℕ). postStep (guardIn g) t (J (x .first))) (sym (post-guard e a))
 
-    pub post-is : x .kind ≡ 14 → {j r : Judgement} → j ≡ J (x .first) → r ≡ postStep t j → r ≡ J t
-    post-is e p q = ends (postStep t) p (post-as e) q
+    pub post-is : x .kind ≡ 14 → {g : ℕ} → g ≡ guardRecord s c (x .small) → {j r : Judgement} → j ≡ J (x .first) → r ≡ postStep (guardIn g) t j → r ≡ J t
+    post-is e {g} a p q = ends (postStep (guardIn g) t) p (post-as e a) q
 
     -- ---- two children
     abbrev test-rest : (τ N : ℕ) → Judgement

@@ -1,5 +1,6 @@
 // The judgement of a term: children in order, and nothing after the first fault.
 use accessors::authority;
+use accessors::guard;
 use accessors::term;
 use accessors::type_record;
 use program::records::Counts;
@@ -229,6 +230,7 @@ fn infer_binary(
     steps::computed(result, t, ty, needs, k)
 }
 
+// The privilege that guards its channel is among the needs.
 fn infer_post(
     s: &[u8],
     c: Counts,
@@ -243,5 +245,6 @@ fn infer_post(
     ensures { λ r. ⌜ Judged (now (s .entry)) (context b) n t r (now (known .exit)) ⌝ }
 {
     let j = infer(s, c, known, x.first, b, n);
-    steps::posted(t, j)
+    let g = guard(s, c, x.small);
+    steps::posted(g, t, j)
 }

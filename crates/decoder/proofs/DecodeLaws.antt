@@ -1,10 +1,16 @@
 -- The whole decoder: each way out tells the first condition that is found.
+use mathlib.Core.Bool.{_||_}
 use mathlib.Core.List.{List}
 use mathlib.Core.Option.{Option, none, some}
 use mathlib.Core.Path.{_≡_, sym, ap, _∙_, subst}
-use Prim.Native.Nat.{ℕ}
+use Prim.Native.Nat.{ℕ, _<_}
+use lib.Dec.{leb, eqb}
+use Rattle.program.specs.Limits.{maxChannels, noGuard}
 use Rattle.program.specs.Screening.{found, screen}
-use Rattle.program.specs.Decoding.{tableConditions, decoding}
+use Rattle.program.specs.Decoding.{guardOk, tableConditions, decoding}
+use Rattle.program.specs.Records.{guardRecord}
+use Rattle.program.specs.Laws.Readable.{fields-ok}
+use Rattle.program.specs.Laws.Records.{guard-laid}
 use Rattle.program.specs.Laws.Screening.{first-found, none-screen, first-left}
 use Rattle.program.specs.Answers.{decodingCause, decodingPlace, decodedModel}
 use Rattle.tables.specs.Internal.{Laid, foundOf}
@@ -23,6 +29,12 @@ found-at e h = sym h ∙ ap foundOf e
 
 pub found-none : {r : Found} {o : Option ℕ} → r ≡ Nothing → foundOf r ≡ o → o ≡ none
 found-none e h = sym h ∙ ap foundOf e
+
+-- ---- a guard
+pub guard-ok : (s : List ℕ) (c : Counts) → Laid s c → (channel : ℕ) → channel < maxChannels → {g : ℕ} → g ≡ guardRecord s c channel
+    → (leb g 31 || eqb g noGuard) ≡ guardOk s channel
+guard-ok s c L channel h e =
+    ap (λ (x : ℕ). leb x 31 || eqb x noGuard) (e ∙ guard-laid s (fields-ok s (L .none-found) .ends) c (L .counts-are) channel h)
 
 -- ---- the fields, and then the tables
 module _ (s : List ℕ) where

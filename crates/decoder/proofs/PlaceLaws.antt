@@ -9,12 +9,12 @@ use lib.Dec.{eqb}
 use lib.ListN.{getD, length, set, replicate, getD-replicate}
 use lib.Seq.{getD-set-same, getD-set-other}
 use borrow.Author.Tests.{eqb-true, eqb-false, eq-eqb, ne-eqb}
-use Rattle.program.specs.Layout.{terms, root, kindByte, first, second, third}
+use Rattle.program.specs.Layout.{terms, termAt, root, kindByte, first, second, third}
 use Rattle.program.specs.Formats.{Part, isChild, Kind, Boolean, Number, Variable, Function, Letrec, Call, If, Check, Enable, Sign, Test, Sum, Difference, Less, Post, kindOf, format}
 use Rattle.program.specs.Decoding.{formatAt, termOk, counts, timesIn, timesBelow, isSign, signedBody, placedOk, parent}
 use Rattle.tables.specs.Internal.{Laid, childrenOf, shapeIf, shapeAt}
-use Rattle.decoder.specs.Internal.{TermsOk, linkStep, Linked, linkTimes, one, among, LinkedAll, ChildrenBelow, linkOf, Links}
-use Rattle.program.specs.Records.{termRecord}
+use Rattle.decoder.specs.Internal.{TermsOk, TableTerm, linkStep, Linked, linkTimes, one, among, LinkedAll, ChildrenBelow, linkOf, Links}
+use Rattle.program.specs.Records.{termAtByte, termRecord}
 use Rattle.program.specs.Laws.Screening.{lowest-none}
 use Rattle.program.specs.Laws.Readable.{fields-ok}
 use Rattle.program.specs.Laws.Records.{term-laid}
@@ -279,12 +279,33 @@ body-kind s (suc (suc (suc (suc (suc (suc (suc (suc (suc (suc (suc (suc (suc (su
     let k = (suc (suc (suc (suc (suc (suc (suc (suc (suc (suc (suc (suc (suc (suc (suc n))))))))))))))) in
     sym (λ i. cond (ne-eqb k 3 (λ e. omega arith) i || ne-eqb k 4 (λ e. omega arith) i) (isSign s x) true)
 
-module _ (s : List ℕ) (c : TableCounts) (t : ℕ) (L : Laid s c) {r : TermRecord} (e : r ≡ termRecord s c t) where
+body-child : (k : ℕ) → (eqb k 3 || eqb k 4) ≡ true → isChild (format (kindOf k) .second) ≡ true
+body-child k h = go (eqb k 3) refl h
+  where
+    second-child : ℕ → Bool
+    second-child z = isChild (format (kindOf z) .second)
+
+    go : (b : Bool) → eqb k 3 ≡ b → (b || eqb k 4) ≡ true → second-child k ≡ true
+    go true e h = ap second-child (eqb-true k 3 e)
+    go false e h = ap second-child (eqb-true k 4 h)
+
+module _ (s : List ℕ) (c : TableCounts) (t : ℕ) (K : TableTerm s c t) {r : TermRecord} (e : r ≡ termRecord s c t) where
+  read : r ≡ termAtByte s (termAt s t)
+  read = let L = K .tables .laid in e ∙ term-laid s (fields-ok s (L .none-found) .terms-in) c (L .counts-are) t (K .inside)
+
+  pub sign-is : eqb (r .kind) 9 ≡ isSign s t
+  sign-is = ap (λ (x : TermRecord). eqb (x .kind) 9) read
+
+  -- a body is lower than its function, and so in the table
+  pub body-in : (eqb (r .kind) 3 || eqb (r .kind) 4) ≡ true → TableTerm s c (r .second)
+  body-in h =
+      let lower = below-of s t (terms-ok s (K .tables .terms-ok) t (K .inside)) .second-below in
+      let child = body-child (kindByte s t) (ap (λ (x : TermRecord). eqb (x .kind) 3 || eqb (x .kind) 4) (sym read) ∙ h) in
+      record { tables = K .tables; inside = omega (arith, lower child, ap (λ (x : TermRecord). x .second) read, K .inside) }
+
   body-record : signedBody s (formatAt s t .second) (second s t) ≡ cond (eqb (r .kind) 3 || eqb (r .kind) 4) (isSign s (r .second)) true
   body-record =
-      ap (λ (x : TermRecord). signedBody s (format (kindOf (x .kind)) .second) (x .second))
-      (sym (e ∙ term-laid s (fields-ok s (L .none-found) .ends) c (L .counts-are) t))
-      ∙ body-kind s (r .kind) (r .second)
+      ap (λ (x : TermRecord). signedBody s (format (kindOf (x .kind)) .second) (x .second)) (sym read) ∙ body-kind s (r .kind) (r .second)
 
   pub body-is : {b : Bool} → (eqb (r .kind) 3 || eqb (r .kind) 4) ≡ true → b ≡ isSign s (r .second) → b ≡ signedBody s (formatAt s t .second) (second s t)
   body-is h k = k ∙ sym (body-record ∙ (λ i. cond (h i) (isSign s (r .second)) true))
@@ -297,9 +318,6 @@ root-is t n h = elim (ℕ-discrete (t + 1) n) [
   | yes e ↦ eq-eqb (t + 1) n e ∙ sym (eq-eqb t (n - 1) (omega arith))
   | no g ↦ ne-eqb (t + 1) n g ∙ sym (ne-eqb t (n - 1) (λ z. g (omega arith)))
 ]
-
-pub sign-is : (s : List ℕ) (c : TableCounts) (t : ℕ) → Laid s c → {r : TermRecord} → r ≡ termRecord s c t → eqb (r .kind) 9 ≡ isSign s t
-sign-is s c t L e = ap (λ (x : TermRecord). eqb (x .kind) 9) (e ∙ term-laid s (fields-ok s (L .none-found) .ends) c (L .counts-are) t)
 
 module _ (s : List ℕ) (c : TableCounts) (L : Laid s c) (T : TermsOk s) (t : ℕ) (h : t < terms s) (l : List ℕ) (w : Links s l (terms s)) where
   few : terms s ≤ 1024

@@ -10,7 +10,7 @@ use Rattle.program.specs.Limits.{maxTerms, maxNesting}
 use Rattle.program.specs.Layout.{types, terms}
 use Rattle.program.specs.Tests.{orElse}
 use Rattle.program.specs.Screening.{lowest}
-use Rattle.program.specs.Decoding.{typeOk, termOk, timesBelow, placedOk, parent}
+use Rattle.program.specs.Decoding.{typeOk, termOk, timesBelow, placedOk, parent, nestedIn}
 use Rattle.program.specs.declared.records.Counts.{Counts}
 use Rattle.tables.specs.Internal.{Laid}
 use Rattle.tables.specs.declared.terms.Shape.{Shape}
@@ -28,6 +28,11 @@ pub record Tables (s : List ℕ) (c : Counts) : Type 0 where
   pub laid : Laid s c
   pub types-ok : TypesOk s
   pub terms-ok : TermsOk s
+
+-- and a term
+pub record TableTerm (s : List ℕ) (c : Counts) (t : ℕ) : Type 0 where
+  pub tables : Tables s c
+  pub inside : t < terms s
 
 -- ---- parents
 -- one more parent is noted for x, and the other entries are as they were
@@ -96,6 +101,12 @@ pub record LinkedTerm (s : List ℕ) (c : Counts) (l : List ℕ) (t : ℕ) : Typ
 pub record PlacedTables (s : List ℕ) (c : Counts) (l : List ℕ) : Type 0 where
   pub tables : Tables s c
   pub places-ok : PlacesOk s l
+
+-- and none nested too deep
+pub record NestedTables (s : List ℕ) (c : Counts) : Type 0 where
+  pub tables : Tables s c
+  pub places-ok : lowest (placedOk s) 0 (terms s) ≡ none
+  pub nesting-ok : lowest (nestedIn s maxNesting) 0 (terms s) ≡ none
 
 -- ---- nesting
 -- every term but the root has its parent above it

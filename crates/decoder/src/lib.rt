@@ -4,8 +4,9 @@ ghost use Rattle.program.specs.Screening.{screen};
 ghost use Rattle.program.specs.Decoding.{tableConditions, decoding};
 ghost use Rattle.program.specs.Answers.{decodedModel, Counted};
 ghost use Rattle.tables.specs.Internal.{Laid};
-ghost use Rattle.decoder.specs.Internal.{Tables, PlacedTables};
+ghost use Rattle.decoder.specs.Internal.{Tables, PlacedTables, NestedTables};
 
+pub mod guards;
 pub mod nesting;
 pub mod places;
 
@@ -16,6 +17,17 @@ use program::records::Counts;
 use tables::header::Header;
 use tables::search::Found;
 
+// The guards of a sheet whose terms are right.
+fn guarded(s: &[u8], c: Counts) -> Decoded
+    requires { ⌜ NestedTables (now s) c ⌝ }
+    ensures { λ r. ⌜ (decodedModel r ≡ screen (tableConditions (now (s .entry)))) × Counted (now (s .entry)) r ⌝ }
+{
+    match guards::bad_guard(s, c) {
+        Found::At(channel) => Decoded::Refused(Refusal::BadGuard(channel)),
+        Found::Nothing => Decoded::Readable(c),
+    }
+}
+
 // The nesting of a sheet whose records and places are right.
 fn nested(s: &[u8], c: Counts, parents: &[u16; TERM_PLACES]) -> Decoded
     requires { ⌜ PlacedTables (now s) c (now parents) ⌝ }
@@ -25,7 +37,7 @@ fn nested(s: &[u8], c: Counts, parents: &[u16; TERM_PLACES]) -> Decoded
     let deep = nesting::nestings(parents, n);
     match nesting::too_deep(&deep, n) {
         Found::At(t) => Decoded::Refused(Refusal::TooDeep(t)),
-        Found::Nothing => Decoded::Readable(c),
+        Found::Nothing => guarded(s, c),
     }
 }
 
@@ -55,7 +67,7 @@ fn tables(s: &[u8], c: Counts) -> Decoded
     }
 }
 
-// What any bytes are as a sheet: 01's reader.
+// What any bytes are as a sheet: 01's reader, with 02's version 2.
 pub fn decode(sheet: &[u8]) -> Decoded
     ensures { λ r. ⌜ decodedModel r ≡ decoding (now (sheet .entry)) ⌝ }
     ensures { λ r. ⌜ Counted (now (sheet .entry)) r ⌝ }

@@ -7,8 +7,8 @@ ghost use lib.ListN.{length};
 ghost use Rattle.program.specs.Layout.{second, terms};
 ghost use Rattle.program.specs.Screening.{lowest};
 ghost use Rattle.program.specs.Decoding.{formatAt, isSign, signedBody, placedOk};
-ghost use Rattle.tables.specs.Internal.{Laid, foundOf};
-ghost use Rattle.decoder.specs.Internal.{Tables, Linked, ChildrenBelow, LinkedAll, Links, LinkedTables, LinkedTerm};
+ghost use Rattle.tables.specs.Internal.{foundOf};
+ghost use Rattle.decoder.specs.Internal.{Tables, TableTerm, Linked, ChildrenBelow, LinkedAll, Links, LinkedTables, LinkedTerm};
 use accessors::term;
 use program::limits::TERM_PLACES;
 use program::records::Counts;
@@ -72,7 +72,7 @@ pub fn parents_of(s: &[u8], c: Counts) -> [u16; TERM_PLACES]
 }
 
 fn is_sign(s: &[u8], c: Counts, t: u16) -> bool
-    requires { ⌜ Laid (now s) c ⌝ }
+    requires { ⌜ TableTerm (now s) c t ⌝ }
     ensures { λ r. ⌜ r ≡ isSign (now (s .entry)) t ⌝ }
 {
     let r = term(s, c, t);
@@ -81,7 +81,7 @@ fn is_sign(s: &[u8], c: Counts, t: u16) -> bool
 
 // Whether the body of term t, if it is a function or a letrec, is signed.
 fn body_signed(s: &[u8], c: Counts, t: u16) -> bool
-    requires { ⌜ Laid (now s) c ⌝ }
+    requires { ⌜ TableTerm (now s) c t ⌝ }
     ensures { λ r. ⌜ r ≡ signedBody (now (s .entry)) (formatAt (now (s .entry)) t .second) (second (now (s .entry)) t) ⌝ }
 {
     let r = term(s, c, t);
@@ -104,7 +104,7 @@ fn parents_ok(p: u16, root: bool) -> bool
 
 // Whether term t is signed if it is the root.
 fn root_signed(s: &[u8], c: Counts, t: u16, root: bool) -> bool
-    requires { ⌜ Laid (now s) c ⌝ }
+    requires { ⌜ TableTerm (now s) c t ⌝ }
     ensures { λ r. ⌜ r ≡ (not root || isSign (now (s .entry)) t) ⌝ }
 {
     if root {

@@ -13,12 +13,12 @@ use lib.ListN.{length, getD, set, List·getD-eq-default}
 use lib.Seq.{getD-set-same, getD-set-other}
 use borrow.Author.Tests.{eq-eqb, ne-eqb, le-leb, lt-leb, lt-ltb, le-ltb, ltb-true, ltb-false}
 use Rattle.stores.specs.Words.{pick, booleanWord, numberWord, functionWord, stopWord, sortOf, payloadOf, envOf, isStop}
-use Rattle.machine.specs.Table.{wordKind, wordSmall, wordFirst, wordSecond, wordThird, wordAuthority}
+use Rattle.machine.specs.Table.{wordKind, wordSmall, wordFirst, wordSecond, wordThird, wordAuthority, wordGuard}
 use Rattle.stores.specs.Cells.{lookOf, cellSet, madeWith, storeWith, Bound}
 use Rattle.stores.specs.Access.{grantedOf, allowedOf, signAccess, signFrames, enableAccess, enableFrames, enabledNow, restoreFrames}
-use Rattle.machine.specs.Steps.{callsLeft, cellsMade, postsMade, modeOf, operateOf, postCounters, Appended}
+use Rattle.machine.specs.Steps.{callsLeft, cellsMade, postsMade, modeOf, operateOf, Guard, postCause, postCounters, Appended}
 use Rattle.machine.specs.Store.{Store, Done, storeOf, doneOf, withFrames, andThen, Runs, Applier, Shape, childless, letrec, call, if, check, enable, sign, test, binary, post, shapeOf, leafOf, hasRoom, ownCell, bound, called, letrecS, callS, branchS, ifS, checkS, testS, signS, restored, enableS, binaryS, postDone, postS, byShape, begin, step, below, applyAt, evalAt}
-use Rattle.machine.specs.Lower.{evaluatesFirst, evaluatesSecond, evaluatesThird, readsPrivilege, Lower}
+use Rattle.machine.specs.Lower.{evaluatesFirst, evaluatesSecond, evaluatesThird, readsPrivilege, readsGuard, Lower}
 use Rattle.machine.specs.Enter.{Enterable, goesTo, Enters}
 use Rattle.machine.specs.declared.enter.Entered.{Entered}
 use Rattle.stores.proofs.CellLaws.{bound-room}
@@ -122,6 +122,9 @@ module _ {terms : List ℕ} {t x : ℕ} {h : Shape} (N : Node terms t x h) where
   pub privilege-below : {p : ℕ} → readsPrivilege h ≡ true → p ≡ wordSmall x → p < 32
   privilege-below e q = omega (arith, q, lower .privilege e)
 
+  pub guard-right : readsGuard h ≡ true → Guard (wordGuard x)
+  guard-right e = lower .guard e
+
   module _ (k : ℕ) where
     top : (env acc : ℕ) (st : Store) → evalAt terms k t env acc st ≡ byShape h (below terms (applyAt terms k) t) (applyAt terms k) t x env acc st
     unfolding evalAt step
@@ -164,9 +167,9 @@ module _ {terms : List ℕ} {t x : ℕ} (k env acc : ℕ) where
       function-is j p q = leaf-is (q ∙ rw (← e, j, p) refl)
 
   module _ (N : Node terms t x post) {u : ℕ} (p : u ≡ wordFirst x) where
-    pub post-is : (st : Store) → evalAt terms k t env acc st ≡ andThen (evalAt terms k u env acc st) (λ w st₁. postDone t w st₁)
+    pub post-is : (st : Store) → evalAt terms k t env acc st ≡ andThen (evalAt terms k u env acc st) (λ w st₁. postDone t x acc w st₁)
     unfolding postS
-    post-is st = top N k env acc st ∙ ap (λ (f : Runs). postS f t env acc st) (child N k p (first-below N refl p))
+    post-is st = top N k env acc st ∙ ap (λ (f : Runs). postS f t x env acc st) (child N k p (first-below N refl p))
 
   module _ (N : Node terms t x if) {u v z : ℕ} (p : u ≡ wordFirst x) (q : v ≡ wordSecond x) (r : z ≡ wordThird x) where
     pub if-is : (st : Store) → evalAt terms k t env acc st
@@ -327,16 +330,15 @@ one-call-less n m h = go n h
     go (a ∷ l) h = omega (arith, h, same-calls (set (a ∷ l) 0 (a - 1)) m)
 
 -- ---- a post that is appended, or not
-module _ {t w : ℕ} {n l n′ l′ : List ℕ} {r : ℕ} (a : Appended t w n l r n′ l′) where
-  pub post-done : (c f : List ℕ) → doneOf r (storeOf n′ c l′ f) ≡ postDone t w (storeOf n c l f)
+module _ {t x acc w : ℕ} {n l f n′ l′ f′ : List ℕ} {r : ℕ} (a : Appended t x acc w n l f r n′ l′ f′) where
+  pub post-done : (c : List ℕ) → doneOf r (storeOf n′ c l′ f′) ≡ postDone t x acc w (storeOf n c l f)
   unfolding postDone
-  post-done c f = λ i. doneOf (a .word-is i) (storeOf (a .counters-are i) c (a .posts-are i) f)
+  post-done c = λ i. doneOf (a .word-is i) (storeOf (a .counters-are i) c (a .posts-are i) (a .frames-are i))
 
   pub post-calls : callsLeft n′ ≤ callsLeft n
   unfolding postCounters
-  post-calls = omega (arith, ap (λ (m : List ℕ). callsLeft m) (a .counters-are), go (eqb (sortOf w) 1) (leb (length l) (postsMade n)))
+  post-calls = omega (arith, ap (λ (m : List ℕ). callsLeft m) (a .counters-are), go (eqb (postCause x acc w n l f) 0))
     where
-      go : (b d : Bool) → callsLeft (pick b (pick d n (set n 2 (postsMade n + 1))) n) ≡ callsLeft n
-      go true true = refl
-      go true false = getD-set-other n 2 0 (postsMade n + 1) 0 (λ e. omega (arith, e))
-      go false d = refl
+      go : (b : Bool) → callsLeft (pick b (set n 2 (postsMade n + 1)) n) ≡ callsLeft n
+      go true = getD-set-other n 2 0 (postsMade n + 1) 0 (λ e. omega (arith, e))
+      go false = refl

@@ -8,7 +8,7 @@ use program::limits::TERM_PLACES;
 fn lend_cells<'a>(
     terms: &[u64; TERM_PLACES],
     cells: &'a mut [u8],
-    posts: &mut &mut [u16],
+    posts: &mut &mut [u32],
     frames: &mut &mut [u32],
     n: &mut [usize; 4],
     t: u16,
@@ -29,14 +29,14 @@ fn lend_cells<'a>(
 fn lend_posts<'a>(
     terms: &[u64; TERM_PLACES],
     cells: &mut [u8],
-    posts: &'a mut [u16],
+    posts: &'a mut [u32],
     frames: &mut &mut [u32],
     n: &mut [usize; 4],
     t: u16,
     acc: u64,
     depth: usize,
     word: &mut u64,
-) -> &'a mut [u16]
+) -> &'a mut [u32]
     requires { ⌜ Table (now terms) ⌝ }
     ensures { λ r. ⌜ Evaluated (evalAt (now (terms .entry)) depth t 0 acc) (now (n .entry)) (cells .entry) (posts .entry) (now (frames .entry))
         (now (word .exit)) (now (n .exit)) (cells .exit) r (now (frames .exit)) ⌝ }
@@ -51,7 +51,7 @@ fn lend_posts<'a>(
 pub fn run<'a>(
     terms: &[u64; TERM_PLACES],
     cells: &mut [u8],
-    posts: &mut [u16],
+    posts: &mut [u32],
     frames: &'a mut [u32],
     n: &mut [usize; 4],
     t: u16,

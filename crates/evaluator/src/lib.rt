@@ -27,7 +27,7 @@ use stores::words;
 pub fn eval(
     terms: &[u64; TERM_PLACES],
     cells: &mut &mut [u8],
-    posts: &mut &mut [u16],
+    posts: &mut &mut [u32],
     frames: &mut &mut [u32],
     n: &mut [usize; 4],
     t: u16,
@@ -58,7 +58,7 @@ pub fn eval(
 fn eval_tail(
     terms: &[u64; TERM_PLACES],
     cells: &mut &mut [u8],
-    posts: &mut &mut [u16],
+    posts: &mut &mut [u32],
     frames: &mut &mut [u32],
     n: &mut [usize; 4],
     t: u16,
@@ -82,7 +82,7 @@ fn eval_tail(
 fn eval_pair(
     terms: &[u64; TERM_PLACES],
     cells: &mut &mut [u8],
-    posts: &mut &mut [u16],
+    posts: &mut &mut [u32],
     frames: &mut &mut [u32],
     n: &mut [usize; 4],
     t: u16,
@@ -124,7 +124,7 @@ fn eval_pair(
 fn eval_if(
     terms: &[u64; TERM_PLACES],
     cells: &mut &mut [u8],
-    posts: &mut &mut [u16],
+    posts: &mut &mut [u32],
     frames: &mut &mut [u32],
     n: &mut [usize; 4],
     t: u16,
@@ -152,7 +152,7 @@ fn eval_if(
 fn eval_enable(
     terms: &[u64; TERM_PLACES],
     cells: &mut &mut [u8],
-    posts: &mut &mut [u16],
+    posts: &mut &mut [u32],
     frames: &mut &mut [u32],
     n: &mut [usize; 4],
     t: u16,
@@ -183,11 +183,11 @@ fn eval_enable(
     w
 }
 
-// Appends a number.
+// Appends a number, if the guard of its channel passes.
 fn eval_post(
     terms: &[u64; TERM_PLACES],
     cells: &mut &mut [u8],
-    posts: &mut &mut [u16],
+    posts: &mut &mut [u32],
     frames: &mut &mut [u32],
     n: &mut [usize; 4],
     t: u16,
@@ -204,14 +204,14 @@ fn eval_post(
     if words::is_stop(w) {
         return w;
     }
-    append(*posts, n, t, w)
+    append(*posts, *frames, n, t, x, acc, w)
 }
 
 // Applies f to v at the call t: 18, 19, 20, 21, or its body runs in the caller's access, with its argument in a new cell.
 fn apply(
     terms: &[u64; TERM_PLACES],
     cells: &mut &mut [u8],
-    posts: &mut &mut [u16],
+    posts: &mut &mut [u32],
     frames: &mut &mut [u32],
     n: &mut [usize; 4],
     t: u16,

@@ -52,7 +52,7 @@ followed-is T A p (placed Γ n (enable at q c)) = refl
 followed-is T A p (placed Γ n (sign at m c)) = refl
 followed-is T A p (placed Γ n (test at q y o)) = tested (eqb q p) (placed Γ n y) (placed Γ n o)
 followed-is T A p (placed Γ n (binary at op a b)) = refl
-followed-is T A p (placed Γ n (post at c)) = refl
+followed-is T A p (placed Γ n (post at ch g c)) = refl
 
 -- ---- whether a child needs the privilege
 pub absent-needs : (s : List ℕ) (p : ℕ) (y : Child) → y .present ≡ false → false ≡ neededBy s p (childAt s y)

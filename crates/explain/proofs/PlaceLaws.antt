@@ -10,7 +10,7 @@ use native.Mathlib.Omega.{arith}
 use lib.ListN.{replicate}
 use borrow.Author.Tests.{eq-eqb, ne-eqb}
 use Rattle.program.specs.Limits.{maxTypes}
-use Rattle.program.specs.Layout.{typesOf, termAt}
+use Rattle.program.specs.Layout.{typesOf, termAt, guardOf}
 use Rattle.program.specs.Formats.{Part, functionType, kindOf, format}
 use Rattle.program.specs.Terms.{Term, node, tree}
 use Rattle.program.specs.Decoding.{partOk}
@@ -61,15 +61,15 @@ module _ {s : List ℕ} {c : Counts} {t : ℕ} {b : Bindings} {n : ℕ} (R : Rea
   at-record = record { ready = R; known = known-none (typesOf s) _ refl; record-is = h }
 
   parts-are : x ≡ termAtByte s (termAt s t)
-  parts-are = h ∙ term-is s well c (R .sheet .counts) t
+  parts-are = h ∙ term-is s well c (R .sheet .counts) t (R .inside)
 
   -- the term of a kind by its number, over the parts of the record
   abbrev pub term-of : (k : ℕ) → Term
-  term-of k = node (kindOf k) t (x .small) (x .first) (x .second) (x .third) (tree s)
+  term-of k = node (guardOf s) (kindOf k) t (x .small) (x .first) (x .second) (x .third) (tree s)
 
   module _ {k : ℕ} (e : x .kind ≡ k) where
     pub tree-is : tree s t ≡ term-of k
-    tree-is = subst (λ (x : TermRecord). tree s t ≡ node (kindOf (x .kind)) t (x .small) (x .first) (x .second) (x .third) (tree s)) (sym parts-are)
+    tree-is = subst (λ (x : TermRecord). tree s t ≡ node (guardOf s) (kindOf (x .kind)) t (x .small) (x .first) (x .second) (x .third) (tree s)) (sym parts-are)
         (tree-node s well t (R .inside))
         ∙ ap term-of e
 

@@ -12,14 +12,17 @@ use Rattle.typing.specs.Verdicts.{verdict}
 use Rattle.explain.specs.Explaining.{needs, isCause, followed, next, chain, Explained, explained, not-needed, refused, chainOf, explanation}
 
 -- the fields before the terms but for further types; `size` is the length of the field of types
-abbrev sheet : (size : ℕ) → (rest : List ℕ) → List ℕ
-sheet size rest =
-    1 ∷ 0 ∷ 2 ∷ 0 ∷ 1
+abbrev fields : (version size : ℕ) → (rest : List ℕ) → List ℕ
+fields version size rest =
+    1 ∷ 0 ∷ 2 ∷ 0 ∷ version
     ∷ 2 ∷ 0 ∷ 4 ∷ 0 ∷ 0 ∷ 0 ∷ 2
     ∷ 3 ∷ 0 ∷ size
     ∷ 0 ∷ 0 ∷ 0 ∷ 0 ∷ 0 ∷ 0 ∷ 0 ∷ 0 ∷ 0 ∷ 0
     ∷ 1 ∷ 0 ∷ 0 ∷ 0 ∷ 0 ∷ 0 ∷ 0 ∷ 0 ∷ 0 ∷ 0
     ∷ rest
+
+abbrev sheet : (size : ℕ) → (rest : List ℕ) → List ℕ
+sheet size rest = fields 1 size rest
 
 -- 01's sheet of 78 bytes: sign 0 (enable 1 (check 1 (post 7)))
 abbrev enabled : List ℕ
@@ -66,6 +69,17 @@ called = sheet 30 (
     ∷ 11 ∷ 0 ∷ 0 ∷ 0 ∷ 0 ∷ 6 ∷ 0 ∷ 0
     ∷ 9 ∷ 0 ∷ 0 ∷ 7 ∷ 0 ∷ 0 ∷ 0 ∷ 0 ∷ [])
 
+-- in version 2, sign 0 (post (check 1 for 7)) on a channel, of which privilege 1 guards channel 2 alone
+abbrev posted : (channel : ℕ) → List ℕ
+posted channel = fields 2 20 (
+    4 ∷ 0 ∷ 32
+    ∷ 1 ∷ 0 ∷ 0 ∷ 7 ∷ 0 ∷ 0 ∷ 0 ∷ 0
+    ∷ 7 ∷ 1 ∷ 0 ∷ 0 ∷ 0 ∷ 0 ∷ 0 ∷ 0
+    ∷ 14 ∷ channel ∷ 0 ∷ 1 ∷ 0 ∷ 0 ∷ 0 ∷ 0
+    ∷ 9 ∷ 0 ∷ 0 ∷ 2 ∷ 0 ∷ 0 ∷ 0 ∷ 0
+    ∷ 5 ∷ 0 ∷ 16
+    ∷ 255 ∷ 255 ∷ 1 ∷ 255 ∷ 255 ∷ 255 ∷ 255 ∷ 255 ∷ 255 ∷ 255 ∷ 255 ∷ 255 ∷ 255 ∷ 255 ∷ 255 ∷ 255 ∷ [])
+
 -- a row: a sheet, a privilege, and the explanation that is due
 pub data Case : Type 0 where
   asking : (sheet : List ℕ) (p : ℕ) → Explained → Case
@@ -84,6 +98,9 @@ cases =
     ∷ asking tested 1 (explained (5 ∷ 4 ∷ 3 ∷ []))
     -- the sign, the sum and the call: the function itself needs nothing
     ∷ asking called 1 (explained (8 ∷ 7 ∷ 6 ∷ []))
+    -- the sign and the guarded post, which ends the chain; without a guard it goes on to the check
+    ∷ asking (posted 2) 1 (explained (3 ∷ 2 ∷ []))
+    ∷ asking (posted 3) 1 (explained (3 ∷ 2 ∷ 1 ∷ []))
     -- the enable takes it out
     ∷ asking enabled 1 not-needed
     ∷ asking unenabled 0 not-needed

@@ -1,4 +1,5 @@
--- Why a sheet needs a privilege: 02, W7. "Given an accepted sheet and a privilege, answer a chain of terms from the root."
+-- Why a sheet needs a privilege: 02, W7. "Given an accepted sheet and a privilege, answer a chain of terms from the root." W8: a guarded post "counts as
+-- a cause where a need is traced".
 use mathlib.Core.Bool.{Bool, true, false, cond}
 use mathlib.Core.List.{List, [], _∷_, map, tail}
 use mathlib.Core.Option.{Option, none, some}
@@ -29,7 +30,7 @@ numberOf (enable at p c) = at
 numberOf (sign at n c) = at
 numberOf (test at p y o) = at
 numberOf (binary at op a b) = at
-numberOf (post at c) = at
+numberOf (post at ch g c) = at
 
 abbrev pub placedNumber : Placed → ℕ
 placedNumber (placed Γ n c) = numberOf c
@@ -48,7 +49,7 @@ childrenIn T Γ n (enable at q c) = placed Γ n c ∷ []
 childrenIn T Γ n (sign at m c) = placed Γ m c ∷ []
 childrenIn T Γ n (test at q y o) = placed Γ n y ∷ placed Γ n o ∷ []
 childrenIn T Γ n (binary at op a b) = placed Γ n a ∷ placed Γ n b ∷ []
-childrenIn T Γ n (post at c) = placed Γ n c ∷ []
+childrenIn T Γ n (post at ch g c) = placed Γ n c ∷ []
 
 unfoldable pub children : Types → Placed → List Placed
 children T (placed Γ n c) = childrenIn T Γ n c
@@ -62,12 +63,17 @@ abbrev pub latentOf : Types → (p : ℕ) → Judgement → Bool
 latentOf T p (typed φ N) = has p (T .latent φ)
 latentOf T p (fault c at) = false
 
+-- whether a privilege guards a post
+abbrev pub guards : (p : ℕ) → (guard : Option ℕ) → Bool
+guards p none = false
+guards p (some q) = eqb q p
+
 module _ (T : Types) (A : ℕ → ℕ) (p : ℕ) where
   -- "each has the privilege among its own needs": as it is judged in its bindings and under its principal
   unfoldable pub needs : Placed → Bool
   needs (placed Γ n c) = needing p (infer T A Γ n c)
 
-  -- "a check that names it, or a call or recursive binder whose latent set holds it"
+  -- "a check that names it, or a call or recursive binder whose latent set holds it"; or a post that it guards
   abbrev pub causeIn : (Γ : List ℕ) (n : ℕ) → Term → Bool
   causeIn Γ n (boolean at b) = false
   causeIn Γ n (number at k) = false
@@ -81,7 +87,7 @@ module _ (T : Types) (A : ℕ → ℕ) (p : ℕ) where
   causeIn Γ n (sign at m c) = false
   causeIn Γ n (test at q y o) = false
   causeIn Γ n (binary at op a b) = false
-  causeIn Γ n (post at c) = false
+  causeIn Γ n (post at ch g c) = guards p g
 
   unfoldable pub isCause : Placed → Bool
   isCause (placed Γ n c) = causeIn Γ n c
@@ -100,7 +106,7 @@ module _ (T : Types) (A : ℕ → ℕ) (p : ℕ) where
   testsIt (sign at m c) = false
   testsIt (test at q y o) = eqb q p
   testsIt (binary at op a b) = false
-  testsIt (post at c) = false
+  testsIt (post at ch g c) = false
 
   -- the children that may be followed: "The yes-branch of a test of that privilege never qualifies."
   abbrev pub partsIn : (Γ : List ℕ) (n : ℕ) → Term → List Placed

@@ -55,7 +55,7 @@ childrenOf T p (placed Γ n (enable at q c)) = children (some (placed Γ n c)) n
 childrenOf T p (placed Γ n (sign at m c)) = children (some (placed Γ m c)) none none
 childrenOf T p (placed Γ n (test at q y o)) = children (cond (eqb q p) none (some (placed Γ n y))) (some (placed Γ n o)) none
 childrenOf T p (placed Γ n (binary at op a b)) = children (some (placed Γ n a)) (some (placed Γ n b)) none
-childrenOf T p (placed Γ n (post at c)) = children (some (placed Γ n c)) none none
+childrenOf T p (placed Γ n (post at ch g c)) = children (some (placed Γ n c)) none none
 
 abbrev pub childrenAt : List ℕ → (p : ℕ) → Place → Children
 childrenAt s p x = childrenOf (typesOf s) p (placedAt s x)

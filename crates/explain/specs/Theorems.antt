@@ -1,8 +1,9 @@
--- The theorems about an explanation, 02, W7: the chain of an accepted sheet that needs the privilege is as its sentences say, and is the only one; and
--- which of the answers is given when.
+-- The theorems about an explanation, 02, W7: the chain of an accepted sheet that needs the privilege is as its sentences say, and is the only one; of a
+-- version 1 sheet it ends at no post; and which of the answers is given when.
 use mathlib.Core.Bool.{Bool, true, false, true≢false}
 use mathlib.Core.List.{List, _∷_, map}
 use mathlib.Core.Logic.{_↔_, _⊎_, inl, inr}
+use mathlib.Core.Option.{Option, none, Option·none-ne-some}
 use mathlib.Core.Path.{_≡_, refl, sym, ap, _∙_, subst}
 use Prim.Native.Nat.{ℕ, _<_, _≤_}
 use native.Mathlib.Omega.{arith}
@@ -11,17 +12,18 @@ use lib.ListN.{length}
 use borrow.Author.Tests.{leb-true, leb-false, le-leb, lt-leb}
 use Rattle.privileges.specs.Sets.{has}
 use Rattle.program.specs.Limits.{maxNesting}
-use Rattle.program.specs.Layout.{authority, typesOf}
-use Rattle.program.specs.Terms.{Term, test}
+use Rattle.program.specs.Layout.{version, authority, typesOf}
+use Rattle.program.specs.Terms.{Term, test, post, Plain}
 use Rattle.program.specs.Laws.Readable.{well-formed}
 use Rattle.program.specs.Laws.Nesting.{program-height}
 use Rattle.program.specs.Laws.Types.{lower-types}
+use Rattle.program.specs.Laws.Guards.{program-unguarded}
 use Rattle.typing.specs.Verdicts.{Verdict, accepted, rejected, verdict}
 use Rattle.typing.specs.Laws.Checking.{infer-complete}
 use Rattle.typing.specs.Theorems.{Accepted, acceptance}
 use Rattle.explain.specs.Explaining.{Placed, placed, placedNumber, children, needing, needs, followed, chain, Explained, explained, not-needed, refused, rootOf, chainOf, traced, tracedIn, explainedBy, explanation}
-use Rattle.explain.specs.Chains.{Among, Neighbours, Last, Cause, Lowest}
-use Rattle.explain.specs.Laws.Chains.{heightOf, Way, chain-way, way-root, way-needs, way-last, way-step, step-child, way-length, way-only, way-of, cause-holds, holds-cause, test-followed}
+use Rattle.explain.specs.Chains.{Among, Neighbours, Last, Cause, post-guarded, Lowest}
+use Rattle.explain.specs.Laws.Chains.{heightOf, Way, chain-way, way-root, way-needs, way-last, way-step, step-child, way-length, way-posts, way-only, way-of, cause-holds, holds-cause, test-followed}
 
 -- ---- what is asked
 -- an accepted sheet and a privilege, which is among the needs told or is not
@@ -47,7 +49,7 @@ pub record Chain (s : List ℕ) (p : ℕ) (l : List Placed) : Type 0 where
   pub each-a-child : (x y : Placed) → Neighbours x y l → Among y (children (typesOf s) x)
   -- "each has the privilege among its own needs"
   pub each-needs : (x : Placed) → Among x l → needs (typesOf s) (authority s) p x ≡ true
-  -- "the last is a check that names it, or a call or recursive binder whose latent set holds it"
+  -- "the last is a check that names it, or a call or recursive binder whose latent set holds it"; W8: or a post that it guards
   pub last-a-cause : (x : Placed) → Last x l → Cause (typesOf s) (authority s) p x
   -- "a term that is a cause itself ends the chain"
   pub cause-ends : (x y : Placed) → Neighbours x y l → Cause (typesOf s) (authority s) p x → ⊥
@@ -110,6 +112,20 @@ chain-derives s p l c =
 pub only-chain : (s : List ℕ) (p : ℕ) → Needed s p → (l : List Placed) → Chain s p l → l ≡ chainOf s p
 unfolding chainOf
 only-chain s p h l c = way-only (typesOf s) (authority s) p (chain-derives s p l c) (root-way s p maxNesting h (omega arith))
+
+-- "Version 1 posts on channel 0 without a guard": no chain of a version 1 sheet ends at a post, so that its last term is a cause by W7's sentence.
+pub version-1-cause : (s : List ℕ) (p : ℕ) → Needed s p → version s ≡ 1 → (Γ : List ℕ) (n at ch : ℕ) (g : Option ℕ) (c : Term)
+    → Last (placed Γ n (post at ch g c)) (chainOf s p) → ⊥
+unfolding chainOf
+version-1-cause s p h one Γ n at ch g c l =
+    let T = typesOf s in
+    let A = authority s in
+    let w = root-way s p maxNesting h (omega arith) in
+    let u = program-unguarded s (well-formed s (acceptance s (h .count) (h .type) (h .told) (h .acceptance-is) .readable)) one in
+    unguarded (way-posts T A p Plain w u l .0 .1) (cause-holds T A p (placed Γ n (post at ch g c)) (way-last T A p w l))
+  where
+    unguarded : {g : Option ℕ} → g ≡ none → Cause (typesOf s) (authority s) p (placed Γ n (post at ch g c)) → ⊥
+    unguarded e post-guarded = Option·none-ne-some p (sym e)
 
 -- ---- which answer is given when
 -- "a privilege above 31 is 30"

@@ -1,5 +1,6 @@
-// What a privilege is needed for: a check that names it, or a call or letrec whose latent set holds it.
+// What a privilege is needed for: a check that names it, a call or letrec whose latent set holds it, or a post that it guards.
 use crate::places::Place;
+use accessors::guard;
 use accessors::term;
 use accessors::type_record;
 use checker::infer::infer;
@@ -43,6 +44,7 @@ pub fn is_cause(s: &[u8], c: Counts, known: &mut Known, at: Place, p: u8) -> boo
             has_latent(s, c, ty, p)
         }
         7 => x.small == p,
+        14 => guard(s, c, x.small) == p,
         _ => false,
     }
 }

@@ -16,7 +16,7 @@ use Rattle.interp.specs.declared.answer.Made.{Made}
 use Rattle.interp.specs.declared.answer.Run.{Run}
 use Rattle.interp.specs.declared.answer.Run.the-variants.{Refused, Ran}
 
--- "14 start stack", "15 buffers", "16 allowance", after the reader's 1 to 8
+-- "14 start stack", "15 buffers", "16 allowance", after the reader's 1 to 8 and 31
 abbrev pub refusalCause : Refusal → ℕ
 refusalCause (Unreadable f) = decodingCause f
 refusalCause Start = 14

@@ -1,4 +1,4 @@
-// Refusals 1 to 8, then 14 to 16, before a run starts.
+// Refusals 1 to 8 and 31, then 14 to 16, before a run starts.
 ghost use mathlib.Core.Bool.{_&&_};
 ghost use mathlib.Core.Path.{_≡_};
 ghost use lib.Dec.{leb};

@@ -2,7 +2,7 @@
 use program::records::Counts;
 use stores::state::Stop;
 
-// 1 to 8 are the reader's; 14 to 16 follow in this order.
+// 1 to 8 and 31 are the reader's; 14 to 16 follow in this order.
 pub enum Refusal {
     Unreadable(program::answer::Refusal),
     Start,

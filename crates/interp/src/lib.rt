@@ -53,7 +53,7 @@ fn evaluate(
     s: &[u8],
     c: Counts,
     cells: &mut [u8],
-    posts: &mut [u16],
+    posts: &mut [u32],
     frames: &mut [u32],
     mode: usize,
     acc: u64,
@@ -104,7 +104,7 @@ fn eager(
     depth: u32,
     enforce: bool,
     cells: &mut [u8],
-    posts: &mut [u16],
+    posts: &mut [u32],
 ) -> Run
     requires { ⌜ Cleared (now s) (now start) (length (now cells)) (length (now posts)) true calls depth c ⌝ }
     ensures { λ r. ⌜ after r (now (cells .exit)) (now (posts .exit)) []
@@ -134,7 +134,7 @@ fn lazy(
     depth: u32,
     enforce: bool,
     cells: &mut [u8],
-    posts: &mut [u16],
+    posts: &mut [u32],
     frames: &mut [u32],
 ) -> Run
     requires { ⌜ Cleared (now s) (now start) (length (now cells)) (length (now posts)) (eqb (length (now frames)) frameNumbers) calls depth c ⌝ }
@@ -166,7 +166,7 @@ pub fn run_eager(
     depth: u32,
     enforce: bool,
     cells: &mut [u8],
-    posts: &mut [u16],
+    posts: &mut [u32],
 ) -> Run
     ensures { λ r. ⌜ after r (now (cells .exit)) (now (posts .exit)) []
         ≡ run (now (sheet .entry)) (requestOf eagerRunner enforce (now (start .entry)) calls depth) (buffersOf (now (cells .entry)) (now (posts .entry)) []) ⌝ }
@@ -186,7 +186,7 @@ pub fn run_lazy(
     depth: u32,
     enforce: bool,
     cells: &mut [u8],
-    posts: &mut [u16],
+    posts: &mut [u32],
     frames: &mut [u32],
 ) -> Run
     ensures { λ r. ⌜ after r (now (cells .exit)) (now (posts .exit)) (now (frames .exit))

@@ -9,7 +9,7 @@ use program::answer::Decoded;
 use program::limits::MAX_DEPTH;
 
 // Runs the sheet eagerly, checks in force, on an empty stack, with 100 open calls. The caller says whether the buffers have the lengths asked for.
-pub fn run_lent(sheet: &[u8], calls: u32, right: bool, cells: &mut [u8], posts: &mut [u16]) -> Run
+pub fn run_lent(sheet: &[u8], calls: u32, right: bool, cells: &mut [u8], posts: &mut [u32]) -> Run
     ensures { λ r. ⌜ after r (now (cells .exit)) (now (posts .exit)) []
         ≡ lentRun right (now (sheet .entry)) (request calls) (buffersOf (now (cells .entry)) (now (posts .entry)) []) ⌝ }
 {

@@ -47,7 +47,8 @@ module _ (q : Queue) (n : ℕ) (size : SizeIs q n) where
   same-front : take (q .count) (q .jobs) ≡ take n (q .jobs)
   same-front = take-held (q .count) (q .jobs) ∙ ap (λ (k : ℕ). take k (q .jobs)) (sym (size .size-is ∙ length-map (take (q .count) (q .jobs)) jobModel))
 
-  pub one-less : (i : ℕ) {rest : List Job} → length (q .jobs) ≡ maxJobs → hasJob (queueModel q) ≡ true → i ≤ n - 1 → n - 1 ≤ i → rest ≡ take i (drop 1 (q .jobs)) ++ drop i (q .jobs)
+  pub one-less : (i : ℕ) {rest : List Job} → length (q .jobs) ≡ maxJobs → hasJob (queueModel q) ≡ true → i ≤ n - 1 → n - 1 ≤ i
+      → rest ≡ take i (drop 1 (q .jobs)) ++ drop i (q .jobs)
       → (none : Job) → queueModel q ≡ jobModel (getD (q .jobs) 0 none) ∷ map jobModel (take (n - 1) rest)
   one-less i {rest = rest} eight some h g e none = ap (map jobModel) (same-front ∙ go (q .jobs) eight e)
     where

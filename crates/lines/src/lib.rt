@@ -128,7 +128,7 @@ fn lower(a: usize, b: usize) -> usize
 }
 
 // The run of a job. What is left of the list of posts, from the place on, is lent on to it.
-fn run_job(job: Job, place: usize, store: &[u8], cells: &mut [u8], posts: &mut [u16]) -> Run
+fn run_job(job: Job, place: usize, store: &[u8], cells: &mut [u8], posts: &mut [u32]) -> Run
     requires { ⌜ insideOf (jobModel job) (now store) ≡ true ⌝ }
     ensures { λ r. ⌜ after r (now (cells .exit)) (now (posts .exit)) []
         ≡ jobRun (jobModel job) place (now (store .entry)) (buffersOf (now (cells .entry)) (now (posts .entry)) []) ⌝ }
@@ -164,7 +164,7 @@ fn passed(q: Lines, line: usize, rest: Queue, x: Run) -> Lines
 }
 
 // Serves the line whose turn it is: its oldest job is run, or refused, and is gone.
-pub fn serve(q: Lines, store: &[u8], cells: &mut [u8], posts: &mut [u16]) -> Served
+pub fn serve(q: Lines, store: &[u8], cells: &mut [u8], posts: &mut [u32]) -> Served
     ensures { λ r. ⌜ servedModel r (now (cells .exit)) (now (posts .exit))
         ≡ serveOf (linesModel q) (now (store .entry)) (buffersOf (now (cells .entry)) (now (posts .entry)) []) ⌝ }
 {

@@ -1,15 +1,18 @@
 -- What the operations and a post give, a law for each way that they end. Assumes nothing.
+use mathlib.Core.Bool.{Bool, true, false}
 use mathlib.Core.List.{List}
 use mathlib.Core.Path.{_≡_, refl, sym, ap, _∙_}
 use Prim.Native.Nat.{ℕ, _+_, _-_, _<_, _≤_, min}
 use native.Mathlib.Nat.{min-eq-left, min-eq-right}
 use native.Mathlib.Omega.{arith}
-use lib.Dec.{ltb}
+use lib.Dec.{ltb, eqb}
 use lib.ListN.{length, set}
-use lib.Seq.{set-out}
-use borrow.Author.Tests.{eq-eqb, ne-eqb, le-leb, lt-leb}
+use borrow.Author.Tests.{eq-eqb, ne-eqb, ltb-true}
+use Rattle.program.specs.Limits.{noGuard}
 use Rattle.stores.specs.Words.{booleanWord, numberWord, stopWord, sortOf, payloadOf}
-use Rattle.machine.specs.Steps.{postsMade, resultOf, operateOf, postWord, postCounters, postList, Appended}
+use Rattle.stores.specs.Access.{allowedOf}
+use Rattle.machine.specs.Table.{wordSmall, wordGuard}
+use Rattle.machine.specs.Steps.{postsMade, modeOf, resultOf, operateOf, Guard, guardPassed, causeOf, entryOf, postCause, postWord, postCounters, postList, Appended}
 
 -- ---- what two numbers give, by the kind
 sum-is : {k : ℕ} (x y : ℕ) → k ≡ 11 → resultOf k x y ≡ numberWord (min (x + y) 65535)
@@ -54,28 +57,61 @@ module _ (k t a b : ℕ) {r : ℕ} where
       less-is n m e = operate-both (e ∙ sym (simp (ne-eqb k 11 n, ne-eqb k 12 m)))
 
 -- ---- a post
-module _ (t w : ℕ) (n l : List ℕ) where
-  pub post-stuck : {r : ℕ} → (sortOf w ≡ 1 → ⊥) → r ≡ stopWord 18 t → Appended t w n l r n l
-  unfolding postWord postCounters postList
-  post-stuck h q = record {
-    word-is = q ∙ sym (simp (ne-eqb (sortOf w) 1 h));
-    counters-are = simp (ne-eqb (sortOf w) 1 h);
-    posts-are = simp (ne-eqb (sortOf w) 1 h);
-  }
+pub guard-low : {g y : ℕ} → g ≡ y → (g ≡ noGuard → ⊥) → Guard y → g < 32
+guard-low e n h = omega (arith, e, h (λ z. n (e ∙ z)))
 
-  module _ (s : sortOf w ≡ 1) where
-    pub post-full : {r : ℕ} → length l ≤ postsMade n → r ≡ stopWord 22 t → Appended t w n l r n l
+module _ (mode acc : ℕ) (f : List ℕ) {g y : ℕ} (e : g ≡ y) where
+  pub guard-none : g ≡ noGuard → true ≡ guardPassed mode acc f y
+  unfolding guardPassed
+  guard-none n = sym (simp (eq-eqb y noGuard (sym e ∙ n)))
+
+  pub guard-some : {b : Bool} → (g ≡ noGuard → ⊥) → b ≡ allowedOf mode acc f g → b ≡ guardPassed mode acc f y
+  unfolding guardPassed
+  guard-some n q = q ∙ ap (allowedOf mode acc f) e ∙ sym (simp (ne-eqb y noGuard (λ z. n (e ∙ z))))
+
+cause-low : (a b c : Bool) → causeOf a b c < 256
+unfolding causeOf
+cause-low true true true = omega arith
+cause-low true true false = omega arith
+cause-low true false c = omega arith
+cause-low false b c = omega arith
+
+room-known : (a b c : Bool) → causeOf a b c ≡ 0 → c ≡ true
+unfolding causeOf
+room-known true true true e = refl
+room-known true true false e = absurd (omega (arith, e))
+room-known true false c e = absurd (omega (arith, e))
+room-known false b c e = absurd (omega (arith, e))
+
+module _ (a b : Bool) {c : ℕ} where
+  pub cause-byte : (r : Bool) → c ≡ causeOf a b r → c < 256
+  cause-byte r q = omega (arith, q, cause-low a b r)
+
+  pub cause-room : (m k : ℕ) → c ≡ causeOf a b (ltb m k) → c ≡ 0 → m < k
+  cause-room m k q e = ltb-true m k (room-known a b (ltb m k) (sym q ∙ e))
+
+module _ (t x acc w : ℕ) (n l f : List ℕ) {c s : ℕ} {p : Bool} (e : s ≡ sortOf w) (g : p ≡ guardPassed (modeOf n) acc f (wordGuard x))
+    (q : c ≡ causeOf (eqb s 1) p (ltb (postsMade n) (length l))) where
+  cause-is : c ≡ postCause x acc w n l f
+  unfolding postCause
+  cause-is = q ∙ (λ i. causeOf (eqb (e i) 1) (g i) (ltb (postsMade n) (length l)))
+
+  module _ {f′ : List ℕ} (same : f′ ≡ f) where
+    pub post-stopped : {r : ℕ} → (c ≡ 0 → ⊥) → r ≡ stopWord c t → Appended t x acc w n l f r n l f′
     unfolding postWord postCounters postList
-    post-full h q = record {
-      word-is = q ∙ sym (simp (eq-eqb (sortOf w) 1 s, le-leb (length l) (postsMade n) h));
-      counters-are = simp (eq-eqb (sortOf w) 1 s, le-leb (length l) (postsMade n) h);
-      posts-are = simp (eq-eqb (sortOf w) 1 s) (sym (set-out l (postsMade n) (payloadOf w) h));
+    post-stopped h r = record {
+      word-is = rw (← cause-is) (r ∙ sym (simp (ne-eqb c 0 h)));
+      counters-are = rw (← cause-is) (simp (ne-eqb c 0 h));
+      posts-are = rw (← cause-is) (simp (ne-eqb c 0 h));
+      frames-are = same;
     }
 
-    pub post-done : {x : ℕ} → postsMade n < length l → x ≡ payloadOf w → Appended t w n l w (set n 2 (postsMade n + 1)) (set l (postsMade n) x)
+    pub post-done : {y : ℕ} → c ≡ 0 → y ≡ entryOf (wordSmall x) (payloadOf w)
+        → Appended t x acc w n l f w (set n 2 (postsMade n + 1)) (set l (postsMade n) y) f′
     unfolding postWord postCounters postList
-    post-done h q = record {
-      word-is = simp (eq-eqb (sortOf w) 1 s, lt-leb (length l) (postsMade n) h);
-      counters-are = simp (eq-eqb (sortOf w) 1 s, lt-leb (length l) (postsMade n) h);
-      posts-are = simp (eq-eqb (sortOf w) 1 s, q);
+    post-done h y = record {
+      word-is = rw (← cause-is) (simp (eq-eqb c 0 h));
+      counters-are = rw (← cause-is) (simp (eq-eqb c 0 h));
+      posts-are = rw (← cause-is) (simp (eq-eqb c 0 h, y));
+      frames-are = same;
     }

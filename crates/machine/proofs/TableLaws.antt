@@ -1,5 +1,4 @@
 -- The word of a record: its parts are read back, since each is below its width. The table, word by word. Assumes nothing.
-use mathlib.Core.Bool.{Bool, cond}
 use mathlib.Core.List.{List}
 use mathlib.Core.Path.{_≡_, refl, sym, ap, _∙_, subst}
 use Prim.Native.Nat.{ℕ, _+_, _*_, _<_, _≤_}
@@ -7,36 +6,48 @@ use native.Mathlib.Decide.{ℕ-discrete, decLt}
 use native.Mathlib.Omega.{arith}
 use lib.ListN.{getD, length, set, length-set}
 use lib.Seq.{getD-set-same, getD-set-other}
-use borrow.Author.Tests.{lt-leb}
 use Rattle.program.specs.Layout.{terms}
-use Rattle.program.specs.Records.{CountsOf, termAtByte, noTerm, termRecord, authorityRecord}
+use Rattle.program.specs.Records.{CountsOf, noTerm, termRecord, authorityRecord, guardRecord}
 use Rattle.program.specs.Laws.Readable.{WellFormed}
+use Rattle.program.specs.Laws.Records.{term-none}
 use Rattle.program.specs.declared.records.Counts.{Counts}
 use Rattle.program.specs.declared.records.TermRecord.{TermRecord}
-use Rattle.machine.specs.Table.{Holds, Empty, Decoded}
+use Rattle.machine.specs.Table.{Plain, Holds, Empty, Decoded}
 
 module _ {s : List ℕ} {c : Counts} {t : ℕ} {x : TermRecord} (q : x ≡ termRecord s c t) (kind : x .kind < 256) (small : x .small < 256)
     (first : x .first < 65536) where
+  -- a number in the place of second and third, which are not looked at
+  module _ (a : ℕ) (fits : a < 4294967296) (other : Plain (x .kind) → ⊥)
+      (set-is : x .kind ≡ 9 → a ≡ authorityRecord s (x .small)) (byte-is : x .kind ≡ 14 → (a < 256) × (a ≡ guardRecord s c (x .small))) where
+    own-holds : Holds s c t (x .kind + 256 * x .small + 65536 * x .first + 4294967296 * a)
+    own-holds = let same = ap (λ (y : TermRecord). y .kind) q in record {
+      kind-is = omega arith ∙ same;
+      small-is = omega arith ∙ ap (λ (y : TermRecord). y .small) q;
+      first-is = omega arith ∙ ap (λ (y : TermRecord). y .first) q;
+      second-is = λ n. absurd (other (subst Plain (sym same) n));
+      third-is = λ n. absurd (other (subst Plain (sym same) n));
+      authority-is = λ k. omega arith ∙ set-is (same ∙ k) ∙ ap (λ (y : TermRecord). authorityRecord s (y .small)) q;
+      guard-is = λ k. let h = byte-is (same ∙ k) in omega (arith, h .0) ∙ h .1 ∙ ap (λ (y : TermRecord). guardRecord s c (y .small)) q;
+    }
+
   pub sign-holds : {a : ℕ} → x .kind ≡ 9 → a ≡ authorityRecord s (x .small) → a < 4294967296
       → Holds s c t (x .kind + 256 * x .small + 65536 * x .first + 4294967296 * a)
-  sign-holds e p h = record {
-    kind-is = omega arith ∙ ap (λ (y : TermRecord). y .kind) q;
-    small-is = omega arith ∙ ap (λ (y : TermRecord). y .small) q;
-    first-is = omega arith ∙ ap (λ (y : TermRecord). y .first) q;
-    second-is = λ n. absurd (n (ap (λ (y : TermRecord). y .kind) (sym q) ∙ e));
-    third-is = λ n. absurd (n (ap (λ (y : TermRecord). y .kind) (sym q) ∙ e));
-    authority-is = λ k. omega arith ∙ p ∙ ap (λ (y : TermRecord). authorityRecord s (y .small)) q;
-  }
+  sign-holds {a} e p h = own-holds a h (λ n. n .no-sign e) (λ k. p) (λ k. absurd (omega (arith, e, k)))
 
-  pub plain-holds : (x .kind ≡ 9 → ⊥) → x .second < 65536 → x .third < 65536
+  pub post-holds : {a : ℕ} → x .kind ≡ 14 → a ≡ guardRecord s c (x .small) → a < 256
+      → Holds s c t (x .kind + 256 * x .small + 65536 * x .first + 4294967296 * a)
+  post-holds {a} e p h = own-holds a (omega arith) (λ n. n .no-post e) (λ k. absurd (omega (arith, e, k))) (λ k. (h, p))
+
+  pub plain-holds : (x .kind ≡ 9 → ⊥) → (x .kind ≡ 14 → ⊥) → x .second < 65536 → x .third < 65536
       → Holds s c t (x .kind + 256 * x .small + 65536 * x .first + 4294967296 * x .second + 281474976710656 * x .third)
-  plain-holds n second third = record {
-    kind-is = omega arith ∙ ap (λ (y : TermRecord). y .kind) q;
+  plain-holds n m second third = let same = ap (λ (y : TermRecord). y .kind) q in record {
+    kind-is = omega arith ∙ same;
     small-is = omega arith ∙ ap (λ (y : TermRecord). y .small) q;
     first-is = omega arith ∙ ap (λ (y : TermRecord). y .first) q;
-    second-is = λ m. omega arith ∙ ap (λ (y : TermRecord). y .second) q;
-    third-is = λ m. omega arith ∙ ap (λ (y : TermRecord). y .third) q;
-    authority-is = λ e. absurd (n (ap (λ (y : TermRecord). y .kind) q ∙ e));
+    second-is = λ k. omega arith ∙ ap (λ (y : TermRecord). y .second) q;
+    third-is = λ k. omega arith ∙ ap (λ (y : TermRecord). y .third) q;
+    authority-is = λ e. absurd (n (same ∙ e));
+    guard-is = λ e. absurd (m (same ∙ e));
   }
 
 -- the first n words are there, and the others are zero
@@ -48,14 +59,10 @@ pub record Filled (s : List ℕ) (c : Counts) (words : List ℕ) (n : ℕ) : Typ
 
 -- past the terms a record is all zeros, and so is its word
 module _ {s : List ℕ} (w : WellFormed s) {c : Counts} (k : CountsOf s c) where
-  none-past : (t : ℕ) → terms s ≤ t → noTerm ≡ termRecord s c t
-  unfolding termRecord
-  none-past t h =
-      let i = 14 + 4 * c .principals + 10 * c .types + 8 * t in
-      sym (ap (λ (b : Bool). cond b (termAtByte s i) noTerm) (lt-leb (i + 8) (length s) (omega (arith, k .principals-are, k .types-are, w .whole))))
-
   zero-holds : (t : ℕ) → terms s ≤ t → Holds s c t 0
-  zero-holds t h = plain-holds (none-past t h) (omega arith) (omega arith) (omega arith) (λ e. omega (arith, e)) (omega arith) (omega arith)
+  zero-holds t h =
+      plain-holds {x = noTerm} (sym (term-none s (w .terms-inside) c k t h)) (omega arith) (omega arith) (omega arith) (λ e. omega (arith, e))
+      (λ e. omega (arith, e)) (omega arith) (omega arith)
 
   pub filled-none : (words : List ℕ) → Empty words → Filled s c words 0
   filled-none words e = record { few = omega arith; long = e .long; done = λ t h. absurd (omega arith); rest = λ t h. e .zero-at t }

@@ -1,8 +1,9 @@
--- Which parts of a word each shape evaluates, and which reads a privilege.
+-- Which parts of a word each shape evaluates, and which reads a privilege or a guard.
 use mathlib.Core.Bool.{Bool, true, false}
 use mathlib.Core.Path.{_≡_}
 use Prim.Native.Nat.{ℕ, _<_}
-use Rattle.machine.specs.Table.{wordSmall, wordFirst, wordSecond, wordThird}
+use Rattle.machine.specs.Table.{wordSmall, wordFirst, wordSecond, wordThird, wordGuard}
+use Rattle.machine.specs.Steps.{Guard}
 use Rattle.machine.specs.Store.{Shape, childless, letrec, call, if, check, enable, sign, test, binary, post}
 
 abbrev pub evaluatesFirst : Shape → Bool
@@ -53,9 +54,22 @@ readsPrivilege test = true
 readsPrivilege binary = false
 readsPrivilege post = false
 
--- what is evaluated has a lower number, and a privilege is below 32
+abbrev pub readsGuard : Shape → Bool
+readsGuard childless = false
+readsGuard letrec = false
+readsGuard call = false
+readsGuard if = false
+readsGuard check = false
+readsGuard enable = false
+readsGuard sign = false
+readsGuard test = false
+readsGuard binary = false
+readsGuard post = true
+
+-- what is evaluated has a lower number, and a privilege is below 32, also where it guards a channel
 pub record Lower (h : Shape) (t x : ℕ) : Type 0 where
   pub first-lower : evaluatesFirst h ≡ true → wordFirst x < t
   pub second-lower : evaluatesSecond h ≡ true → wordSecond x < t
   pub third-lower : evaluatesThird h ≡ true → wordThird x < t
   pub privilege : readsPrivilege h ≡ true → wordSmall x < 32
+  pub guard : readsGuard h ≡ true → Guard (wordGuard x)

@@ -1,10 +1,14 @@
 -- What the steps that evaluate no other term give, and the counters of a run: calls left, cells made, posts made, and its mode.
+use mathlib.Core.Bool.{Bool, true}
 use mathlib.Core.List.{List}
 use mathlib.Core.Path.{_≡_}
-use Prim.Native.Nat.{ℕ, _+_, _-_, min}
-use lib.Dec.{leb, ltb, eqb}
+use Prim.Native.Nat.{ℕ, _+_, _-_, _*_, _<_, min}
+use lib.Dec.{ltb, eqb}
 use lib.ListN.{length, getD, set}
+use Rattle.program.specs.Limits.{noGuard}
 use Rattle.stores.specs.Words.{pick, booleanWord, numberWord, stopWord, sortOf, payloadOf}
+use Rattle.stores.specs.Access.{allowedOf}
+use Rattle.machine.specs.Table.{wordSmall, wordGuard}
 
 abbrev pub callsLeft : (counters : List ℕ) → ℕ
 callsLeft n = getD n 0 0
@@ -25,17 +29,37 @@ resultOf k a b = pick (eqb k 11) (numberWord (min (a + b) 65535)) (pick (eqb k 1
 unfoldable pub operateOf : (kind t a b : ℕ) → ℕ
 operateOf k t a b = pick (eqb (sortOf a) 1) (pick (eqb (sortOf b) 1) (resultOf k (payloadOf a) (payloadOf b)) (stopWord 18 t)) (stopWord 18 t)
 
--- a post: what it gives, and the counters and the list after it
-unfoldable pub postWord : (t w : ℕ) (counters posts : List ℕ) → ℕ
-postWord t w n l = pick (eqb (sortOf w) 1) (pick (leb (length l) (postsMade n)) (stopWord 22 t) w) (stopWord 18 t)
+-- 02, W8: "a privilege 0 to 31, or 255 for none"
+abbrev pub Guard : (guard : ℕ) → Type 0
+Guard g = (g ≡ noGuard → ⊥) → g < 32
 
-unfoldable pub postCounters : (w : ℕ) (counters posts : List ℕ) → List ℕ
-postCounters w n l = pick (eqb (sortOf w) 1) (pick (leb (length l) (postsMade n)) n (set n 2 (postsMade n + 1))) n
+-- whether a post's guard passes: there is none, or a check of it goes on
+unfoldable pub guardPassed : (mode acc : ℕ) (frames : List ℕ) (guard : ℕ) → Bool
+guardPassed mode acc f g = pick (eqb g noGuard) true (allowedOf mode acc f g)
 
-unfoldable pub postList : (w : ℕ) (counters posts : List ℕ) → List ℕ
-postList w n l = pick (eqb (sortOf w) 1) (set l (postsMade n) (payloadOf w)) l
+-- why a value is not posted: "after 18 and before 22"; 0 if it is
+unfoldable pub causeOf : (number passes room : Bool) → ℕ
+causeOf number passes room = pick number (pick passes (pick room 0 22) 17) 18
 
-pub record Appended (t w : ℕ) (n l : List ℕ) (r : ℕ) (n′ l′ : List ℕ) : Type 0 where
-  pub word-is : r ≡ postWord t w n l
-  pub counters-are : n′ ≡ postCounters w n l
-  pub posts-are : l′ ≡ postList w n l
+-- "channel × 65,536 + number"
+abbrev pub entryOf : (channel number : ℕ) → ℕ
+entryOf ch m = ch * 65536 + m
+
+-- a post of the word w, by the word x of its term: why it is not made, what it gives, and the counters and the list after it
+unfoldable pub postCause : (x acc w : ℕ) (counters posts frames : List ℕ) → ℕ
+postCause x acc w n l f = causeOf (eqb (sortOf w) 1) (guardPassed (modeOf n) acc f (wordGuard x)) (ltb (postsMade n) (length l))
+
+unfoldable pub postWord : (t w cause : ℕ) → ℕ
+postWord t w c = pick (eqb c 0) w (stopWord c t)
+
+unfoldable pub postCounters : (cause : ℕ) (counters : List ℕ) → List ℕ
+postCounters c n = pick (eqb c 0) (set n 2 (postsMade n + 1)) n
+
+unfoldable pub postList : (x w cause : ℕ) (counters posts : List ℕ) → List ℕ
+postList x w c n l = pick (eqb c 0) (set l (postsMade n) (entryOf (wordSmall x) (payloadOf w))) l
+
+pub record Appended (t x acc w : ℕ) (n l f : List ℕ) (r : ℕ) (n′ l′ f′ : List ℕ) : Type 0 where
+  pub word-is : r ≡ postWord t w (postCause x acc w n l f)
+  pub counters-are : n′ ≡ postCounters (postCause x acc w n l f) n
+  pub posts-are : l′ ≡ postList x w (postCause x acc w n l f) n l
+  pub frames-are : f′ ≡ f

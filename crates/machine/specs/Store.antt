@@ -9,7 +9,7 @@ use Rattle.stores.specs.Words.{pick, booleanWord, numberWord, functionWord, sto
 use Rattle.machine.specs.Table.{wordKind, wordSmall, wordFirst, wordSecond, wordThird, wordAuthority}
 use Rattle.stores.specs.Cells.{lookOf, cellSet, nextCell}
 use Rattle.stores.specs.Access.{grantedOf, allowedOf, signAccess, signFrames, enableAccess, enableFrames, enabledNow, restoreFrames}
-use Rattle.machine.specs.Steps.{callsLeft, cellsMade, modeOf, operateOf, postWord, postCounters, postList}
+use Rattle.machine.specs.Steps.{callsLeft, cellsMade, modeOf, operateOf, postCause, postWord, postCounters, postList}
 
 -- ---- the state of a run between two steps: its counters and the lent stores
 pub record Store : Type 0 where
@@ -105,12 +105,14 @@ enableS r p env acc st =
 unfoldable pub binaryS : Runs → Runs → (kind t : ℕ) → Runs
 binaryS p q kind t env acc st = andThen (p env acc st) (λ a st₁. andThen (q env acc st₁) (λ b st₂. doneOf (operateOf kind t a b) st₂))
 
-unfoldable pub postDone : (t word : ℕ) → Store → Done
-postDone t w st = doneOf (postWord t w (st .n) (st .posts)) (storeOf (postCounters w (st .n) (st .posts)) (st .cells) (postList w (st .n) (st .posts))
-    (st .frames))
+-- the word of the post's term says its channel and its guard, which is decided in the access of the post
+unfoldable pub postDone : (t x acc word : ℕ) → Store → Done
+postDone t x acc w st =
+    let c = postCause x acc w (st .n) (st .posts) (st .frames) in
+    doneOf (postWord t w c) (storeOf (postCounters c (st .n)) (st .cells) (postList x w c (st .n) (st .posts)) (st .frames))
 
-unfoldable pub postS : Runs → (t : ℕ) → Runs
-postS p t env acc st = andThen (p env acc st) (λ w st₁. postDone t w st₁)
+unfoldable pub postS : Runs → (t x : ℕ) → Runs
+postS p t x env acc st = andThen (p env acc st) (λ w st₁. postDone t x acc w st₁)
 
 abbrev pub byShape : Shape → (ℕ → Runs) → Applier → (t word : ℕ) → Runs
 byShape childless ev ap t x env acc st = doneOf (leafOf (st .cells) t x env) st
@@ -122,7 +124,7 @@ byShape enable ev ap t x env acc st = enableS (ev (wordFirst x)) (wordSmall x) e
 byShape sign ev ap t x env acc st = signS (ev (wordFirst x)) (wordAuthority x) env acc st
 byShape test ev ap t x env acc st = testS (ev (wordFirst x)) (ev (wordSecond x)) (wordSmall x) env acc st
 byShape binary ev ap t x env acc st = binaryS (ev (wordFirst x)) (ev (wordSecond x)) (wordKind x) t env acc st
-byShape post ev ap t x env acc st = postS (ev (wordFirst x)) t env acc st
+byShape post ev ap t x env acc st = postS (ev (wordFirst x)) t x env acc st
 
 -- a body begins: 20, then 21, or its argument is bound, with one call less
 unfoldable pub begin : (ℕ → Runs) → (t fun arg acc : ℕ) → Store → Done

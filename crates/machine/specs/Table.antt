@@ -1,10 +1,11 @@
--- The term table of a sheet as words: the parts of a record from the lowest byte on. A sign has its principal's set in the place of second and third.
+-- The term table of a sheet as words: the parts of a record from the lowest byte on. In the place of second and third a sign has its principal's set, and
+-- a post the guard of its channel.
 use mathlib.Core.List.{List}
 use mathlib.Core.Path.{_≡_}
 use Prim.Native.Nat.{ℕ, _/_, _%_}
 use lib.ListN.{length, getD}
 use Rattle.program.specs.Limits.{maxTerms}
-use Rattle.program.specs.Records.{CountsOf, termRecord, authorityRecord}
+use Rattle.program.specs.Records.{CountsOf, termRecord, authorityRecord, guardRecord}
 use Rattle.program.specs.Laws.Readable.{WellFormed}
 use Rattle.program.specs.declared.records.Counts.{Counts}
 
@@ -26,14 +27,23 @@ wordThird x = x / 281474976710656 % 65536
 abbrev pub wordAuthority : ℕ → ℕ
 wordAuthority x = x / 4294967296 % 4294967296
 
--- x is the word of term t; a record whose kind is 9 is a sign
+abbrev pub wordGuard : ℕ → ℕ
+wordGuard x = x / 4294967296 % 256
+
+-- a record whose kind is 9 is a sign, and one whose kind is 14 a post
+pub record Plain (kind : ℕ) : Type 0 where
+  pub no-sign : kind ≡ 9 → ⊥
+  pub no-post : kind ≡ 14 → ⊥
+
+-- x is the word of term t
 pub record Holds (s : List ℕ) (c : Counts) (t x : ℕ) : Type 0 where
   pub kind-is : wordKind x ≡ termRecord s c t .kind
   pub small-is : wordSmall x ≡ termRecord s c t .small
   pub first-is : wordFirst x ≡ termRecord s c t .first
-  pub second-is : (termRecord s c t .kind ≡ 9 → ⊥) → wordSecond x ≡ termRecord s c t .second
-  pub third-is : (termRecord s c t .kind ≡ 9 → ⊥) → wordThird x ≡ termRecord s c t .third
+  pub second-is : Plain (termRecord s c t .kind) → wordSecond x ≡ termRecord s c t .second
+  pub third-is : Plain (termRecord s c t .kind) → wordThird x ≡ termRecord s c t .third
   pub authority-is : termRecord s c t .kind ≡ 9 → wordAuthority x ≡ authorityRecord s (termRecord s c t .small)
+  pub guard-is : termRecord s c t .kind ≡ 14 → wordGuard x ≡ guardRecord s c (termRecord s c t .small)
 
 -- a table that is empty still
 pub record Empty (terms : List ℕ) : Type 0 where

@@ -1,10 +1,15 @@
 // The steps of a run that evaluate no other term.
 ghost use mathlib.Core.Path.{_≡_};
 ghost use Rattle.stores.specs.Words.{pick};
-ghost use Rattle.machine.specs.Steps.{operateOf, Appended};
+ghost use Rattle.machine.specs.Steps.{operateOf, Guard, guardPassed, causeOf, entryOf, Appended};
+ghost use Rattle.machine.specs.Table.{wordGuard};
+use crate::table::guard_of;
+use crate::table::small_of;
+use program::limits::NO_GUARD;
+use stores::access::allowed;
 use stores::words;
 
-// One of two terms.
+// One of two numbers.
 pub fn choose(yes: bool, a: u16, b: u16) -> u16
     ensures { λ r. ⌜ r ≡ pick yes a b ⌝ }
 {
@@ -38,18 +43,53 @@ pub fn operate(kind: u8, t: u16, a: u64, b: u64) -> u64
     words::boolean(x < y)
 }
 
-// Appends a number to the posts.
-pub fn append(posts: &mut [u16], n: &mut [usize; 4], t: u16, w: u64) -> u64
-    ensures { λ r. ⌜ Appended t w (now (n .entry)) (now (posts .entry)) r (now (n .exit)) (now (posts .exit)) ⌝ }
+// Whether the guard in the word x passes: there is none, or a check of it goes on.
+fn guard_passes(frames: &mut [u32], mode: usize, acc: u64, x: u64) -> bool
+    requires { ⌜ Guard (wordGuard x) ⌝ }
+    ensures { λ r. ⌜ (r ≡ guardPassed mode acc (now (frames .entry)) (wordGuard x)) × (now (frames .exit) ≡ now (frames .entry)) ⌝ }
 {
-    if words::sort(w) != 1 {
-        return words::stop(18, t);
+    let guard = guard_of(x);
+    if guard == NO_GUARD {
+        return true;
     }
+    allowed(frames, mode, acc, guard)
+}
+
+// Why a value is not posted: 18, then the guard, then 22. It is 0 if the value is posted.
+fn cause_of(number: bool, passes: bool, room: bool) -> u16
+    ensures { λ r. ⌜ r ≡ causeOf number passes room ⌝ }
+{
+    choose(number, choose(passes, choose(room, 0, 22), 17), 18)
+}
+
+// A post as the list has it.
+fn entry(channel: u8, number: u16) -> u32
+    ensures { λ r. ⌜ r ≡ entryOf channel number ⌝ }
+{
+    (channel as u32) * 65536 + (number as u32)
+}
+
+// Appends a number to the posts, by the word x of the post.
+pub fn append(
+    posts: &mut [u32],
+    frames: &mut [u32],
+    n: &mut [usize; 4],
+    t: u16,
+    x: u64,
+    acc: u64,
+    w: u64,
+) -> u64
+    requires { ⌜ Guard (wordGuard x) ⌝ }
+    ensures { λ r. ⌜ Appended t x acc w (now (n .entry)) (now (posts .entry)) (now (frames .entry)) r (now (n .exit)) (now (posts .exit))
+        (now (frames .exit)) ⌝ }
+{
     let at = n[2];
-    if posts.len() <= at {
-        return words::stop(22, t);
+    let passes = guard_passes(frames, n[3], acc, x);
+    let cause = cause_of(words::sort(w) == 1, passes, at < posts.len());
+    if cause != 0 {
+        return words::stop(cause as u8, t);
     }
-    posts[at] = words::payload(w);
+    posts[at] = entry(small_of(x), words::payload(w));
     n[2] = at + 1;
     w
 }

@@ -1,9 +1,9 @@
 // The term table of a readable sheet as an array of words, decoded once a run: kind, small, first, second and third of a record from the lowest byte
-// on. A sign has the set that its principal may use in the place of second and third, which it does not use.
+// on. In the place of second and third, which they do not use, a sign has the set that its principal may use, and a post the guard of its channel.
 ghost use mathlib.Core.Path.{_≡_};
 ghost use lib.ListN.{length, getD};
 ghost use Rattle.program.specs.Limits.{maxTerms};
-ghost use Rattle.machine.specs.Table.{wordKind, wordSmall, wordFirst, wordSecond, wordThird, wordAuthority, Holds, Decodable, Decoded};
+ghost use Rattle.machine.specs.Table.{wordKind, wordSmall, wordFirst, wordSecond, wordThird, wordAuthority, wordGuard, Holds, Decodable, Decoded};
 use program::limits::MAX_TERMS;
 use program::limits::TERM_PLACES;
 use program::records::Counts;
@@ -44,6 +44,12 @@ pub fn authority_of(x: u64) -> u32
     (x / 4294967296 % 4294967296) as u32
 }
 
+pub fn guard_of(x: u64) -> u8
+    ensures { λ r. ⌜ r ≡ wordGuard x ⌝ }
+{
+    (x / 4294967296 % 256) as u8
+}
+
 // The word of term t.
 fn term_word(s: &[u8], c: Counts, t: u16) -> u64
     ensures { λ r. ⌜ Holds (now (s .entry)) c t r ⌝ }
@@ -52,6 +58,9 @@ fn term_word(s: &[u8], c: Counts, t: u16) -> u64
     let low = (x.kind as u64) + 256 * (x.small as u64) + 65536 * (x.first as u64);
     if x.kind == 9 {
         return low + 4294967296 * (accessors::authority(s, x.small as u32) as u64);
+    }
+    if x.kind == 14 {
+        return low + 4294967296 * (accessors::guard(s, c, x.small) as u64);
     }
     low + 4294967296 * (x.second as u64) + 281474976710656 * (x.third as u64)
 }

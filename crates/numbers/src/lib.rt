@@ -12,7 +12,7 @@ pub struct Code {
     pub place: u16,
 }
 
-// 1 to 8.
+// 1 to 8, and 31.
 pub fn of_reader(f: program::answer::Refusal) -> Code
     ensures { λ r. ⌜ CodeIs (decodingCause f) (decodingPlace f) r ⌝ }
 {
@@ -25,6 +25,10 @@ pub fn of_reader(f: program::answer::Refusal) -> Code
         program::answer::Refusal::BadTerm(t) => Code { cause: 6, place: t },
         program::answer::Refusal::BadPlace(t) => Code { cause: 7, place: t },
         program::answer::Refusal::TooDeep(t) => Code { cause: 8, place: t },
+        program::answer::Refusal::BadGuard(t) => Code {
+            cause: 31,
+            place: t,
+        },
     }
 }
 

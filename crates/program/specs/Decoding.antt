@@ -1,15 +1,15 @@
--- The reader's refusals 1 to 8 and their order: 01, "Who can cause which refusal". A sheet is readable if none of them is found.
+-- The reader's refusals 1 to 8 and their order: 01, "Who can cause which refusal"; and 31 of 02's W8. A sheet is readable if none of them is found.
 use mathlib.Core.Bool.{Bool, true, false, not, cond, _&&_, _||_}
 use mathlib.Core.List.{List, [], _∷_, _++_}
 use mathlib.Core.Path.{_≡_}
 use Prim.Native.Nat.{ℕ, zero, suc, _+_, _*_, _/_}
 use lib.Dec.{leb, ltb, eqb}
 use lib.ListN.{length}
-use Rattle.program.specs.Limits.{maxPrincipals, maxTypes, maxTerms, maxTypeDepth, maxNesting}
+use Rattle.program.specs.Limits.{maxPrincipals, maxTypes, maxTerms, maxChannels, noGuard, maxTypeDepth, maxNesting}
 use Rattle.program.specs.Tests.{also, orElse}
 use Rattle.program.specs.Bytes.{byte, word16}
-use Rattle.program.specs.Layout.{principals, typeField, types, typeAt, termField, terms, termAt, root, kindByte, small, first, second, third, typesOf}
-use Rattle.program.specs.Formats.{Part, unused, flag, anyNumber, privilege, principal, functionType, child, bodyChild, isChild, Format, kindOf, format}
+use Rattle.program.specs.Layout.{version, hasGuards, principals, typeField, types, typeAt, termField, terms, guardField, sheetEnd, channels, guardByte, root, kindByte, small, first, second, third, typesOf}
+use Rattle.program.specs.Formats.{Part, unused, flag, anyNumber, privilege, principal, channel, functionType, child, bodyChild, isChild, Format, kindOf, format}
 use Rattle.program.specs.Screening.{Condition, Screening, clear, unless, seek, screen}
 
 -- ---- 1 to 4: the fields
@@ -56,13 +56,16 @@ typeOk s t = cond (ltb t 2) (baseOk s t) (functionOk s t && shallow s maxTypeDep
 
 -- ---- 6: term records
 
--- "a part lies outside its range or table, a child isn't lower, a type isn't a function where one is due, or an unused part isn't zero; a variable's number is never 6"
+-- "a part lies outside its range or table, a child isn't lower, a type isn't a function where one is due, or an unused part isn't zero; a variable's number
+-- is never 6"
 abbrev pub partOk : List ℕ → (t : ℕ) → Part → (value : ℕ) → Bool
 partOk s t unused x = eqb x 0
 partOk s t flag x = leb x 1
 partOk s t anyNumber x = true
 partOk s t privilege x = leb x 31
 partOk s t principal x = ltb x (principals s)
+-- 02, W8: "a channel, 0 to 15"; in version 1 there is channel 0 alone, so that the part is zero as before
+partOk s t channel x = ltb x (channels s)
 partOk s t functionType x = typesOf s .isFun x
 partOk s t child x = ltb x t
 partOk s t bodyChild x = ltb x t
@@ -99,6 +102,7 @@ signedBody s flag x = true
 signedBody s anyNumber x = true
 signedBody s privilege x = true
 signedBody s principal x = true
+signedBody s channel x = true
 signedBody s functionType x = true
 signedBody s child x = true
 signedBody s bodyChild x = isSign s x
@@ -121,19 +125,30 @@ abbrev pub nestedIn : List ℕ → (deep t : ℕ) → Bool
 nestedIn s zero t = false
 nestedIn s (suc k) t = orElse (eqb t (root s)) λ _. nestedIn s k (parent s t (terms s))
 
+-- ---- 31: guards
+
+-- 02, W8: "for each channel a privilege 0 to 31, or 255 for none. … any other privilege byte is 31 at its channel"
+abbrev pub guardOk : List ℕ → (c : ℕ) → Bool
+guardOk s c = leb (guardByte s c) 31 || eqb (guardByte s c) noGuard
+
 -- ---- all of them
+
+-- 02, W8: "The tag, length and cutting refusals cover tag 5", which version 2 alone has
+abbrev pub guardConditions : List ℕ → List Condition
+guardConditions s = cond (hasGuards s) (field s (guardField s) 5 (holds 16 1 1)) []
 
 -- "version (3)" follows the first field; "then bytes after the end (2)"
 abbrev pub fieldConditions : List ℕ → List Condition
 fieldConditions s =
-    field s 0 1 (holds 2 1 1) ++ unless 3 (eqb (word16 s 3) 1)
+    field s 0 1 (holds 2 1 1) ++ unless 3 (eqb (version s) 1 || eqb (version s) 2)
     ∷ field s 5 2 (holds 4 1 maxPrincipals) ++ field s (typeField s) 3 (holds 10 2 maxTypes) ++ field s (termField s) 4 (holds 8 1 maxTerms)
-    ++ unless 2 (eqb (termAt s (terms s)) (length s)) ∷ []
+    ++ guardConditions s ++ unless 2 (eqb (sheetEnd s) (length s)) ∷ []
 
--- "Each is sought over the whole table in ascending order before the next."
+-- "Each is sought over the whole table in ascending order before the next." 02, W8: 31 comes "straight after 8 and before all else".
 abbrev pub tableConditions : List ℕ → List Condition
 tableConditions s =
-    seek 5 (typeOk s) (types s) ∷ seek 6 (termOk s) (terms s) ∷ seek 7 (placedOk s) (terms s) ∷ seek 8 (nestedIn s maxNesting) (terms s) ∷ []
+    seek 5 (typeOk s) (types s) ∷ seek 6 (termOk s) (terms s) ∷ seek 7 (placedOk s) (terms s)
+    ∷ seek 8 (nestedIn s maxNesting) (terms s) ∷ seek 31 (guardOk s) maxChannels ∷ []
 
 abbrev pub decodingConditions : List ℕ → List Condition
 decodingConditions s = fieldConditions s ++ tableConditions s

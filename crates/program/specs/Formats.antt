@@ -1,4 +1,5 @@
--- The fifteen kinds of terms and the use that each makes of its record's parts: 01's table under "The kind byte picks one of fifteen terms".
+-- The fifteen kinds of terms and the use that each makes of its record's parts: 01's table under "The kind byte picks one of fifteen terms", and
+-- 02's channel of a post (W8).
 use mathlib.Core.Bool.{Bool, true, false}
 use mathlib.Core.List.{List, [], _∷_}
 use Prim.Native.Nat.{ℕ}
@@ -11,6 +12,7 @@ pub data Part : Type 0 where
   anyNumber : Part
   privilege : Part
   principal : Part
+  channel : Part
   functionType : Part
   child : Part
   -- a child that is the body of a function, and therefore a sign
@@ -22,6 +24,7 @@ isChild flag = false
 isChild anyNumber = false
 isChild privilege = false
 isChild principal = false
+isChild channel = false
 isChild functionType = false
 isChild child = true
 isChild bodyChild = true
@@ -60,4 +63,5 @@ format Test = uses privilege child child unused
 format Sum = uses unused child child unused
 format Difference = uses unused child child unused
 format Less = uses unused child child unused
-format Post = uses unused child unused unused
+-- 02, W8: "lets the small byte of a post be a channel"
+format Post = uses channel child unused unused

@@ -7,4 +7,5 @@ pub mod Readable
 pub mod Types
 pub mod Trees
 pub mod Nesting
+pub mod Guards
 pub mod Records

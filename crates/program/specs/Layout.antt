@@ -1,12 +1,22 @@
--- Where the fields and records of a sheet lie, and what a sheet says of its principals, types and terms.
--- 01, "The bytes of a sheet": "Fields of a one-byte tag, a two-byte length and content"; tags 1, 2, 3, 4 in this order.
-use mathlib.Core.Bool.{Bool, _&&_}
+-- Where the fields and records of a sheet lie, and what a sheet says of its principals, types, terms and guards.
+-- 01, "The bytes of a sheet": "Fields of a one-byte tag, a two-byte length and content"; tags 1, 2, 3, 4 in this order, and in version 2 tag 5.
+use mathlib.Core.Bool.{Bool, cond, _&&_}
 use mathlib.Core.List.{List}
+use mathlib.Core.Option.{Option, none, some}
 use Prim.Native.Nat.{ℕ, _+_, _*_, _-_, _/_}
-use lib.Dec.{leb, ltb}
+use lib.Dec.{leb, ltb, eqb}
+use Rattle.program.specs.Limits.{maxChannels, noGuard}
 use Rattle.program.specs.Bytes.{byte, word16, word32}
 
--- Tag 1 stands at 0 with its two bytes, so tag 2 stands at 5. "1 to 32 principals, four bytes each: the set A(n)".
+-- Tag 1 stands at 0 with its two bytes, the version. 02, W8: "Version 2 of the sheet lets the small byte of a post be a channel, 0 to 15, and adds
+-- tag 5".
+abbrev pub version : List ℕ → ℕ
+version s = word16 s 3
+
+abbrev pub hasGuards : List ℕ → Bool
+hasGuards s = eqb (version s) 2
+
+-- Tag 2 stands at 5. "1 to 32 principals, four bytes each: the set A(n)".
 abbrev pub principals : List ℕ → ℕ
 principals s = word16 s 6 / 4
 
@@ -32,6 +42,30 @@ terms s = word16 s (termField s + 1) / 8
 
 abbrev pub termAt : List ℕ → (term : ℕ) → ℕ
 termAt s t = termField s + 3 + 8 * t
+
+-- 02, W8: "adds tag 5 of length 16 after tag 4: for each channel a privilege 0 to 31, or 255 for none"
+abbrev pub guardField : List ℕ → ℕ
+guardField s = termAt s (terms s)
+
+abbrev pub guardAt : List ℕ → (channel : ℕ) → ℕ
+guardAt s c = guardField s + 3 + c
+
+abbrev pub sheetEnd : List ℕ → ℕ
+sheetEnd s = cond (hasGuards s) (guardAt s maxChannels) (guardField s)
+
+-- "Version 1 posts on channel 0 without a guard."
+abbrev pub channels : List ℕ → ℕ
+channels s = cond (hasGuards s) maxChannels 1
+
+abbrev pub guardByte : List ℕ → (channel : ℕ) → ℕ
+guardByte s c = cond (hasGuards s) (byte s (guardAt s c)) noGuard
+
+-- the privilege that guards a channel, from its byte
+abbrev pub guardIn : (byte : ℕ) → Option ℕ
+guardIn x = cond (eqb x noGuard) none (some x)
+
+abbrev pub guardOf : List ℕ → (channel : ℕ) → Option ℕ
+guardOf s c = guardIn (guardByte s c)
 
 -- "The last term is the root."
 abbrev pub root : List ℕ → ℕ

@@ -1,4 +1,4 @@
--- 01's limits, each named once; every other file cites them.
+-- 01's limits, and 02's, each named once; every other file cites them.
 use Prim.Native.Nat.{ℕ}
 
 -- "1 to 32 principals", "2 to 256 types", "1 to 1,024 terms"
@@ -10,6 +10,13 @@ maxTypes = 256
 
 abbrev pub maxTerms : ℕ
 maxTerms = 1024
+
+-- 02, W8: "a channel, 0 to 15"; "for each channel a privilege 0 to 31, or 255 for none"
+abbrev pub maxChannels : ℕ
+maxChannels = 16
+
+abbrev pub noGuard : ℕ
+noGuard = 255
 
 -- of types, "nested at most 12 deep"; of terms, "Nesting is at most 32"
 abbrev pub maxTypeDepth : ℕ

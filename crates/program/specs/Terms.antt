@@ -1,16 +1,19 @@
 -- A sheet's terms as a tree.
 use mathlib.Core.Bool.{Bool, false}
 use mathlib.Core.List.{List}
+use mathlib.Core.Option.{Option, none}
+use mathlib.Core.Path.{_≡_}
 use Prim.Native.Nat.{ℕ, zero, suc}
 use lib.Dec.{eqb}
-use Rattle.program.specs.Layout.{kindByte, small, first, second, third, root}
+use Rattle.program.specs.Layout.{kindByte, small, first, second, third, guardOf, root}
 use Rattle.program.specs.Formats.{Kind, Boolean, Number, Variable, Function, Letrec, Call, If, Check, Enable, Sign, Test, Sum, Difference, Less, Post, kindOf}
 
 -- the operations on two numbers
 pub data Op : Type 0 where
   sum difference less : Op
 
--- Each term has its own number, `at`: a stop or a fault tells it. A variable is the count of bindings between it and its own.
+-- Each term has its own number, `at`: a stop or a fault tells it. A variable is the count of bindings between it and its own. A post has its channel,
+-- and the privilege that guards it, if there is one.
 pub data Term : Type 0 where
   boolean : (at : ℕ) (b : Bool) → Term
   number : (at n : ℕ) → Term
@@ -24,30 +27,30 @@ pub data Term : Type 0 where
   sign : (at n : ℕ) (inner : Term) → Term
   test : (at p : ℕ) (then else : Term) → Term
   binary : (at : ℕ) (op : Op) (left right : Term) → Term
-  post : (at : ℕ) (inner : Term) → Term
+  post : (at channel : ℕ) (guard : Option ℕ) (inner : Term) → Term
 
--- one term, from its kind, number and parts, and the terms that its children's numbers stand for
-abbrev pub node : Kind → (at small first second third : ℕ) → (ℕ → Term) → Term
-node Boolean at x a b c term = boolean at (eqb x 1)
-node Number at x a b c term = number at a
-node Variable at x a b c term = variable at a
-node Function at x a b c term = function at a (term b)
-node Letrec at x a b c term = letrec at a (term b) (term c)
-node Call at x a b c term = call at (term a) (term b)
-node If at x a b c term = if at (term a) (term b) (term c)
-node Check at x a b c term = check at x (term a)
-node Enable at x a b c term = enable at x (term a)
-node Sign at x a b c term = sign at x (term a)
-node Test at x a b c term = test at x (term a) (term b)
-node Sum at x a b c term = binary at sum (term a) (term b)
-node Difference at x a b c term = binary at difference (term a) (term b)
-node Less at x a b c term = binary at less (term a) (term b)
-node Post at x a b c term = post at (term a)
+-- one term, from the channels' guards, its kind, number and parts, and the terms that its children's numbers stand for
+abbrev pub node : (guards : ℕ → Option ℕ) → Kind → (at small first second third : ℕ) → (ℕ → Term) → Term
+node guards Boolean at x a b c term = boolean at (eqb x 1)
+node guards Number at x a b c term = number at a
+node guards Variable at x a b c term = variable at a
+node guards Function at x a b c term = function at a (term b)
+node guards Letrec at x a b c term = letrec at a (term b) (term c)
+node guards Call at x a b c term = call at (term a) (term b)
+node guards If at x a b c term = if at (term a) (term b) (term c)
+node guards Check at x a b c term = check at x (term a)
+node guards Enable at x a b c term = enable at x (term a)
+node guards Sign at x a b c term = sign at x (term a)
+node guards Test at x a b c term = test at x (term a) (term b)
+node guards Sum at x a b c term = binary at sum (term a) (term b)
+node guards Difference at x a b c term = binary at difference (term a) (term b)
+node guards Less at x a b c term = binary at less (term a) (term b)
+node guards Post at x a b c term = post at x (guards x) (term a)
 
 -- The tree below term t, down to a depth. Children are lower than their parent, so a depth of t + 1 reaches all of it.
 abbrev pub treeTo : List ℕ → (depth t : ℕ) → Term
 treeTo s zero t = boolean t false
-treeTo s (suc k) t = node (kindOf (kindByte s t)) t (small s t) (first s t) (second s t) (third s t) (λ x. treeTo s k x)
+treeTo s (suc k) t = node (guardOf s) (kindOf (kindByte s t)) t (small s t) (first s t) (second s t) (third s t) (λ x. treeTo s k x)
 
 abbrev pub tree : List ℕ → (term : ℕ) → Term
 tree s t = treeTo s (suc t) t
@@ -55,3 +58,26 @@ tree s t = treeTo s (suc t) t
 -- the whole program: the tree of the root
 abbrev pub program : List ℕ → Term
 program s = tree s (root s)
+
+-- what every post of a term has, said of its channel and guard
+abbrev pub EveryPost : (ℕ → Option ℕ → Type 0) → Term → Type 0
+EveryPost Q (boolean at b) = Unit {0}
+EveryPost Q (number at n) = Unit {0}
+EveryPost Q (variable at i) = Unit {0}
+EveryPost Q (function at ty body) = EveryPost Q body
+EveryPost Q (letrec at ty body rest) = EveryPost Q body × EveryPost Q rest
+EveryPost Q (call at f a) = EveryPost Q f × EveryPost Q a
+EveryPost Q (if at c y n) = EveryPost Q c × EveryPost Q y × EveryPost Q n
+EveryPost Q (check at p c) = EveryPost Q c
+EveryPost Q (enable at p c) = EveryPost Q c
+EveryPost Q (sign at n c) = EveryPost Q c
+EveryPost Q (test at p y n) = EveryPost Q y × EveryPost Q n
+EveryPost Q (binary at op a b) = EveryPost Q a × EveryPost Q b
+EveryPost Q (post at ch g c) = Q ch g × EveryPost Q c
+
+-- 02, W8: "Version 1 posts on channel 0 without a guard."
+abbrev pub Plain : (channel : ℕ) → (guard : Option ℕ) → Type 0
+Plain ch g = (ch ≡ 0) × (g ≡ none)
+
+abbrev pub Unguarded : Term → Type 0
+Unguarded c = EveryPost Plain c

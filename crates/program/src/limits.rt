@@ -5,13 +5,25 @@ pub const MAX_TYPES: u16 = 256;
 
 pub const MAX_TERMS: u16 = 1024;
 
-// Arrays with a place for each type and for each term.
+pub const MAX_CHANNELS: u8 = 16;
+
+// The guard byte of a channel without a guard.
+pub const NO_GUARD: u8 = 255;
+
+// Arrays with a place for each type, for each term and for each channel.
 pub const TYPE_PLACES: usize = MAX_TYPES as usize;
 
 pub const TERM_PLACES: usize = MAX_TERMS as usize;
 
-// Bytes of the longest sheet: the first field, the heads of the three others, and their records.
-pub const MAX_SHEET: usize = 5 + 3 * 3 + 4 * 32 + 10 * TYPE_PLACES + 8 * TERM_PLACES;
+pub const CHANNEL_PLACES: usize = MAX_CHANNELS as usize;
+
+// Bytes of the longest sheet: the first field, the heads of the four others, their records, and the guards.
+pub const MAX_SHEET: usize = 5
+    + 4 * 3
+    + 4 * 32
+    + 10 * TYPE_PLACES
+    + 8 * TERM_PLACES
+    + CHANNEL_PLACES;
 
 pub const MAX_TYPE_DEPTH: u8 = 12;
 

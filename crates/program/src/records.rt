@@ -1,10 +1,11 @@
 // What a sheet's records hold. The crate `accessors` reads them.
 
-// How many principals, types and terms a sheet has. They fix where each record lies.
+// How many principals, types, terms and channels a sheet has. They fix where each record and each guard lies.
 pub struct Counts {
     pub principals: u8,
     pub types: u16,
     pub terms: u16,
+    pub channels: u8,
 }
 
 pub struct TermRecord {

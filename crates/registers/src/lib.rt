@@ -54,7 +54,7 @@ fn pair(high: u8, low: u8) -> u32
 }
 
 // A write to command: 1 runs the sheet.
-fn command(b: Block, value: u8, sheet: &[u8], cells: &mut [u8], posts: &mut [u16]) -> Written
+fn command(b: Block, value: u8, sheet: &[u8], cells: &mut [u8], posts: &mut [u32]) -> Written
     ensures { λ r. ⌜ writtenModel r (now (cells .exit)) (now (posts .exit))
         ≡ commanded (eqb value 1) (b .bytes) (now (sheet .entry)) (buffersOf (now (cells .entry)) (now (posts .entry)) []) ⌝ }
 {
@@ -91,7 +91,7 @@ pub fn write(
     value: u8,
     sheet: &[u8],
     cells: &mut [u8],
-    posts: &mut [u16],
+    posts: &mut [u32],
 ) -> Written
     ensures { λ r. ⌜ writtenModel r (now (cells .exit)) (now (posts .exit))
         ≡ writeOf (b .bytes) address value (now (sheet .entry)) (buffersOf (now (cells .entry)) (now (posts .entry)) []) ⌝ }

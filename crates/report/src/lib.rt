@@ -27,7 +27,7 @@ ghost use Rattle.report.specs.Internal.{held, RunReported, Rendered, Del
 
 // Judges the sheet and, if it is accepted, runs it eagerly, checks in force, on an empty stack with the largest allowances, in the lent cell store
 // and list of posts, which must be the largest. The text goes to the front of `text`, if it fits there.
-pub fn report(sheet: &[u8], cells: &mut [u8], posts: &mut [u16], text: &mut [u8]) -> Reported
+pub fn report(sheet: &[u8], cells: &mut [u8], posts: &mut [u32], text: &mut [u8]) -> Reported
     ensures { λ r. ⌜ leaving r (now (cells .exit)) (now (posts .exit)) (now (text .exit))
         ≡ reported (now (sheet .entry)) (buffersOf (now (cells .entry)) (now (posts .entry)) []) (now (text .entry)) ⌝ }
 {
@@ -42,7 +42,7 @@ pub fn report(sheet: &[u8], cells: &mut [u8], posts: &mut [u16], text: &mut [u8]
 }
 
 // The whole text, and the run behind it.
-fn render(sheet: &[u8], cells: &mut [u8], posts: &mut [u16]) -> Draft
+fn render(sheet: &[u8], cells: &mut [u8], posts: &mut [u32]) -> Draft
     requires { ⌜ (length (now cells) ≡ maxCells) × (length (now posts) ≡ maxPosts) ⌝ }
     ensures { λ r. ⌜ Rendered (now (sheet .entry)) (buffersOf (now (cells .entry)) (now (posts .entry)) [])
         (buffersOf (now (cells .exit)) (now (posts .exit)) []) r ⌝ }
@@ -66,7 +66,7 @@ fn render(sheet: &[u8], cells: &mut [u8], posts: &mut [u16]) -> Draft
 fn run_accepted(
     sheet: &[u8],
     cells: &mut [u8],
-    posts: &mut [u16],
+    posts: &mut [u32],
     terms: u16,
     ty: u16,
     needs: u32,

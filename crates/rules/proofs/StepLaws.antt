@@ -1,7 +1,7 @@
 -- A law for each way that a step of judging ends. Assumes nothing.
 use mathlib.Core.Bool.{Bool, true, false, _&&_}
 use mathlib.Core.List.{List}
-use mathlib.Core.Option.{Option}
+use mathlib.Core.Option.{Option, none, some}
 use mathlib.Core.Path.{_≡_, refl, sym, ap, _∙_}
 use Prim.Native.Nat.{ℕ, zero, suc, _<_, _≤_}
 use native.Mathlib.Omega.{arith}
@@ -10,16 +10,18 @@ use borrow.Author.Tests.{eq-eqb, ne-eqb}
 use denote.Enum.Declared.{tagOf}
 use Rattle.typing.proofs.answer.Inferred.{the-type}
 use Rattle.privileges.specs.Sets.{has, union, insert, remove, subset}
-use Rattle.program.specs.Layout.{Types, typesOf}
+use Rattle.program.specs.Limits.{noGuard}
+use Rattle.program.specs.Layout.{Types, typesOf, guardIn}
 use Rattle.program.specs.Records.{typeRecord}
 use Rattle.program.specs.declared.records.Counts.{Counts}
 use Rattle.program.specs.declared.records.TermRecord.{TermRecord}
 use Rattle.program.specs.declared.records.TypeRecord.{TypeRecord}
+use Rattle.program.specs.Laws.Guards.{guard-low}
 use Rattle.typing.specs.Subtyping.{subtype, wider}
-use Rattle.typing.specs.Rules.{bound}
+use Rattle.typing.specs.Rules.{bound, postNeeds}
 use Rattle.typing.specs.Checking.{Judgement, typed, fault, _next_, require, variableType, joined}
 use Rattle.rules.specs.Inference.{inferredModel, Sheet}
-use Rattle.rules.specs.Steps.{foundOf, leafBy, leafStep, checkStep, enableStep, signStep, postStep, testStep, ifStep, binaryStep, bodyStep, functionStep, letrecStep, callStep, resultOf}
+use Rattle.rules.specs.Steps.{foundOf, leafBy, leafStep, checkStep, enableStep, signStep, postStep, GuardByte, testStep, ifStep, binaryStep, bodyStep, functionStep, letrecStep, callStep, resultOf}
 use Rattle.typing.specs.declared.answer.Inferred.{Inferred}
 use Rattle.typing.specs.declared.answer.Inferred.the-variants.{Typed, Faulty}
 use Rattle.rules.specs.declared.bindings.Found.{Found}
@@ -63,6 +65,23 @@ pub result-number : (k : ℕ) → (k ≡ 13 → ⊥) → 1 ≡ resultOf k
 unfolding resultOf
 result-number k n = rw (ne-eqb k 13 n) refl
 
+-- ---- the guard of a post, by its byte
+module _ (x : ℕ) where
+  guard-none : x ≡ noGuard → guardIn x ≡ none
+  guard-none e = rw (eq-eqb x noGuard e) refl
+
+  guard-some : (x ≡ noGuard → ⊥) → guardIn x ≡ some x
+  guard-some n = rw (ne-eqb x noGuard n) refl
+
+  pub guard-privilege : GuardByte x → (x ≡ noGuard → ⊥) → x < 32
+  guard-privilege h n = guard-low x h x (guard-some n) .1
+
+  pub unguarded-needs : (N : ℕ) → x ≡ noGuard → N ≡ postNeeds (guardIn x) N
+  unguarded-needs N e = ap (λ (g : Option ℕ). postNeeds g N) (sym (guard-none e))
+
+  pub guarded-needs : (N : ℕ) {M : ℕ} → (x ≡ noGuard → ⊥) → M ≡ insert x N → M ≡ postNeeds (guardIn x) N
+  guarded-needs N n h = h ∙ ap (λ (g : Option ℕ). postNeeds g N) (sym (guard-some n))
+
 -- ---- two branches
 module _ {w : Found} (t N : ℕ) where
   pub joined-typed : {ty : ℕ} → w ≡ At ty → typed ty N ≡ joined t (foundOf w) N
@@ -93,13 +112,13 @@ module _ {j : Inferred} {τ N : ℕ} (e : j ≡ Typed τ N) where
   unfolding signStep
   sign-outside may t r h = rw (e, ← r, h) refl
 
-  pub post-number : (t : ℕ) → τ ≡ 1 → typed 1 N ≡ postStep t (inferredModel j)
+  pub post-number : (g : Option ℕ) (t : ℕ) {M : ℕ} → τ ≡ 1 → M ≡ postNeeds g N → typed 1 M ≡ postStep g t (inferredModel j)
   unfolding postStep
-  post-number t h = rw (e, eq-eqb τ 1 h) refl
+  post-number g t h n = rw (e, eq-eqb τ 1 h, n) refl
 
-  pub post-other : (t : ℕ) → (τ ≡ 1 → ⊥) → fault 10 t ≡ postStep t (inferredModel j)
+  pub post-other : (g : Option ℕ) (t : ℕ) → (τ ≡ 1 → ⊥) → fault 10 t ≡ postStep g t (inferredModel j)
   unfolding postStep
-  post-other t h = rw (e, ne-eqb τ 1 h) refl
+  post-other g t h = rw (e, ne-eqb τ 1 h) refl
 
   -- two branches, of which j is the second; w is the wider of their types
   pub test-joined : (T : Types) (p t σ P : ℕ) {w : Option ℕ} {Y K : ℕ} {r : Judgement} → w ≡ wider T σ τ → Y ≡ remove p P → K ≡ union Y N

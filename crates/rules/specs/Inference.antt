@@ -48,7 +48,7 @@ room (enable at p c) = room c
 room (sign at n c) = room c
 room (test at p y o) = max (room y) (room o)
 room (binary at op a b) = max (room a) (room b)
-room (post at c) = room c
+room (post at ch g c) = room c
 
 unfoldable pub roomAt : List ℕ → (t : ℕ) → ℕ
 roomAt s t = room (tree s t)

@@ -1,16 +1,17 @@
 -- What the contracts of internal functions say. No reader of the public promise needs this file.
-use mathlib.Core.Bool.{cond, _&&_}
+use mathlib.Core.Bool.{true, cond, _&&_, _||_}
 use mathlib.Core.List.{List, _∷_}
 use mathlib.Core.Option.{Option, none, some}
 use mathlib.Core.Path.{_≡_}
 use Prim.Native.Nat.{ℕ, zero, suc, _+_}
-use lib.Dec.{eqb}
+use lib.Dec.{leb, eqb}
 use Rattle.privileges.specs.Sets.{has, union, insert, remove, subset}
+use Rattle.program.specs.Limits.{noGuard}
 use Rattle.program.specs.Layout.{Types}
 use Rattle.program.specs.declared.records.TermRecord.{TermRecord}
 use Rattle.program.specs.declared.records.TypeRecord.{TypeRecord}
 use Rattle.typing.specs.Subtyping.{subtype, wider}
-use Rattle.typing.specs.Rules.{bound}
+use Rattle.typing.specs.Rules.{bound, postNeeds}
 use Rattle.typing.specs.Checking.{Judgement, typed, _next_, require, variableType, joined}
 use Rattle.rules.specs.Inference.{context}
 use Rattle.rules.specs.declared.bindings.Bindings.{Bindings}
@@ -45,8 +46,12 @@ enableStep may p j = j next λ τ N. typed τ (cond (has p may) (remove p N) N)
 unfoldable pub signStep : (may at : ℕ) → Judgement → Judgement
 signStep may at j = j next λ τ N. require (subset N may) 11 at (typed τ N)
 
-unfoldable pub postStep : (at : ℕ) → Judgement → Judgement
-postStep at j = j next λ τ N. require (eqb τ 1) 10 at (typed 1 N)
+unfoldable pub postStep : (guard : Option ℕ) (at : ℕ) → Judgement → Judgement
+postStep g at j = j next λ τ N. require (eqb τ 1) 10 at (typed 1 (postNeeds g N))
+
+-- a readable sheet's guard byte: 02, W8, "a privilege 0 to 31, or 255 for none"
+abbrev pub GuardByte : ℕ → Type 0
+GuardByte x = (leb x 31 || eqb x noGuard) ≡ true
 
 unfoldable pub testStep : Types → (p at τ N : ℕ) → Judgement → Judgement
 testStep T p at τ N j = j next λ ρ M. joined at (wider T τ ρ) (union (remove p N) M)

@@ -6,6 +6,7 @@ use crate::known::Known;
 use crate::subtypes::is_function;
 use crate::subtypes::subtype;
 use crate::subtypes::wider;
+use program::limits::NO_GUARD;
 use program::records::Counts;
 use program::records::TermRecord;
 use program::records::TypeRecord;
@@ -13,7 +14,8 @@ use typing::answer::Fault;
 use typing::answer::Inferred;
 ghost use mathlib.Core.Path.{_≡_};
 ghost use Prim.Native.Nat.{_<_, _≤_};
-ghost use Rattle.program.specs.Layout.{typesOf};
+ghost use Rattle.program.specs.Layout.{typesOf, guardIn};
+ghost use Rattle.typing.specs.Rules.{postNeeds};
 ghost use Rattle.typing.specs.Checking.{joined as joinedOf};
 ghost use Rattle.rules.specs.Inference.{inferredModel, context};
 ghost use Rattle.rules.specs.Known.{Judging, Answered};
@@ -24,6 +26,7 @@ ghost use Rattle.rules.specs.Steps.{
   enableStep,
   signStep,
   postStep,
+  GuardByte,
   testStep,
   ifStep,
   binaryStep,
@@ -103,9 +106,21 @@ pub fn signed(may: u32, t: u16, j: Inferred) -> Inferred
     Inferred::Faulty(Fault::SignNeeds(t))
 }
 
-// Of a post: its child's judgement.
-pub fn posted(t: u16, j: Inferred) -> Inferred
-    ensures { λ r. ⌜ inferredModel r ≡ postStep t (inferredModel j) ⌝ }
+// The needs of a post whose channel has this guard byte: its number's, with the privilege of the guard.
+fn guarded(guard: u8, needs: u32) -> u32
+    requires { ⌜ GuardByte guard ⌝ }
+    ensures { λ r. ⌜ r ≡ postNeeds (guardIn guard) needs ⌝ }
+{
+    if guard == NO_GUARD {
+        return needs;
+    }
+    privileges::insert(guard, needs)
+}
+
+// Of a post whose channel has this guard byte: its child's judgement.
+pub fn posted(guard: u8, t: u16, j: Inferred) -> Inferred
+    requires { ⌜ GuardByte guard ⌝ }
+    ensures { λ r. ⌜ inferredModel r ≡ postStep (guardIn guard) t (inferredModel j) ⌝ }
 {
     let Inferred::Typed { ty, needs } = j else {
         return j;
@@ -113,7 +128,7 @@ pub fn posted(t: u16, j: Inferred) -> Inferred
     if ty == 1 {
         return Inferred::Typed {
             ty: 1,
-            needs: needs,
+            needs: guarded(guard, needs),
         };
     }
     Inferred::Faulty(Fault::Type(t))

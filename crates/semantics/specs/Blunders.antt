@@ -1,11 +1,12 @@
--- 01's "Plausible blunders" about runs, and the order of 19 and 20: for each a term that tells the blunder from the meaning, in one table that one
--- theorem proves by computation, for both access controls.
-use mathlib.Core.Bool.{true}
+-- 01's "Plausible blunders" about runs, the order of 19 and 20, and where 02's guards are decided: for each a term that tells the blunder from the meaning,
+-- in one table that one theorem proves by computation, for both access controls.
+use mathlib.Core.Bool.{Bool, true, false}
 use mathlib.Core.List.{List, [], _∷_, map}
+use mathlib.Core.Option.{none, some}
 use mathlib.Core.Path.{_≡_, refl}
 use Prim.Native.Nat.{ℕ, zero, suc}
 use Rattle.privileges.specs.Sets.{has, meet, union, insert}
-use Rattle.program.specs.Terms.{sum, Term, number, variable, function, letrec, call, check, enable, sign, binary}
+use Rattle.program.specs.Terms.{sum, Term, boolean, number, variable, function, letrec, call, check, enable, sign, binary, post}
 use Rattle.semantics.specs.Values.{num, empty, budget, Result, ends, stops}
 use Rattle.semantics.specs.Meaning.{evalWith, apply, eval}
 use Rattle.semantics.specs.Access.{frame, privs, lazyControl, rights, addAuthorised, eagerControl}
@@ -17,17 +18,27 @@ authority (suc n) = 0
 
 pub record Example : Type 0 where
   pub term : Term
+  pub enforce : Bool
   pub start : List (ℕ × ℕ)
   pub calls : ℕ
   pub depth : ℕ
+  pub room : ℕ
   pub result : Result
 
 abbrev example : Term → List (ℕ × ℕ) → (calls depth : ℕ) → Result → Example
-example c fs k d r = record { term = c; start = fs; calls = k; depth = d; result = r }
+example c fs k d r = record { term = c; enforce = true; start = fs; calls = k; depth = d; room = 9; result = r }
+
+-- on an empty stack, with so many places for posts, checks and guards in force or passed over
+abbrev posting : Term → (enforce : Bool) (room : ℕ) → Result → Example
+posting c enforce room r = record { term = c; enforce = enforce; start = []; calls = 9; depth = 9; room = room; result = r }
 
 -- f is made where privilege 1 is not granted, and its body checks for it
 abbrev withChecker : (rest : Term) → Term
 withChecker rest = sign 20 0 (letrec 19 2 (sign 3 0 (check 2 1 (number 1 7))) rest)
+
+-- a post of principal 0 on channel 3, which privilege 1 guards
+abbrev onPage : (inner : Term) → Term
+onPage c = post 2 3 (some 1) c
 
 pub examples : List Example
 examples =
@@ -41,15 +52,27 @@ examples =
     ∷ example (sign 2 0 (check 1 1 (number 0 7))) ((1, 0) ∷ (0, 2) ∷ []) 9 9 (stops 17 1 (budget 9 9 9 []))
     -- "19 open calls would pass the allowance, then 20 calls spent"
     ∷ example (sign 5 0 (call 4 (function 3 2 (sign 2 0 (number 1 7))) (number 0 0))) [] 0 0 (stops 19 4 (budget 0 9 9 []))
+    -- 02, W8: "channel × 65,536 + number", which is 3 × 65,536 + 7; the post yields its number
+    ∷ posting (sign 4 0 (enable 3 1 (onPage (number 1 7)))) true 9 (ends (num 7) (budget 9 9 8 (196615 ∷ [])))
+    -- "it is refused by 17 after its number is worked out": a post inside it is made
+    ∷ posting (sign 4 0 (onPage (post 1 0 none (number 0 7)))) true 9 (stops 17 2 (budget 9 9 8 (7 ∷ [])))
+    -- "after 18"
+    ∷ posting (sign 4 0 (onPage (boolean 1 true))) true 9 (stops 18 2 (budget 9 9 9 []))
+    -- "and before 22"; where the guard passes, 22
+    ∷ posting (sign 4 0 (onPage (number 1 7))) true 0 (stops 17 2 (budget 9 9 0 []))
+    ∷ posting (sign 4 0 (enable 3 1 (onPage (number 1 7)))) true 0 (stops 22 2 (budget 9 9 0 []))
+    -- "A run with checks passed over passes over guards too"
+    ∷ posting (sign 4 0 (onPage (number 1 7))) false 9 (ends (num 7) (budget 9 9 8 (196615 ∷ [])))
     ∷ []
 
 pub eagerly : Example → Result
 eagerly x =
-    eval (eagerControl authority) true (x .depth) (x .term) (rights 0 (privs authority (map (λ f. frame (f .0) (f .1)) (x .start)))) empty
-    (budget (x .calls) 9 9 [])
+    eval (eagerControl authority) (x .enforce) (x .depth) (x .term) (rights 0 (privs authority (map (λ f. frame (f .0) (f .1)) (x .start)))) empty
+    (budget (x .calls) 9 (x .room) [])
 
 pub lazily : Example → Result
-lazily x = eval (lazyControl authority) true (x .depth) (x .term) (map (λ f. frame (f .0) (f .1)) (x .start)) empty (budget (x .calls) 9 9 [])
+lazily x =
+    eval (lazyControl authority) (x .enforce) (x .depth) (x .term) (map (λ f. frame (f .0) (f .1)) (x .start)) empty (budget (x .calls) 9 (x .room) [])
 
 pub record Refuted : Type 0 where
   pub by-eager : map eagerly examples ≡ map (λ x. x .result) examples

@@ -2,3 +2,4 @@
 pub mod Agree
 pub mod Access
 pub mod Budgets
+pub mod Posts

@@ -3,7 +3,7 @@
 use mathlib.Core.Bool.{Bool, true, false}
 use mathlib.Core.List.{_∷_}
 use mathlib.Core.Option.{Option, none, some}
-use Prim.Native.Nat.{ℕ, zero, suc, _+_, _-_, min}
+use Prim.Native.Nat.{ℕ, zero, suc, _+_, _*_, _-_, min}
 use lib.Dec.{ltb}
 use Rattle.program.specs.Terms.{Op, sum, difference, less, Term, boolean, number, variable, function, letrec, call, if, check, enable, sign, test, binary, post}
 use Rattle.semantics.specs.Values.{Value, bool, num, closure, Env, bind, lookup, entered, Budget, budget, Result, ends, stops}
@@ -50,12 +50,20 @@ compute at op (num m) (closure r ty body env) u = stops 18 at u
 compute at op (bool b) w u = stops 18 at u
 compute at op (closure r ty body env) w u = stops 18 at u
 
--- "A post appends its number and yields it." "22 no place for a post, after 18."
-abbrev pub appendPost : (at : ℕ) → Value → Budget → Result
-appendPost at (num n) (budget c d zero ps) = stops 22 at (budget c d zero ps)
-appendPost at (num n) (budget c d (suc r) ps) = ends (num n) (budget c d r (n ∷ ps))
-appendPost at (bool b) u = stops 18 at u
-appendPost at (closure r ty body env) u = stops 18 at u
+-- 02, W8: "Lists of posts become 32-bit: channel × 65,536 + number."
+abbrev pub postEntry : (channel number : ℕ) → ℕ
+postEntry ch n = ch * 65536 + n
+
+-- "A post appends its number and yields it." "22 no place for a post".
+abbrev pub appendPost : (at channel number : ℕ) → Budget → Result
+appendPost at ch n (budget c d zero ps) = stops 22 at (budget c d zero ps)
+appendPost at ch n (budget c d (suc r) ps) = ends (num n) (budget c d r (postEntry ch n ∷ ps))
+
+-- A post of a value, whose guard passes or not. 02, W8: "it is refused by 17 after its number is worked out, after 18 and before 22".
+abbrev pub postValue : (at channel : ℕ) (allowed : Bool) → Value → Budget → Result
+postValue at ch allowed (num n) u = choose allowed (λ u₁. appendPost at ch n u₁) (λ u₁. stops 17 at u₁) u
+postValue at ch allowed (bool b) u = stops 18 at u
+postValue at ch allowed (closure r ty body env) u = stops 18 at u
 
 -- "a recursive binder one" cell; "21 no cell … also at a recursive binder"
 abbrev pub takeCell : (at : ℕ) → (Budget → Result) → Budget → Result
@@ -85,6 +93,11 @@ abbrev pub passes : (enforce granted : Bool) → Bool
 passes true g = g
 passes false g = true
 
+-- 02, W8: "A run with checks passed over passes over guards too"; a post without a guard is not refused
+abbrev pub guardPasses : (enforce : Bool) (grants : ℕ → Bool) (guard : Option ℕ) → Bool
+guardPasses enforce grants none = true
+guardPasses enforce grants (some p) = passes enforce (grants p)
+
 module _ (X : Control) where
   abbrev pub Evaluation : Type 0
   Evaluation = X .State → Env → Budget → Result
@@ -93,7 +106,7 @@ module _ (X : Control) where
   abbrev pub Application : Type 0
   Application = (at : ℕ) (fun arg : Value) → X .State → Budget → Result
 
-  -- `enforce` says whether the checks are in force
+  -- `enforce` says whether the checks and guards are in force
   module _ (enforce : Bool) where
     -- "Evaluation goes left to right."
     unfoldable pub evalWith : Application → Term → Evaluation
@@ -123,7 +136,9 @@ module _ (X : Control) where
         choose (X .grants st p) (λ u₁. evalWith app y st env u₁) (λ u₁. evalWith app n st env u₁) u
     evalWith app (binary at op a b) st env u =
         evalWith app a st env u then λ v u₁. evalWith app b st env u₁ then λ w u₂. compute at op v w u₂
-    evalWith app (post at c) st env u = evalWith app c st env u then λ v u₁. appendPost at v u₁
+    -- the guard is decided in the state of the post, when its number is worked out
+    evalWith app (post at ch g c) st env u =
+        evalWith app c st env u then λ v u₁. postValue at ch (guardPasses enforce (X .grants st) g) v u₁
 
     -- A call where so many more calls may be open. "A call is open while its body runs."
     unfoldable pub apply : (depth : ℕ) → Application

@@ -49,7 +49,7 @@ abbrev pub known : (count : ℕ) → List Frame → Bool
 known count [] = true
 known count (f ∷ fs) = ltb (f .principal) count && known count fs
 
--- ---- what turns a run back, "after 1 to 8 and in this order"
+-- ---- what turns a run back, "after 1 to 8 and in this order"; 02, W8: 31 comes "straight after 8 and before all else"
 
 -- "14 start stack: more than 16 frames, half a frame, or an unknown principal"
 abbrev pub startOk : List ℕ → Request → Bool

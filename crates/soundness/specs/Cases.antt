@@ -147,13 +147,13 @@ due (running s q a ps) = answered a ps
 due (granting s start set) = grants set
 
 -- "Unless named, the stack is empty and allowances and buffers are the largest." Checks are in force; a run is asked of both runners.
-abbrev request : (start : List ℕ) (calls depth : ℕ) → Runner → Request
+abbrev pub request : (start : List ℕ) (calls depth : ℕ) → Runner → Request
 request start calls depth r = record { runner = r; enforce = true; start = start; calls = calls; depth = depth }
 
-abbrev counted : (calls cells posts : ℕ) → Counts
+abbrev pub counted : (calls cells posts : ℕ) → Counts
 counted c d p = record { calls = c; cells = d; posts = p }
 
-abbrev both : List ℕ → (Runner → Request) → Answer → List ℕ → List Case
+abbrev pub both : List ℕ → (Runner → Request) → Answer → List ℕ → List Case
 both s q a ps = running s (q eager) a ps ∷ running s (q lazy) a ps ∷ []
 
 unfoldable pub cases : List Case
@@ -196,7 +196,7 @@ observed b (running s q a ps) = answered (run s q b .answer) (postsOf (run s q b
 observed b (granting s start set) = grants (privs (authority s) (stack start))
 
 -- the same from the buffers' lengths alone
-observedBy : Sizes → Case → Observed
+unfoldable pub observedBy : Sizes → Case → Observed
 observedBy z (deciding s v) = decided (verdict s)
 observedBy z (running s q a ps) = answered (answerOf (root s) q z (course s q z)) (postsMade (course s q z))
 observedBy z (granting s start set) = grants (privs (authority s) (stack start))
@@ -214,10 +214,14 @@ observations b (c ∷ cs) = λ i. observed-sizes b c i ∷ observations b cs i
 abbrev pub largest : Sizes
 largest = record { cells = maxCells; posts = maxPosts; frames = frameNumbers }
 
+-- rows that are computed from the lengths alone hold in buffers of the largest lengths, whatever they hold
+pub told : (cs : List Case) → map (observedBy largest) cs ≡ map due cs → (b : Buffers) → sizes b ≡ largest → map (observed b) cs ≡ map due cs
+told cs h b e = observations b cs ∙ ap (λ (z : Sizes). map (observedBy z) cs) e ∙ h
+
 computed : map (observedBy largest) cases ≡ map due cases
 unfolding cases observedBy verdict decoding screen tell infer subtype subtypeIn wider removeAuthorised course eval apply evalWith addAuthorised has meet union insert remove subset
 computed = refl
 
 -- The starred cases hold of the definitions, with buffers of the largest lengths, whatever they hold.
 pub starred : (b : Buffers) → sizes b ≡ largest → map (observed b) cases ≡ map due cases
-starred b e = observations b cases ∙ ap (λ (z : Sizes). map (observedBy z) cases) e ∙ computed
+starred = told cases computed

@@ -2,3 +2,4 @@ pub mod Claims
 pub mod Laws
 pub mod Theorems
 pub mod Cases
+pub mod Pages

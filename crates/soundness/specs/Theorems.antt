@@ -35,7 +35,8 @@ runners-agree s x y b d c e fx fy = go (screen (runConditions s x (sizes b))) re
 -- ---- Theorem 4: demand 3
 -- A sheet is accepted, of type τ and with needs N. Two runs of it, one with checks in force and one with checks passed over, each of either runner,
 -- have the same start stack, allowances and lengths of buffers, whatever these hold and however long a frame store is. The stack grants the needs,
--- and neither run is turned back. Then the two give the same answer and posts, and the answer is an end of type τ or a stop by 19 to 22.
+-- and neither run is turned back. Then the two give the same answer and posts, and the answer is an end of type τ or a stop by 19 to 22. 02, W8: "A run
+-- with checks passed over passes over guards too, and on that reading the pair of runs agrees for both versions."
 pub demand-3 : (s : List ℕ) (terms τ N : ℕ) (x y : Request) (b d : Buffers) → verdict s ≡ accepted terms τ N → TwoRuns s x y b d → GrantsSet s (x .start) N
     → SameRun (run s x b) (run s y d) × Proper τ (run s x b .answer)
 demand-3 s n τ N x y b d e t g =

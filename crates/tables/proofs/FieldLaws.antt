@@ -1,6 +1,6 @@
 -- The fields of a sheet: which condition each way out of the code has found.
-use mathlib.Core.Bool.{Bool, true, false}
-use mathlib.Core.List.{List}
+use mathlib.Core.Bool.{Bool, true, false, cond, _||_}
+use mathlib.Core.List.{List, [], _++_}
 use mathlib.Core.Path.{_≡_, refl, sym, ap, _∙_, subst}
 use Prim.Native.Nat.{ℕ, _+_, _*_, _/_, _<_, _≤_}
 use native.Mathlib.Omega.{arith}
@@ -8,17 +8,21 @@ use lib.Dec.{leb, eqb}
 use lib.ListN.{length}
 use borrow.Author.Tests.{lt-leb, le-leb, eq-eqb, ne-eqb, leb-true, eqb-true}
 use Rattle.privileges.specs.Booleans.{and-left, and-right}
+use Rattle.program.specs.Limits.{maxChannels}
 use Rattle.program.specs.Bytes.{byte, word16}
-use Rattle.program.specs.Layout.{principals, typeField, types, termField, terms, termAt}
-use Rattle.program.specs.Screening.{First, first-here, first-later, None, none-end, none-next, unless}
+use Rattle.program.specs.Layout.{version, hasGuards, principals, typeField, types, termField, terms, guardField, channels}
+use Rattle.program.specs.Screening.{Condition, First, first-here, first-later, None, none-end, none-next, unless}
 use Rattle.program.specs.Decoding.{holds, field, fieldConditions}
 use Rattle.program.specs.Laws.Screening.{first-left, first-right, append-none, none-unless, found-unless}
 use Rattle.program.specs.Answers.{decodingCause, decodingPlace}
-use Rattle.tables.specs.Internal.{Laid}
-use Rattle.tables.specs.Internal.{FieldHolds, FieldIs}
+use Rattle.tables.specs.Internal.{Laid, FieldHolds, FieldIs, versionConditions, VersionHolds, VersionIs, endAt, endConditions, AfterTerms, EndIs}
 use Rattle.program.specs.declared.answer.Refusal.{Refusal}
 use Rattle.tables.specs.declared.header.Field.{Field}
 use Rattle.tables.specs.declared.header.Field.the-variants.{Records, Fault}
+use Rattle.tables.specs.declared.header.Version.{Version}
+use Rattle.tables.specs.declared.header.Version.the-variants.{Channels, Fault as VersionFault}
+use Rattle.tables.specs.declared.header.End.{End}
+use Rattle.tables.specs.declared.header.End.the-variants.{Whole, Fault as EndFault}
 
 -- ---- one field
 module _ (s : List ℕ) (at tag size least most : ℕ) where
@@ -68,65 +72,127 @@ pub is-records : (s : List ℕ) (at tag size least most : ℕ) {r : Field} {n : 
     → FieldHolds s at tag size least most n
 is-records s at tag size least most e h = subst (FieldIs s at tag size least most) e h
 
--- ---- the four fields, one after the other
-module _ (s : List ℕ) {c p : ℕ} where
-  pub fault-1 : First c p (field s 0 1 (holds 2 1 1)) → First c p (fieldConditions s)
-  fault-1 f = first-left _ f
+-- ---- the first field and its version
+abbrev known : (version : ℕ) → Bool
+known v = eqb v 1 || eqb v 2
 
-module _ (s : List ℕ) (n₁ : None (field s 0 1 (holds 2 1 1))) {v : ℕ} (ev : v ≡ word16 s 3) where
-  pub fault-version : (v ≡ 1 → ⊥) → First 3 0 (fieldConditions s)
-  fault-version h = first-right n₁ (first-here refl (found-unless 3 (ne-eqb (word16 s 3) 1 (λ z. h (ev ∙ z)))))
+abbrev channelsFor : (version : ℕ) → ℕ
+channelsFor v = cond (eqb v 2) maxChannels 1
 
-  module _ (v1 : v ≡ 1) where
-    versioned : unless 3 (eqb (word16 s 3) 1) .found tt ≡ mathlib.Core.Option.none
-    versioned = none-unless 3 (eq-eqb (word16 s 3) 1 (sym ev ∙ v1))
+pub first-fault : (s : List ℕ) {c p : ℕ} → First c p (field s 0 1 (holds 2 1 1)) → First c p (versionConditions s)
+first-fault s f = first-left _ f
 
-    pub fault-2 : {c p : ℕ} → First c p (field s 5 2 (holds 4 1 32)) → First c p (fieldConditions s)
-    fault-2 f = first-right n₁ (first-later versioned (first-left _ f))
+module _ (s : List ℕ) (n₁ : None (field s 0 1 (holds 2 1 1))) {v : ℕ} (ev : v ≡ version s) where
+  pub version-known : (n : ℕ) → v ≡ n → known n ≡ true → VersionHolds s (channelsFor n)
+  version-known n e k =
+      let is : n ≡ version s = sym e ∙ ev in
+      record { channels-are = ap channelsFor is; none-found = append-none n₁ (none-next (none-unless 3 (ap known (sym is) ∙ k)) none-end) }
 
-    module _ {p : ℕ} (h₂ : FieldHolds s 5 2 4 1 32 p) where
-      types-place : 8 + 4 * p ≡ typeField s
-      types-place = omega (arith, h₂ .count)
+  pub version-unknown : (v ≡ 1 → ⊥) → (v ≡ 2 → ⊥) → First 3 0 (versionConditions s)
+  version-unknown a b =
+      first-right n₁ (first-here refl (found-unless 3
+      (λ i. ne-eqb (version s) 1 (λ z. a (ev ∙ z)) i || ne-eqb (version s) 2 (λ z. b (ev ∙ z)) i)))
 
-      pub fault-3 : {c q : ℕ} → First c q (field s (8 + 4 * p) 3 (holds 10 2 256)) → First c q (fieldConditions s)
-      fault-3 {c} {q} f =
-          first-right n₁ (first-later versioned (first-right (h₂ .none-found)
-          (first-left _ (subst (λ (x : ℕ). First c q (field s x 3 (holds 10 2 256))) types-place f))))
+-- ---- what follows the terms
+module _ (s : List ℕ) (at : ℕ) where
+  pub not-end : (at ≡ length s → ⊥) → First 2 0 (endAt s at)
+  not-end h = first-here refl (found-unless 2 (ne-eqb at (length s) h))
 
-      module _ {y : ℕ} (h₃ : FieldHolds s (8 + 4 * p) 3 10 2 256 y) where
-        types-are : y ≡ types s
-        types-are = h₃ .count ∙ ap (λ (x : ℕ). word16 s (x + 1) / 10) types-place
+  pub is-end : at ≡ length s → None (endAt s at)
+  is-end h = none-next (none-unless 2 (eq-eqb at (length s) h)) none-end
 
-        terms-place : 8 + 4 * p + 3 + 10 * y ≡ termField s
-        terms-place = omega (arith, types-place, types-are)
+-- an end's answer, by its cases, and after conditions that are not found
+pub end-as : (cs : List Condition) {r q : End} → r ≡ q → EndIs cs r → EndIs cs q
+end-as cs e h = subst (EndIs cs) e h
 
-        none-3 : None (field s (typeField s) 3 (holds 10 2 256))
-        none-3 = subst (λ (x : ℕ). None (field s x 3 (holds 10 2 256))) types-place (h₃ .none-found)
+end-after : {cs : List Condition} (ds : List Condition) (r : End) → None cs → EndIs ds r → EndIs (cs ++ ds) r
+end-after ds Whole n h = append-none n h
+end-after ds (EndFault f) n h = first-right n h
 
-        pub fault-4 : {c q : ℕ} → First c q (field s (8 + 4 * p + 3 + 10 * y) 4 (holds 8 1 1024)) → First c q (fieldConditions s)
-        fault-4 {c} {q} f =
-            first-right n₁ (first-later versioned (first-right (h₂ .none-found) (first-right none-3
-            (first-left _ (subst (λ (x : ℕ). First c q (field s x 4 (holds 8 1 1024))) terms-place f)))))
+-- the number of channels tells whether there are guards
+one-channel : (b : Bool) → cond b maxChannels 1 ≡ 1 → b ≡ false
+one-channel true e = absurd (omega arith)
+one-channel false e = refl
 
-        module _ {n : ℕ} (h₄ : FieldHolds s (8 + 4 * p + 3 + 10 * y) 4 8 1 1024 n) where
-          terms-are : n ≡ terms s
-          terms-are = h₄ .count ∙ ap (λ (x : ℕ). word16 s (x + 1) / 8) terms-place
+more-channels : (b : Bool) → (cond b maxChannels 1 ≡ 1 → ⊥) → b ≡ true
+more-channels true h = refl
+more-channels false h = absurd (h refl)
 
-          none-4 : None (field s (termField s) 4 (holds 8 1 1024))
-          none-4 = subst (λ (x : ℕ). None (field s x 4 (holds 8 1 1024))) terms-place (h₄ .none-found)
+abbrev endFor : List ℕ → (guards : Bool) → (at : ℕ) → List Condition
+endFor s b at = cond b (field s at 5 (holds 16 1 1)) [] ++ endAt s (cond b (at + 3 + maxChannels) at)
 
-          end-place : 8 + 4 * p + 3 + 10 * y + 3 + 8 * n ≡ termAt s (terms s)
-          end-place = omega (arith, terms-place, terms-are)
+module _ (s : List ℕ) {at n : ℕ} (place : at ≡ guardField s) (k : n ≡ channels s) where
+  pub plain-end : n ≡ 1 → (r : End) → EndIs (endAt s at) r → EndIs (endConditions s) r
+  plain-end e r h =
+      let none : hasGuards s ≡ false = one-channel (hasGuards s) (sym k ∙ e) in
+      subst (λ (cs : List Condition). EndIs cs r) (λ i. endFor s (sym none i) (place i)) h
 
-          pub fault-end : (8 + 4 * p + 3 + 10 * y + 3 + 8 * n ≡ length s → ⊥) → First 2 0 (fieldConditions s)
-          fault-end h =
-              first-right n₁ (first-later versioned (first-right (h₂ .none-found) (first-right none-3 (first-right none-4
-              (first-here refl (found-unless 2 (ne-eqb (termAt s (terms s)) (length s) (λ z. h (end-place ∙ z)))))))))
+  module _ (more : n ≡ 1 → ⊥) where
+    guarded : hasGuards s ≡ true
+    guarded = more-channels (hasGuards s) (λ e. more (k ∙ e))
 
-          pub laid : 8 + 4 * p + 3 + 10 * y + 3 + 8 * n ≡ length s → Laid s (record { principals = p; types = y; terms = n })
-          laid h = record {
-            counts-are = record { principals-are = h₂ .count; types-are = types-are; terms-are = terms-are };
-            none-found =
-                append-none n₁ (none-next versioned (append-none (h₂ .none-found) (append-none none-3 (append-none none-4
-                (none-next (none-unless 2 (eq-eqb (termAt s (terms s)) (length s) (sym end-place ∙ h))) none-end)))));
-          }
+    pub fault-5 : {c p : ℕ} → First c p (field s at 5 (holds 16 1 1)) → First c p (endConditions s)
+    fault-5 {c} {p} f = subst (First c p) (λ i. endFor s (sym guarded i) (place i)) (first-left (endAt s (at + 3 + maxChannels)) f)
+
+    pub guards-end : None (field s at 5 (holds 16 1 1)) → (r : End) → EndIs (endAt s (at + 3 + maxChannels)) r → EndIs (endConditions s) r
+    guards-end n₅ r h =
+        subst (λ (cs : List Condition). EndIs cs r) (λ i. endFor s (sym guarded i) (place i)) (end-after (endAt s (at + 3 + maxChannels)) r n₅ h)
+
+-- ---- the fields, one after the other
+pub version-fault : (s : List ℕ) {r : Version} {f : Refusal} → r ≡ VersionFault f → VersionIs s r
+    → First (decodingCause f) (decodingPlace f) (fieldConditions s)
+version-fault s e h = first-left _ (subst (VersionIs s) e h)
+
+pub is-version : (s : List ℕ) {r : Version} {n : ℕ} → r ≡ Channels n → VersionIs s r → VersionHolds s n
+is-version s e h = subst (VersionIs s) e h
+
+module _ (s : List ℕ) {k : ℕ} (h₁ : VersionHolds s k) where
+  pub fault-2 : {c p : ℕ} → First c p (field s 5 2 (holds 4 1 32)) → First c p (fieldConditions s)
+  fault-2 f = first-right (h₁ .none-found) (first-left _ f)
+
+  module _ {p : ℕ} (h₂ : FieldHolds s 5 2 4 1 32 p) where
+    types-place : 8 + 4 * p ≡ typeField s
+    types-place = omega (arith, h₂ .count)
+
+    pub fault-3 : {c q : ℕ} → First c q (field s (8 + 4 * p) 3 (holds 10 2 256)) → First c q (fieldConditions s)
+    fault-3 {c} {q} f =
+        first-right (h₁ .none-found) (first-right (h₂ .none-found)
+        (first-left _ (subst (λ (x : ℕ). First c q (field s x 3 (holds 10 2 256))) types-place f)))
+
+    module _ {y : ℕ} (h₃ : FieldHolds s (8 + 4 * p) 3 10 2 256 y) where
+      types-are : y ≡ types s
+      types-are = h₃ .count ∙ ap (λ (x : ℕ). word16 s (x + 1) / 10) types-place
+
+      terms-place : 8 + 4 * p + 3 + 10 * y ≡ termField s
+      terms-place = omega (arith, types-place, types-are)
+
+      none-3 : None (field s (typeField s) 3 (holds 10 2 256))
+      none-3 = subst (λ (x : ℕ). None (field s x 3 (holds 10 2 256))) types-place (h₃ .none-found)
+
+      pub fault-4 : {c q : ℕ} → First c q (field s (8 + 4 * p + 3 + 10 * y) 4 (holds 8 1 1024)) → First c q (fieldConditions s)
+      fault-4 {c} {q} f =
+          first-right (h₁ .none-found) (first-right (h₂ .none-found) (first-right none-3
+          (first-left _ (subst (λ (x : ℕ). First c q (field s x 4 (holds 8 1 1024))) terms-place f))))
+
+      module _ {n : ℕ} (h₄ : FieldHolds s (8 + 4 * p + 3 + 10 * y) 4 8 1 1024 n) where
+        terms-are : n ≡ terms s
+        terms-are = h₄ .count ∙ ap (λ (x : ℕ). word16 s (x + 1) / 8) terms-place
+
+        none-4 : None (field s (termField s) 4 (holds 8 1 1024))
+        none-4 = subst (λ (x : ℕ). None (field s x 4 (holds 8 1 1024))) terms-place (h₄ .none-found)
+
+        pub after-terms : AfterTerms s (8 + 4 * p + 3 + 10 * y + 3 + 8 * n) k
+        after-terms = record {
+          near = omega (arith, h₂ .most-are, h₃ .most-are, h₄ .most-are);
+          place = omega (arith, terms-place, terms-are);
+          channels-are = h₁ .channels-are;
+        }
+
+        pub fault-end : {c q : ℕ} → First c q (endConditions s) → First c q (fieldConditions s)
+        fault-end f = first-right (h₁ .none-found) (first-right (h₂ .none-found) (first-right none-3 (first-right none-4 f)))
+
+        pub laid : None (endConditions s) → Laid s (record { principals = p; types = y; terms = n; channels = k })
+        laid none-5 = record {
+          counts-are = record { principals-are = h₂ .count; types-are = types-are; terms-are = terms-are; channels-are = h₁ .channels-are };
+          none-found = append-none (h₁ .none-found) (append-none (h₂ .none-found) (append-none none-3 (append-none none-4 none-5)));
+        }

@@ -7,10 +7,10 @@ use native.Mathlib.Decide.{ℕ-discrete}
 use native.Mathlib.Omega.{arith}
 use lib.Dec.{leb, ltb, eqb}
 use borrow.Author.Tests.{lt-leb}
-use Rattle.program.specs.Layout.{principals, types, kindByte, small, first, second, third}
-use Rattle.program.specs.Formats.{Part, unused, flag, anyNumber, privilege, principal, functionType, child, bodyChild, Kind, Boolean, Number, Variable, Function, Letrec, Call, If, Check, Enable, Sign, Test, Sum, Difference, Less, Post, kindOf, format}
+use Rattle.program.specs.Layout.{terms, kindByte, small, first, second, third}
+use Rattle.program.specs.Formats.{Part, unused, flag, anyNumber, privilege, principal, channel, functionType, child, bodyChild, Kind, Boolean, Number, Variable, Function, Letrec, Call, If, Check, Enable, Sign, Test, Sum, Difference, Less, Post, kindOf, format}
 use Rattle.program.specs.Decoding.{partOk, formatAt, termOk}
-use Rattle.program.specs.Records.{termRecord}
+use Rattle.program.specs.Records.{CountsOf, termRecord}
 use Rattle.tables.specs.Internal.{Laid, partIn, recordOk, childrenOf, shapeIf, shapeFrom, shapeOf, shapeAt, isWrong}
 use Rattle.program.specs.Laws.Readable.{fields-ok}
 use Rattle.program.specs.Laws.Records.{term-laid}
@@ -20,69 +20,70 @@ use Rattle.tables.specs.declared.terms.Shape.{Shape}
 use Rattle.tables.specs.declared.terms.Shape.the-variants.{Leaf, One, Two, Wrong}
 
 -- ---- the arms of the match on the kind
-module _ (P Y t : ℕ) (r : TermRecord) where
+module _ (c : Counts) (t : ℕ) (r : TermRecord) where
   -- an arm of one number
-  pub at-kind : (n : ℕ) → r .kind ≡ n → {x : Shape} → x ≡ shapeFrom P Y t n (r .small) (r .first) (r .second) (r .third) → x ≡ shapeOf P Y t r
+  pub at-kind : (n : ℕ) → r .kind ≡ n → {x : Shape} → x ≡ shapeFrom c t n (r .small) (r .first) (r .second) (r .third) → x ≡ shapeOf c t r
   unfolding shapeOf
-  at-kind n e h = h ∙ ap (λ (k : ℕ). shapeFrom P Y t k (r .small) (r .first) (r .second) (r .third)) (sym e)
+  at-kind n e h = h ∙ ap (λ (k : ℕ). shapeFrom c t k (r .small) (r .first) (r .second) (r .third)) (sym e)
 
   -- numbers and variables: any number in the first part
   plain : (x b d : Bool) → shapeIf (x && b && d) Leaf ≡ shapeIf (x && true && b && d) Leaf
   plain x b d = ap (λ (z : Bool). shapeIf (z && b && d) Leaf) (sym (and-true x))
 
-  pub kinds-1-2 : {x : Shape} → 1 ≤ r .kind → r .kind < 3 → x ≡ shapeIf (eqb (r .small) 0 && eqb (r .second) 0 && eqb (r .third) 0) Leaf → x ≡ shapeOf P Y t r
+  pub kinds-1-2 : {x : Shape} → 1 ≤ r .kind → r .kind < 3 → x ≡ shapeIf (eqb (r .small) 0 && eqb (r .second) 0 && eqb (r .third) 0) Leaf → x ≡ shapeOf c t r
   kinds-1-2 l h e = elim (ℕ-discrete (r .kind) 1) [
     | yes k ↦ at-kind 1 k (e ∙ plain (eqb (r .small) 0) (eqb (r .second) 0) (eqb (r .third) 0))
     | no k ↦ at-kind 2 (omega arith) (e ∙ plain (eqb (r .small) 0) (eqb (r .second) 0) (eqb (r .third) 0))
   ]
 
   pub kinds-7-8 : {x : Shape} → 7 ≤ r .kind → r .kind < 9
-      → x ≡ shapeIf (leb (r .small) 31 && ltb (r .first) t && eqb (r .second) 0 && eqb (r .third) 0) (One (r .first)) → x ≡ shapeOf P Y t r
+      → x ≡ shapeIf (leb (r .small) 31 && ltb (r .first) t && eqb (r .second) 0 && eqb (r .third) 0) (One (r .first)) → x ≡ shapeOf c t r
   kinds-7-8 l h e = elim (ℕ-discrete (r .kind) 7) [ yes k ↦ at-kind 7 k e | no k ↦ at-kind 8 (omega arith) e ]
 
   pub kinds-11-13 : {x : Shape} → 11 ≤ r .kind → r .kind < 14
-      → x ≡ shapeIf (eqb (r .small) 0 && ltb (r .first) t && ltb (r .second) t && eqb (r .third) 0) (Two (r .first) (r .second)) → x ≡ shapeOf P Y t r
+      → x ≡ shapeIf (eqb (r .small) 0 && ltb (r .first) t && ltb (r .second) t && eqb (r .third) 0) (Two (r .first) (r .second)) → x ≡ shapeOf c t r
   kinds-11-13 l h e = elim (ℕ-discrete (r .kind) 11) [
     | yes k ↦ at-kind 11 k e
     | no k ↦ elim (ℕ-discrete (r .kind) 12) [ yes m ↦ at-kind 12 m e | no m ↦ at-kind 13 (omega arith) e ]
   ]
 
-  pub kinds-above : 15 ≤ r .kind → Wrong ≡ shapeOf P Y t r
+  pub kinds-above : 15 ≤ r .kind → Wrong ≡ shapeOf c t r
   unfolding shapeOf
   kinds-above l = sym (ap (λ (b : Bool). shapeIf (b && rest .0 && rest .1 && rest .2 && rest .3)
       (childrenOf (kindOf (r .kind)) (r .first) (r .second) (r .third))) (lt-leb (r .kind) 14 l))
     where
       rest : Bool × Bool × Bool × Bool
       rest = (
-        partIn P Y t (format (kindOf (r .kind)) .small) (r .small),
-        partIn P Y t (format (kindOf (r .kind)) .first) (r .first),
-        partIn P Y t (format (kindOf (r .kind)) .second) (r .second),
-        partIn P Y t (format (kindOf (r .kind)) .third) (r .third),
+        partIn c t (format (kindOf (r .kind)) .small) (r .small),
+        partIn c t (format (kindOf (r .kind)) .first) (r .first),
+        partIn c t (format (kindOf (r .kind)) .second) (r .second),
+        partIn c t (format (kindOf (r .kind)) .third) (r .third),
       )
 
 -- ---- the shape of a term
-part-in : (s : List ℕ) (t : ℕ) (p : Part) (x : ℕ) → partIn (principals s) (types s) t p x ≡ partOk s t p x
-part-in s t unused x = refl
-part-in s t flag x = refl
-part-in s t anyNumber x = refl
-part-in s t privilege x = refl
-part-in s t principal x = refl
-part-in s t functionType x = refl
-part-in s t child x = refl
-part-in s t bodyChild x = refl
+module _ (s : List ℕ) (c : Counts) (k : CountsOf s c) (t : ℕ) where
+  part-in : (p : Part) (x : ℕ) → partIn c t p x ≡ partOk s t p x
+  part-in unused x = refl
+  part-in flag x = refl
+  part-in anyNumber x = refl
+  part-in privilege x = refl
+  part-in principal x = ap (ltb x) (k .principals-are)
+  part-in channel x = ap (ltb x) (k .channels-are)
+  part-in functionType x = ap (λ (y : ℕ). leb 2 x && ltb x y) (k .types-are)
+  part-in child x = refl
+  part-in bodyChild x = refl
 
-record-ok : (s : List ℕ) (t : ℕ) → recordOk (principals s) (types s) t (kindByte s t) (small s t) (first s t) (second s t) (third s t) ≡ termOk s t
-record-ok s t = λ i.
-    leb (kindByte s t) 14 && part-in s t (formatAt s t .small) (small s t) i && part-in s t (formatAt s t .first) (first s t) i
-    && part-in s t (formatAt s t .second) (second s t) i && part-in s t (formatAt s t .third) (third s t) i
+  record-ok : recordOk c t (kindByte s t) (small s t) (first s t) (second s t) (third s t) ≡ termOk s t
+  record-ok = λ i.
+      leb (kindByte s t) 14 && part-in (formatAt s t .small) (small s t) i && part-in (formatAt s t .first) (first s t) i
+      && part-in (formatAt s t .second) (second s t) i && part-in (formatAt s t .third) (third s t) i
 
-pub shape-is : (s : List ℕ) (c : Counts) (t : ℕ) → Laid s c → {r : TermRecord} {x : Shape} → r ≡ termRecord s c t → x ≡ shapeOf (c .principals) (c .types) t r
+pub shape-is : (s : List ℕ) (c : Counts) (t : ℕ) → Laid s c → t < terms s → {r : TermRecord} {x : Shape} → r ≡ termRecord s c t → x ≡ shapeOf c t r
     → x ≡ shapeAt s t
 unfolding shapeOf shapeAt
-shape-is s c t L {r} e g =
-    g ∙ (λ i. shapeOf (L .counts-are .principals-are i) (L .counts-are .types-are i) t
-    ((e ∙ term-laid s (fields-ok s (L .none-found) .ends) c (L .counts-are) t) i))
-    ∙ ap (λ (b : Bool). shapeIf b (childrenOf (kindOf (kindByte s t)) (first s t) (second s t) (third s t))) (record-ok s t)
+shape-is s c t L h e g =
+    g ∙ ap (shapeOf c t) (e ∙ term-laid s (fields-ok s (L .none-found) .terms-in) c (L .counts-are) t h)
+    ∙ ap (λ (b : Bool). shapeIf b (childrenOf (kindOf (kindByte s t)) (first s t) (second s t) (third s t))) (record-ok s c (L .counts-are) t)
 
 -- ---- a wrong shape is a wrong record
 children-right : (k : Kind) (a b d : ℕ) → isWrong (childrenOf k a b d) ≡ false

@@ -87,13 +87,13 @@ module _ (s : List ℕ) (c : Counts) (L : Laid s c) (t : ℕ) (l : t < types s) 
   table-at = record {
     begins = λ u. omega (arith, L .counts-are .principals-are);
     near = omega (arith, L .counts-are .principals-are, fields .principals-high);
-    inside = omega (arith, L .counts-are .principals-are, fields .ends);
+    inside = omega (arith, L .counts-are .principals-are, fields .terms-in);
   }
 
   -- ---- a type's record
   module _ {r : TypeRecord} (e : r ≡ typeRecord s c t) where
     read : r ≡ typeAtByte s (typeAt s t)
-    read = e ∙ type-laid s (fields .ends) c (L .counts-are) t l
+    read = e ∙ type-laid s (fields .terms-in) c (L .counts-are) t l
 
     module _ (low : t < 2) {b : Bool} (g : b ≡ (eqb (r .kind) t && eqb (r .zero) 0 && eqb (r .arg) 0 && eqb (r .res) 0 && eqb (r .latent) 0)) where
       base-is : typeOk s t ≡ b

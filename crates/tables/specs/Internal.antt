@@ -1,6 +1,6 @@
 -- What the contracts of the functions that look at fields and records for the decoder say. No reader of the public promise needs this file.
-use mathlib.Core.Bool.{Bool, true, false, _&&_}
-use mathlib.Core.List.{List}
+use mathlib.Core.Bool.{Bool, true, false, _&&_, _||_}
+use mathlib.Core.List.{List, [], _∷_, _++_}
 use mathlib.Core.Option.{Option, none, some}
 use mathlib.Core.Path.{_≡_}
 use Prim.Native.Nat.{ℕ, zero, suc, _+_, _*_, _/_, _<_, _≤_}
@@ -8,10 +8,10 @@ use lib.Dec.{leb, ltb, eqb}
 use lib.ListN.{length, getD}
 use Rattle.program.specs.Limits.{maxPrincipals}
 use Rattle.program.specs.Bytes.{byte, word16}
-use Rattle.program.specs.Layout.{typeAt, kindByte, first, second, third}
-use Rattle.program.specs.Screening.{First, None}
-use Rattle.program.specs.Formats.{Part, unused, flag, anyNumber, privilege, principal, functionType, child, bodyChild, Kind, Boolean, Number, Variable, Function, Letrec, Call, If, Check, Enable, Sign, Test, Sum, Difference, Less, Post, kindOf, format}
-use Rattle.program.specs.Decoding.{holds, field, fieldConditions, shallow, typeOk, termOk}
+use Rattle.program.specs.Layout.{version, typeAt, guardField, sheetEnd, channels, kindByte, first, second, third}
+use Rattle.program.specs.Screening.{Condition, First, None, unless}
+use Rattle.program.specs.Formats.{Part, unused, flag, anyNumber, privilege, principal, channel, functionType, child, bodyChild, Kind, Boolean, Number, Variable, Function, Letrec, Call, If, Check, Enable, Sign, Test, Sum, Difference, Less, Post, kindOf, format}
+use Rattle.program.specs.Decoding.{holds, field, guardConditions, fieldConditions, shallow, typeOk, termOk}
 use Rattle.program.specs.Answers.{decodingCause, decodingPlace}
 use Rattle.program.specs.Records.{CountsOf}
 use Rattle.program.specs.declared.records.Counts.{Counts}
@@ -20,6 +20,10 @@ use Rattle.tables.specs.declared.terms.Shape.{Shape}
 use Rattle.tables.specs.declared.terms.Shape.the-variants.{Leaf, One, Two, Three, Function as FunctionShape, Letrec as LetrecShape, Wrong}
 use Rattle.tables.specs.declared.header.Field.{Field}
 use Rattle.tables.specs.declared.header.Field.the-variants.{Records, Fault as FieldFault}
+use Rattle.tables.specs.declared.header.Version.{Version}
+use Rattle.tables.specs.declared.header.Version.the-variants.{Channels, Fault as VersionFault}
+use Rattle.tables.specs.declared.header.End.{End}
+use Rattle.tables.specs.declared.header.End.the-variants.{Whole, Fault as EndFault}
 use Rattle.tables.specs.declared.header.Header.{Header}
 use Rattle.tables.specs.declared.header.Header.the-variants.{Laid as HeaderLaid, Fault as HeaderFault}
 use Rattle.tables.specs.declared.search.Found.{Found}
@@ -43,6 +47,34 @@ pub record FieldHolds (s : List ℕ) (at tag size least most n : ℕ) : Type 0 w
 abbrev pub FieldIs : List ℕ → (at tag size least most : ℕ) → Field → Type 0
 FieldIs s at tag size least most (Records n) = FieldHolds s at tag size least most n
 FieldIs s at tag size least most (FieldFault f) = First (decodingCause f) (decodingPlace f) (field s at tag (holds size least most))
+
+-- the conditions of the fields before those of the second field, and after those of the fourth
+abbrev pub versionConditions : List ℕ → List Condition
+versionConditions s = field s 0 1 (holds 2 1 1) ++ unless 3 (eqb (version s) 1 || eqb (version s) 2) ∷ []
+
+abbrev pub endAt : List ℕ → (at : ℕ) → List Condition
+endAt s at = unless 2 (eqb at (length s)) ∷ []
+
+abbrev pub endConditions : List ℕ → List Condition
+endConditions s = guardConditions s ++ endAt s (sheetEnd s)
+
+pub record VersionHolds (s : List ℕ) (n : ℕ) : Type 0 where
+  pub channels-are : n ≡ channels s
+  pub none-found : None (versionConditions s)
+
+abbrev pub VersionIs : List ℕ → Version → Type 0
+VersionIs s (Channels n) = VersionHolds s n
+VersionIs s (VersionFault f) = First (decodingCause f) (decodingPlace f) (versionConditions s)
+
+-- what the fifth field is sought from: where the terms end, and the sheet's channels
+pub record AfterTerms (s : List ℕ) (at n : ℕ) : Type 0 where
+  pub near : at < 16384
+  pub place : at ≡ guardField s
+  pub channels-are : n ≡ channels s
+
+abbrev pub EndIs : List Condition → End → Type 0
+EndIs cs Whole = None cs
+EndIs cs (EndFault f) = First (decodingCause f) (decodingPlace f) cs
 
 abbrev pub HeaderIs : List ℕ → Header → Type 0
 HeaderIs s (HeaderLaid c) = Laid s c
@@ -79,21 +111,22 @@ DepthIs s t (Is d) = Deep s t d
 DepthIs s t DepthFault = typeOk s t ≡ false
 
 -- ---- terms
--- `partOk` by the numbers of principals and types
-abbrev pub partIn : (principals types t : ℕ) → Part → (value : ℕ) → Bool
-partIn P Y t unused x = eqb x 0
-partIn P Y t flag x = leb x 1
-partIn P Y t anyNumber x = true
-partIn P Y t privilege x = leb x 31
-partIn P Y t principal x = ltb x P
-partIn P Y t functionType x = leb 2 x && ltb x Y
-partIn P Y t child x = ltb x t
-partIn P Y t bodyChild x = ltb x t
+-- `partOk` by the counts
+abbrev pub partIn : Counts → (t : ℕ) → Part → (value : ℕ) → Bool
+partIn c t unused x = eqb x 0
+partIn c t flag x = leb x 1
+partIn c t anyNumber x = true
+partIn c t privilege x = leb x 31
+partIn c t principal x = ltb x (c .principals)
+partIn c t channel x = ltb x (c .channels)
+partIn c t functionType x = leb 2 x && ltb x (c .types)
+partIn c t child x = ltb x t
+partIn c t bodyChild x = ltb x t
 
-abbrev pub recordOk : (principals types t kind small first second third : ℕ) → Bool
-recordOk P Y t k x a b d =
-    leb k 14 && partIn P Y t (format (kindOf k) .small) x && partIn P Y t (format (kindOf k) .first) a && partIn P Y t (format (kindOf k) .second) b
-    && partIn P Y t (format (kindOf k) .third) d
+abbrev pub recordOk : Counts → (t kind small first second third : ℕ) → Bool
+recordOk c t k x a b d =
+    leb k 14 && partIn c t (format (kindOf k) .small) x && partIn c t (format (kindOf k) .first) a && partIn c t (format (kindOf k) .second) b
+    && partIn c t (format (kindOf k) .third) d
 
 -- the children of each kind
 abbrev pub childrenOf : Kind → (first second third : ℕ) → Shape
@@ -117,11 +150,11 @@ abbrev pub shapeIf : Bool → Shape → Shape
 shapeIf true x = x
 shapeIf false x = Wrong
 
-abbrev pub shapeFrom : (principals types t kind small first second third : ℕ) → Shape
-shapeFrom P Y t k x a b d = shapeIf (recordOk P Y t k x a b d) (childrenOf (kindOf k) a b d)
+abbrev pub shapeFrom : Counts → (t kind small first second third : ℕ) → Shape
+shapeFrom c t k x a b d = shapeIf (recordOk c t k x a b d) (childrenOf (kindOf k) a b d)
 
-unfoldable pub shapeOf : (principals types t : ℕ) → TermRecord → Shape
-shapeOf P Y t r = shapeFrom P Y t (r .kind) (r .small) (r .first) (r .second) (r .third)
+unfoldable pub shapeOf : Counts → (t : ℕ) → TermRecord → Shape
+shapeOf c t r = shapeFrom c t (r .kind) (r .small) (r .first) (r .second) (r .third)
 
 unfoldable pub shapeAt : List ℕ → (t : ℕ) → Shape
 shapeAt s t = shapeIf (termOk s t) (childrenOf (kindOf (kindByte s t)) (first s t) (second s t) (third s t))

@@ -1,5 +1,6 @@
 // The term records: refusal 6, and the children that a record names.
 ghost use mathlib.Core.Path.{_≡_};
+ghost use Prim.Native.Nat.{_<_};
 ghost use Rattle.program.specs.Layout.{terms};
 ghost use Rattle.program.specs.Screening.{lowest};
 ghost use Rattle.program.specs.Decoding.{termOk};
@@ -28,7 +29,7 @@ fn shape_if(ok: bool, x: Shape) -> Shape
 
 // What a record is as that of term t: its children, or that it is wrong.
 fn shape_of(r: TermRecord, c: Counts, t: u16) -> Shape
-    ensures { λ x. ⌜ x ≡ shapeOf (c .principals) (c .types) t r ⌝ }
+    ensures { λ x. ⌜ x ≡ shapeOf c t r ⌝ }
 {
     let kind = r.kind;
     let x = r.small;
@@ -59,7 +60,10 @@ fn shape_of(r: TermRecord, c: Counts, t: u16) -> Shape
         ),
         10 => shape_if((x <= 31) & (a < t) & (b < t) & (d == 0), Shape::Two(a, b)),
         11..=13 => shape_if((x == 0) & (a < t) & (b < t) & (d == 0), Shape::Two(a, b)),
-        14 => shape_if((x == 0) & (a < t) & (b == 0) & (d == 0), Shape::One(a)),
+        14 => shape_if(
+            (x < c.channels) & (a < t) & (b == 0) & (d == 0),
+            Shape::One(a),
+        ),
         _ => Shape::Wrong,
     }
 }
@@ -67,6 +71,7 @@ fn shape_of(r: TermRecord, c: Counts, t: u16) -> Shape
 // The shape of term t.
 pub fn shape_at(s: &[u8], c: Counts, t: u16) -> Shape
     requires { ⌜ Laid (now s) c ⌝ }
+    requires { ⌜ t < terms (now s) ⌝ }
     ensures { λ r. ⌜ r ≡ shapeAt (now (s .entry)) t ⌝ }
 {
     shape_of(term(s, c, t), c, t)

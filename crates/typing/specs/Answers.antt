@@ -1,6 +1,6 @@
 -- 01's number and values of each case that `typecheck` answers: "9 variable past the bindings, 10 type, 11 needs of a sign, 12 needs of a body,
 -- 13 type of the root", and 02's for the type faults that have numbers of their own (W5): a call whose function part isn't a function (24), an
--- argument that doesn't fit (25), branches of which neither fits the other (26). The place of each is a term. 1 to 8 are the reader's.
+-- argument that doesn't fit (25), branches of which neither fits the other (26). The place of each is a term. 1 to 8 and 31 are the reader's.
 use Prim.Native.Nat.{ℕ}
 use Rattle.program.specs.Answers.{decodingCause, decodingPlace}
 use Rattle.typing.specs.Verdicts.{Verdict as VerdictOf, accepted, rejected}

@@ -9,7 +9,7 @@ use Rattle.privileges.specs.Sets.{union, insert, remove, subset}
 use Rattle.program.specs.Layout.{Types}
 use Rattle.program.specs.Terms.{Term, boolean, number, variable, function, letrec, call, if, check, enable, sign, test, binary, post}
 use Rattle.typing.specs.Subtyping.{subtype, wider}
-use Rattle.typing.specs.Rules.{bound, removeAuthorised, resultType}
+use Rattle.typing.specs.Rules.{bound, removeAuthorised, postNeeds, resultType}
 
 pub data Judgement : Type 0 where
   typed : (type needs : ℕ) → Judgement
@@ -63,4 +63,5 @@ module _ (T : Types) (A : ℕ → ℕ) where
   infer Γ n (test at p y o) = infer Γ n y next λ τ N. infer Γ n o next λ ρ M. joined at (wider T τ ρ) (union (remove p N) M)
   infer Γ n (binary at op a b) = infer Γ n a next λ τ N. infer Γ n b next λ ρ M.
       require (eqb τ 1 && eqb ρ 1) 10 at (typed (resultType op) (union N M))
-  infer Γ n (post at c) = infer Γ n c next λ τ N. require (eqb τ 1) 10 at (typed 1 N)
+  -- 02, W8: "A guarded post adds its privilege to the needs"
+  infer Γ n (post at ch g c) = infer Γ n c next λ τ N. require (eqb τ 1) 10 at (typed 1 (postNeeds g N))

@@ -1,6 +1,7 @@
 -- Where a term stands in another, and what the type faults 24, 25 and 26 say of a term there.
 use mathlib.Core.Bool.{true, false}
 use mathlib.Core.List.{List, _∷_}
+use mathlib.Core.Option.{Option}
 use mathlib.Core.Path.{_≡_}
 use Prim.Native.Nat.{ℕ}
 use Rattle.program.specs.Layout.{Types}
@@ -27,7 +28,7 @@ pub data Within (T : Types) (Δ : List ℕ) (m : ℕ) (d : Term) : (Γ : List �
   in-test-no : {Γ : List ℕ} {n at p : ℕ} {y o : Term} → Within T Δ m d Γ n o → Within T Δ m d Γ n (test at p y o)
   in-left : {Γ : List ℕ} {n at : ℕ} {op : Op} {a b : Term} → Within T Δ m d Γ n a → Within T Δ m d Γ n (binary at op a b)
   in-right : {Γ : List ℕ} {n at : ℕ} {op : Op} {a b : Term} → Within T Δ m d Γ n b → Within T Δ m d Γ n (binary at op a b)
-  in-post : {Γ : List ℕ} {n at : ℕ} {c : Term} → Within T Δ m d Γ n c → Within T Δ m d Γ n (post at c)
+  in-post : {Γ : List ℕ} {n at ch : ℕ} {g : Option ℕ} {c : Term} → Within T Δ m d Γ n c → Within T Δ m d Γ n (post at ch g c)
 
 -- 02, W5: "A call whose function part isn't a function, an argument that doesn't fit, and branches of which neither fits the other". The term's number
 -- is `at`, and its children have types.

@@ -21,6 +21,11 @@ bound (τ ∷ Γ) (suc i) = bound Γ i
 unfoldable pub removeAuthorised : (ℕ → ℕ) → (n p N : ℕ) → ℕ
 removeAuthorised A n p N = cond (has p (A n)) (remove p N) N
 
+-- 02, W8: "A guarded post adds its privilege to the needs". Without a guard they are the child's, as in 01.
+abbrev pub postNeeds : (guard : Option ℕ) (N : ℕ) → ℕ
+postNeeds none N = N
+postNeeds (some p) N = insert p N
+
 -- "Sum and difference: numbers give a number. Less: numbers give a boolean."
 abbrev pub resultType : Op → ℕ
 resultType sum = 1
@@ -37,18 +42,25 @@ pub record Variant : Type 1 where
   pub yesNeeds : (p N : ℕ) → ℕ
   -- the type c of an if or a test whose branches have the types a and b
   pub Branches : Types → (a b c : ℕ) → Type 0
+  -- the needs of a post with this guard, or none, whose number needs N
+  pub guardNeeds : (guard : Option ℕ) (N : ℕ) → ℕ
 
--- 01: "If: boolean condition, branches of the same type; union. Test: branches of the same type; union."
+-- 01: "If: boolean condition, branches of the same type; union. Test: branches of the same type; union." 01 knows no guards: on a sheet of version 2 a
+-- guard counts as in the rules in force.
 abbrev pub base : Variant
-base = record { yesNeeds = λ p N. N; Branches = Same }
+base = record { yesNeeds = λ p N. N; Branches = Same; guardNeeds = postNeeds }
 
 -- 02, W1: "a test of p takes p out of the needs of its yes-branch before the union"
 abbrev pub afterW1 : Variant
-afterW1 = record { yesNeeds = λ p N. remove p N; Branches = Same }
+afterW1 = record { yesNeeds = λ p N. remove p N; Branches = Same; guardNeeds = postNeeds }
 
--- 02, W4: "If and test now take branches where one type fits the other, and have the wider type."
+-- 02, W4: "If and test now take branches where one type fits the other, and have the wider type." The rules before W8, which look at no guard.
+abbrev pub afterW4 : Variant
+afterW4 = record { yesNeeds = λ p N. remove p N; Branches = Wider; guardNeeds = λ g N. N }
+
+-- 02, W8: "A guarded post adds its privilege to the needs"
 abbrev pub current : Variant
-current = record { yesNeeds = λ p N. remove p N; Branches = Wider }
+current = record { yesNeeds = λ p N. remove p N; Branches = Wider; guardNeeds = postNeeds }
 
 pub data Derives (W : Variant) (T : Types) (A : ℕ → ℕ) : (Γ : List ℕ) (n : ℕ) (c : Term) (τ N : ℕ) → Type 0 where
   -- "Booleans, numbers, variables and functions: needs empty." Figure 3: true, x, fun.
@@ -80,7 +92,7 @@ pub data Derives (W : Variant) (T : Types) (A : ℕ → ℕ) : (Γ : List ℕ) (
   -- "Sum and difference: numbers give a number. Less: numbers give a boolean. … Union of needs."
   d-binary : {Γ : List ℕ} {n at N M : ℕ} {op : Op} {a b : Term} → Derives W T A Γ n a 1 N → Derives W T A Γ n b 1 M
       → Derives W T A Γ n (binary at op a b) (resultType op) (union N M)
-  -- "Post: number to number."
-  d-post : {Γ : List ℕ} {n at N : ℕ} {c : Term} → Derives W T A Γ n c 1 N → Derives W T A Γ n (post at c) 1 N
+  -- "Post: number to number." 02, W8: "A guarded post adds its privilege to the needs": `guardNeeds`.
+  d-post : {Γ : List ℕ} {n at ch N : ℕ} {g : Option ℕ} {c : Term} → Derives W T A Γ n c 1 N → Derives W T A Γ n (post at ch g c) 1 (W .guardNeeds g N)
   -- "A derivation may widen needs to any larger set at any term."
   d-widen : {Γ : List ℕ} {n τ N M : ℕ} {c : Term} → Derives W T A Γ n c τ N → N ⊆ M → Derives W T A Γ n c τ M

@@ -1,33 +1,36 @@
 -- The theorems about the rules: subtyping is an order that the test decides; a readable sheet is accepted exactly if it has a derivation; the
 -- needs told are the least, and the type told is that of every derivation; what 01's own rules accept is accepted, with no more needs, and what the
--- rules before W4 accept, with the same type and needs; and 24, 25 and 26 are told only where the types are as they say.
+-- rules before W4 accept, with the same type and needs; a sheet of version 1 is judged as if there were no guards, and a guarded post needs its privilege;
+-- and 24, 25 and 26 are told only where the types are as they say.
 use mathlib.Core.Bool.{Bool, true, false, cond}
 use mathlib.Core.List.{List, []}
-use mathlib.Core.Logic.{_↔_, _⊎_, inl, inr}
+use mathlib.Core.Logic.{_↔_, _⊎_, inl, inr, ⊎-elim}
+use mathlib.Core.Option.{none, some}
 use mathlib.Core.Path.{_≡_, refl, sym, ap, _∙_, subst}
 use Prim.Native.Nat.{ℕ, _<_, _≤_}
 use native.Mathlib.Omega.{arith}
-use lib.Dec.{ltb}
+use lib.Dec.{ltb, eqb}
 use borrow.Author.Tests.{ltb-true, lt-ltb}
-use Rattle.privileges.specs.Sets.{_⊆_}
-use Rattle.privileges.specs.Laws.{⊆-antisym}
+use Rattle.privileges.specs.Sets.{has, _⊆_}
+use Rattle.privileges.specs.Laws.{⊆-antisym, ⊆-trans, ⊆-insert}
 use Rattle.program.specs.Bytes.{Bytes}
-use Rattle.program.specs.Layout.{authority, terms, root, typesOf}
-use Rattle.program.specs.Terms.{program}
+use Rattle.program.specs.Layout.{version, authority, terms, root, Types, typesOf}
+use Rattle.program.specs.Terms.{Term, post, program}
 use Rattle.program.specs.Screening.{Screening, clear, found}
 use Rattle.program.specs.Decoding.{decoding, Readable}
 use Rattle.program.specs.Laws.Readable.{well-formed}
 use Rattle.program.specs.Laws.Types.{lower-types, distinct-types}
 use Rattle.program.specs.Laws.Trees.{program-standard}
+use Rattle.program.specs.Laws.Guards.{program-in-range, program-unguarded}
 use Rattle.typing.specs.Subtyping.{Subtype, sub-same, Wider, wider-second, wider-first, subtype}
-use Rattle.typing.specs.Rules.{Variant, base, afterW1, current}
-use Rattle.typing.specs.Checking.{Judgement, typed, fault}
+use Rattle.typing.specs.Rules.{Variant, base, afterW1, afterW4, current, Derives, d-post, d-widen}
+use Rattle.typing.specs.Checking.{Judgement, typed, fault, _next_, require, infer}
 use Rattle.typing.specs.Faults.{FaultyPart}
 use Rattle.typing.specs.Verdicts.{accepted, rejected, concluded, ifReadable, judgement, verdict, SheetDerivesBy, SheetDerives}
 use Rattle.typing.specs.Laws.Subtyping.{sub-trans, sub-antisym, subtype-sound, subtype-complete, wider-above}
 use Rattle.typing.specs.Laws.Checking.{infer-complete, infer-afterW1, infer-derives, typed-least, derives-least}
-use Rattle.typing.specs.Laws.Variants.{relaxed, current-relaxes-base}
-use Rattle.typing.specs.Laws.Faults.{infer-faulty, decoding-low}
+use Rattle.typing.specs.Laws.Variants.{guard-needed, relaxed, current-relaxes-base, current-relaxes-afterW4, afterW4-relaxes-current}
+use Rattle.typing.specs.Laws.Faults.{infer-faulty, decoding-readers}
 
 -- ---- Theorem 1: subtyping
 
@@ -165,7 +168,7 @@ accepted-exactly s r = (forth, back)
 -- ---- what W1 made better
 -- A readable sheet that 01's own rules accept, of type τ and with needs N, is accepted, of the same type and with needs inside N.
 pub accepted-before : (s : List ℕ) → Readable s → (τ N : ℕ) → τ < 2 → SheetDerivesBy base s τ N → AcceptedInside s τ N
-accepted-before s r τ N l d = derived-accepted s r τ N l (relaxed current-relaxes-base d)
+accepted-before s r τ N l d = derived-accepted s r τ N l (relaxed current-relaxes-base (program-in-range s (well-formed s r)) d)
 
 -- ---- what W4 left as it was
 -- "A sheet accepted before has the same type and needs." A readable sheet that the rules before W4 accept, of type τ and with least needs N, is
@@ -186,6 +189,43 @@ least-before s r τ N d =
           typed-least (typesOf s) (authority s) (x .is) (infer-afterW1 (typesOf s) (authority s) L d′),
     )
 
+-- ---- what W8 left as it was
+-- "Version 1 posts on channel 0 without a guard": a readable sheet of version 1 is accepted, of type τ and with needs N, exactly if the rules that look at
+-- no guard give it that type and these least needs.
+pub version-1-verdict : (s : List ℕ) → Readable s → version s ≡ 1 → (τ N : ℕ) → τ < 2
+    → (verdict s ≡ accepted (terms s) τ N) ↔ LeastNeedsBy afterW4 s τ N
+version-1-verdict s r one τ N l = (forth, back)
+  where
+    with : {σ M : ℕ} → SheetDerivesBy afterW4 s σ M → SheetDerives s σ M
+    with d = relaxed current-relaxes-afterW4 (program-unguarded s (well-formed s r) one) d
+
+    without : {σ M : ℕ} → SheetDerives s σ M → SheetDerivesBy afterW4 s σ M
+    without d = relaxed afterW4-relaxes-current (program-unguarded s (well-formed s r) one) d
+
+    forth : verdict s ≡ accepted (terms s) τ N → LeastNeedsBy afterW4 s τ N
+    forth e =
+        let h = acceptance s (terms s) τ N e .needs in
+        least-needs afterW4 s τ N (without (h .derivation)) λ σ M d. (h .same-type σ M (with d), h .least σ M (with d))
+
+    back : LeastNeedsBy afterW4 s τ N → verdict s ≡ accepted (terms s) τ N
+    back h =
+        let a = derived-accepted s r τ N l (with (h .derivation)) in
+        let d = acceptance s (terms s) τ (a .needs) (a .is) .needs .derivation in
+        a .is ∙ ap (accepted (terms s) τ) (⊆-antisym (a .needs) N (a .inside) (h .least τ (a .needs) (without d)))
+
+-- A post without a guard is judged as in 01, refused or not: "Post: number to number."
+pub plain-post : (T : Types) (A : ℕ → ℕ) (Γ : List ℕ) (n at ch : ℕ) (c : Term)
+    → infer T A Γ n (post at ch none c) ≡ (infer T A Γ n c next λ τ N. require (eqb τ 1) 10 at (typed 1 N))
+unfolding infer
+plain-post T A Γ n at ch c = refl
+
+-- ---- what W8 asks for
+-- "A guarded post adds its privilege to the needs": it is in the needs of every derivation, with those of a derivation of the number
+pub guarded-post : {T : Types} {A : ℕ → ℕ} {Γ : List ℕ} {n at ch p τ N : ℕ} {c : Term} → Derives current T A Γ n (post at ch (some p) c) τ N
+    → (has p N ≡ true) × ((M : ℕ) × Derives current T A Γ n c 1 M × M ⊆ N)
+guarded-post {p = p} (d-post {N = N} d) = (guard-needed p N, (N, d, ⊆-insert p N))
+guarded-post {p = p} (d-widen d s) = let h = guarded-post d in (s .all p (h .0), (h .1 .0, h .1 .1, ⊆-trans (h .1 .2) s))
+
 -- ---- what W5's numbers say
 -- a term of the sheet, in the bindings and under the principal that it has there, is wrong as the number says, and its number is `at`
 abbrev pub TypeFault : List ℕ → (cause at : ℕ) → Type 0
@@ -193,10 +233,10 @@ TypeFault s cause at = FaultyPart (typesOf s) (authority s) [] 0 (program s) cau
 
 -- A sheet is refused by 24, 25 or 26 at a term only if that term is a call of what isn't a function, a call with an argument that doesn't fit, or an if
 -- or test with branches of which neither fits the other, in the bindings and under the principal that it has in the sheet, and its children have types
--- (Faults: Wrong, Within). No other number from 24 on is told.
-pub type-faults : (s : List ℕ) (cause at : ℕ) → verdict s ≡ rejected cause at → 24 ≤ cause → TypeFault s cause at
+-- (Faults: Wrong, Within). No other number from 24 on is told but the reader's 31.
+pub type-faults : (s : List ℕ) (cause at : ℕ) → verdict s ≡ rejected cause at → 24 ≤ cause → (cause ≡ 31 → ⊥) → TypeFault s cause at
 unfolding verdict
-type-faults s cause at e l = screened (decoding s) refl e
+type-faults s cause at e l other = screened (decoding s) refl e
   where
     rooted : (b : Bool) (τ N : ℕ) → cond b (accepted (terms s) τ N) (rejected 13 (root s)) ≡ rejected cause at → TypeFault s cause at
     rooted true τ N f = rejected≢accepted (sym f)
@@ -210,5 +250,5 @@ type-faults s cause at e l = screened (decoding s) refl e
     screened : (d : Screening) → decoding s ≡ d → ifReadable d (λ _. concluded (terms s) (root s) (judgement s)) ≡ rejected cause at → TypeFault s cause at
     screened clear h f = judged (judgement s) refl f
     screened (found c p) h f =
-        let k : c < 24 = decoding-low s c p h in
-        let z : c ≡ cause = cc in absurd (omega arith)
+        let z : c ≡ cause = cc in
+        ⊎-elim (λ k. absurd (omega arith)) (λ k. absurd (other (sym z ∙ k))) (decoding-readers s c p h)

@@ -2,7 +2,6 @@
 ghost use mathlib.Core.Path.{_≡_};
 ghost use lib.ListN.{length};
 use std::num::wrapping_add_u8;
-use std::num::wrapping_add_u16;
 use std::num::wrapping_add_u32;
 use std::num::wrapping_sub_u32;
 
@@ -13,10 +12,10 @@ pub fn max_start() -> [u32; 40]
     [0; 40]
 }
 
-pub fn max_sheet() -> [u8; 10895]
-    ensures { λ r. ⌜ 10895 ≡ length r ⌝ }
+pub fn max_sheet() -> [u8; 10914]
+    ensures { λ r. ⌜ 10914 ≡ length r ⌝ }
 {
-    [0; 10895]
+    [0; 10914]
 }
 
 pub fn max_cells() -> [u8; 65537]
@@ -25,7 +24,7 @@ pub fn max_cells() -> [u8; 65537]
     [0; 65537]
 }
 
-pub fn max_posts() -> [u16; 257]
+pub fn max_posts() -> [u32; 257]
     ensures { λ r. ⌜ 257 ≡ length r ⌝ }
 {
     [0; 257]
@@ -47,22 +46,13 @@ pub fn fill_cells(a: &mut [u8]) {
     }
 }
 
-pub fn fill_posts(a: &mut [u16]) {
-    let mut v = 2;
+// Numbers from the first one on, each by a step more.
+pub fn fill_numbers(a: &mut [u32], first: u32, step: u32) {
+    let mut v = first;
     let mut i = 0;
     while i < a.len() {
         a[i] = v;
-        v = wrapping_add_u16(v, 3);
-        i += 1;
-    }
-}
-
-pub fn fill_frames(a: &mut [u32]) {
-    let mut v = 5;
-    let mut i = 0;
-    while i < a.len() {
-        a[i] = v;
-        v = wrapping_add_u32(v, 1);
+        v = wrapping_add_u32(v, step);
         i += 1;
     }
 }
@@ -76,10 +66,6 @@ fn wide8(x: u8) -> u32 {
     x as u32
 }
 
-fn wide16(x: u16) -> u32 {
-    x as u32
-}
-
 pub fn mix_cells(h: u32, a: &[u8]) -> u32 {
     let mut sum = h;
     let mut i = 0;
@@ -90,17 +76,7 @@ pub fn mix_cells(h: u32, a: &[u8]) -> u32 {
     sum
 }
 
-pub fn mix_posts(h: u32, a: &[u16]) -> u32 {
-    let mut sum = h;
-    let mut i = 0;
-    while i < a.len() {
-        sum = mixed(sum, wide16(a[i]));
-        i += 1;
-    }
-    sum
-}
-
-pub fn mix_frames(h: u32, a: &[u32]) -> u32 {
+pub fn mix_numbers(h: u32, a: &[u32]) -> u32 {
     let mut sum = h;
     let mut i = 0;
     while i < a.len() {

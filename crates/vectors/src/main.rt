@@ -5,16 +5,14 @@ mod input;
 mod output;
 
 use buffers::fill_cells;
-use buffers::fill_frames;
-use buffers::fill_posts;
+use buffers::fill_numbers;
 use buffers::max_cells;
 use buffers::max_frames;
 use buffers::max_posts;
 use buffers::max_sheet;
 use buffers::max_start;
 use buffers::mix_cells;
-use buffers::mix_frames;
-use buffers::mix_posts;
+use buffers::mix_numbers;
 use input::Vector;
 use input::read_start;
 use input::read_vector;
@@ -39,10 +37,10 @@ fn eager(
     depth: u32,
     enforce: u32,
     cells: &mut [u8],
-    posts: &mut [u16],
+    posts: &mut [u32],
 ) {
     fill_cells(cells);
-    fill_posts(posts);
+    fill_numbers(posts, 2, 3);
     let mut answer = [0u32; 8];
     let r = capi::sovzedal_run_eager(
         sheet,
@@ -54,7 +52,7 @@ fn eager(
         posts,
         &mut answer,
     );
-    let h = mix_posts(mix_cells(0, cells), posts);
+    let h = mix_numbers(mix_cells(0, cells), posts);
     run_line(name, r, &answer, h);
 }
 
@@ -67,12 +65,12 @@ fn lazy(
     depth: u32,
     enforce: u32,
     cells: &mut [u8],
-    posts: &mut [u16],
+    posts: &mut [u32],
     frames: &mut [u32],
 ) {
     fill_cells(cells);
-    fill_posts(posts);
-    fill_frames(frames);
+    fill_numbers(posts, 2, 3);
+    fill_numbers(frames, 5, 1);
     let mut answer = [0u32; 8];
     let r = capi::sovzedal_run_lazy(
         sheet,
@@ -85,7 +83,7 @@ fn lazy(
         frames,
         &mut answer,
     );
-    let h = mix_frames(mix_posts(mix_cells(0, cells), posts), frames);
+    let h = mix_numbers(mix_numbers(mix_cells(0, cells), posts), frames);
     run_line(name, r, &answer, h);
 }
 
@@ -96,7 +94,7 @@ fn eagers(
     calls: u32,
     depth: u32,
     cells: &mut [u8],
-    posts: &mut [u16],
+    posts: &mut [u32],
 ) {
     eager(b"eager", sheet, start, calls, depth, 1, cells, posts);
     eager(b"eager-skip", sheet, start, calls, depth, 0, cells, posts);
@@ -108,7 +106,7 @@ fn lazies(
     calls: u32,
     depth: u32,
     cells: &mut [u8],
-    posts: &mut [u16],
+    posts: &mut [u32],
     frames: &mut [u32],
 ) {
     lazy(b"lazy", sheet, start, calls, depth, 1, cells, posts, frames);
@@ -131,7 +129,7 @@ fn vector(
     start: &mut [u32],
     sheet: &mut [u8],
     cells: &mut [u8],
-    posts: &mut [u16],
+    posts: &mut [u32],
     frames: &mut [u32],
 ) {
     read_start(start);
@@ -146,7 +144,7 @@ fn next(
     start: &mut [u32],
     sheet: &mut [u8],
     cells: &mut [u8],
-    posts: &mut [u16],
+    posts: &mut [u32],
     frames: &mut [u32],
 ) -> bool {
     let v = read_vector(

@@ -9,14 +9,14 @@
 mod sovzedal;
 
 use sovzedal::{
-    run_eager, typecheck, Outcome, Refusal, Request, Run, Type, Value, Verdict, MAX_CALLS,
-    MAX_CELLS, MAX_DEPTH, MAX_POSTS, MAX_SHEET,
+    run_eager, typecheck, Outcome, Post, Refusal, Request, Run, Type, Value, Verdict, CHANNELS,
+    MAX_CALLS, MAX_CELLS, MAX_DEPTH, MAX_POSTS, MAX_SHEET,
 };
 use std::process::ExitCode;
 use std::{env, fs};
 
 /// The headings of docs/REFUSALS.md, by their numbers.
-const CAUSES: [&str; 31] = [
+const CAUSES: [&str; 32] = [
     "none",
     "cut short",
     "wrong tag",
@@ -48,6 +48,7 @@ const CAUSES: [&str; 31] = [
     "outside the store",
     "queue full",
     "no such privilege",
+    "guard",
 ];
 
 fn main() -> ExitCode {
@@ -105,7 +106,7 @@ fn judge_and_run(sheet: &[u8]) -> ExitCode {
     match run_eager(sheet, &request, &mut cells, &mut posts) {
         Ok(run) => {
             println!("answer: {}", run_in_words(&run));
-            println!("posts: {}", posts_in_words(&posts[..run.posts as usize]));
+            print_posts(&posts[..run.posts as usize]);
             match run.outcome {
                 Outcome::End(_) => ExitCode::SUCCESS,
                 Outcome::Stop { .. } => ExitCode::FAILURE,
@@ -154,10 +155,20 @@ fn cause_in_words(cause: u32) -> String {
     format!("{cause} ({})", CAUSES[cause as usize])
 }
 
-fn posts_in_words(posts: &[u16]) -> String {
-    if posts.is_empty() {
-        return "none".into();
+/// Says what was posted on each channel, in order. Nothing is said of the
+/// others.
+fn print_posts(entries: &[u32]) {
+    if entries.is_empty() {
+        println!("no posts");
     }
-    let words: Vec<String> = posts.iter().map(u16::to_string).collect();
-    words.join(" ")
+    for channel in 0..CHANNELS {
+        let posts = entries.iter().map(|&entry| Post::from(entry));
+        let words: Vec<String> = posts
+            .filter(|post| post.channel == channel)
+            .map(|post| post.number.to_string())
+            .collect();
+        if !words.is_empty() {
+            println!("posts on channel {channel}: {}", words.join(" "));
+        }
+    }
 }

@@ -2,7 +2,7 @@
 //! their lengths, and results are enums.
 
 /// Bytes of the longest readable sheet.
-pub const MAX_SHEET: usize = 10_894;
+pub const MAX_SHEET: usize = 10_913;
 /// The largest allowance of calls.
 pub const MAX_CALLS: u32 = 4_096;
 /// The largest allowance of open calls.
@@ -11,6 +11,8 @@ pub const MAX_DEPTH: u32 = 100;
 pub const MAX_CELLS: usize = 65_536;
 /// Entries of the largest post list.
 pub const MAX_POSTS: usize = 256;
+/// Channels that a sheet can post on.
+pub const CHANNELS: u32 = 16;
 
 const OK: u32 = 0;
 const STOPPED: u32 = 1;
@@ -36,7 +38,7 @@ mod c {
             enforce: u32,
             cells: *mut u8,
             cells_len: usize,
-            posts: *mut u16,
+            posts: *mut u32,
             posts_len: usize,
             answer: *mut u32,
             answer_len: usize,
@@ -44,7 +46,7 @@ mod c {
     }
 }
 
-/// A sheet or a request that was refused: causes 1 to 16 and 24 to 26.
+/// A sheet or a request that was refused: causes 1 to 16, 24 to 26 and 31.
 pub struct Refusal {
     pub cause: u32,
     pub place: u32,
@@ -86,6 +88,21 @@ pub struct Run {
     pub posts: u32,
 }
 
+/// What an entry of a list of posts stands for.
+pub struct Post {
+    pub channel: u32,
+    pub number: u32,
+}
+
+impl From<u32> for Post {
+    fn from(entry: u32) -> Self {
+        Self {
+            channel: entry >> 16,
+            number: entry & 0xFFFF,
+        }
+    }
+}
+
 /// What a run is given besides its sheet and buffers.
 pub struct Request<'a> {
     /// The start stack, innermost frame first: a principal and its enabled set.
@@ -125,7 +142,7 @@ pub fn run_eager(
     sheet: &[u8],
     request: &Request,
     cells: &mut [u8],
-    posts: &mut [u16],
+    posts: &mut [u32],
 ) -> Result<Run, Refusal> {
     let mut answer = Answer::default();
     let start = request.start.as_flattened();

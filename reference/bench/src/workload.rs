@@ -1,7 +1,7 @@
 //! What is timed.
 
 use sheets::extremes::{costly_branches, deepest, widest};
-use sheets::load::{frame_sheet, FRAMES, LINES, PLANTS};
+use sheets::load::{frame_sheet, guarded_frame_sheet, FRAMES, LINES, PLANTS};
 
 pub struct Workload {
     pub name: String,
@@ -10,9 +10,10 @@ pub struct Workload {
     pub repeats: usize,
 }
 
-pub fn all() -> [Workload; 4] {
+pub fn all() -> [Workload; 5] {
     [
-        clients_load(),
+        clients_load("client's load", frame_sheet),
+        clients_load("client's load on a guarded page", guarded_frame_sheet),
         one("deepest sheet: nesting 32, 100 open calls", deepest(), 300),
         one("widest sheet: 256 types, 1,024 terms", widest(), 300),
         one(
@@ -24,13 +25,13 @@ pub fn all() -> [Workload; 4] {
 }
 
 /// Every so many frames one, over all plants and lines.
-fn clients_load() -> Workload {
+fn clients_load(name: &str, sheet: fn(u64) -> Vec<u8>) -> Workload {
     const STRIDE: usize = 100;
     let frames = PLANTS * LINES * FRAMES;
-    let sheets: Vec<Vec<u8>> = (0..frames).step_by(STRIDE).map(frame_sheet).collect();
+    let sheets: Vec<Vec<u8>> = (0..frames).step_by(STRIDE).map(sheet).collect();
     Workload {
         name: format!(
-            "client's load: {PLANTS} plants x {LINES} lines x {FRAMES} frames of 40 to 300 members, \
+            "{name}: {PLANTS} plants x {LINES} lines x {FRAMES} frames of 40 to 300 members, \
              every {STRIDE}th frame timed ({})",
             sheets.len()
         ),

@@ -7,7 +7,7 @@ use sheets::request::{
     Request, FRAME_NUMBERS, MAX_CALLS, MAX_CELL_BYTES, MAX_OPEN_CALLS, MAX_POSTS,
 };
 use sheets::rng::Rng;
-use sheets::{branches, cases, smallest, type_faults, yes_branch};
+use sheets::{branches, cases, pages, smallest, type_faults, yes_branch};
 use sovzedal_reference::{decode, Checks};
 
 const MAX_TYPES: usize = 12;
@@ -25,8 +25,8 @@ const WAYS: [(Runner, Checks); 4] = [
     (Runner::Lazy, Checks::PassedOver),
 ];
 
-/// The smallest sheet for each cause, the contract's cases and those of W1, W4
-/// and W5, each with its own request or a shorter one, and the limits of a
+/// The smallest sheet for each cause, the contract's cases and those of W1, W4,
+/// W5 and W8, each with its own request or a shorter one, and the limits of a
 /// request.
 pub fn named() -> Vec<Entry> {
     let smallest = smallest::all()
@@ -37,6 +37,7 @@ pub fn named() -> Vec<Entry> {
         .chain(yes_branch::all())
         .chain(branches::all())
         .chain(type_faults::all())
+        .chain(pages::all())
         .map(|case| (case.sheet, case.request));
     smallest
         .chain(cases)

@@ -41,7 +41,7 @@ pub struct Asked {
 #[derive(Clone, Debug)]
 pub struct Buffers {
     pub cells: Vec<u8>,
-    pub posts: Vec<u16>,
+    pub posts: Vec<u32>,
     pub frames: Vec<u32>,
 }
 

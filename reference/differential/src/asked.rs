@@ -64,7 +64,7 @@ impl Asked<'_> {
 #[derive(Clone, Debug, PartialEq, Eq)]
 pub struct Buffers {
     pub cells: Lent<u8>,
-    pub posts: Lent<u16>,
+    pub posts: Lent<u32>,
     pub frames: Lent<u32>,
     pub answer: Lent<u32>,
 }

@@ -13,7 +13,7 @@ use sheets::session::Access;
 pub struct Board {
     pub block: Lent<u8>,
     pub cells: Lent<u8>,
-    pub posts: Lent<u16>,
+    pub posts: Lent<u32>,
     pub answer: Lent<u32>,
 }
 

@@ -37,7 +37,7 @@ pub trait Implementation {
         sheet: &[u8],
         arguments: RunArguments,
         cells: &mut [u8],
-        posts: &mut [u16],
+        posts: &mut [u32],
         answer: &mut [u32],
     ) -> u32;
 
@@ -45,7 +45,7 @@ pub trait Implementation {
         sheet: &[u8],
         arguments: RunArguments,
         cells: &mut [u8],
-        posts: &mut [u16],
+        posts: &mut [u32],
         frames: &mut [u32],
         answer: &mut [u32],
     ) -> u32;
@@ -58,7 +58,7 @@ pub trait Implementation {
         value: u8,
         sheet: &[u8],
         cells: &mut [u8],
-        posts: &mut [u16],
+        posts: &mut [u32],
         answer: &mut [u32],
     ) -> u32;
 
@@ -68,7 +68,7 @@ pub trait Implementation {
         lines: &mut [u64],
         store: &[u8],
         cells: &mut [u8],
-        posts: &mut [u16],
+        posts: &mut [u32],
         answer: &mut [u32],
     ) -> u32;
 

@@ -30,7 +30,7 @@ mod c {
             enforce: u32,
             cells: *mut u8,
             cells_len: usize,
-            posts: *mut u16,
+            posts: *mut u32,
             posts_len: usize,
             answer: *mut u32,
             answer_len: usize,
@@ -46,7 +46,7 @@ mod c {
             enforce: u32,
             cells: *mut u8,
             cells_len: usize,
-            posts: *mut u16,
+            posts: *mut u32,
             posts_len: usize,
             frames: *mut u32,
             frames_len: usize,
@@ -71,7 +71,7 @@ mod c {
             sheet_len: usize,
             cells: *mut u8,
             cells_len: usize,
-            posts: *mut u16,
+            posts: *mut u32,
             posts_len: usize,
             answer: *mut u32,
             answer_len: usize,
@@ -97,7 +97,7 @@ mod c {
             store_len: usize,
             cells: *mut u8,
             cells_len: usize,
-            posts: *mut u16,
+            posts: *mut u32,
             posts_len: usize,
             answer: *mut u32,
             answer_len: usize,
@@ -148,7 +148,7 @@ impl Implementation for Library {
         sheet: &[u8],
         arguments: RunArguments,
         cells: &mut [u8],
-        posts: &mut [u16],
+        posts: &mut [u32],
         answer: &mut [u32],
     ) -> u32 {
         unsafe {
@@ -174,7 +174,7 @@ impl Implementation for Library {
         sheet: &[u8],
         arguments: RunArguments,
         cells: &mut [u8],
-        posts: &mut [u16],
+        posts: &mut [u32],
         frames: &mut [u32],
         answer: &mut [u32],
     ) -> u32 {
@@ -217,7 +217,7 @@ impl Implementation for Library {
         value: u8,
         sheet: &[u8],
         cells: &mut [u8],
-        posts: &mut [u16],
+        posts: &mut [u32],
         answer: &mut [u32],
     ) -> u32 {
         unsafe {
@@ -259,7 +259,7 @@ impl Implementation for Library {
         lines: &mut [u64],
         store: &[u8],
         cells: &mut [u8],
-        posts: &mut [u16],
+        posts: &mut [u32],
         answer: &mut [u32],
     ) -> u32 {
         unsafe {

@@ -31,7 +31,7 @@ impl Implementation for Reference {
         sheet: &[u8],
         arguments: RunArguments,
         cells: &mut [u8],
-        posts: &mut [u16],
+        posts: &mut [u32],
         answer: &mut [u32],
     ) -> u32 {
         reply_with(answer, || run_eager(sheet, &arguments.into(), cells, posts))
@@ -41,7 +41,7 @@ impl Implementation for Reference {
         sheet: &[u8],
         arguments: RunArguments,
         cells: &mut [u8],
-        posts: &mut [u16],
+        posts: &mut [u32],
         frames: &mut [u32],
         answer: &mut [u32],
     ) -> u32 {
@@ -64,7 +64,7 @@ impl Implementation for Reference {
         value: u8,
         sheet: &[u8],
         cells: &mut [u8],
-        posts: &mut [u16],
+        posts: &mut [u32],
         answer: &mut [u32],
     ) -> u32 {
         let Ok(bytes) = <&mut [u8; BLOCK_BYTES]>::try_from(block) else {
@@ -104,7 +104,7 @@ impl Implementation for Reference {
         lines: &mut [u64],
         store: &[u8],
         cells: &mut [u8],
-        posts: &mut [u16],
+        posts: &mut [u32],
         answer: &mut [u32],
     ) -> u32 {
         let (Ok(state), Some(room)) = (

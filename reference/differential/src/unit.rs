@@ -13,7 +13,7 @@ use sheets::rng::Rng;
 pub struct Unit {
     pub lines: Lent<u64>,
     pub cells: Lent<u8>,
-    pub posts: Lent<u16>,
+    pub posts: Lent<u32>,
     pub answer: Lent<u32>,
 }
 

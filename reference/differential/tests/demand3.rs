@@ -1,12 +1,14 @@
-//! Demand 3 on the library's own answers: an accepted sheet, on a stack that
-//! grants its needs, runs the same with its checks in force and passed over.
+//! Demand 3 on the library's own answers: an accepted sheet, of either version,
+//! on a stack that grants its needs, runs the same with its checks and guards
+//! in force and passed over.
 
 use differential::{settings, Asked, Buffers, Entry, Implementation, Library, ANSWER_NUMBERS};
 use sheets::generate::{nearly_accepted, Sample};
 use sheets::hex;
+use sheets::records::{CHANNELS, UNGUARDED};
 use sheets::request::{random_frame, Request};
 use sheets::rng::Rng;
-use sovzedal_reference::{granted_by, start_frames, Set};
+use sovzedal_reference::{granted_by, start_frames, typecheck, Set};
 use std::process::ExitCode;
 
 const SHEETS: u64 = 40_000;
@@ -15,12 +17,20 @@ const ENOUGH: usize = 10_000;
 const ENDED: u32 = 0;
 const STOPPED: u32 = 1;
 
+/// How many of the sheets at least have made a post that is guarded.
+const ENOUGH_GUARDED: usize = 1_000;
+
 /// How the runs that were compared came out.
 #[derive(Default)]
 struct Counts {
     ended: usize,
     stopped: usize,
     with_needs: usize,
+    of_version_2: usize,
+    /// Runs of a sheet that needs something for a guard alone.
+    for_a_guard: usize,
+    /// Runs with posts that are guarded.
+    guarded: usize,
 }
 
 fn main() -> ExitCode {
@@ -44,8 +54,14 @@ fn main() -> ExitCode {
         "two runs compared for {compared} sheets, {} of them with needs: {} ended, {} stopped",
         counts.with_needs, counts.ended, counts.stopped
     );
-    if settings::are_whole() && compared < ENOUGH {
-        println!("too few, {ENOUGH} are asked");
+    println!(
+        "{} sheets of version 2: {} need something for a guard alone, {} made guarded posts",
+        counts.of_version_2, counts.for_a_guard, counts.guarded
+    );
+    let too_few =
+        compared < ENOUGH || counts.for_a_guard < ENOUGH_GUARDED || counts.guarded < ENOUGH_GUARDED;
+    if settings::are_whole() && too_few {
+        println!("too few, {ENOUGH} and {ENOUGH_GUARDED} are asked");
         return ExitCode::FAILURE;
     }
     ExitCode::SUCCESS
@@ -92,7 +108,23 @@ fn try_sheet(seed: u64, index: u64, counts: &mut Counts) -> Result<(), String> {
         }
     }
     counts.with_needs += usize::from(needs != 0);
+    if sample.world.guards.is_some() {
+        counts.of_version_2 += 1;
+        counts.for_a_guard += usize::from(needs_without_guards(&sample) != Some(needs));
+        let posts = posts_made(&in_force).expect("the posts made");
+        let is_guarded = |entry: &u32| sample.world.guard((entry >> 16) as u8).is_some();
+        counts.guarded += usize::from(posts.iter().any(is_guarded));
+    }
     Ok(())
+}
+
+/// What the same sheet needs if nothing guards its channels.
+fn needs_without_guards(sample: &Sample) -> Option<u32> {
+    let mut bytes = sample.bytes.clone();
+    let guards = bytes.len() - CHANNELS;
+    bytes[guards..].fill(UNGUARDED);
+    let verdict = typecheck(&bytes).ok()?;
+    Some(verdict.needs.bits())
 }
 
 /// A start stack that grants `needs`: a frame that enables them, of a
@@ -135,7 +167,7 @@ fn run(rng: &mut Rng, sample: &Sample, request: &Request, enforce: u32) -> (u32,
     (asked.of::<Library>(&mut buffers), buffers)
 }
 
-fn posts_made(buffers: &Buffers) -> Option<&[u16]> {
+fn posts_made(buffers: &Buffers) -> Option<&[u32]> {
     let posts = buffers.answer()?[6] as usize;
     buffers.posts.contents().get(..posts)
 }

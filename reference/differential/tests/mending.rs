@@ -118,6 +118,7 @@ impl Author {
 
     fn sheet(&self, tree: &Tree) -> Vec<u8> {
         Records {
+            format: self.world.format(),
             principals: self.world.principals.clone(),
             types: self.world.types.clone(),
             terms: tree.assemble(),

@@ -7,6 +7,7 @@ use sheets::hex;
 use sheets::request::{MAX_CELL_BYTES, MAX_POSTS};
 use sheets::rng::Rng;
 use sheets::session::{random_accesses, random_block, random_sheet, Access, BLOCK_BYTES};
+use sovzedal_reference::{decode, Term};
 use std::mem;
 use std::process::ExitCode;
 use std::time::Instant;
@@ -58,6 +59,7 @@ fn compare(seed: u64, index: u64, counts: &mut Counts) -> Result<(), String> {
             sheet = random_sheet(rng);
         }
         let before = boards.library.block.contents().to_vec();
+        let posts = boards.library.posts.contents().to_vec();
         let lent = lend_and_access(rng, &mut boards, access, &sheet);
         let (returned, other) = lent.map_err(|difference| {
             format!(
@@ -67,6 +69,9 @@ fn compare(seed: u64, index: u64, counts: &mut Counts) -> Result<(), String> {
             )
         })?;
         counts.count_access(access, returned, other, &before, &boards.library);
+        if (returned, access) == (DONE, Access::RUN) {
+            counts.count_pages(other, &sheet, &posts, &boards.library);
+        }
     }
     Ok(())
 }
@@ -191,7 +196,7 @@ impl Boards {
 struct Counts(Happened);
 
 /// What has to happen, beside an end and each cause that a run can have.
-const EXPECTED: [&str; 16] = [
+const EXPECTED: [&str; 19] = [
     "a block that no entry made",
     "a read",
     "a write that runs nothing",
@@ -208,6 +213,9 @@ const EXPECTED: [&str; 16] = [
     "23 at a write",
     "a short answer",
     "a block of another length",
+    "refused by 31 where 15 would follow",
+    "stopped by 17 at a post",
+    "a post on a channel above 0",
 ];
 
 impl Counts {
@@ -270,9 +278,30 @@ impl Counts {
         }
     }
 
+    /// Counts what has to do with channels and guards in a run, by the list
+    /// of posts before it and by what it leaves on the board.
+    fn count_pages(&mut self, other: Other, sheet: &[u8], before: &[u32], board: &Board) {
+        let block = board.block.contents();
+        let place = u16::from_be_bytes([block[10], block[11]]);
+        match block[2] {
+            31 if matches!(other, Other::Cells | Other::Posts) => {
+                self.0.count("refused by 31 where 15 would follow");
+            }
+            17 => {
+                let sheet = decode(sheet).expect("a sheet that runs");
+                let is_post = matches!(sheet.term(place), Term::Post { .. });
+                self.0.count_if(is_post, "stopped by 17 at a post");
+            }
+            _ => {}
+        }
+        let mut pairs = before.iter().zip(board.posts.contents());
+        let on_another = pairs.any(|(old, new)| old != new && (1..16).contains(&(new >> 16)));
+        self.0.count_if(on_another, "a post on a channel above 0");
+    }
+
     /// What should have happened and never did.
     fn never(&self) -> Vec<String> {
-        let refusals = (1..=8).chain([16]).map(|n| format!("refused by {n:2}"));
+        let refusals = (1..=8).chain([16, 31]).map(|n| format!("refused by {n:2}"));
         let buffers = [Other::Cells, Other::Posts].map(|n| format!("refused by 15, by {n:?}"));
         let stops = (17..=22).map(|n| format!("stopped by {n:2}"));
         let expected = EXPECTED.map(String::from).into_iter();

@@ -6,7 +6,7 @@
 use differential::{settings, Library, Unit, ANSWER_NUMBERS};
 use sheets::cases::computing;
 use sheets::lines::{random_line, Job, Store, LINES, LIST, QUEUE_JOBS, STATE_NUMBERS};
-use sheets::records::{Records, TermRecord, TypeRecord};
+use sheets::records::{Format, Records, TermRecord, TypeRecord};
 use sheets::request::{MAX_CALLS, MAX_POSTS};
 use sheets::rng::Rng;
 use sheets::tree::{number, post, sum, variable};
@@ -68,6 +68,7 @@ fn refused_at(term: u16) -> Vec<u8> {
     let mut terms = vec![record(1); usize::from(term)];
     terms.push(record(15));
     Records {
+        format: Format::version_1(),
         principals: vec![0],
         types: vec![TypeRecord::bool(), TypeRecord::number()],
         terms,
@@ -217,7 +218,7 @@ impl<'a> Session<'a> {
         let answer = self.unit.answer.contents();
         match (returned, answer[0]) {
             (DONE, 0) => Some((0, answer[3])),
-            (STOPPED, 18) => Some((1, u32::from(self.unit.posts.contents()[place]))),
+            (STOPPED, 18) => Some((1, self.unit.posts.contents()[place])),
             (REFUSED, 6) => Some((2, answer[1])),
             (REFUSED, 15 | 16 | 28) => None,
             other => panic!("told {other:?}"),

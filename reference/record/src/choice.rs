@@ -2,14 +2,14 @@
 
 use crate::vector::Vector;
 use sheets::cases::Case;
-use sheets::extremes::{deepest, widest};
+use sheets::extremes::{deepest, longest, widest};
 use sheets::generate::sample;
-use sheets::load::frame_sheet;
+use sheets::load::{frame_sheet, guarded_frame_sheet};
 use sheets::request::{
     Request, FRAME_NUMBERS, MAX_CALLS, MAX_CELL_BYTES, MAX_OPEN_CALLS, MAX_POSTS,
 };
 use sheets::rng::Rng;
-use sheets::{branches, cases, smallest, type_faults, yes_branch};
+use sheets::{branches, cases, pages, smallest, type_faults, yes_branch};
 
 const SEED: u64 = 20;
 const GENERATED: usize = 240;
@@ -26,6 +26,7 @@ pub fn vectors() -> Vec<Vector> {
     vectors.extend(yes_branches());
     vectors.extend(as_asked(branches::all()));
     vectors.extend(as_asked(type_faults::all()));
+    vectors.extend(as_asked(pages::all()));
     vectors
 }
 
@@ -98,14 +99,16 @@ fn edges_of_requests() -> impl Iterator<Item = Vector> {
 }
 
 fn edges_of_sheets() -> impl Iterator<Item = Vector> {
-    let mut one_byte_more = widest();
+    let mut one_byte_more = longest();
     one_byte_more.push(0);
     let sheets = [
         deepest(),
         widest(),
+        longest(),
         one_byte_more,
         frame_sheet(0),
         frame_sheet(1),
+        guarded_frame_sheet(0),
     ];
     sheets.into_iter().map(|sheet| Vector {
         sheet,

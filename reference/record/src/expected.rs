@@ -59,7 +59,7 @@ fn request(vector: &Vector, checks: Checks) -> Request<'_> {
 
 struct Buffers {
     cells: Vec<u8>,
-    posts: Vec<u16>,
+    posts: Vec<u32>,
     frames: Vec<u32>,
 }
 
@@ -69,7 +69,7 @@ impl Buffers {
         let request = &vector.request;
         Self {
             cells: (0..request.cell_bytes).map(|i| (i * 7 + 1) as u8).collect(),
-            posts: (0..request.posts).map(|i| (i * 3 + 2) as u16).collect(),
+            posts: (0..request.posts).map(|i| (i * 3 + 2) as u32).collect(),
             frames: (0..request.frame_numbers).map(|i| i as u32 + 5).collect(),
         }
     }

@@ -9,7 +9,7 @@ pub struct Vector {
 
 impl Vector {
     /// The most that a record can hold.
-    const MAX_SHEET: usize = 10_895;
+    const MAX_SHEET: usize = 10_914;
     const MAX_START: usize = 40;
 
     /// Whether the record's format has room for it.

@@ -1,6 +1,6 @@
 //! The cases that the contract names.
 
-use crate::records::{Records, TypeRecord, NUMBER};
+use crate::records::{Format, Guards, Records, TypeRecord, NUMBER};
 use crate::request::Request;
 use crate::tree::*;
 
@@ -25,9 +25,24 @@ pub fn plain(principals: &[u32], root: Tree) -> Vec<u8> {
 
 /// A sheet with function types from [`FIRST_FUNCTION`] on.
 pub fn with_functions(principals: &[u32], functions: &[TypeRecord], root: Tree) -> Vec<u8> {
+    of_format(Format::version_1(), principals, functions, root)
+}
+
+/// A sheet of version 2, with these guards.
+pub fn with_guards(
+    guards: &Guards,
+    principals: &[u32],
+    functions: &[TypeRecord],
+    root: Tree,
+) -> Vec<u8> {
+    of_format(Format::version_2(guards), principals, functions, root)
+}
+
+fn of_format(format: Format, principals: &[u32], functions: &[TypeRecord], root: Tree) -> Vec<u8> {
     let mut types = vec![TypeRecord::bool(), TypeRecord::number()];
     types.extend(functions);
     Records {
+        format,
         principals: principals.to_vec(),
         types,
         terms: root.assemble(),

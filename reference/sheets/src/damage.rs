@@ -1,6 +1,6 @@
 //! Damage that the reader has to find: in the records, then in the bytes.
 
-use crate::records::{Records, TermRecord, TypeRecord};
+use crate::records::{Records, TermRecord, TypeRecord, CHANNELS, UNGUARDED};
 use crate::rng::Rng;
 use crate::tree::Kind;
 
@@ -34,7 +34,7 @@ pub fn damage_terms(rng: &mut Rng, records: &mut Records) {
     match rng.below(8) {
         0 => record.kind = rng.pick(&[15, 16, 128, 255]),
         1 => record.kind = rng.below(16) as u8,
-        2 => record.small = rng.pick(&[1, 2, 31, 32, 33, 64, 255]),
+        2 => record.small = rng.pick(&[1, 2, 15, 16, 31, 32, 33, 64, 255]),
         3 => record.parts[rng.below(3)] = number,
         4 => record.parts[rng.below(3)] = rng.pick(&[index as u16, 256, 1023, 1024, 65_535]),
         5 => record.parts[0] = rng.pick(&[0, 1, 2, types - 1, types]),
@@ -46,10 +46,15 @@ pub fn damage_terms(rng: &mut Rng, records: &mut Records) {
 /// Makes a small byte that is in use the first that is out of range.
 fn push_small_past_its_range(rng: &mut Rng, records: &mut Records) {
     let principals = records.principals.len() as u8;
+    let channels = match records.format.version {
+        1 => 1,
+        _ => CHANNELS as u8,
+    };
     let limit = |kind: u8| match Kind::ALL.get(usize::from(kind)) {
         Some(Kind::Bool) => Some(2),
         Some(Kind::Check | Kind::Enable | Kind::Test) => Some(32),
         Some(Kind::Sign) => Some(principals),
+        Some(Kind::Post) => Some(channels),
         _ => None,
     };
     let limits: Vec<(usize, u8)> = (0..)
@@ -100,6 +105,43 @@ fn redirect_child(rng: &mut Rng, records: &mut Records) {
     if let Some(place) = rng.pick_any(&parents) {
         records.terms[place].parts[0] = rng.below(place) as u16;
     }
+}
+
+/// Breaks the guards, or the version's accord with them.
+pub fn damage_guards(rng: &mut Rng, records: &mut Records) {
+    let format = &mut records.format;
+    match rng.below(10) {
+        0 => format.version = rng.pick(&[0, 3, 4, 5, 256, 257, 258, 513, 65_535]),
+        // Version 1 with a tag 5, or version 2 without one.
+        1 => format.version = 3 - format.version,
+        2 => {
+            let length = rng.pick(&[0, 1, CHANNELS - 1, CHANNELS + 1, 2 * CHANNELS]);
+            format.guards = Some(vec![UNGUARDED; length]);
+        }
+        _ => {
+            let guards = format
+                .guards
+                .get_or_insert_with(|| vec![UNGUARDED; CHANNELS]);
+            for _ in 0..rng.pick(&[1, 1, 2, 3]) {
+                guards[rng.below(CHANNELS)] = bad_guard(rng);
+            }
+            format.version = 2;
+        }
+    }
+}
+
+/// A byte that is neither a privilege nor none.
+fn bad_guard(rng: &mut Rng) -> u8 {
+    match rng.below(3) {
+        0 => rng.between(32, 254) as u8,
+        _ => rng.pick(&[32, 33, 64, 127, 128, 254]),
+    }
+}
+
+/// Cuts bytes off the end, as many as tag 5 takes with its header at most.
+pub fn cut_guards(rng: &mut Rng, bytes: &mut Vec<u8>) {
+    let cut = rng.between(1, CHANNELS + 3);
+    bytes.truncate(bytes.len() - cut);
 }
 
 /// Changes the bytes without regard to what they mean.

@@ -1,7 +1,8 @@
 //! The cases of request W7: where a need comes from, and where there is none.
+//! W8 has added the guards.
 
-use crate::cases::with_functions;
-use crate::records::{TypeRecord, NUMBER};
+use crate::cases::{with_functions, with_guards};
+use crate::records::{TypeRecord, CHANNELS, NUMBER, UNGUARDED};
 use crate::tree::*;
 
 /// The privilege that is asked about.
@@ -23,6 +24,10 @@ const NEEDY: u16 = 3;
 const TAKES_NEEDY: u16 = 4;
 const GIVES_NEEDY: u16 = 5;
 
+/// Channels of version 2 that these privileges guard.
+const PAGE: u8 = 1;
+const OTHER_PAGE: u8 = 2;
+
 #[derive(Clone, Debug)]
 pub struct Explained {
     pub name: &'static str,
@@ -37,14 +42,23 @@ pub fn all() -> Vec<Explained> {
         TypeRecord::function(NEEDY, NUMBER, 0),
         TypeRecord::function(NUMBER, NEEDY, 0),
     ];
+    let principals = [able, 0, 1 << ASKED];
     let explained = |(name, tree)| Explained {
         name,
-        sheet: with_functions(&[able, 0, 1 << ASKED], &functions, sign(ABLE, tree)),
+        sheet: with_functions(&principals, &functions, sign(ABLE, tree)),
+    };
+    let mut guards = [UNGUARDED; CHANNELS];
+    guards[usize::from(PAGE)] = ASKED;
+    guards[usize::from(OTHER_PAGE)] = OTHER;
+    let with_pages = |(name, tree)| Explained {
+        name,
+        sheet: with_guards(&guards, &principals, &functions, sign(ABLE, tree)),
     };
     [causes(), ways(), causes_on_the_way(), hidden()]
         .into_iter()
         .flatten()
         .map(explained)
+        .chain(guarded().into_iter().map(with_pages))
         .collect()
 }
 
@@ -181,6 +195,41 @@ fn hidden() -> Vec<(&'static str, Tree)> {
             "a function that is called in another's body",
             call(function(QUIET, sign(ABLE, enabled_call())), number(7)),
         ),
+    ]
+}
+
+/// Posts to guarded channels.
+fn guarded() -> Vec<(&'static str, Tree)> {
+    let posted = |value| post_to(PAGE, number(value));
+    vec![
+        ("a guarded post", posted(7)),
+        (
+            "a post that another guards",
+            post_to(OTHER_PAGE, checked(7)),
+        ),
+        ("a post to an open channel", post(checked(7))),
+        ("a guarded post of a check", post_to(PAGE, checked(7))),
+        ("a check of a guarded post", check(ASKED, posted(7))),
+        (
+            "a guarded post of a guarded post",
+            post_to(PAGE, post_to(PAGE, number(7))),
+        ),
+        ("sum, both guarded", sum(posted(7), posted(8))),
+        ("a guarded post beside a check", sum(checked(7), posted(8))),
+        ("an enable of a guarded post", enable(ASKED, posted(7))),
+        (
+            "an enable of another of a guarded post",
+            enable(OTHER, posted(7)),
+        ),
+        (
+            "a guarded post in the yes-branch",
+            test(ASKED, posted(7), number(0)),
+        ),
+        (
+            "a guarded post in the no-branch",
+            test(ASKED, posted(7), posted(8)),
+        ),
+        ("only another guards", post_to(OTHER_PAGE, number(7))),
     ]
 }
 

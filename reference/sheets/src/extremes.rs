@@ -1,7 +1,7 @@
 //! Sheets at the limits of what can be read and run.
 
 use crate::cases::{plain, with_functions, FIRST_FUNCTION};
-use crate::records::{Records, TypeRecord, BOOL, NUMBER};
+use crate::records::{Format, Records, TypeRecord, BOOL, CHANNELS, NUMBER};
 use crate::tree::*;
 
 const MAX_NESTING: usize = 32;
@@ -69,6 +69,15 @@ pub fn endless_through(kind: Kind) -> Vec<u8> {
 /// As many principals, types and terms as a sheet can have. Every call gives
 /// an argument whose type isn't the one asked but fits it.
 pub fn widest() -> Vec<u8> {
+    widest_of(Format::version_1())
+}
+
+/// The same in version 2, the longest sheet there is. Nothing is posted.
+pub fn longest() -> Vec<u8> {
+    widest_of(Format::version_2(&[31; CHANNELS]))
+}
+
+fn widest_of(format: Format) -> Vec<u8> {
     const CALLS: usize = 127;
     let types = twin_towers();
     let calls: Vec<Tree> = fitting_pairs(&types)
@@ -85,6 +94,7 @@ pub fn widest() -> Vec<u8> {
         sums = sum(sums, number(1));
     }
     Records {
+        format,
         principals: vec![u32::MAX; MAX_PRINCIPALS],
         types,
         terms: sign(0, sums).assemble(),
@@ -186,6 +196,7 @@ fn costly(signs: usize, inner: fn(Tree) -> Tree) -> Vec<u8> {
     let levels = MAX_NESTING - (1 + signs + 6 + inner(number(0)).height() - 1);
     let count = (MAX_TERMS - around(number(0)).size()) / 2;
     Records {
+        format: Format::version_1(),
         principals: vec![1 << NEEDED],
         types,
         terms: around(tests_of_three(count, levels)).assemble(),

@@ -1,6 +1,7 @@
 //! Random sheets of every sort.
 
-use crate::damage::{damage_bytes, damage_shape, damage_terms, damage_types};
+use crate::damage::{cut_guards, damage_bytes, damage_guards};
+use crate::damage::{damage_shape, damage_terms, damage_types};
 use crate::grow::{accepted, of_type};
 use crate::records::Records;
 use crate::rng::Rng;
@@ -26,22 +27,24 @@ enum Sort {
     DamagedTypes,
     DamagedTerms,
     DamagedShape,
+    DamagedGuards,
     DamagedBytes,
     Wild,
     Nested,
 }
 
 /// How many of a hundred sheets are of which sort.
-const SORTS: [(usize, Sort); 10] = [
-    (39, Sort::Accepted),
+const SORTS: [(usize, Sort); 11] = [
+    (38, Sort::Accepted),
     (1, Sort::FunctionAtRoot),
     (20, Sort::SpoiledOnce),
     (8, Sort::SpoiledFamily),
     (2, Sort::DamagedTypes),
     (4, Sort::DamagedTerms),
     (3, Sort::DamagedShape),
+    (4, Sort::DamagedGuards),
     (3, Sort::DamagedBytes),
-    (16, Sort::Wild),
+    (13, Sort::Wild),
     (4, Sort::Nested),
 ];
 
@@ -82,18 +85,37 @@ fn sample_of(rng: &mut Rng, sort: Sort) -> Sample {
         Sort::DamagedTypes => damage_types(rng, &mut records),
         Sort::DamagedTerms => damage_terms(rng, &mut records),
         Sort::DamagedShape => damage_shape(rng, &mut records),
+        Sort::DamagedGuards => damage_guards_and_more(rng, &mut records),
         _ => {}
     }
     let mut bytes = records.to_bytes();
-    if sort == Sort::DamagedBytes {
-        damage_bytes(rng, &mut bytes);
+    match sort {
+        Sort::DamagedBytes => damage_bytes(rng, &mut bytes),
+        Sort::DamagedGuards if rng.percent(10) => cut_guards(rng, &mut bytes),
+        _ => {}
     }
     Sample { bytes, world }
+}
+
+/// Beside the guards now and then another table, whose fault is told first.
+fn damage_guards_and_more(rng: &mut Rng, records: &mut Records) {
+    damage_guards(rng, records);
+    match rng.below(10) {
+        0 => damage_types(rng, records),
+        1 => damage_terms(rng, records),
+        2 => damage_shape(rng, records),
+        _ => {}
+    }
 }
 
 fn tree_of(rng: &mut Rng, world: &World, sort: Sort) -> Tree {
     let size = random_size(rng);
     match sort {
+        // What is told of the tree is told after the guards, but for nesting.
+        Sort::DamagedGuards => {
+            let sort = rng.pick(&[Sort::Accepted, Sort::SpoiledOnce, Sort::Wild, Sort::Nested]);
+            tree_of(rng, world, sort)
+        }
         Sort::Wild => wild(rng, world, size),
         Sort::Nested => nested(rng, world),
         Sort::FunctionAtRoot => {
@@ -130,6 +152,7 @@ pub(crate) fn assemble(rng: &mut Rng, world: &World, tree: &Tree) -> Records {
         tree.assemble_shuffled(rng)
     };
     Records {
+        format: world.format(),
         principals: world.principals.clone(),
         types: world.types.clone(),
         terms,
@@ -144,7 +167,7 @@ fn nested(rng: &mut Rng, world: &World) -> Tree {
         let privilege = world.random_privilege(rng);
         let twig = number(rng.below(10) as u16);
         tree = match rng.below(8) {
-            0 => post(tree),
+            0 => post_to(world.random_channel(rng), tree),
             1 => enable(privilege, tree),
             2 => check(privilege, tree),
             3 => sign(world.random_principal(rng), tree),

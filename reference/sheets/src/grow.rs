@@ -135,9 +135,30 @@ impl Grower<'_> {
             NUMBER => match self.rng.below(3) {
                 0 => self.of_two_numbers(sum, site),
                 1 => self.of_two_numbers(difference, site),
-                _ => post(self.grow(NUMBER, site.below(site.size - 1))),
+                _ => self.post(site),
             },
             _ => self.function(ty, site),
+        }
+    }
+
+    /// A post to a channel whose guard may be needed, by preference to one that
+    /// has a guard. If there is none, a sum.
+    fn post(&mut self, site: Site) -> Tree {
+        let world = self.world;
+        let may_need = |channel: &u8| match world.guard(*channel) {
+            Some(guard) => site.allowed >> guard & 1 == 1,
+            None => true,
+        };
+        let open: Vec<u8> = world.channels().filter(may_need).collect();
+        let has_guard = |channel: &u8| world.guard(*channel).is_some();
+        let guarded: Vec<u8> = open.iter().copied().filter(has_guard).collect();
+        let channel = match self.rng.pick_any(&guarded) {
+            Some(channel) if self.rng.percent(60) => Some(channel),
+            _ => self.rng.pick_any(&open),
+        };
+        match channel {
+            Some(channel) => post_to(channel, self.grow(NUMBER, site.below(site.size - 1))),
+            None => self.of_two_numbers(sum, site),
         }
     }
 
@@ -157,7 +178,7 @@ impl Grower<'_> {
         )
     }
 
-    /// The yes-branch may need what is tested, and often checks it at once.
+    /// The yes-branch may need what is tested, and often needs it at once.
     fn test(&mut self, ty: u16, site: Site) -> Tree {
         let [yes_type, no_type] = self.branch_types(ty, site);
         let privilege = self.world.random_privilege(self.rng);
@@ -165,8 +186,7 @@ impl Grower<'_> {
         let yes = yes.allowing(yes.allowed | 1 << privilege);
         let has_room = yes.levels > self.world.least_height(yes_type);
         let yes = if has_room && self.rng.percent(50) {
-            let inner = yes.below(yes.size.saturating_sub(1));
-            check(privilege, self.grow(yes_type, inner))
+            self.needing(privilege, yes_type, yes)
         } else {
             self.grow(yes_type, yes)
         };
@@ -187,7 +207,22 @@ impl Grower<'_> {
     fn check(&mut self, ty: u16, site: Site) -> Option<Tree> {
         let privilege = self.world.random_privilege(self.rng);
         let allowed = site.allowed >> privilege & 1 == 1;
-        allowed.then(|| check(privilege, self.grow(ty, site.below(site.size - 1))))
+        allowed.then(|| self.needing(privilege, ty, site))
+    }
+
+    /// A check, or a post to a channel that the privilege guards.
+    fn needing(&mut self, privilege: u8, ty: u16, site: Site) -> Tree {
+        let inner = site.below(site.size.saturating_sub(1));
+        let channels = self.world.channels();
+        let guarded: Vec<u8> = channels
+            .filter(|&channel| self.world.guard(channel) == Some(privilege))
+            .collect();
+        match self.rng.pick_any(&guarded) {
+            Some(channel) if ty == NUMBER && self.rng.percent(50) => {
+                post_to(channel, self.grow(NUMBER, inner))
+            }
+            _ => check(privilege, self.grow(ty, inner)),
+        }
     }
 
     fn enable(&mut self, ty: u16, site: Site) -> Tree {

@@ -1,12 +1,13 @@
 //! Sheets to test with.
 //!
 //! [`tree`] and [`records`] assemble sheets. [`cases`], [`yes_branch`],
-//! [`branches`], [`type_faults`], [`explained`], [`smallest`], [`extremes`] and
-//! [`load`] hold the ones made by hand, [`generate`] and [`needy`] draw others
-//! at random, [`request`] draws what to ask of their runs, [`session`] what a
-//! controller does with a register block and [`lines`] what is queued on four
-//! lines, from a [`seed`]. Nothing here knows how a sheet is judged or run,
-//! except [`grow`] and [`needy`], which build sheets that the rules accept.
+//! [`branches`], [`type_faults`], [`explained`], [`pages`], [`smallest`],
+//! [`extremes`] and [`load`] hold the ones made by hand, [`generate`] and
+//! [`needy`] draw others at random, [`request`] draws what to ask of their
+//! runs, [`session`] what a controller does with a register block and
+//! [`lines`] what is queued on four lines, from a [`seed`]. Nothing here knows
+//! how a sheet is judged or run, except [`grow`] and [`needy`], which build
+//! sheets that the rules accept.
 
 pub mod branches;
 pub mod cases;
@@ -18,6 +19,7 @@ pub mod grow;
 pub mod lines;
 pub mod load;
 pub mod needy;
+pub mod pages;
 pub mod records;
 pub mod request;
 pub mod rng;

@@ -3,7 +3,7 @@
 //! other causes and things that hide them on the way.
 
 use crate::generate::{assemble, Sample};
-use crate::records::{TypeRecord, BOOL, NUMBER};
+use crate::records::{TypeRecord, BOOL, CHANNELS, NUMBER, UNGUARDED};
 use crate::rng::Rng;
 use crate::tree::*;
 use crate::world::World;
@@ -20,6 +20,12 @@ const OF_BOOLEAN: u16 = 6;
 /// the other one alone.
 const ABLE: u8 = 0;
 const HALF_ABLE: u8 = 1;
+
+/// A channel that nothing guards; in version 2, one that the asked privilege
+/// guards, and one that the other does.
+const OPEN: u8 = 0;
+const ASKED_PAGE: u8 = 1;
+const OTHER_PAGE: u8 = 2;
 
 /// A sheet that needs the first privilege of its world, unless something on
 /// the way has taken it out.
@@ -40,6 +46,7 @@ pub fn needing_tree(rng: &mut Rng, noise: usize, levels: usize) -> (World, Tree)
         rng,
         asked,
         other,
+        has_pages: world.guards.is_some(),
         noise,
     };
     (world, nest.of_height(levels))
@@ -58,10 +65,14 @@ fn world(rng: &mut Rng, asked: u8, other: u8) -> World {
     let mut types = vec![TypeRecord::bool(), TypeRecord::number()];
     types.extend([0, p, q, p | q].map(|latent| TypeRecord::function(NUMBER, NUMBER, latent)));
     types.push(TypeRecord::function(BOOL, NUMBER, 0));
+    let mut guards = [UNGUARDED; CHANNELS];
+    guards[usize::from(ASKED_PAGE)] = asked;
+    guards[usize::from(OTHER_PAGE)] = other;
     World {
         privileges: vec![asked, other],
         principals: vec![p | q | rest, q | rest],
         types,
+        guards: rng.percent(50).then_some(guards),
     }
 }
 
@@ -69,6 +80,8 @@ struct Nest<'a> {
     rng: &'a mut Rng,
     asked: u8,
     other: u8,
+    /// Whether the sheet is of version 2.
+    has_pages: bool,
     noise: usize,
 }
 
@@ -84,11 +97,31 @@ impl Nest<'_> {
     }
 
     fn cause(&mut self) -> Tree {
-        match self.rng.below(3) {
+        match self.rng.below(4) {
             0 => self.needy_call(number(7)),
             1 => self.binder(LATENT[1], number(7)),
+            2 => self.needing_post(number(7)),
             _ => check(self.asked, number(7)),
         }
+    }
+
+    /// In version 1 a check.
+    fn needing_post(&mut self, tree: Tree) -> Tree {
+        if self.has_pages {
+            post_to(ASKED_PAGE, tree)
+        } else {
+            check(self.asked, tree)
+        }
+    }
+
+    /// A post that doesn't need the asked privilege.
+    fn post(&mut self, tree: Tree) -> Tree {
+        let channels: &[u8] = if self.has_pages {
+            &[OPEN, OTHER_PAGE]
+        } else {
+            &[OPEN]
+        };
+        post_to(self.rng.pick(channels), tree)
     }
 
     /// Another term around, or a few where the way leads through a boolean,
@@ -115,7 +148,7 @@ impl Nest<'_> {
             12 if has_room => when(less(twig, tree), number(1), number(2)),
             13 if has_room => call(self.function(OF_BOOLEAN), less(tree, twig)),
             14 if has_room => self.chosen_and_called(tree),
-            _ => post(tree),
+            _ => self.post(tree),
         }
     }
 
@@ -130,7 +163,7 @@ impl Nest<'_> {
     /// another cause beside.
     fn noisy(&mut self, tree: Tree) -> Tree {
         let twig = self.needing_twig(&tree);
-        match self.rng.below(12) {
+        match self.rng.below(13) {
             0 => check(self.asked, tree),
             1 => self.needy_call(tree),
             2 => self.binder(LATENT[1], tree),
@@ -142,6 +175,7 @@ impl Nest<'_> {
             8 => when(boolean(false), twig, tree),
             9 => call(check(self.asked, self.function(LATENT[0])), tree),
             10 => difference(tree, twig),
+            11 => self.needing_post(tree),
             _ => sum(twig, tree),
         }
     }
@@ -157,7 +191,8 @@ impl Nest<'_> {
             3 => call(self.function(LATENT[0]), number(1)),
             4 => sign(HALF_ABLE, check(self.other, number(2))),
             5 => enable(asked, self.needy_call(number(2))),
-            6 if self.rng.percent(self.noise) => self.needing_twig(tree),
+            6 => enable(asked, self.needing_post(number(2))),
+            7 if self.rng.percent(self.noise) => self.needing_twig(tree),
             _ => number(1),
         };
         if twig.height() > tree.height() {

@@ -17,8 +17,17 @@ pub struct TermRecord {
     pub parts: [u16; 3],
 }
 
-#[derive(Clone, Debug, Default, PartialEq, Eq)]
+/// The version and, where there is a tag 5, its content: a byte for each
+/// channel, which version 2 has and version 1 has not.
+#[derive(Clone, Debug, PartialEq, Eq)]
+pub struct Format {
+    pub version: u16,
+    pub guards: Option<Vec<u8>>,
+}
+
+#[derive(Clone, Debug, PartialEq, Eq)]
 pub struct Records {
+    pub format: Format,
     pub principals: Vec<u32>,
     pub types: Vec<TypeRecord>,
     pub terms: Vec<TermRecord>,
@@ -26,6 +35,31 @@ pub struct Records {
 
 pub const BOOL: u16 = 0;
 pub const NUMBER: u16 = 1;
+
+/// How many channels version 2 has.
+pub const CHANNELS: usize = 16;
+
+/// The byte of a channel that nothing guards.
+pub const UNGUARDED: u8 = 255;
+
+/// A byte for each channel.
+pub type Guards = [u8; CHANNELS];
+
+impl Format {
+    pub fn version_1() -> Self {
+        Self {
+            version: 1,
+            guards: None,
+        }
+    }
+
+    pub fn version_2(guards: &Guards) -> Self {
+        Self {
+            version: 2,
+            guards: Some(guards.to_vec()),
+        }
+    }
+}
 
 impl TypeRecord {
     const FUNCTION_KIND: u8 = 2;
@@ -84,13 +118,14 @@ impl Records {
         for record in &self.terms {
             record.append_to(&mut terms);
         }
-        [
-            field(1, &[0, 1]),
+        let mut fields = vec![
+            field(1, &self.format.version.to_be_bytes()),
             field(2, &principals),
             field(3, &types),
             field(4, &terms),
-        ]
-        .concat()
+        ];
+        fields.extend(self.format.guards.iter().map(|guards| field(5, guards)));
+        fields.concat()
     }
 }
 

@@ -1,8 +1,9 @@
 //! For each cause the smallest sheet known to reach it. 23 and 27 to 30 are told
 //! of no sheet.
 
-use crate::cases::{computing, endless, nested, plain, with_functions, FIRST_FUNCTION};
-use crate::records::{Records, TypeRecord, BOOL, NUMBER};
+use crate::cases::{computing, endless, nested, plain};
+use crate::cases::{with_functions, with_guards, FIRST_FUNCTION};
+use crate::records::{Format, Records, TypeRecord, BOOL, CHANNELS, NUMBER, UNGUARDED};
 use crate::request::{Request, MAX_CALLS, MAX_POSTS};
 use crate::tree::*;
 
@@ -18,6 +19,7 @@ pub struct Smallest {
 pub fn all() -> Vec<Smallest> {
     (1..=22)
         .chain(24..=26)
+        .chain([31])
         .map(|cause| Smallest {
             cause,
             sheet: sheet(cause),
@@ -54,6 +56,7 @@ fn sheet(cause: u32) -> Vec<u8> {
             sign(0, call(constant_function(), number(0))),
         ),
         26 => computing(test(0, boolean(false), number(0))),
+        31 => badly_guarded(),
         _ => unreachable!("no sheet has another cause"),
     }
 }
@@ -78,11 +81,19 @@ fn request(cause: u32) -> Request {
 fn one_term(second_type: TypeRecord, tree: Tree) -> Vec<u8> {
     let root = *tree.assemble().last().expect("a tree has a root");
     Records {
+        format: Format::version_1(),
         principals: vec![0],
         types: vec![TypeRecord::bool(), second_type],
         terms: vec![root],
     }
     .to_bytes()
+}
+
+/// There is no privilege 32 to guard channel 0.
+fn badly_guarded() -> Vec<u8> {
+    let mut guards = [UNGUARDED; CHANNELS];
+    guards[0] = 32;
+    with_guards(&guards, &[0], &[], sign(0, boolean(false)))
 }
 
 fn bool_to_bool() -> TypeRecord {

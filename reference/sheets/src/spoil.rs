@@ -56,6 +56,9 @@ impl Spoiler<'_> {
             Kind::Sum | Kind::Difference | Kind::Less => {
                 tree.kind = self.rng.pick(&[Kind::Sum, Kind::Less, Kind::Call]);
             }
+            Kind::Post if self.world.guards.is_some() && self.rng.percent(60) => {
+                tree.small = self.world.random_channel(self.rng);
+            }
             Kind::Post => *tree = tree.children.remove(0),
         }
     }
@@ -66,7 +69,7 @@ impl Spoiler<'_> {
         *tree = match self.rng.below(5) {
             0 => fault(self.rng, self.world),
             1 => check(privilege, old),
-            2 => post(old),
+            2 => post_to(self.world.random_channel(self.rng), old),
             3 => sign(self.world.random_principal(self.rng), old),
             _ => wild_part(self.rng, self.world, 2, old.size().min(10)),
         };

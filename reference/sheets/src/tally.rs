@@ -3,9 +3,8 @@
 use crate::tree::Kind;
 use std::fmt;
 
-const CAUSES: usize = 26;
-/// Told of an address and of no sheet.
-const ADDRESS: usize = 23;
+/// The highest of them.
+const CAUSES: usize = 31;
 const KINDS: usize = Kind::ALL.len();
 
 const TERM_BYTES: usize = 8;
@@ -29,11 +28,10 @@ pub struct Tally {
 impl Tally {
     /// Counts a judge's reply. `answer[0]` is the cause, 0 if accepted.
     pub fn count_judged(&mut self, sheet: &[u8], answer: &[u32; 8]) {
-        const FIRST_CAUSE_OF_READABLE: u32 = 9;
         let cause = answer[0];
         self.judged_sheets += 1;
         self.judged[cause as usize] += 1;
-        if cause == 0 || cause >= FIRST_CAUSE_OF_READABLE {
+        if !matches!(cause, 1..=8 | 31) {
             self.readable += 1;
             count_kinds(sheet, &mut self.kinds_read);
         }
@@ -69,7 +67,7 @@ impl Tally {
 
 /// The causes that a sheet or a request can have.
 fn causes() -> impl Iterator<Item = usize> {
-    (1..=CAUSES).filter(|&cause| cause != ADDRESS)
+    (1..=22).chain(24..=26).chain([31])
 }
 
 /// Counts the kinds in a sheet that can be read.
@@ -79,14 +77,15 @@ fn count_kinds(sheet: &[u8], kinds: &mut [usize; KINDS]) {
     }
 }
 
-/// The last field's content: its length is found by passing over the others.
+/// The fourth field's content, which is found by passing over the others.
 fn term_records(sheet: &[u8]) -> impl Iterator<Item = &[u8]> {
     let mut rest = sheet;
-    for _ in 1..4 {
+    let mut content = rest;
+    for _ in 1..=4 {
         let length = usize::from(u16::from_be_bytes([rest[1], rest[2]]));
-        rest = &rest[3 + length..];
+        (content, rest) = rest[3..].split_at(length);
     }
-    rest[3..].chunks_exact(TERM_BYTES)
+    content.chunks_exact(TERM_BYTES)
 }
 
 impl fmt::Display for Tally {

@@ -225,8 +225,13 @@ pub fn less(left: Tree, right: Tree) -> Tree {
     Tree::new(Kind::Less, 0, 0, vec![left, right])
 }
 
+/// A post to channel 0, the only one that version 1 has.
 pub fn post(inner: Tree) -> Tree {
-    Tree::new(Kind::Post, 0, 0, vec![inner])
+    post_to(0, inner)
+}
+
+pub fn post_to(channel: u8, inner: Tree) -> Tree {
+    Tree::new(Kind::Post, channel, 0, vec![inner])
 }
 
 #[cfg(test)]

@@ -18,7 +18,8 @@ pub fn wild_part(rng: &mut Rng, world: &World, bindings: u16, size: usize) -> Tr
 pub fn fault(rng: &mut Rng, world: &World) -> Tree {
     let privilege = world.random_privilege(rng);
     let principal = world.random_principal(rng);
-    match rng.below(10) {
+    let channel = world.random_channel(rng);
+    match rng.below(11) {
         0 => variable(rng.pick(&[33, 256, 65_535])),
         1 => sum(boolean(true), number(1)),
         2 => when(number(1), number(2), number(3)),
@@ -27,7 +28,7 @@ pub fn fault(rng: &mut Rng, world: &World) -> Tree {
         4 => call(number(1), variable(400)),
         5 => call(number(1), boolean(true)),
         6 => test(privilege, number(0), boolean(false)),
-        7 => post(boolean(true)),
+        7 => post_to(channel, boolean(true)),
         8 => match world.random_function_type(rng) {
             // No function takes functions of its own type.
             Some(ty) => letrec(
@@ -35,8 +36,9 @@ pub fn fault(rng: &mut Rng, world: &World) -> Tree {
                 sign(principal, call(variable(1), variable(1))),
                 number(0),
             ),
-            None => post(boolean(false)),
+            None => post_to(channel, boolean(false)),
         },
+        9 => sign(principal, post_to(channel, number(4))),
         _ => sign(principal, check(rng.below(32) as u8, number(4))),
     }
 }
@@ -78,7 +80,10 @@ impl Wild<'_> {
             11 => sum(self.grow(bindings, left), self.grow(bindings, right)),
             12 => difference(self.grow(bindings, left), self.grow(bindings, right)),
             13 => less(self.grow(bindings, left), self.grow(bindings, right)),
-            _ => post(self.grow(bindings, size - 1)),
+            _ => {
+                let channel = self.world.random_channel(self.rng);
+                post_to(channel, self.grow(bindings, size - 1))
+            }
         }
     }
 

@@ -1,7 +1,7 @@
-//! What terms are drawn around: principals, types, and the few privileges
-//! that they share, few so that sets meet often.
+//! What terms are drawn around: principals, types, guards, and the few
+//! privileges that they share, few so that sets meet often.
 
-use crate::records::{TypeRecord, BOOL, NUMBER};
+use crate::records::{Format, Guards, TypeRecord, BOOL, CHANNELS, NUMBER, UNGUARDED};
 use crate::rng::Rng;
 
 /// How deep types may be nested.
@@ -12,11 +12,16 @@ pub struct World {
     pub privileges: Vec<u8>,
     pub principals: Vec<u32>,
     pub types: Vec<TypeRecord>,
+    /// Of a sheet of version 2.
+    pub guards: Option<Guards>,
 }
 
 impl World {
     pub fn random(rng: &mut Rng) -> Self {
         let mut world = Self::without_functions(rng);
+        if rng.percent(55) {
+            world.guards = Some(world.random_guards(rng));
+        }
         match rng.below(100) {
             0..=2 => world.add_tower(rng),
             3..=32 => world.add_twins(rng),
@@ -47,6 +52,7 @@ impl World {
             privileges,
             principals: Vec::new(),
             types: vec![TypeRecord::bool(), TypeRecord::number()],
+            guards: None,
         };
         world.principals = (0..principals)
             .map(|_| world.random_authorised(rng))
@@ -73,6 +79,39 @@ impl World {
             }
         }
         set
+    }
+
+    /// Guards of some channels, of all or of none.
+    fn random_guards(&self, rng: &mut Rng) -> Guards {
+        let percent = rng.pick(&[0, 40, 70, 70, 100]);
+        std::array::from_fn(|_| match rng.below(10) {
+            _ if !rng.percent(percent) => UNGUARDED,
+            0 => rng.below(32) as u8,
+            _ => self.random_privilege(rng),
+        })
+    }
+
+    pub fn format(&self) -> Format {
+        match &self.guards {
+            Some(guards) => Format::version_2(guards),
+            None => Format::version_1(),
+        }
+    }
+
+    /// The channels that a post may name.
+    pub fn channels(&self) -> impl Iterator<Item = u8> {
+        let count = if self.guards.is_some() { CHANNELS } else { 1 };
+        0..count as u8
+    }
+
+    pub fn random_channel(&self, rng: &mut Rng) -> u8 {
+        rng.below(self.channels().count()) as u8
+    }
+
+    /// The privilege that guards a channel, if one does.
+    pub fn guard(&self, channel: u8) -> Option<u8> {
+        let guard = self.guards?[usize::from(channel)];
+        (guard != UNGUARDED).then_some(guard)
     }
 
     pub fn random_privilege(&self, rng: &mut Rng) -> u8 {

@@ -46,7 +46,7 @@ pub fn explain(bytes: &[u8], privilege: u32) -> Result<Explanation, Refusal> {
 }
 
 /// "A check that names it, or a call or recursive binder whose latent set
-/// holds it."
+/// holds it." Of W8: a guarded post "counts as a cause where a need is traced".
 fn is_cause(accepted: &Accepted, id: TermId, privilege: Privilege) -> bool {
     let has_latent = |ty: TypeId| {
         let function = accepted.sheet.function_type(ty);
@@ -58,6 +58,7 @@ fn is_cause(accepted: &Accepted, id: TermId, privilege: Privilege) -> bool {
         } => named == privilege,
         Term::Call { function, .. } => has_latent(accepted.judgement(function).ty),
         Term::Letrec { ty, .. } => has_latent(ty),
+        Term::Post { channel, .. } => accepted.sheet.guard(channel) == Some(privilege),
         _ => false,
     }
 }

@@ -173,7 +173,16 @@ impl Judge<'_> {
                 self.of_numbers(id, &[left, right], Type::NUMBER, signer)
             }
             Term::Less(left, right) => self.of_numbers(id, &[left, right], Type::BOOL, signer),
-            Term::Post(inner) => self.of_numbers(id, &[inner], Type::NUMBER, signer),
+            Term::Post { channel, inner } => {
+                let post = self.of_numbers(id, &[inner], Type::NUMBER, signer)?;
+                Ok(Judgement {
+                    needs: match self.sheet.guard(channel) {
+                        Some(privilege) => post.needs.with(privilege),
+                        None => post.needs,
+                    },
+                    ..post
+                })
+            }
         }
     }
 

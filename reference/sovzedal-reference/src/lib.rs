@@ -30,4 +30,6 @@ pub use run::{
     Stop, FRAME_NUMBERS, MAX_CALLS, MAX_CELL_BYTES, MAX_OPEN_CALLS, MAX_POSTS,
 };
 pub use set::{Privilege, Set};
-pub use sheet::{FunctionType, PrincipalId, Sheet, Term, TermId, Type, TypeId};
+pub use sheet::{
+    ChannelId, FunctionType, Guards, PrincipalId, Sheet, Term, TermId, Type, TypeId, CHANNELS,
+};

@@ -36,7 +36,7 @@ impl Job {
 pub struct Lent<'a> {
     pub store: &'a [u8],
     pub cells: &'a mut [u8],
-    pub posts: &'a mut [u16],
+    pub posts: &'a mut [u32],
 }
 
 /// How it went with the job that had its turn.
@@ -119,7 +119,7 @@ fn run(job: Job, place: u64, lent: Lent) -> Result<Run, Refusal> {
 }
 
 /// What is left of a list: nothing if it is shorter than the place.
-fn rest(posts: &mut [u16], place: u64) -> &mut [u16] {
+fn rest(posts: &mut [u32], place: u64) -> &mut [u32] {
     match usize::try_from(place) {
         Ok(place) if place < posts.len() => &mut posts[place..],
         _ => &mut [],

@@ -2,7 +2,7 @@
 
 /// Every cause of a refusal (1 to 16, 23 for an address of the register block,
 /// 24 to 26, 27 to 29 for a job of the four lines, 30 for a privilege that is
-/// asked about) or a stop (17 to 22).
+/// asked about, 31) or a stop (17 to 22).
 #[derive(Clone, Copy, Debug, PartialEq, Eq)]
 #[repr(u32)]
 pub enum Cause {
@@ -37,6 +37,7 @@ pub enum Cause {
     OutsideStore = 28,
     QueueFull = 29,
     NoPrivilege = 30,
+    Guard = 31,
 }
 
 impl Cause {
@@ -44,7 +45,7 @@ impl Cause {
         self as u32
     }
 
-    /// A refusal for this cause at a type or a term.
+    /// A refusal for this cause at a type, a term or a channel.
     pub(crate) fn at(self, place: impl Into<u32>) -> Refusal {
         Refusal {
             cause: self,

@@ -37,7 +37,7 @@ const CALLS_LOW: usize = at::CALLS + 1;
 pub struct Loaded<'a> {
     pub sheet: &'a [u8],
     pub cells: &'a mut [u8],
-    pub posts: &'a mut [u16],
+    pub posts: &'a mut [u32],
 }
 
 /// Any sixteen bytes, also some that no writes to a new block would give.

@@ -5,14 +5,23 @@ use crate::set::{Privilege, Set};
 pub type PrincipalId = u8;
 pub type TypeId = u16;
 pub type TermId = u16;
+pub type ChannelId = u8;
 
-/// The three tables of a sheet. The last term is the root.
+/// How many channels there are to post to.
+pub const CHANNELS: usize = 16;
+
+/// For each channel the privilege that guards it, if one does.
+pub type Guards = [Option<Privilege>; CHANNELS];
+
+/// The tables of a sheet. The last term is the root.
 #[derive(Clone, Debug, PartialEq, Eq)]
 pub struct Sheet {
     /// For each principal the privileges it may use.
     pub principals: Vec<Set>,
     pub types: Vec<Type>,
     pub terms: Vec<Term>,
+    /// Version 1 has none.
+    pub guards: Guards,
 }
 
 #[derive(Clone, Copy, Debug, PartialEq, Eq)]
@@ -81,7 +90,11 @@ pub enum Term {
     Sum(TermId, TermId),
     Difference(TermId, TermId),
     Less(TermId, TermId),
-    Post(TermId),
+    Post {
+        /// In version 1 it is 0.
+        channel: ChannelId,
+        inner: TermId,
+    },
 }
 
 impl Sheet {
@@ -96,6 +109,11 @@ impl Sheet {
     /// What principal `id` may use.
     pub fn authorised(&self, id: PrincipalId) -> Set {
         self.principals[usize::from(id)]
+    }
+
+    /// The privilege that a post to this channel takes, if it takes one.
+    pub fn guard(&self, channel: ChannelId) -> Option<Privilege> {
+        self.guards[usize::from(channel)]
     }
 
     pub fn function_type(&self, id: TypeId) -> Option<FunctionType> {
@@ -114,7 +132,7 @@ impl Term {
             | Term::Check { inner: only, .. }
             | Term::Enable { inner: only, .. }
             | Term::Sign { inner: only, .. }
-            | Term::Post(only) => [Some(only), None, None],
+            | Term::Post { inner: only, .. } => [Some(only), None, None],
             Term::Letrec { body, rest, .. } => [Some(body), Some(rest), None],
             Term::Call { function, argument } => [Some(function), Some(argument), None],
             Term::If { condition, yes, no } => [Some(condition), Some(yes), Some(no)],

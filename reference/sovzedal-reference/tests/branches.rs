@@ -130,6 +130,7 @@ fn random_sheet(rng: &mut Rng) -> Vec<u8> {
         spoil_one(rng, &world, &mut tree);
     }
     Records {
+        format: world.format(),
         principals: world.principals.clone(),
         types: world.types.clone(),
         terms: tree.assemble(),

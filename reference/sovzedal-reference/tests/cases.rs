@@ -2,14 +2,14 @@
 
 use sheets::cases::*;
 use sheets::tree::*;
-use sheets::{branches, yes_branch};
+use sheets::{branches, pages, yes_branch};
 use sovzedal_reference::*;
 
 const ONE: u32 = 1 << 1;
 const TWO: u32 = 1 << 2;
 
 /// Runs eagerly and lazily with the largest buffers; both must tell the same.
-fn run(sheet: &[u8], request: Request) -> (Run, Vec<u16>) {
+fn run(sheet: &[u8], request: Request) -> (Run, Vec<u32>) {
     let mut cells = vec![9; MAX_CELL_BYTES];
     let mut posts = vec![9; MAX_POSTS];
     let mut frames = vec![9; FRAME_NUMBERS];
@@ -214,7 +214,8 @@ fn judged(sheet: &[u8]) -> Result<u32, (Cause, u32)> {
 /// is more to run: on each of these stacks the checks, in force, are met.
 #[test]
 fn where_needs_are_granted_checks_may_be_passed_over() {
-    for case in yes_branch::all().into_iter().chain(branches::all()) {
+    let cases = yes_branch::all().into_iter().chain(branches::all());
+    for case in cases.chain(pages::posting()) {
         let Ok(needs) = judged(&case.sheet) else {
             continue;
         };

@@ -4,13 +4,15 @@
 //! `include/sovzedal.h`. Where the repository is not around this workspace,
 //! there is nothing to compare.
 
+use sheets::extremes::longest;
 use sheets::smallest::{all, Smallest};
 use sovzedal_reference::lines::{Job, Lent, Lines, STATE_NUMBERS};
 use sovzedal_reference::registers::{at, status, Block, BLOCK_BYTES, RUN};
 use sovzedal_reference::{decode, explain, report, run_eager, typecheck, typecheck_by};
-use sovzedal_reference::{Cause, Checks, Refusal, Reply, Request, Rules, Set, Term};
+use sovzedal_reference::{Cause, Checks, Outcome, Plain, Refusal, Reply, Request, Rules};
+use sovzedal_reference::{Set, Stop, Term};
 use sovzedal_reference::{
-    CHAIN_TERMS, FRAME_NUMBERS, MAX_CALLS, MAX_CELL_BYTES, MAX_OPEN_CALLS, MAX_POSTS,
+    CHAIN_TERMS, CHANNELS, FRAME_NUMBERS, MAX_CALLS, MAX_CELL_BYTES, MAX_OPEN_CALLS, MAX_POSTS,
 };
 use std::path::{Path, PathBuf};
 use std::{env, fs};
@@ -45,6 +47,34 @@ fn the_choice_was_refused_before_w4() {
     assert_eq!((before.cause, before.place), (Cause::TypeMismatch, 14));
 }
 
+/// As the readme says of it: the two sheets differ in a byte, and what may be
+/// posted on the guarded channel is the inspector's.
+#[test]
+fn the_release_page_is_the_inspectors() {
+    let directory = repository().join("examples");
+    if !directory.exists() {
+        return;
+    }
+    let sheet = |name| bytes(&read(&directory.join(name)));
+    let (page, unauthorised) = (sheet("page.hex"), sheet("page-unauthorised.hex"));
+    let pairs = page.iter().zip(&unauthorised);
+    assert_eq!(pairs.filter(|(one, other)| one != other).count(), 1);
+    let posts = |sheet: &[u8]| {
+        let mut posts = vec![0; MAX_POSTS];
+        let mut cells = vec![0; MAX_CELL_BYTES];
+        let run = run_eager(sheet, &Request::LARGEST, &mut cells, &mut posts).unwrap();
+        posts.truncate(run.posts as usize);
+        (run.outcome, posts)
+    };
+    let end = Outcome::End(Plain::Number(42));
+    assert_eq!(posts(&page), (end, vec![40, 65_538]));
+    let stop = Outcome::Stop(Stop {
+        cause: Cause::RefusedCheck,
+        term: 1,
+    });
+    assert_eq!(posts(&unauthorised), (stop, vec![40]));
+}
+
 #[test]
 fn refusals_are_those_of_the_smallest_sheets() {
     let path = repository().join("docs/REFUSALS.md");
@@ -60,6 +90,26 @@ fn refusals_are_those_of_the_smallest_sheets() {
         let print = block(section, "text").expect("a print");
         assert_eq!(told(&case), print, "print for {cause}");
     }
+}
+
+/// 17 has a second sheet, which is stopped at a post.
+#[test]
+fn the_stop_at_a_post_is_that_of_the_sheet_shown() {
+    let path = repository().join("docs/REFUSALS.md");
+    if !path.exists() {
+        return;
+    }
+    let shown = read(&path);
+    let section = section(&shown, "17").expect("a section for 17");
+    let first = block(section, "hex").expect("a sheet");
+    let (_, rest) = section.split_once(first).unwrap();
+    let sheet = bytes(block(rest, "hex").expect("a second sheet"));
+    let (_, rest) = rest.split_once("```hex").unwrap();
+    let print = report(&sheet);
+    assert_eq!(block(rest, "text"), Some(&*print));
+    assert!(print.contains("stop 17 at 1 "));
+    let read = decode(&sheet).expect("a readable sheet");
+    assert!(matches!(read.term(1), Term::Post { .. }));
 }
 
 /// 23 has no sheet: its call is shown alone.
@@ -270,6 +320,7 @@ fn the_header_has_the_same_numbers() {
         ("OUTSIDE", Cause::OutsideStore),
         ("QUEUE_FULL", Cause::QueueFull),
         ("PRIVILEGE", Cause::NoPrivilege),
+        ("GUARD", Cause::Guard),
     ];
     for (name, cause) in causes {
         assert_eq!(number(name), u64::from(cause.number()), "{name}");
@@ -279,6 +330,8 @@ fn the_header_has_the_same_numbers() {
         ("MAX_DEPTH", MAX_OPEN_CALLS as usize),
         ("MAX_CELLS", MAX_CELL_BYTES),
         ("MAX_POSTS", MAX_POSTS),
+        ("MAX_SHEET", longest().len()),
+        ("CHANNELS", CHANNELS),
         ("FRAMES", FRAME_NUMBERS),
         ("BLOCK", BLOCK_BYTES),
         ("LINES", STATE_NUMBERS),

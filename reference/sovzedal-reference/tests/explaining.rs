@@ -5,7 +5,7 @@ use sheets::cases::{posting, posting_without_enable};
 use sheets::explained::{self, ASKED};
 use sheets::generate::sample;
 use sheets::needy::needing;
-use sheets::records::{Records, TypeRecord};
+use sheets::records::{Format, Records, TypeRecord};
 use sheets::rng::Rng;
 use sheets::smallest;
 use sheets::tree::*;
@@ -23,7 +23,7 @@ const NO_PRIVILEGE: Refusal = Refusal {
 /// numbered from the leaves up and from left to right.
 #[test]
 fn each_case_has_its_chain() {
-    let expected: [(&str, &[u16]); 38] = [
+    let expected: [(&str, &[u16]); 51] = [
         ("a check", &[2, 1]),
         ("a call", &[6, 5]),
         ("a binder", &[5, 4]),
@@ -62,6 +62,19 @@ fn each_case_has_its_chain() {
         ("an enable in vain in the yes-branch", &[]),
         ("a function that is given and not called", &[]),
         ("a function that is called in another's body", &[]),
+        ("a guarded post", &[2, 1]),
+        ("a post that another guards", &[3, 2, 1]),
+        ("a post to an open channel", &[3, 2, 1]),
+        ("a guarded post of a check", &[3, 2]),
+        ("a check of a guarded post", &[3, 2]),
+        ("a guarded post of a guarded post", &[3, 2]),
+        ("sum, both guarded", &[5, 4, 1]),
+        ("a guarded post beside a check", &[5, 4, 1]),
+        ("an enable of a guarded post", &[]),
+        ("an enable of another of a guarded post", &[3, 2, 1]),
+        ("a guarded post in the yes-branch", &[]),
+        ("a guarded post in the no-branch", &[5, 4, 3]),
+        ("only another guards", &[]),
     ];
     let told: Vec<(&str, Vec<u16>)> = explained::all()
         .iter()
@@ -82,6 +95,7 @@ fn the_first_child_may_have_the_higher_number() {
     let mut higher = 0;
     for _ in 0..20 {
         let records = Records {
+            format: Format::version_1(),
             principals: vec![1 << 1],
             types: vec![TypeRecord::bool(), TypeRecord::number()],
             terms: tree.assemble_shuffled(rng),

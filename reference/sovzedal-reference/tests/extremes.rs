@@ -1,10 +1,10 @@
 //! The sheets at the limits are where they should be.
 
 use sheets::extremes::{
-    costly_branches, costly_need, deep_calls, deep_need, deepest, endless_through, widest,
+    costly_branches, costly_need, deep_calls, deep_need, deepest, endless_through, longest, widest,
     MAX_CHAIN, NEEDED,
 };
-use sheets::load::frame_sheet;
+use sheets::load::{frame_sheet, guarded_frame_sheet};
 use sheets::tree::Kind;
 use sovzedal_reference::{decode, explain, report, run_eager, typecheck, typecheck_by};
 use sovzedal_reference::{Cause, Outcome, Request, Rules, Stop, Term};
@@ -23,6 +23,16 @@ fn the_widest_has_everything_there_is_room_for() {
         (32, 256, 1_024)
     );
     assert!(typecheck(&widest()).is_ok());
+}
+
+/// "The program reads up to 10,913 bytes."
+#[test]
+fn the_longest_has_guards_beside_it() {
+    assert_eq!(longest().len(), 10_913);
+    assert_eq!(typecheck(&longest()), typecheck(&widest()));
+    assert!(typecheck(&longest()).is_ok());
+    let one_more = [longest(), vec![0]].concat();
+    assert_eq!(decode(&one_more).unwrap_err().cause, Cause::WrongTag);
 }
 
 #[test]
@@ -65,6 +75,9 @@ fn frames_of_the_load_end() {
         let text = report(&frame_sheet(index));
         assert!(text.contains("needs 00000000"), "frame {index}: {text}");
         assert!(text.contains("end num"), "frame {index}: {text}");
+        let fewer_terms = text.split_once('\n').unwrap().1;
+        let guarded = report(&guarded_frame_sheet(index));
+        assert!(guarded.ends_with(fewer_terms), "frame {index}: {guarded}");
     }
 }
 

@@ -15,7 +15,7 @@ struct Unit {
     lines: Lines,
     store: Vec<u8>,
     cells: Vec<u8>,
-    posts: Vec<u16>,
+    posts: Vec<u32>,
 }
 
 impl Unit {

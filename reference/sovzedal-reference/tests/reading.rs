@@ -1,7 +1,8 @@
-//! Causes 1 to 8, and which of several is told.
+//! Causes 1 to 8, and which of several is told. `pages.rs` has what version 2
+//! adds.
 
 use sheets::cases::{computing, posting};
-use sheets::records::{field, Records, TermRecord, TypeRecord, NUMBER};
+use sheets::records::{field, Format, Records, TermRecord, TypeRecord, NUMBER};
 use sheets::tree::*;
 use sovzedal_reference::{decode, Cause, Refusal};
 
@@ -12,6 +13,7 @@ fn told(bytes: &[u8]) -> (Cause, u32) {
 
 fn tables(terms: Vec<TermRecord>) -> Records {
     Records {
+        format: Format::version_1(),
         principals: vec![0],
         types: vec![
             TypeRecord::bool(),
@@ -52,7 +54,8 @@ fn a_length_is_right_before_its_content_is_looked_for() {
 
 #[test]
 fn the_version_is_right_before_the_next_header() {
-    assert_eq!(told(&[1, 0, 2, 0, 2]), (Cause::WrongVersion, 0));
+    assert_eq!(told(&[1, 0, 2, 0, 3]), (Cause::WrongVersion, 0));
+    assert_eq!(told(&[1, 0, 2, 0, 2]), (Cause::CutShort, 0));
     assert_eq!(told(&[1, 0, 2, 0, 1]), (Cause::CutShort, 0));
 }
 

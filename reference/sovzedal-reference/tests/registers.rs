@@ -21,7 +21,7 @@ const OUTCOMES: u8 = status::ENDED | status::STOPPED | status::REFUSED;
 struct Unit {
     block: Block,
     cells: Vec<u8>,
-    posts: Vec<u16>,
+    posts: Vec<u32>,
 }
 
 impl Unit {

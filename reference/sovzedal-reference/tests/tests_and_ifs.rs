@@ -53,6 +53,7 @@ fn what_was_accepted_still_is_and_needs_no_more() {
 
 fn judged(world: &World, tree: &Tree) -> Option<Verdict> {
     let records = Records {
+        format: world.format(),
         principals: world.principals.clone(),
         types: world.types.clone(),
         terms: tree.assemble(),

@@ -1,10 +1,10 @@
 -- Since the places are right, every parent is higher than its child (rising-at), and the search in the list of nestings is the search for the lowest term
--- nested deeper than 32 (deep-at). A term found is refusal 8; with none found the sheet is readable, and the counts are its own.
+-- nested deeper than 32 (deep-at). A term found is refusal 8; with none found, that is what `guarded` requires, and its answer is the answer.
 use mathlib.Core.Path.{_∙_}
 use native.Mathlib.Omega.{arith}
 use Rattle.program.specs.Laws.Readable.{fields-ok}
 use Rattle.decoder.proofs.NestingLaws.{rising-at, deep-at}
-use Rattle.program.specs.Laws.Order.{found-8, none-found-readable}
+use Rattle.program.specs.Laws.Order.{found-8}
 use Rattle.decoder.proofs.DecodeLaws.{found-at, found-none}
 use borrow.Author.Needs.{needs}
 use Rattle.decoder.proofs.nested.Statement.{statement}
@@ -33,6 +33,18 @@ enum-known-t c = search needs
 enum-told : tie.Need-enum-told
 enum-told c = search needs
 
+guarded-requires : tie.Need-guarded-requires
+guarded-requires c κs =
+    let at-nestings = c .before .before .before .before in
+    let start = at-nestings .before .before in
+    record {
+      tables = start .pre .tables;
+      places-ok = start .pre .places-ok .none-found;
+      nesting-ok = found-none (c .enum-told .given .1) (c .before .before .too-deep .ensures ∙ deep-at (start .args .s .now) (start .args .parents .now)
+          (start .pre .tables .terms-ok) ((fields-ok (start .args .s .now) (start .pre .tables .laid .none-found)) .terms-high) (start .pre .places-ok)
+          (start .pre .tables .laid .counts-are .terms-are) _ (at-nestings .nestings .ensures));
+    }
+
 returns : tie.Need-returns
 returns c =
     let at-nestings = c .before .before .before .before .before in
@@ -45,20 +57,9 @@ returns c =
     )
 
 returns-2 : tie.Need-returns-2
-returns-2 c =
-    let at-nestings = c .before .before .before .before in
-    let start = at-nestings .before .before in (
-      none-found-readable (start .args .s .now) (start .pre .tables .types-ok .none-found) (start .pre .tables .terms-ok .none-found)
-          (start .pre .places-ok .none-found)
-          (found-none (c .enum-told .given .1) (c .before .before .too-deep .ensures ∙ deep-at (start .args .s .now) (start .args .parents .now)
-          (start .pre .tables .terms-ok)
-          ((fields-ok (start .args .s .now) (start .pre .tables .laid .none-found)) .terms-high) (start .pre .places-ok)
-          (start .pre .tables .laid .counts-are .terms-are) _
-          (at-nestings .nestings .ensures))),
-      start .pre .tables .laid .counts-are,
-    )
+returns-2 c = search needs
 
 pub nested-spec : {M : Type 1} → statement M
 nested-spec =
     tie.close
-    (tie.spec nestings-requires too-deep-requires enum-known-t enum-told returns returns-2)
+    (tie.spec nestings-requires too-deep-requires enum-known-t enum-told guarded-requires returns returns-2)

@@ -12,7 +12,7 @@ use lib.Dec.{ltb}
 use Rattle.machine.specs.Store.{shapeOf}
 use Rattle.evaluator.specs.Contracts.{workLeft}
 use Rattle.evaluator.proofs.ContractLaws.{ends, ends-same, goes-on, stays, follows, same-cells}
-use Rattle.evaluator.proofs.ShapeLaws.{node-of, node-leaf, node-post, pair-of, nine-or-ten, first-below, second-below, third-below, privilege-below, lower, tail-of, tail-stops, next-below, tail-goes, boolean-is, number-is, variable-is, function-is, operand-below, pair-is, pair-applies, pair-operates, post-is, if-is, enable-is, branch-stuck, branch-to, chosen-below, apply-stuck, apply-deep, apply-spent, apply-full, apply-runs, one-call-less, post-done, post-calls}
+use Rattle.evaluator.proofs.ShapeLaws.{node-of, node-leaf, node-post, pair-of, nine-or-ten, first-below, second-below, third-below, privilege-below, guard-right, lower, tail-of, tail-stops, next-below, tail-goes, boolean-is, number-is, variable-is, function-is, operand-below, pair-is, pair-applies, pair-operates, post-is, if-is, enable-is, branch-stuck, branch-to, chosen-below, apply-stuck, apply-deep, apply-spent, apply-full, apply-runs, one-call-less, post-done, post-calls}
 use Rattle.stores.proofs.CellLaws.{bound-full}
 use Prim.Native.Nat.{ℕ, _<_}
 use borrow.Fn.Kinds.{In}
@@ -733,18 +733,23 @@ eval-post-returns t c =
 eval-post-slice-aggregate-append : (t : ℕ) → eval-post-lts.Need-slice-aggregate-append (eval-post-claims t) (eval-post-at t) eval-post.Post
 eval-post-slice-aggregate-append t c = search needs
 
+eval-post-slice-aggregate-append-2 : (t : ℕ) → eval-post-lts.Need-slice-aggregate-append-2 (eval-post-claims t) (eval-post-at t) eval-post.Post
+eval-post-slice-aggregate-append-2 t c = search needs
+
 eval-post-append-requires : (t : ℕ) → eval-post-lts.Need-append-requires (eval-post-claims t) (eval-post-at t) eval-post.Post
-eval-post-append-requires t c κs = search needs
+eval-post-append-requires t c κs =
+    let start = c .before .before .before .before .before .before .before .before .before .before .before in
+    guard-right (start .pre .1) refl
 
 eval-post-returns-2 : (t : ℕ) → eval-post-lts.Need-returns-2 (eval-post-claims t) (eval-post-at t) eval-post.Post
 eval-post-returns-2 t c =
-    let at-is-stop = c .before .before .before .before in
+    let at-is-stop = c .before .before .before .before .before in
     let at-eval = at-is-stop .before in
     let at-first-of = at-eval .before in
     let start = at-first-of .before .before .before .before .before in
     follows _ (post-is _ _ _ (start .pre .1) (at-first-of .first-of .ensures)) (at-eval .eval .ensures)
-    (sym (at-is-stop .is-stop .ensures) ∙ c .before .before .before .if1 .left)
-    (record { done = post-done (c .append .ensures) _ _; calls = post-calls (c .append .ensures); names = refl })
+    (sym (at-is-stop .is-stop .ensures) ∙ c .before .before .before .before .if1 .left)
+    (record { done = post-done (c .append .ensures) _; calls = post-calls (c .append .ensures); names = refl })
 
 abbrev eval-tail-claims : ℕ → eval-tail-lts.Claims
 eval-tail-claims t = (enter-reads.Asked, enter-reads.Learnt, is-stop-reads.Asked, is-stop-reads.Learnt, eval-below t, eval.Post)
@@ -914,6 +919,7 @@ pub +apply+eval+eval-enable+eval-if+eval-pair+eval-post+eval-tail-spec : {M : Ty
     (eval-post-is-stop-requires t)
     (eval-post-returns t)
     (eval-post-slice-aggregate-append t)
+    (eval-post-slice-aggregate-append-2 t)
     (eval-post-append-requires t)
     (eval-post-returns-2 t))
     λ t. eval-tail-lts.spec (eval-tail-claims t)

@@ -3,18 +3,18 @@
 -- chain only.
 use mathlib.Core.Bool.{Bool, true, false, cond, true≢false, false≢true}
 use mathlib.Core.List.{List, [], _∷_, tail}
-use mathlib.Core.Option.{some}
+use mathlib.Core.Option.{Option, none, some}
 use mathlib.Core.Path.{_≡_, refl, sym, ap, _∙_, subst}
 use Prim.Native.Nat.{ℕ, zero, suc, _<_, _≤_}
 use native.Mathlib.Omega.{arith}
 use lib.ListN.{length}
 use borrow.Author.Tests.{eqb-true, eq-eqb}
 use Rattle.program.specs.Layout.{Types}
-use Rattle.program.specs.Terms.{Term, boolean, number, variable, function, letrec, call, if, check, enable, sign, test, binary, post}
+use Rattle.program.specs.Terms.{Term, boolean, number, variable, function, letrec, call, if, check, enable, sign, test, binary, post, EveryPost}
 use Rattle.program.specs.Laws.Nesting.{height}
 use Rattle.typing.specs.Checking.{Judgement, typed, fault, infer}
 use Rattle.explain.specs.Explaining.{Placed, placed, childrenIn, children, needs, latentOf, isCause, testsIt, followed, firstNeeding, orLater, unlessCause, next, onward, chain}
-use Rattle.explain.specs.Chains.{Among, among-first, among-later, Neighbours, side-by-side, further, Last, last-alone, last-later, Cause, check-names, call-holds, letrec-holds, Lowest, lowest-first, lowest-later}
+use Rattle.explain.specs.Chains.{Among, among-first, among-later, Neighbours, side-by-side, further, Last, last-alone, last-later, Cause, check-names, call-holds, letrec-holds, post-guarded, Lowest, lowest-first, lowest-later}
 use Rattle.explain.specs.Laws.Progress.{progress}
 
 false-unless : (b : Bool) → (b ≡ true → ⊥) → b ≡ false
@@ -38,22 +38,22 @@ positive (enable at p c) = omega arith
 positive (sign at n c) = omega arith
 positive (test at p y o) = omega arith
 positive (binary at op a b) = omega arith
-positive (post at c) = omega arith
+positive (post at ch g c) = omega arith
 
 positiveOf : (x : Placed) → 0 < heightOf x
 positiveOf (placed Γ n c) = positive c
 
--- each of a list is lower
-abbrev Lower : (h : ℕ) → List Placed → Type 0
-Lower h [] = Unit {0}
-Lower h (x ∷ l) = (heightOf x < h) × Lower h l
+-- what each of a list has
+abbrev Every : (Placed → Type 0) → List Placed → Type 0
+Every Q [] = Unit {0}
+Every Q (x ∷ l) = Q x × Every Q l
 
-lower-among : {h : ℕ} {y : Placed} {l : List Placed} → Among y l → Lower h l → heightOf y < h
-lower-among among-first k = k .0
-lower-among (among-later m) k = lower-among m (k .1)
+every-among : (Q : Placed → Type 0) {y : Placed} {l : List Placed} → Among y l → Every Q l → Q y
+every-among Q among-first k = k .0
+every-among Q (among-later m) k = every-among Q m (k .1)
 
 module _ (T : Types) where
-  lower-in : (Γ : List ℕ) (n : ℕ) (c : Term) → Lower (height c) (childrenIn T Γ n c)
+  lower-in : (Γ : List ℕ) (n : ℕ) (c : Term) → Every (λ y. heightOf y < height c) (childrenIn T Γ n c)
   lower-in Γ n (boolean at b) = tt
   lower-in Γ n (number at k) = tt
   lower-in Γ n (variable at i) = tt
@@ -66,11 +66,35 @@ module _ (T : Types) where
   lower-in Γ n (sign at m c) = omega arith
   lower-in Γ n (test at q y o) = omega arith
   lower-in Γ n (binary at op a b) = omega arith
-  lower-in Γ n (post at c) = omega arith
+  lower-in Γ n (post at ch g c) = omega arith
 
   child-lower : (x y : Placed) → Among y (children T x) → heightOf y < heightOf x
   unfolding children
-  child-lower (placed Γ n c) y m = lower-among m (lower-in Γ n c)
+  child-lower (placed Γ n c) y m = every-among (λ y. heightOf y < height c) m (lower-in Γ n c)
+
+-- ---- the posts of a term are those of its children, and its own
+abbrev pub PostsOf : (ℕ → Option ℕ → Type 0) → Placed → Type 0
+PostsOf Q (placed Γ n c) = EveryPost Q c
+
+module _ (T : Types) (Q : ℕ → Option ℕ → Type 0) where
+  posts-in : (Γ : List ℕ) (n : ℕ) (c : Term) → EveryPost Q c → Every (PostsOf Q) (childrenIn T Γ n c)
+  posts-in Γ n (boolean at b) h = tt
+  posts-in Γ n (number at k) h = tt
+  posts-in Γ n (variable at i) h = tt
+  posts-in Γ n (function at ty body) h = (h, tt)
+  posts-in Γ n (letrec at ty body rest) h = (h .0, (h .1, tt))
+  posts-in Γ n (call at f a) h = (h .0, (h .1, tt))
+  posts-in Γ n (if at c y o) h = (h .0, (h .1, (h .2, tt)))
+  posts-in Γ n (check at q c) h = (h, tt)
+  posts-in Γ n (enable at q c) h = (h, tt)
+  posts-in Γ n (sign at m c) h = (h, tt)
+  posts-in Γ n (test at q y o) h = (h .0, (h .1, tt))
+  posts-in Γ n (binary at op a b) h = (h .0, (h .1, tt))
+  posts-in Γ n (post at ch g c) h = (h .1, tt)
+
+  child-posts : (x y : Placed) → Among y (children T x) → PostsOf Q x → PostsOf Q y
+  unfolding children
+  child-posts (placed Γ n c) y m h = every-among (PostsOf Q) m (posts-in Γ n c h)
 
 -- ---- the child that is followed
 module _ (T : Types) (A : ℕ → ℕ) (p : ℕ) where
@@ -171,6 +195,11 @@ module _ (T : Types) (A : ℕ → ℕ) (p : ℕ) where
   way-length (ends {x = x} h f) = omega (arith, positiveOf x)
   way-length (goes {x = x} {y = y} h f r w) = omega (arith, way-length w, child-lower T x y (followed-child x y (lowest-among r)))
 
+  -- if all posts of a term have such a channel and guard, so have those of the chain's last
+  pub way-posts : (Q : ℕ → Option ℕ → Type 0) {x z : Placed} {l : List Placed} → Way x l → PostsOf Q x → Last z l → PostsOf Q z
+  way-posts Q (ends h f) q last-alone = q
+  way-posts Q (goes {x = x} {y = y} h f r w) q (last-later m) = way-posts Q w (child-posts T Q x y (followed-child x y (lowest-among r)) q) m
+
   lowest-only : {y z : Placed} {l : List Placed} → Lowest T A p y l → Lowest T A p z l → y ≡ z
   lowest-only (lowest-first h) (lowest-first g) = refl
   lowest-only (lowest-first h) (lowest-later g r) = absurd (true≢false (sym h ∙ g))
@@ -212,13 +241,15 @@ module _ (T : Types) (A : ℕ → ℕ) (p : ℕ) where
   cause-holds (placed Γ n (sign at m c)) h = absurd (false≢true h)
   cause-holds (placed Γ n (test at q y o)) h = absurd (false≢true h)
   cause-holds (placed Γ n (binary at op a b)) h = absurd (false≢true h)
-  cause-holds (placed Γ n (post at c)) h = absurd (false≢true h)
+  cause-holds (placed Γ n (post at ch none c)) h = absurd (false≢true h)
+  cause-holds (placed Γ n (post at ch (some q) c)) h = subst (λ r. Cause T A p (placed Γ n (post at ch (some r) c))) (sym (eqb-true q p h)) post-guarded
 
   pub holds-cause : {x : Placed} → Cause T A p x → isCause T A p x ≡ true
   unfolding isCause
   holds-cause check-names = eq-eqb p p refl
   holds-cause (call-holds e h) = ap (latentOf T p) e ∙ h
   holds-cause (letrec-holds h) = h
+  holds-cause post-guarded = eq-eqb p p refl
 
   -- ---- a test of the privilege
   pub test-followed : (Γ : List ℕ) (n at : ℕ) (y o : Term) (z : Placed) → Lowest T A p z (followed T A p (placed Γ n (test at p y o))) → z ≡ placed Γ n o

@@ -1,6 +1,6 @@
 -- The search is never stuck: a term that needs the privilege and is no cause has a child that may be followed and needs it. By cases over the term: its
--- needs come from the latent set or the privilege that it names, which a cause has, or from a child's. A test takes the privilege that it names out of
--- its yes-branch's, so that the no-branch has it.
+-- needs come from the latent set, the privilege that it names or the one that guards it, which a cause has, or from a child's. A test takes the privilege
+-- that it names out of its yes-branch's, so that the no-branch has it.
 use mathlib.Core.Bool.{Bool, true, false, not, cond, _&&_, true≢false, false≢true}
 use mathlib.Core.List.{List, [], _∷_}
 use mathlib.Core.Logic.{_⊎_, ⊎-elim}
@@ -15,9 +15,9 @@ use Rattle.privileges.specs.Laws.{has-none, has-union, has-insert, has-remove, 
 use Rattle.program.specs.Layout.{Types}
 use Rattle.program.specs.Terms.{Term, boolean, number, variable, function, letrec, call, if, check, enable, sign, test, binary, post}
 use Rattle.typing.specs.Subtyping.{subtype, wider}
-use Rattle.typing.specs.Rules.{bound, removeAuthorised}
+use Rattle.typing.specs.Rules.{bound, removeAuthorised, postNeeds}
 use Rattle.typing.specs.Checking.{Judgement, typed, fault, _next_, require, variableType, joined, bodyFits, infer}
-use Rattle.explain.specs.Explaining.{Placed, placed, needing, latentOf, needs, isCause, followed}
+use Rattle.explain.specs.Explaining.{Placed, placed, needing, latentOf, guards, needs, isCause, followed}
 use Rattle.explain.specs.Chains.{Among, among-first, among-later}
 
 -- ---- a set that has the privilege, by what it is made of
@@ -29,6 +29,11 @@ module _ (p : ℕ) where
   insert-has q N f e =
       ⊎-elim (λ h. absurd (true≢false (sym (eq-eqb q p (sym (eqb-true p q h))) ∙ f))) (λ h. h)
       (or-cases (eqb p q) (has p N) (sym (has-insert p q N) ∙ e))
+
+  -- what a guard that is another adds
+  guarded-has : (g : Option ℕ) (N : ℕ) → guards p g ≡ false → has p (postNeeds g N) ≡ true → has p N ≡ true
+  guarded-has none N f e = e
+  guarded-has (some q) N f e = insert-has q N f e
 
   none-has : {P : Type 0} → has p 0 ≡ true → P
   none-has e = absurd (false≢true (sym (has-none p) ∙ e))
@@ -118,7 +123,8 @@ module _ (T : Types) (A : ℕ → ℕ) (p : ℕ) where
       joined-traced at _ (wider T τ ρ) λ h. test-traced Γ n q y o e e′ h (eqb q p) refl
   traced Γ n (binary at op a b) f = next-traced (infer T A Γ n a) _ λ τ N e. next-traced (infer T A Γ n b) _ λ ρ M e′.
       require-traced (eqb τ 1 && eqb ρ 1) 10 at λ _. typed-traced λ h. ⊎-elim (λ m. here e m) (λ m. later (here e′ m)) (union-has p N M h)
-  traced Γ n (post at c) f = next-traced (infer T A Γ n c) _ λ τ N e. require-traced (eqb τ 1) 10 at λ _. typed-traced λ h. here e h
+  traced Γ n (post at ch g c) f = next-traced (infer T A Γ n c) _ λ τ N e.
+      require-traced (eqb τ 1) 10 at λ _. typed-traced λ h. here e (guarded-has p g N f h)
 
   pub progress : (x : Placed) → needs T A p x ≡ true → isCause T A p x ≡ false → SomeNeeds (followed T A p x)
   unfolding needs

@@ -11,7 +11,7 @@ use lib.Dec.{eqb}
 use borrow.Author.Tests.{eq-eqb, ne-eqb}
 use Rattle.program.specs.Limits.{maxNesting}
 use Rattle.program.specs.Tests.{orElse}
-use Rattle.program.specs.Layout.{terms, root, kindByte, small, first, second, third}
+use Rattle.program.specs.Layout.{terms, guardOf, root, kindByte, small, first, second, third}
 use Rattle.program.specs.Formats.{child, Format, Kind, Boolean, Number, Variable, Function, Letrec, Call, If, Check, Enable, Sign, Test, Sum, Difference, Less, Post, kindOf, format}
 use Rattle.program.specs.Terms.{Term, boolean, number, variable, function, letrec, call, if, check, enable, sign, test, binary, post, node, tree, program}
 use Rattle.program.specs.Decoding.{counts, timesIn, timesBelow, parent, nestedIn}
@@ -32,7 +32,7 @@ height (enable at p c) = 1 + height c
 height (sign at n c) = 1 + height c
 height (test at p y n) = 1 + max (height y) (height n)
 height (binary at op a b) = 1 + max (height a) (height b)
-height (post at c) = 1 + height c
+height (post at ch g c) = 1 + height c
 
 -- ---- every term but the root stands once as a child
 pub one-parent : (s : List ℕ) → WellFormed s → (x : ℕ) → x < root s → timesBelow s x (terms s) ≡ 1
@@ -106,7 +106,7 @@ module _ (s : List ℕ) (w : WellFormed s) where
     three a b c p q r =
         omega (arith, max-le-of (height (tree s a)) (max (height (tree s b)) (height (tree s c))) k p (max-le-of (height (tree s b)) (height (tree s c)) k q r))
 
-    node-height : (K : Kind) (x a b c : ℕ) → Below (format K) t a b c → Deep (format K) a b c → height (node K t x a b c (tree s)) + k ≤ maxNesting
+    node-height : (K : Kind) (x a b c : ℕ) → Below (format K) t a b c → Deep (format K) a b c → height (node (guardOf s) K t x a b c (tree s)) + k ≤ maxNesting
     node-height Boolean x a b c u h = omega arith
     node-height Number x a b c u h = omega arith
     node-height Variable x a b c u h = omega arith

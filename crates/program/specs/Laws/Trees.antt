@@ -1,14 +1,15 @@
 -- The tree of a readable sheet: children are lower, parts in range, bodies and the root signed.
 use mathlib.Core.Bool.{Bool, true, false, not, cond, _||_, false≢true}
 use mathlib.Core.List.{List}
+use mathlib.Core.Option.{Option}
 use mathlib.Core.Path.{_≡_, refl, sym, ap, subst}
 use Prim.Native.Nat.{ℕ, zero, suc, _<_, _≤_}
 use native.Mathlib.Omega.{arith}
 use lib.Dec.{eqb}
 use borrow.Author.Tests.{ltb-true, leb-true, eqb-true, eq-eqb}
 use Rattle.privileges.specs.Booleans.{and-left, and-right}
-use Rattle.program.specs.Layout.{terms, root, kindByte, small, first, second, third, Types, typesOf}
-use Rattle.program.specs.Formats.{Part, unused, flag, anyNumber, privilege, principal, functionType, child, bodyChild, isChild, Format, Kind, Boolean, Number, Variable, Function, Letrec, Call, If, Check, Enable, Sign, Test, Sum, Difference, Less, Post, kindOf, format}
+use Rattle.program.specs.Layout.{terms, guardOf, root, kindByte, small, first, second, third, Types, typesOf}
+use Rattle.program.specs.Formats.{Part, unused, flag, anyNumber, privilege, principal, channel, functionType, child, bodyChild, isChild, Format, Kind, Boolean, Number, Variable, Function, Letrec, Call, If, Check, Enable, Sign, Test, Sum, Difference, Less, Post, kindOf, format}
 use Rattle.program.specs.Terms.{Term, boolean, number, variable, function, letrec, call, if, check, enable, sign, test, binary, post, sum, difference, less, node, treeTo, tree, program}
 use Rattle.program.specs.Decoding.{partOk, formatAt, termOk, timesBelow, isSign, signedBody}
 use Rattle.program.specs.Laws.Readable.{WellFormed}
@@ -40,6 +41,7 @@ child-lower s t flag x h c = absurd (false≢true c)
 child-lower s t anyNumber x h c = absurd (false≢true c)
 child-lower s t privilege x h c = absurd (false≢true c)
 child-lower s t principal x h c = absurd (false≢true c)
+child-lower s t channel x h c = absurd (false≢true c)
 child-lower s t functionType x h c = absurd (false≢true c)
 child-lower s t child x h c = ltb-true x t h
 child-lower s t bodyChild x h c = ltb-true x t h
@@ -62,35 +64,36 @@ pub below : (s : List ℕ) → WellFormed s → (t : ℕ) → t < terms s → Be
 below s w t l = below-of s t (w .term-ok t l)
 
 -- ---- a term of the tree is the node of its record over its children's trees
-node-same : (k : Kind) (t x a b c : ℕ) (f g : ℕ → Term) → Below (format k) t a b c → ((y : ℕ) → y < t → f y ≡ g y) → node k t x a b c f ≡ node k t x a b c g
-node-same Boolean t x a b c f g w h = refl
-node-same Number t x a b c f g w h = refl
-node-same Variable t x a b c f g w h = refl
-node-same Function t x a b c f g w h = λ i. function t a (h b (w .second-below refl) i)
-node-same Letrec t x a b c f g w h = λ i. letrec t a (h b (w .second-below refl) i) (h c (w .third-below refl) i)
-node-same Call t x a b c f g w h = λ i. call t (h a (w .first-below refl) i) (h b (w .second-below refl) i)
-node-same If t x a b c f g w h = λ i. if t (h a (w .first-below refl) i) (h b (w .second-below refl) i) (h c (w .third-below refl) i)
-node-same Check t x a b c f g w h = λ i. check t x (h a (w .first-below refl) i)
-node-same Enable t x a b c f g w h = λ i. enable t x (h a (w .first-below refl) i)
-node-same Sign t x a b c f g w h = λ i. sign t x (h a (w .first-below refl) i)
-node-same Test t x a b c f g w h = λ i. test t x (h a (w .first-below refl) i) (h b (w .second-below refl) i)
-node-same Sum t x a b c f g w h = λ i. binary t sum (h a (w .first-below refl) i) (h b (w .second-below refl) i)
-node-same Difference t x a b c f g w h = λ i. binary t difference (h a (w .first-below refl) i) (h b (w .second-below refl) i)
-node-same Less t x a b c f g w h = λ i. binary t less (h a (w .first-below refl) i) (h b (w .second-below refl) i)
-node-same Post t x a b c f g w h = λ i. post t (h a (w .first-below refl) i)
+node-same : (G : ℕ → Option ℕ) (k : Kind) (t x a b c : ℕ) (f g : ℕ → Term) → Below (format k) t a b c → ((y : ℕ) → y < t → f y ≡ g y)
+    → node G k t x a b c f ≡ node G k t x a b c g
+node-same G Boolean t x a b c f g w h = refl
+node-same G Number t x a b c f g w h = refl
+node-same G Variable t x a b c f g w h = refl
+node-same G Function t x a b c f g w h = λ i. function t a (h b (w .second-below refl) i)
+node-same G Letrec t x a b c f g w h = λ i. letrec t a (h b (w .second-below refl) i) (h c (w .third-below refl) i)
+node-same G Call t x a b c f g w h = λ i. call t (h a (w .first-below refl) i) (h b (w .second-below refl) i)
+node-same G If t x a b c f g w h = λ i. if t (h a (w .first-below refl) i) (h b (w .second-below refl) i) (h c (w .third-below refl) i)
+node-same G Check t x a b c f g w h = λ i. check t x (h a (w .first-below refl) i)
+node-same G Enable t x a b c f g w h = λ i. enable t x (h a (w .first-below refl) i)
+node-same G Sign t x a b c f g w h = λ i. sign t x (h a (w .first-below refl) i)
+node-same G Test t x a b c f g w h = λ i. test t x (h a (w .first-below refl) i) (h b (w .second-below refl) i)
+node-same G Sum t x a b c f g w h = λ i. binary t sum (h a (w .first-below refl) i) (h b (w .second-below refl) i)
+node-same G Difference t x a b c f g w h = λ i. binary t difference (h a (w .first-below refl) i) (h b (w .second-below refl) i)
+node-same G Less t x a b c f g w h = λ i. binary t less (h a (w .first-below refl) i) (h b (w .second-below refl) i)
+node-same G Post t x a b c f g w h = λ i. post t x (G x) (h a (w .first-below refl) i)
 
 -- the same at every depth that reaches all of it
 pub tree-depth : (s : List ℕ) → WellFormed s → (j k t : ℕ) → t < terms s → t < j → t < k → treeTo s j t ≡ treeTo s k t
 tree-depth s w zero k t l p q = absurd (omega arith)
 tree-depth s w (suc j) zero t l p q = absurd (omega arith)
 tree-depth s w (suc j) (suc k) t l p q =
-    node-same (kindOf (kindByte s t)) t (small s t) (first s t) (second s t) (third s t) (λ y. treeTo s j y) (λ y. treeTo s k y) (below s w t l)
+    node-same (guardOf s) (kindOf (kindByte s t)) t (small s t) (first s t) (second s t) (third s t) (λ y. treeTo s j y) (λ y. treeTo s k y) (below s w t l)
     (λ y h. tree-depth s w j k y (omega arith) (omega arith) (omega arith))
 
 pub tree-node : (s : List ℕ) → WellFormed s → (t : ℕ) → t < terms s
-    → tree s t ≡ node (kindOf (kindByte s t)) t (small s t) (first s t) (second s t) (third s t) (tree s)
+    → tree s t ≡ node (guardOf s) (kindOf (kindByte s t)) t (small s t) (first s t) (second s t) (third s t) (tree s)
 tree-node s w t l =
-    node-same (kindOf (kindByte s t)) t (small s t) (first s t) (second s t) (third s t) (λ y. treeTo s t y) (tree s) (below s w t l)
+    node-same (guardOf s) (kindOf (kindByte s t)) t (small s t) (first s t) (second s t) (third s t) (λ y. treeTo s t y) (tree s) (below s w t l)
     (λ y h. tree-depth s w t (suc y) y (omega arith) h (omega arith))
 
 -- ---- 003's standard expressions (its Definition 2.1): the body of every function is signed. Here its type is also a function type.
@@ -110,22 +113,22 @@ Standard T (enable at p c) = Standard T c
 Standard T (sign at n c) = Standard T c
 Standard T (test at p y n) = Standard T y × Standard T n
 Standard T (binary at op a b) = Standard T a × Standard T b
-Standard T (post at c) = Standard T c
+Standard T (post at ch g c) = Standard T c
 
 -- a sign's record gives a sign
-sign-node : (k : Kind) (t x a b c : ℕ) (f : ℕ → Term) → k ≡ Sign → Signed (node k t x a b c f)
-sign-node k t x a b c f e = subst (λ (z : Kind). Signed (node z t x a b c f)) (sym e) signed
+sign-node : (G : ℕ → Option ℕ) (k : Kind) (t x a b c : ℕ) (f : ℕ → Term) → k ≡ Sign → Signed (node G k t x a b c f)
+sign-node G k t x a b c f e = subst (λ (z : Kind). Signed (node G z t x a b c f)) (sym e) signed
 
 pub kind-sign : (s : List ℕ) (t : ℕ) → isSign s t ≡ true → kindOf (kindByte s t) ≡ Sign
 kind-sign s t h = ap kindOf (eqb-true (kindByte s t) 9 h)
 
 pub tree-signed : (s : List ℕ) (k t : ℕ) → isSign s t ≡ true → Signed (treeTo s (suc k) t)
-tree-signed s k t h = sign-node (kindOf (kindByte s t)) t (small s t) (first s t) (second s t) (third s t) (λ x. treeTo s k x) (kind-sign s t h)
+tree-signed s k t h = sign-node (guardOf s) (kindOf (kindByte s t)) t (small s t) (first s t) (second s t) (third s t) (λ x. treeTo s k x) (kind-sign s t h)
 
 -- a record over standard terms gives a standard term, if its function type is one and its body is signed
-module _ (T : Types) (f : ℕ → Term) (t : ℕ) (std : (y : ℕ) → y < t → Standard T (f y)) where
+module _ (T : Types) (G : ℕ → Option ℕ) (f : ℕ → Term) (t : ℕ) (std : (y : ℕ) → y < t → Standard T (f y)) where
   node-standard : (k : Kind) (x a b c : ℕ) → Below (format k) t a b c → (format k .first ≡ functionType → T .isFun a ≡ true)
-      → (format k .second ≡ bodyChild → Signed (f b)) → Standard T (node k t x a b c f)
+      → (format k .second ≡ bodyChild → Signed (f b)) → Standard T (node G k t x a b c f)
   node-standard Boolean x a b c w ty sg = tt
   node-standard Number x a b c w ty sg = tt
   node-standard Variable x a b c w ty sg = tt
@@ -166,8 +169,8 @@ type-function s t p x h e = subst (λ (q : Part). partOk s t q x ≡ true) e h
 tree-standard : (s : List ℕ) → WellFormed s → (k t : ℕ) → t < terms s → t < k → Standard (typesOf s) (treeTo s k t)
 tree-standard s w zero t l h = absurd (omega arith)
 tree-standard s w (suc k) t l h =
-    node-standard (typesOf s) (λ y. treeTo s k y) t (λ y g. tree-standard s w k y (omega arith) (omega arith)) (kindOf (kindByte s t)) (small s t) (first s t)
-    (second s t) (third s t)
+    node-standard (typesOf s) (guardOf s) (λ y. treeTo s k y) t (λ y g. tree-standard s w k y (omega arith) (omega arith)) (kindOf (kindByte s t))
+    (small s t) (first s t) (second s t) (third s t)
     (below s w t l) (type-function s t (formatAt s t .first) (first s t) (parts s w t l .first-ok))
     (λ e. deep k (omega (arith, below s w t l .second-below (ap isChild e))) (body-sign s (formatAt s t .second) (second s t) (placed s w t l .body-signed) e))
   where

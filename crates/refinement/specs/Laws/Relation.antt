@@ -8,6 +8,7 @@ use lib.Dec.{ltb}
 use lib.ListN.{getD, length, set, length-set}
 use borrow.Author.Tests.{lt-ltb, le-ltb}
 use Rattle.program.specs.Limits.{maxCells, maxNesting}
+use Rattle.program.specs.Layout.{guardIn}
 use Rattle.program.specs.Terms.{Op, sum, difference, less, Term, boolean, number, variable, function, letrec, call, if, check, enable, sign, test, binary, post}
 use Rattle.program.specs.Laws.Nesting.{height}
 use Rattle.semantics.specs.Values.{Value, bool, num, closure, Env, empty, bind, Budget, budget, Result, ends, stops}
@@ -15,7 +16,7 @@ use Rattle.semantics.specs.Meaning.{_then_}
 use Rattle.stores.specs.declared.state.Stop.{Stop}
 use Rattle.stores.specs.declared.state.Stop.the-variants.{Check, Stuck, OpenCalls, Calls, Cells, Posts}
 use Rattle.stores.specs.Words.{pick, booleanWord, numberWord, functionWord, stopWord, sortOf, payloadOf, envOf, isStop}
-use Rattle.machine.specs.Table.{wordKind, wordSmall, wordFirst, wordSecond, wordThird, wordAuthority}
+use Rattle.machine.specs.Table.{wordKind, wordSmall, wordFirst, wordSecond, wordThird, wordAuthority, wordGuard}
 use Rattle.stores.specs.Cells.{behindOf, heldOf}
 use Rattle.machine.specs.Steps.{cellsMade}
 use Rattle.machine.specs.Store.{Store as State, Done, doneOf, andThen}
@@ -155,7 +156,10 @@ module _ (z : Fixed) where
   abbrev pub third : (t : ℕ) → ℕ
   third t = wordThird (wordAt t)
 
-  -- the word of term t stands for a term of the meaning; its children are lower, and a sign has the set of its principal
+  abbrev pub guard : (t : ℕ) → ℕ
+  guard t = wordGuard (wordAt t)
+
+  -- the word of term t stands for a term of the meaning; its children are lower, a sign has the set of its principal, and a post the guard of its channel
   pub data Stands : (t : ℕ) → Term → Type 0 where
     on-boolean : {t : ℕ} {b : Bool} → kind t ≡ 0 → ltb 0 (small t) ≡ b → Stands t (boolean t b)
     on-number : {t : ℕ} → kind t ≡ 1 → Stands t (number t (first t))
@@ -171,7 +175,7 @@ module _ (z : Fixed) where
     on-test : {t : ℕ} {a b : Term} → kind t ≡ 10 → first t < t → second t < t → Stands (first t) a → Stands (second t) b → Stands t (test t (small t) a b)
     on-binary : {t : ℕ} {a b : Term} (op : Op) → kind t ≡ kindNumber op → first t < t → second t < t
         → Stands (first t) a → Stands (second t) b → Stands t (binary t op a b)
-    on-post : {t : ℕ} {a : Term} → kind t ≡ 14 → first t < t → Stands (first t) a → Stands t (post t a)
+    on-post : {t : ℕ} {a : Term} → kind t ≡ 14 → first t < t → Stands (first t) a → Stands t (post t (small t) (guardIn (guard t)) a)
 
   -- a function's body is at most 32 high
   pub record Body (b : ℕ) (c : Term) : Type 0 where

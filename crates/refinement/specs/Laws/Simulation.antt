@@ -157,7 +157,7 @@ module _ (z : Fixed) (X : Control) (enforce : Bool) (R : X .State → (acc depth
     sim (on-post {t = t} {a = a} k p ha) n l i s =
         let h = 1 + height a in
         at-step (g + h) f _ n t 14 _ l k refl
-        (sim-post z X enforce R ctl (g + h) t i _ _ (lift (height a) h (omega arith) (sim ha t p (omega arith) (omega arith))))
+        (sim-post z X enforce R ctl (g + h) t (wordAt z t) i _ _ (lift (height a) h (omega arith) (sim ha t p (omega arith) (omega arith))))
 
   -- ---- calls
   abbrev bodies : (depth : ℕ) → ℕ → Runs

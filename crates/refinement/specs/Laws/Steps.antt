@@ -1,23 +1,25 @@
 -- Each way of putting runs together keeps the relation, for any access control that the interpreter's numbers stand for.
-use mathlib.Core.Bool.{Bool, true, false}
+use mathlib.Core.Bool.{Bool, true, false, cond}
 use mathlib.Core.Path.{_≡_, refl, sym, ap, _∙_, subst}
 use mathlib.Core.List.{List, _∷_}
 use mathlib.Core.Option.{Option, none, some}
 use Prim.Native.Nat.{ℕ, zero, suc, _+_, _*_, _/_, _-_, _<_, _≤_, min}
 use native.Mathlib.Omega.{arith}
-use lib.Dec.{leb, ltb, eqb}
+use lib.Dec.{ltb, eqb}
 use lib.ListN.{length, set}
-use lib.Seq.{set-out}
-use borrow.Author.Tests.{ne-eqb, lt-ltb, le-ltb, le-leb, lt-leb}
+use borrow.Author.Tests.{ne-eqb, lt-ltb, le-ltb}
+use Rattle.program.specs.Limits.{noGuard}
+use Rattle.program.specs.Layout.{guardIn}
 use Rattle.program.specs.Terms.{Op, sum, difference, less, Term}
 use Rattle.semantics.specs.Values.{Value, num, closure, Env, bind, lookup, entered, Budget, budget, Result, ends, stops}
-use Rattle.semantics.specs.Meaning.{Control, Evaluation, Application, _then_, choose, found, branch, operate, compute, appendPost, takeCell, beginCall, passes}
+use Rattle.semantics.specs.Meaning.{Control, Evaluation, Application, _then_, choose, found, branch, operate, compute, postEntry, appendPost, postValue, takeCell, beginCall, passes, guardPasses}
 use Rattle.stores.specs.declared.state.Stop.{Stop}
 use Rattle.stores.specs.declared.state.Stop.the-variants.{Check, Stuck, Calls, Cells, Posts}
 use Rattle.stores.specs.Words.{pick, numberWord, functionWord, stopWord, sortOf, payloadOf, envOf}
 use Rattle.stores.specs.Cells.{behindOf, walkOf, heldOf, lookOf, cellSet}
 use Rattle.stores.specs.Access.{enforced, grantedOf, allowedOf, signAccess, signFrames, enableAccess, enableFrames, enabledNow, restoreFrames}
-use Rattle.machine.specs.Steps.{callsLeft, cellsMade, postsMade, modeOf, resultOf, operateOf, postWord, postCounters, postList}
+use Rattle.machine.specs.Table.{wordSmall, wordGuard}
+use Rattle.machine.specs.Steps.{callsLeft, cellsMade, postsMade, modeOf, resultOf, operateOf, guardPassed, causeOf, postCause, postWord, postCounters, postList}
 use Rattle.machine.specs.Store.{Store as State, Done, storeOf, doneOf, withFrames, andThen, Runs, Applier, hasRoom, ownCell, bound, called, letrecS, callS, branchS, ifS, checkS, testS, signS, restored, enableS, binaryS, postDone, postS, begin}
 use Rattle.stores.specs.Stops.{stopCause, stopPlace}
 use Rattle.refinement.specs.Laws.Cells.{agree-cell, cell-holds, cell-behind, length-cell}
@@ -203,25 +205,26 @@ module _ (z : Fixed) where
         go (rep-fun k b e) u = meets-stop (Stuck t) i h
         go (rep-rec k b p q g e) u = meets-stop (Stuck t) i h
 
-  -- ---- a post, of a number or not, with the list full or not
-  module _ (st : State) (t w : ℕ) where
-    abbrev postBy : (number full : Bool) → Done
-    postBy a b =
-        doneOf (pick a (pick b (stopWord 22 t) w) (stopWord 18 t))
-        (storeOf (pick a (pick b (st .n) (set (st .n) 2 (postsMade (st .n) + 1))) (st .n)) (st .cells)
-        (pick a (set (st .posts) (postsMade (st .n)) (payloadOf w)) (st .posts)) (st .frames))
-
-    abbrev full : Bool
-    full = leb (length (st .posts)) (postsMade (st .n))
-
-    post-is : (k : ℕ) → sortOf w ≡ k → postDone t w st ≡ postBy (eqb k 1) full
-    unfolding postDone postWord postCounters postList
-    post-is k e = λ i. postBy (eqb (e i) 1) full
-
+  -- ---- a post, which the word x of its term says the channel of: made, or not for a cause
+  module _ (st : State) (t x acc w : ℕ) where
     abbrev posted : State
-    posted = storeOf (set (st .n) 2 (postsMade (st .n) + 1)) (st .cells) (set (st .posts) (postsMade (st .n)) (payloadOf w)) (st .frames)
+    posted =
+        storeOf (set (st .n) 2 (postsMade (st .n) + 1)) (st .cells) (set (st .posts) (postsMade (st .n)) (postEntry (wordSmall x) (payloadOf w))) (st .frames)
 
-    posted-tally : {c m d r x : ℕ} {ps : List ℕ} → payloadOf w ≡ x → Balance z st c m d (suc r) ps → Balance z posted c m d r (x ∷ ps)
+    abbrev postBy : (cause : ℕ) → Done
+    postBy c = doneOf (pick (eqb c 0) w (stopWord c t))
+        (storeOf (pick (eqb c 0) (posted .n) (st .n)) (st .cells) (pick (eqb c 0) (posted .posts) (st .posts)) (st .frames))
+
+    abbrev room : Bool
+    room = ltb (postsMade (st .n)) (length (st .posts))
+
+    post-is : (k : ℕ) (g : Bool) → sortOf w ≡ k → guardPassed (modeOf (st .n)) acc (st .frames) (wordGuard x) ≡ g
+        → postDone t x acc w st ≡ postBy (causeOf (eqb k 1) g room)
+    unfolding postDone postCause postWord postCounters postList
+    post-is k g e f = λ i. postBy (causeOf (eqb (e i) 1) (f i) room)
+
+    posted-tally : {c m d r y : ℕ} {ps : List ℕ} → payloadOf w ≡ y → Balance z st c m d (suc r) ps
+        → Balance z posted c m d r (postEntry (wordSmall x) y ∷ ps)
     posted-tally {ps = ps} e h =
         let one-more : postsMade (st .n) + 1 ≡ suc (length ps) = omega (arith, posts-are h) in
         record {
@@ -229,32 +232,37 @@ module _ (z : Fixed) where
           cells = h .cells;
           most = h .most;
           room = omega (arith, h .room);
-          list = λ i. set (h .list i) (posts-are h i) (e i);
+          list = λ i. set (h .list i) (posts-are h i) (postEntry (wordSmall x) (e i));
         }
 
-    post-number : {depth c m d x : ℕ} {ps : List ℕ} (r : ℕ) → t < 65536 → RepAt z st w (num x) → payloadOf w ≡ x → Balance z st c m d r ps
-        → Meets z depth st (postBy true full) (appendPost t (num x) (budget c d r ps))
-    post-number {depth} {c} {m} {d} {x} {ps} zero i u v h =
+    post-number : {depth c m d y : ℕ} {ps : List ℕ} (r : ℕ) → t < 65536 → RepAt z st w (num y) → payloadOf w ≡ y → Balance z st c m d r ps
+        → Meets z depth st (postBy (causeOf true true room)) (appendPost t (wordSmall x) y (budget c d r ps))
+    unfolding causeOf
+    post-number {depth} {c} {m} {d} {y} {ps} zero i u v h =
         let e : length (st .posts) ≤ postsMade (st .n) = omega (arith, posts-are h, long-is h, h .room) in
-        subst (λ b. Meets z depth st (postBy true b) (stops 22 t (budget c d 0 ps))) (sym (le-leb (length (st .posts)) (postsMade (st .n)) e))
-        (subst (λ l. Meets z depth st (doneOf (stopWord 22 t) (storeOf (st .n) (st .cells) l (st .frames))) (stops 22 t (budget c d 0 ps)))
-        (sym (set-out (st .posts) (postsMade (st .n)) (payloadOf w) e)) (meets-stop (Posts t) i (balance h)))
-    post-number {depth} {c} {m} {d} {x} {ps} (suc r) i u v h =
+        subst (λ b. Meets z depth st (postBy (causeOf true true b)) (stops 22 t (budget c d 0 ps))) (sym (le-ltb (postsMade (st .n)) (length (st .posts)) e))
+        (meets-stop (Posts t) i (balance h))
+    post-number {depth} {c} {m} {d} {y} {ps} (suc r) i u v h =
         let e : postsMade (st .n) < length (st .posts) = omega (arith, posts-are h, long-is h, h .room) in
         let same : cellsMade (posted .n) ≡ cellsMade (st .n) = made-is (posted-tally v h) ∙ sym (made-is h) in
-        subst (λ b. Meets z depth st (postBy true b) (ends (num x) (budget c d r (x ∷ ps)))) (sym (lt-leb (length (st .posts)) (postsMade (st .n)) e))
-        (valued {st = posted} (subst (λ k. Rep z (st .cells) k w (num x)) (sym same) u) (balance (posted-tally v h))
+        subst (λ b. Meets z depth st (postBy (causeOf true true b)) (ends (num y) (budget c d r (postEntry (wordSmall x) y ∷ ps))))
+        (sym (lt-ltb (postsMade (st .n)) (length (st .posts)) e))
+        (valued {st = posted} (subst (λ k. Rep z (st .cells) k w (num y)) (sym same) u) (balance (posted-tally v h))
         record { more = omega arith; old = record { long = refl; same = λ j g. refl }; frames = kept-refl depth (st .frames) })
 
-    post-value : {depth : ℕ} {o : Budget} {x : Value} → t < 65536 → RepAt z st w x → Balances z st o
-        → Meets z depth st (postBy (eqb (sortFor x) 1) full) (appendPost t x o)
-    post-value i (rep-bool k e) h = meets-stop (Stuck t) i h
-    post-value i (rep-num k e) (balance {r = r} h) = post-number r i (rep-num k e) e h
-    post-value i (rep-fun k b e) h = meets-stop (Stuck t) i h
-    post-value i (rep-rec k b p q v e) h = meets-stop (Stuck t) i h
+    post-value : (g : Bool) {depth : ℕ} {o : Budget} {y : Value} → t < 65536 → RepAt z st w y → Balances z st o
+        → Meets z depth st (postBy (causeOf (eqb (sortFor y) 1) g room)) (postValue t (wordSmall x) g y o)
+    unfolding causeOf
+    post-value g i (rep-bool k e) h = meets-stop (Stuck t) i h
+    post-value true i (rep-num k e) (balance {r = r} h) = post-number r i (rep-num k e) e h
+    post-value false i (rep-num k e) h = meets-stop (Check t) i h
+    post-value g i (rep-fun k b e) h = meets-stop (Stuck t) i h
+    post-value g i (rep-rec k b p q v e) h = meets-stop (Stuck t) i h
 
-    meets-post : {depth : ℕ} {o : Budget} {x : Value} → t < 65536 → RepAt z st w x → Balances z st o → Meets z depth st (postDone t w st) (appendPost t x o)
-    meets-post {depth} {o} {x} i r h = subst (λ y. Meets z depth st y (appendPost t x o)) (sym (post-is (sortFor x) (rep-word z r .sort-is))) (post-value i r h)
+    meets-post : (g : Bool) {depth : ℕ} {o : Budget} {y : Value} → guardPassed (modeOf (st .n)) acc (st .frames) (wordGuard x) ≡ g → t < 65536
+        → RepAt z st w y → Balances z st o → Meets z depth st (postDone t x acc w st) (postValue t (wordSmall x) g y o)
+    meets-post g {depth} {o} {y} e i r h =
+        subst (λ d. Meets z depth st d (postValue t (wordSmall x) g y o)) (sym (post-is (sortFor y) g (rep-word z r .sort-is) e)) (post-value g i r h)
 
 -- ---- what is asked of an access control and of how a number and the first frames stand for its states: 3,248 frames have room
 pub record Models (z : Fixed) (X : Control) (enforce : Bool) (R : X .State → (acc depth : ℕ) → List ℕ → Type 0) : Type 0 where
@@ -335,12 +343,6 @@ module _ (z : Fixed) (X : Control) (enforce : Bool) (R : X .State → (acc depth
         meets-branch z t i t₁ _ _ _ _ rv (hq .go env E acc d a st₁ o₁ w r₁ e₁ t₁) (hu .go env E acc d a st₁ o₁ w r₁ e₁ t₁));
   }
 
-  pub sim-post : (h t : ℕ) → t < 65536 → (p : Runs) (P : Evaluation X) → Does h p P → Does h (postS p t) (λ a E o. P a E o then λ v o₁. appendPost t v o₁)
-  unfolding postS
-  sim-post h t i p P hp = record {
-    go = λ env E acc d a st o w r e y. meets-then z _ _ (hp .go env E acc d a st o w r e y) (λ v x st₁ o₁ rv t₁ l₁. meets-post z st₁ t v i rv t₁);
-  }
-
   -- ---- access
   granted-is : {a : X .State} {acc d : ℕ} {st : State} {o : Budget} (p : ℕ) → R a acc d (st .frames) → d ≤ 3248 → Balances z st o
       → grantedOf (modeOf (st .n)) acc (st .frames) p ≡ X .grants a p
@@ -355,15 +357,39 @@ module _ (z : Fixed) (X : Control) (enforce : Bool) (R : X .State → (acc depth
         (hq .go env E acc d a st o w r e y) (hu .go env E acc d a st o w r e y);
   }
 
+  allowed-is : {a : X .State} {acc d : ℕ} {st : State} {o : Budget} (p : ℕ) → R a acc d (st .frames) → d ≤ 3248 → Balances z st o
+      → allowedOf (modeOf (st .n)) acc (st .frames) p ≡ passes enforce (X .grants a p)
+  unfolding allowedOf
+  allowed-is {a} {acc} {d} {st} p r l y =
+      allows enforce (enforced (modeOf (st .n))) (grantedOf (modeOf (st .n)) acc (st .frames) p) (X .grants a p)
+      ((λ j. enforced (mode-is z y j)) ∙ ctl .enforces) (granted-is p r l y)
+
   pub sim-check : (h p t : ℕ) → t < 65536 → (q : Runs) (Q : Evaluation X) → Does h q Q
       → Does h (checkS q p t) (λ a E o. choose (passes enforce (X .grants a p)) (λ o₁. Q a E o₁) (λ o₁. stops 17 t o₁) o)
-  unfolding checkS allowedOf
+  unfolding checkS
   sim-check h p t i q Q hq = record {
     go = λ env E acc d a st o w r e y.
-        meets-pick z (pick (enforced (modeOf (st .n))) (grantedOf (modeOf (st .n)) acc (st .frames) p) true) (passes enforce (X .grants a p))
-        (allows enforce (enforced (modeOf (st .n))) (grantedOf (modeOf (st .n)) acc (st .frames) p) (X .grants a p)
-        ((λ j. enforced (mode-is z y j)) ∙ ctl .enforces) (granted-is p r (omega arith) y))
+        meets-pick z (allowedOf (modeOf (st .n)) acc (st .frames) p) (passes enforce (X .grants a p)) (allowed-is p r (omega arith) y)
         _ _ _ _ (hq .go env E acc d a st o w r e y) (meets-stop z (Check t) i y);
+  }
+
+  -- a post, whose guard is decided in the access of the post
+  guard-is : {a : X .State} {acc d : ℕ} {st : State} {o : Budget} (g : ℕ) → R a acc d (st .frames) → d ≤ 3248 → Balances z st o
+      → guardPassed (modeOf (st .n)) acc (st .frames) g ≡ guardPasses enforce (X .grants a) (guardIn g)
+  unfolding guardPassed
+  guard-is {a} {acc} {d} {st} g r l y = go (eqb g noGuard)
+    where
+      go : (b : Bool) → pick b true (allowedOf (modeOf (st .n)) acc (st .frames) g) ≡ guardPasses enforce (X .grants a) (cond b none (some g))
+      go true = refl
+      go false = allowed-is g r l y
+
+  pub sim-post : (h t x : ℕ) → t < 65536 → (p : Runs) (P : Evaluation X) → Does h p P
+      → Does h (postS p t x) (λ a E o. P a E o then λ v o₁. postValue t (wordSmall x) (guardPasses enforce (X .grants a) (guardIn (wordGuard x))) v o₁)
+  unfolding postS
+  sim-post h t x i p P hp = record {
+    go = λ env E acc d a st o w r e y. meets-then z _ _ (hp .go env E acc d a st o w r e y)
+        (λ v u st₁ o₁ rv t₁ l₁.
+        meets-post z st₁ t x acc v _ (guard-is (wordGuard x) (ctl .keeps a acc d _ _ r (l₁ .frames)) (omega arith) t₁) i rv t₁);
   }
 
   -- a run on other frames, of which g makes frames that keep the first ones

@@ -7,16 +7,17 @@ use native.Mathlib.Omega.{arith}
 use native.Mathlib.Decide.{ℕ-discrete}
 use lib.Dec.{ltb, eqb}
 use borrow.Author.Tests.{leb-true, ltb-true}
-use Rattle.program.specs.Layout.{principals, authority, terms, termAt, root, kindByte, small, first, second, third}
+use Rattle.program.specs.Layout.{principals, authority, terms, termAt, channels, guardByte, guardIn, guardOf, root, kindByte, small, first, second, third}
 use Rattle.program.specs.Formats.{Kind, Boolean, Number, Variable, Function, Letrec, Call, If, Check, Enable, Sign, Test, Sum, Difference, Less, Post, kindOf, format}
-use Rattle.program.specs.Terms.{Term, sum, difference, less, node, treeTo, program}
-use Rattle.program.specs.Records.{CountsOf, termAtByte, termRecord, authorityRecord}
+use Rattle.program.specs.Terms.{Term, sum, difference, less, post, node, treeTo, program}
+use Rattle.program.specs.Records.{CountsOf, termAtByte, termRecord, authorityRecord, guardRecord}
 use Rattle.program.specs.Decoding.{partOk}
 use Rattle.program.specs.Laws.Readable.{WellFormed}
-use Rattle.program.specs.Laws.Records.{term-is, authority-is}
+use Rattle.program.specs.Laws.Guards.{channels-most}
+use Rattle.program.specs.Laws.Records.{term-is, authority-is, guard-is}
 use Rattle.program.specs.Laws.Trees.{parts, Below, below, root-lower}
 use Rattle.program.specs.declared.records.Counts.{Counts}
-use Rattle.machine.specs.Table.{wordKind, wordSmall, wordFirst, wordSecond, wordThird, wordAuthority, Holds, Decoded}
+use Rattle.machine.specs.Table.{wordKind, wordSmall, wordFirst, wordSecond, wordThird, wordAuthority, wordGuard, Plain, Holds, Decoded}
 use Rattle.refinement.specs.Laws.Relation.{Fixed, wordAt, Stands, on-boolean, on-number, on-variable, on-function, on-letrec, on-call, on-if, on-check, on-enable, on-sign, on-test, on-binary, on-post}
 
 -- the numbers of the kinds
@@ -75,7 +76,7 @@ module _ (s : List ℕ) (w : WellFormed s) (c : Counts) (counts-are : CountsOf s
 
     -- a term of this kind with these parts, of which the small one is in range
     abbrev StandsBy : Kind → (n a b c : ℕ) → Type 0
-    StandsBy k n a b c = Below (format k) t a b c → partOk s t (format k .small) n ≡ true → Stands run t (node k t n a b c sub)
+    StandsBy k n a b c = Below (format k) t a b c → partOk s t (format k .small) n ≡ true → Stands run t (node (guardOf s) k t n a b c sub)
 
     authority-same : wordKind x ≡ 9 → wordSmall x < principals s → wordAuthority x ≡ authority s (wordSmall x)
     authority-same e l =
@@ -85,6 +86,18 @@ module _ (s : List ℕ) (w : WellFormed s) (c : Counts) (counts-are : CountsOf s
     -- a sign's second and third are not looked at
     sign-stands : wordKind x ≡ 9 → (b c : ℕ) → StandsBy Sign (wordSmall x) (wordFirst x) b c
     sign-stands e b c v i = on-sign e (authority-same e (ltb-true (wordSmall x) (principals s) i)) (v .first-below refl) (h _ (v .first-below refl))
+
+    guard-same : wordKind x ≡ 14 → wordSmall x < channels s → wordGuard x ≡ guardByte s (wordSmall x)
+    guard-same e l =
+        let hold = decoded .holds t in
+        hold .guard-is (sym (hold .kind-is) ∙ e) ∙ (λ i. guardRecord s c (sym (hold .small-is) i))
+        ∙ guard-is s w c counts-are (wordSmall x) (omega (arith, channels-most s))
+
+    -- nor a post's
+    post-stands : wordKind x ≡ 14 → (b c : ℕ) → StandsBy Post (wordSmall x) (wordFirst x) b c
+    post-stands e b c v i =
+        subst (λ g. Stands run t (post t (wordSmall x) (guardIn g) (sub (wordFirst x)))) (guard-same e (ltb-true (wordSmall x) (channels s) i))
+        (on-post e (v .first-below refl) (h _ (v .first-below refl)))
 
     node-stands : (k : Kind) → wordKind x ≡ code k → StandsBy k (wordSmall x) (wordFirst x) (wordSecond x) (wordThird x)
     node-stands Boolean e v i = on-boolean e (flag-is (wordSmall x) (leb-true (wordSmall x) 1 i))
@@ -103,13 +116,14 @@ module _ (s : List ℕ) (w : WellFormed s) (c : Counts) (counts-are : CountsOf s
     node-stands Sum e v i = on-binary sum e (v .first-below refl) (v .second-below refl) (h _ (v .first-below refl)) (h _ (v .second-below refl))
     node-stands Difference e v i = on-binary difference e (v .first-below refl) (v .second-below refl) (h _ (v .first-below refl)) (h _ (v .second-below refl))
     node-stands Less e v i = on-binary less e (v .first-below refl) (v .second-below refl) (h _ (v .first-below refl)) (h _ (v .second-below refl))
-    node-stands Post e v i = on-post e (v .first-below refl) (h _ (v .first-below refl))
+    node-stands Post e v i = post-stands e (wordSecond x) (wordThird x) v i
 
     -- the same of the parts in the sheet
-    record-stands : kindByte s t ≤ 14 → StandsBy (kindOf (kindByte s t)) (small s t) (first s t) (second s t) (third s t)
+    record-stands : t < terms s → StandsBy (kindOf (kindByte s t)) (small s t) (first s t) (second s t) (third s t)
     record-stands l =
         subst (λ n. StandsBy k n (first s t) (second s t) (third s t)) (hold .small-is ∙ (λ i. laid i .small))
-        (subst (λ n. StandsBy k (wordSmall x) n (second s t) (third s t)) (hold .first-is ∙ (λ i. laid i .first)) (go (ℕ-discrete (kindByte s t) 9)))
+        (subst (λ n. StandsBy k (wordSmall x) n (second s t) (third s t)) (hold .first-is ∙ (λ i. laid i .first))
+        (go (ℕ-discrete (kindByte s t) 9) (ℕ-discrete (kindByte s t) 14)))
       where
         k : Kind
         k = kindOf (kindByte s t)
@@ -118,24 +132,30 @@ module _ (s : List ℕ) (w : WellFormed s) (c : Counts) (counts-are : CountsOf s
         hold = decoded .holds t
 
         laid : termRecord s c t ≡ termAtByte s (termAt s t)
-        laid = term-is s w c counts-are t
+        laid = term-is s w c counts-are t l
 
         kind-same : wordKind x ≡ kindByte s t
         kind-same = hold .kind-is ∙ (λ i. laid i .kind)
 
-        go : Dec (kindByte s t ≡ 9) → StandsBy k (wordSmall x) (wordFirst x) (second s t) (third s t)
-        go (yes e) =
-            subst (λ n. StandsBy (kindOf n) (wordSmall x) (wordFirst x) (second s t) (third s t)) (sym e) (sign-stands (kind-same ∙ e) (second s t) (third s t))
-        go (no e) =
-            let other : termRecord s c t .kind ≡ 9 → ⊥ = λ g. e ((λ i. sym laid i .kind) ∙ g) in
-            subst (λ n. StandsBy k (wordSmall x) (wordFirst x) n (third s t)) (hold .second-is other ∙ (λ i. laid i .second))
-            (subst (λ n. StandsBy k (wordSmall x) (wordFirst x) (wordSecond x) n) (hold .third-is other ∙ (λ i. laid i .third))
-            (node-stands k (kind-same ∙ code-is (kindByte s t) l)))
+        -- of a kind that does not look at second and third
+        alone : (j : ℕ) → kindByte s t ≡ j → StandsBy (kindOf j) (wordSmall x) (wordFirst x) (second s t) (third s t)
+            → StandsBy k (wordSmall x) (wordFirst x) (second s t) (third s t)
+        alone j e = subst (λ n. StandsBy (kindOf n) (wordSmall x) (wordFirst x) (second s t) (third s t)) (sym e)
+
+        go : Dec (kindByte s t ≡ 9) → Dec (kindByte s t ≡ 14) → StandsBy k (wordSmall x) (wordFirst x) (second s t) (third s t)
+        go (yes e) d = alone 9 e (sign-stands (kind-same ∙ e) (second s t) (third s t))
+        go (no n) (yes e) = alone 14 e (post-stands (kind-same ∙ e) (second s t) (third s t))
+        go (no n) (no m) =
+            let at : termRecord s c t .kind ≡ kindByte s t = λ i. laid i .kind in
+            let plain : Plain (termRecord s c t .kind) = record { no-sign = λ g. n (sym at ∙ g); no-post = λ g. m (sym at ∙ g) } in
+            subst (λ n. StandsBy k (wordSmall x) (wordFirst x) n (third s t)) (hold .second-is plain ∙ (λ i. laid i .second))
+            (subst (λ n. StandsBy k (wordSmall x) (wordFirst x) (wordSecond x) n) (hold .third-is plain ∙ (λ i. laid i .third))
+            (node-stands k (kind-same ∙ code-is (kindByte s t) (parts s w t l .kind-ok))))
 
   tree-stands : (k t : ℕ) → t < terms s → t < k → Stands run t (treeTo s k t)
   tree-stands zero t l h = absurd (omega arith)
   tree-stands (suc k) t l h =
-      record-stands t (λ y. treeTo s k y) (λ y g. tree-stands k y (omega arith) (omega arith)) (parts s w t l .kind-ok) (below s w t l)
+      record-stands t (λ y. treeTo s k y) (λ y g. tree-stands k y (omega arith) (omega arith)) l (below s w t l)
       (parts s w t l .small-ok)
 
   pub program-stands : Stands run (root s) (program s)

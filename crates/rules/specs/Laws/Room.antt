@@ -27,7 +27,7 @@ spare (enable at p c) = 0
 spare (sign at n c) = 1
 spare (test at p y o) = 0
 spare (binary at op a b) = 0
-spare (post at c) = 0
+spare (post at ch g c) = 0
 
 spare-signed : {c : Term} → Signed c → spare c ≡ 1
 spare-signed signed = refl
@@ -67,7 +67,7 @@ module _ (T : Types) where
       let p : room a ≤ height a = omega (arith, spare-height a (s .0)) in
       let q : room b ≤ height b = omega (arith, spare-height b (s .1)) in
       omega (arith, both p q)
-  spare-height (post at c) s = omega (arith, spare-height c s)
+  spare-height (post at ch g c) s = omega (arith, spare-height c s)
 
   pub room-height : (c : Term) → Standard T c → room c < height c
   room-height c s = omega (arith, spare-height c s)

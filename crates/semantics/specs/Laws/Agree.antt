@@ -1,11 +1,12 @@
 -- The relational lemma: two access controls whose related states stay related and grant the same give every term the same result, in every
 -- environment and with every budget, checks in force or passed over.
 use mathlib.Core.Bool.{Bool, true}
+use mathlib.Core.Option.{Option, none, some}
 use mathlib.Core.Path.{_≡_, refl}
 use Prim.Native.Nat.{ℕ, zero, suc}
 use Rattle.program.specs.Terms.{Term, boolean, number, variable, function, letrec, call, if, check, enable, sign, test, binary, post}
 use Rattle.semantics.specs.Values.{Value, closure, Env, bind, Budget, stops}
-use Rattle.semantics.specs.Meaning.{Control, _then_, choose, branch, compute, appendPost, takeCell, enter, passes, Evaluation, Application, evalWith, apply, eval}
+use Rattle.semantics.specs.Meaning.{Control, _then_, choose, branch, compute, postValue, takeCell, enter, passes, guardPasses, Evaluation, Application, evalWith, apply, eval}
 
 -- a relation of states that signs and enables keep, and under which the same is granted
 pub record Simulation (X Y : Control) : Type 1 where
@@ -20,6 +21,11 @@ module _ (X Y : Control) (R : Simulation X Y) (enforce : Bool) where
 
   abbrev SameEvaluation : Evaluation X → Evaluation Y → Type 0
   SameEvaluation f g = (s : X .State) (t : Y .State) → R .related s t → (e : Env) (u : Budget) → f s e u ≡ g t e u
+
+  -- a guard passes in both or in neither
+  same-guard : (s : X .State) (t : Y .State) → R .related s t → (p : Option ℕ) → guardPasses enforce (X .grants s) p ≡ guardPasses enforce (Y .grants t) p
+  same-guard s t r none = refl
+  same-guard s t r (some p) = λ i. passes enforce (R .same-grants s t r p i)
 
   eval-agree : (f : Application X) (g : Application Y) → SameApplication f g → (c : Term) → SameEvaluation (evalWith X enforce f c) (evalWith Y enforce g c)
   unfolding evalWith
@@ -41,7 +47,8 @@ module _ (X Y : Control) (R : Simulation X Y) (enforce : Bool) where
       λ i. choose (R .same-grants s t r p i) (λ u₁. eval-agree f g h y s t r e u₁ i) (λ u₁. eval-agree f g h n s t r e u₁ i) u
   eval-agree f g h (binary at op a b) s t r e u =
       λ i. eval-agree f g h a s t r e u i then λ v u₁. eval-agree f g h b s t r e u₁ i then λ w u₂. compute at op v w u₂
-  eval-agree f g h (post at c) s t r e u = λ i. eval-agree f g h c s t r e u i then λ v u₁. appendPost at v u₁
+  eval-agree f g h (post at ch p c) s t r e u =
+      λ i. eval-agree f g h c s t r e u i then λ v u₁. postValue at ch (same-guard s t r p i) v u₁
 
   apply-agree : (k : ℕ) → SameApplication (apply X enforce k) (apply Y enforce k)
   unfolding apply

@@ -8,7 +8,7 @@ use native.Mathlib.Omega.{arith}
 use lib.ListN.{length}
 use Rattle.program.specs.Terms.{Op, Term, boolean, number, variable, function, letrec, call, if, check, enable, sign, test, binary, post}
 use Rattle.semantics.specs.Values.{Value, bool, num, closure, Env, bind, lookup, entered, Budget, budget, Result, ends, stops}
-use Rattle.semantics.specs.Meaning.{Control, _then_, choose, found, branch, compute, appendPost, takeCell, beginCall, tooDeep, enter, passes, Application, evalWith, apply, eval}
+use Rattle.semantics.specs.Meaning.{Control, _then_, choose, found, branch, compute, appendPost, postValue, takeCell, beginCall, tooDeep, enter, passes, guardPasses, Application, evalWith, apply, eval}
 use Rattle.semantics.specs.Runs.{left}
 
 abbrev pub callsIn : Budget → ℕ
@@ -63,11 +63,14 @@ spends-compute at op (num m) (closure r ty body env) u = spends-none u refl
 spends-compute at op (bool b) w u = spends-none u refl
 spends-compute at op (closure r ty body env) w u = spends-none u refl
 
-spends-post : (at : ℕ) (v : Value) (u : Budget) → Spends u (appendPost at v u)
-spends-post at (num n) (budget c d zero ps) = spends-none (budget c d zero ps) refl
-spends-post at (num n) (budget c d (suc r) ps) = record { spent = record { calls = le-refl c; cells = le-refl d; posts = omega arith } }
-spends-post at (bool b) u = spends-none u refl
-spends-post at (closure r ty body env) u = spends-none u refl
+spends-append : (at ch n : ℕ) (u : Budget) → Spends u (appendPost at ch n u)
+spends-append at ch n (budget c d zero ps) = spends-none (budget c d zero ps) refl
+spends-append at ch n (budget c d (suc r) ps) = record { spent = record { calls = le-refl c; cells = le-refl d; posts = omega arith } }
+
+spends-post : (at ch : ℕ) (allowed : Bool) (v : Value) (u : Budget) → Spends u (postValue at ch allowed v u)
+spends-post at ch allowed (num n) u = spends-choose allowed _ _ u (spends-append at ch n u) (spends-none u refl)
+spends-post at ch allowed (bool b) u = spends-none u refl
+spends-post at ch allowed (closure r ty body env) u = spends-none u refl
 
 spends-cell : (at : ℕ) (k : Budget → Result) → ((w : Budget) → Spends w (k w)) → (u : Budget) → Spends u (takeCell at k u)
 spends-cell at k h (budget c zero r ps) = spends-none (budget c zero r ps) refl
@@ -116,7 +119,8 @@ module _ (X : Control) (enforce : Bool) where
   eval-spends f h (test at p y n) st e u = spends-choose (X .grants st p) _ _ u (eval-spends f h y st e u) (eval-spends f h n st e u)
   eval-spends f h (binary at op a b) st e u =
       spends-then u _ _ (eval-spends f h a st e u) (λ v w. spends-then w _ _ (eval-spends f h b st e w) (λ x y. spends-compute at op v x y))
-  eval-spends f h (post at c) st e u = spends-then u _ _ (eval-spends f h c st e u) (λ v w. spends-post at v w)
+  eval-spends f h (post at ch g c) st e u =
+      spends-then u _ _ (eval-spends f h c st e u) (λ v w. spends-post at ch (guardPasses enforce (X .grants st) g) v w)
 
   apply-spends : (k : ℕ) → SpendsAll (apply X enforce k)
   unfolding apply

@@ -1,9 +1,9 @@
 -- Safety and the removal of checks, at once: a derived term, run eagerly in a state that grants its needs, gives the same result with checks in
--- force and passed over; it ends in a value of its type, or is stopped by 19 to 22. This is 003's Lemmas 4.5 and 6.6. Only checks are passed over,
--- and not enables, so that both runs have the same state and terms with tests are covered too.
+-- force and passed over; it ends in a value of its type, or is stopped by 19 to 22. This is 003's Lemmas 4.5 and 6.6. Only checks and guards are passed
+-- over, and not enables, so that both runs have the same state and terms with tests are covered too.
 use mathlib.Core.Bool.{Bool, true, false, cond, true≢false}
 use mathlib.Core.List.{List, [], _∷_}
-use mathlib.Core.Option.{none, some, Option·some-injective}
+use mathlib.Core.Option.{Option, none, some, Option·some-injective}
 use mathlib.Core.Path.{_≡_, refl, sym, ap, _∙_, subst}
 use Prim.Native.Nat.{ℕ, zero, suc}
 use native.Mathlib.Omega.{arith}
@@ -13,10 +13,11 @@ use Rattle.program.specs.Layout.{Types}
 use Rattle.program.specs.Terms.{Op, sum, difference, less, Term, function, sign}
 use Rattle.program.specs.Laws.Trees.{Signed, signed, Standard}
 use Rattle.typing.specs.Subtyping.{Subtype, sub-same, Wider}
-use Rattle.typing.specs.Rules.{bound, removeAuthorised, resultType, current, Derives, d-boolean, d-number, d-variable, d-function, d-letrec, d-call, d-if, d-test, d-check, d-enable, d-sign, d-binary, d-post, d-widen}
+use Rattle.typing.specs.Rules.{bound, removeAuthorised, postNeeds, resultType, current, Derives, d-boolean, d-number, d-variable, d-function, d-letrec, d-call, d-if, d-test, d-check, d-enable, d-sign, d-binary, d-post, d-widen}
+use Rattle.typing.specs.Laws.Variants.{guard-needed}
 use Rattle.typing.specs.Laws.Subtyping.{sub-trans, sub-base, sub-isFun, sub-arg, sub-res, sub-latent, wider-bounds}
 use Rattle.semantics.specs.Values.{Value, bool, num, closure, Env, empty, bind, lookup, entered, Budget, budget, Result, ends, stops}
-use Rattle.semantics.specs.Meaning.{_then_, choose, found, branch, operate, compute, appendPost, takeCell, beginCall, tooDeep, enter, Evaluation, Application, evalWith, apply, eval}
+use Rattle.semantics.specs.Meaning.{_then_, choose, found, branch, operate, compute, appendPost, postValue, takeCell, beginCall, tooDeep, enter, guardPasses, Evaluation, Application, evalWith, apply, eval}
 use Rattle.semantics.specs.Access.{rights, addAuthorised, eagerControl}
 use Rattle.soundness.specs.Claims.{Limit}
 
@@ -38,6 +39,19 @@ removed-added A n p N P h = go (has p (A n)) h
     go : (b : Bool) → cond b (remove p N) N ⊆ P → N ⊆ cond b (insert p P) P
     go true f = remove-insert p N P f
     go false f = f
+
+-- ---- a post's needs cover its child's and its guard
+child-needs : (g : Option ℕ) (N P : ℕ) → postNeeds g N ⊆ P → N ⊆ P
+child-needs none N P h = h
+child-needs (some p) N P h = ⊆-trans (⊆-insert p N) h
+
+guard-granted : (g : Option ℕ) (N P : ℕ) → postNeeds g N ⊆ P → guardPasses true (λ p. has p P) g ≡ true
+guard-granted none N P h = refl
+guard-granted (some p) N P h = h .all p (guard-needed p N)
+
+guard-skipped : (g : Option ℕ) (P : ℕ) → guardPasses false (λ p. has p P) g ≡ true
+guard-skipped none P = refl
+guard-skipped (some p) P = refl
 
 none≢some : {t : ℕ} {A : Type 0} → none ≡ some t → A
 none≢some e = absurd (let z : _≡_ {A = ℕ} 0 1 = cc in omega arith)
@@ -153,9 +167,17 @@ module _ (T : Types) (A : ℕ → ℕ) (base : Base T) where
   alike-begin τ at k l h (budget (suc c) zero r ps) = alike-stop 21 at τ _ (omega arith)
   alike-begin τ at k l h (budget (suc c) (suc d) r ps) = h (budget c d r ps)
 
-  alike-post : (at x : ℕ) (u : Budget) → Alike 1 (appendPost at (num x) u) (appendPost at (num x) u)
-  alike-post at x (budget c d zero ps) = alike-stop 22 at 1 _ (omega arith)
-  alike-post at x (budget c d (suc r) ps) = alike-end (num x) 1 _ refl
+  alike-append : (at ch x : ℕ) (u : Budget) → Alike 1 (appendPost at ch x u) (appendPost at ch x u)
+  alike-append at ch x (budget c d zero ps) = alike-stop 22 at 1 _ (omega arith)
+  alike-append at ch x (budget c d (suc r) ps) = alike-end (num x) 1 _ refl
+
+  -- of a number, where the guard passes in both
+  alike-post : (at ch : ℕ) {a b : Bool} → a ≡ true → b ≡ true → (v : Value) → HasType v 1 → (u : Budget)
+      → Alike 1 (postValue at ch a v u) (postValue at ch b v u)
+  alike-post at ch {a} {b} ea eb v h u =
+      num-only (λ v. Alike 1 (postValue at ch a v u) (postValue at ch b v u))
+      (λ x. subst (λ z. Alike 1 (postValue at ch z (num x) u) (postValue at ch b (num x) u)) (sym ea)
+      (subst (λ z. Alike 1 (appendPost at ch x u) (postValue at ch z (num x) u)) (sym eb) (alike-append at ch x u))) v h
 
   alike-found : (e : Env) (Γ : List ℕ) (i τ at : ℕ) (u : Budget) → Holds e Γ → bound Γ i ≡ some τ → Alike τ (found at (lookup e i) u) (found at (lookup e i) u)
   alike-found empty [] i τ at u h g = none≢some g
@@ -234,9 +256,10 @@ module _ (T : Types) (A : ℕ → ℕ) (base : Base T) where
         alike-then (checked a (rights n P) e u) (skipped a (rights n P) e u) _ _ (eval-alike d (w .0) e he P (⊆-trans (⊆-union-left N M) hP) u)
         (λ v u₁ hv. alike-then (checked b (rights n P) e u₁) (skipped b (rights n P) e u₁) _ _ (eval-alike d′ (w .1) e he P (⊆-trans (⊆-union-right N M) hP) u₁)
         (λ x u₂ hx. alike-compute at op v x hv hx u₂))
-    eval-alike (d-post {n = n} {at = at} {c = c} d) w e he P hP u =
-        alike-then (checked c (rights n P) e u) (skipped c (rights n P) e u) _ _ (eval-alike d w e he P hP u)
-        (λ v u₁ hv. num-only (λ v. Alike 1 (appendPost at v u₁) (appendPost at v u₁)) (λ x. alike-post at x u₁) v hv)
+    -- a guard is among the needs, and so it is granted
+    eval-alike (d-post {n = n} {at = at} {ch = ch} {N = N} {g = p} {c = c} d) w e he P hP u =
+        alike-then (checked c (rights n P) e u) (skipped c (rights n P) e u) _ _ (eval-alike d w e he P (child-needs p N P hP) u)
+        (λ v u₁ hv. alike-post at ch (guard-granted p N P hP) (guard-skipped p P) v hv u₁)
     eval-alike (d-widen d s) w e he P hP u = eval-alike d w e he P (⊆-trans s hP) u
 
   enter-holds : (r : Bool) (ty : ℕ) (body : Term) (env : Env) (φ : ℕ) (h : HasType (closure r ty body env) φ) (w : Value) → HasType w (T .arg ty)

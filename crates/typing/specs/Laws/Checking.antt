@@ -15,7 +15,7 @@ use Rattle.program.specs.Terms.{Term, boolean, number, variable, function, letr
 use Rattle.program.specs.Laws.Types.{Lower}
 use Rattle.program.specs.Laws.Trees.{Standard}
 use Rattle.typing.specs.Subtyping.{Wider, subtype, wider}
-use Rattle.typing.specs.Rules.{bound, removeAuthorised, Same, Variant, afterW1, current, Derives, d-boolean, d-number, d-variable, d-function, d-letrec, d-call, d-if, d-test, d-check, d-enable, d-sign, d-binary, d-post, d-widen}
+use Rattle.typing.specs.Rules.{bound, removeAuthorised, postNeeds, Same, Variant, afterW1, current, Derives, d-boolean, d-number, d-variable, d-function, d-letrec, d-call, d-if, d-test, d-check, d-enable, d-sign, d-binary, d-post, d-widen}
 use Rattle.typing.specs.Checking.{Judgement, typed, fault, _next_, require, variableType, joined, bodyFits, infer}
 use Rattle.typing.specs.Laws.Subtyping.{subtype-sound, subtype-complete, wider-sound, wider-complete}
 use Rattle.typing.specs.Laws.Variants.{same-wider}
@@ -27,6 +27,10 @@ removeAuthorised-mono A n p {a} {b} f = go (has p (A n))
     go : (z : Bool) → cond z (remove p a) a ⊆ cond z (remove p b) b
     go true = remove-mono p f
     go false = f
+
+pub postNeeds-mono : (g : Option ℕ) {a b : ℕ} → a ⊆ b → postNeeds g a ⊆ postNeeds g b
+postNeeds-mono none f = f
+postNeeds-mono (some p) f = insert-mono p f
 
 -- ---- sound: what is typed is derived
 pub data Sound (T : Types) (A : ℕ → ℕ) (Γ : List ℕ) (n : ℕ) (c : Term) : Judgement → Type 0 where
@@ -91,7 +95,7 @@ module _ (T : Types) (A : ℕ → ℕ) where
   infer-sound L Γ n (binary at op a b) w = next-sound _ (infer-sound L Γ n a (w .0)) λ τ N d. next-sound _ (infer-sound L Γ n b (w .1)) λ ρ M d′.
       require-sound _ 10 at λ h.
       derived (d-binary (retype (eqb-true τ 1 (and-left (eqb τ 1) (eqb ρ 1) h)) d) (retype (eqb-true ρ 1 (and-right (eqb τ 1) (eqb ρ 1) h)) d′))
-  infer-sound L Γ n (post at c) w = next-sound _ (infer-sound L Γ n c w) λ τ N d. require-sound _ 10 at λ h. derived (d-post (retype (eqb-true τ 1 h) d))
+  infer-sound L Γ n (post at ch g c) w = next-sound _ (infer-sound L Γ n c w) λ τ N d. require-sound _ 10 at λ h. derived (d-post (retype (eqb-true τ 1 h) d))
 
   -- ---- complete: what is derived is typed, with needs inside every derivation's, and is derived with these
   pub record Typed (W : Variant) (Γ : List ℕ) (n : ℕ) (c : Term) (τ N : ℕ) : Type 0 where
@@ -112,7 +116,7 @@ module _ (T : Types) (A : ℕ → ℕ) where
   -- for the rules in force, and for any that ask of branches what `wider` finds
   module _ (L : Lower T) (B : Types → ℕ → ℕ → ℕ → Type 0) (found : (a b c : ℕ) → B T a b c → wider T a b ≡ some c) where
     abbrev these : Variant
-    these = record { yesNeeds = λ p N. remove p N; Branches = B }
+    these = record { yesNeeds = λ p N. remove p N; Branches = B; guardNeeds = postNeeds }
 
     branches-met : {τ ρ υ : ℕ} (at N : ℕ) → B T τ ρ υ → joined at (wider T τ ρ) N ≡ typed υ N
     branches-met {τ} {ρ} {υ} at N h = λ i. joined at (found τ ρ υ h i) N
@@ -191,9 +195,9 @@ module _ (T : Types) (A : ℕ → ℕ) where
           inside = union-mono (x .inside) (y .inside);
           derives = d-binary (x .derives) (y .derives);
         }
-    complete (d-post d) =
+    complete (d-post {g = g} d) =
         let x = complete d in
-        record { least = x .least; is = then _ (x .is); inside = x .inside; derives = d-post (x .derives) }
+        record { least = postNeeds g (x .least); is = then _ (x .is); inside = postNeeds-mono g (x .inside); derives = d-post (x .derives) }
     complete (d-widen d s) =
         let x = complete d in
         record { least = x .least; is = x .is; inside = ⊆-trans (x .inside) s; derives = x .derives }

@@ -1,18 +1,21 @@
--- A term is refused by 24, 25 or 26 only where the types in it are as these say, and the reader refuses by lower numbers.
-use mathlib.Core.Bool.{Bool, true, false, cond, _&&_}
-use mathlib.Core.List.{List, [], _∷_}
+-- A term is refused by 24, 25 or 26 only where the types in it are as these say, and the reader refuses by lower numbers or by 31.
+use mathlib.Core.Bool.{Bool, true, false, cond, _&&_, _||_}
+use mathlib.Core.List.{List, [], _∷_, _++_}
+use mathlib.Core.Logic.{_⊎_, inl, inr}
 use mathlib.Core.Option.{Option, none, some}
 use mathlib.Core.Path.{_≡_, refl, ap, _∙_, subst}
 use Prim.Native.Nat.{ℕ, _<_, _≤_}
 use native.Mathlib.Omega.{arith}
 use lib.Dec.{eqb, ltb}
+use lib.ListN.{length}
 use borrow.Author.Tests.{eqb-true, ltb-true}
 use Rattle.privileges.specs.Booleans.{and-left, and-right}
 use Rattle.privileges.specs.Sets.{subset}
-use Rattle.program.specs.Layout.{Types}
+use Rattle.program.specs.Limits.{maxPrincipals, maxTypes, maxTerms}
+use Rattle.program.specs.Layout.{Types, version, hasGuards, typeField, termField, guardField, sheetEnd}
 use Rattle.program.specs.Terms.{Term, boolean, number, variable, function, letrec, call, if, check, enable, sign, test, binary, post}
-use Rattle.program.specs.Screening.{Condition, found, First, first-here, first-later}
-use Rattle.program.specs.Decoding.{decodingConditions, decoding}
+use Rattle.program.specs.Screening.{Condition, found, unless, First, first-here, first-later}
+use Rattle.program.specs.Decoding.{holds, field, tableConditions, decodingConditions, decoding}
 use Rattle.program.specs.Laws.Screening.{found-first}
 use Rattle.typing.specs.Subtyping.{subtype, wider}
 use Rattle.typing.specs.Rules.{bound}
@@ -93,7 +96,7 @@ module _ (T : Types) (A : ℕ → ℕ) where
       branches-explained at τ ρ _ λ q r. unfit-test e e′ q r
   explained Γ n (binary at op a b) = next-explained _ (explained Γ n a) (λ _ _ _ w. in-left w) λ τ N e. next-explained _ (explained Γ n b) (λ _ _ _ w. in-right w) λ ρ M e′.
       lower-explained (eqb τ 1 && eqb ρ 1) 10 at (omega arith) λ _. well
-  explained Γ n (post at c) = next-explained _ (explained Γ n c) (λ _ _ _ w. in-post w) λ τ N e. lower-explained (eqb τ 1) 10 at (omega arith) λ _. well
+  explained Γ n (post at ch g c) = next-explained _ (explained Γ n c) (λ _ _ _ w. in-post w) λ τ N e. lower-explained (eqb τ 1) 10 at (omega arith) λ _. well
 
   pub infer-faulty : (Γ : List ℕ) (n : ℕ) (c : Term) (cause at : ℕ) → infer T A Γ n c ≡ fault cause at → 24 ≤ cause → FaultyPart T A Γ n c cause at
   infer-faulty Γ n c cause at e l = go (subst (Explained T A Γ n c) e (explained Γ n c)) l
@@ -102,15 +105,33 @@ module _ (T : Types) (A : ℕ → ℕ) where
       go (lower u) l = absurd (omega arith)
       go (faulty f) l = f
 
--- ---- the reader's numbers are lower
-abbrev low : List Condition → Bool
-low [] = true
-low (c ∷ cs) = ltb (c .cause) 24 && low cs
+-- ---- the reader's numbers are others
+abbrev readers : ℕ → Bool
+readers cause = ltb cause 24 || eqb cause 31
 
-first-low : {cause place : ℕ} {cs : List Condition} → First cause place cs → low cs ≡ true → cause < 24
-first-low (first-here {c} {cs} e f) h = subst (λ x. x < 24) e (ltb-true (c .cause) 24 (and-left (ltb (c .cause) 24) (low cs) h))
-first-low (first-later {c} {cs} f r) h = first-low r (and-right (ltb (c .cause) 24) (low cs) h)
+abbrev all-readers : List Condition → Bool
+all-readers [] = true
+all-readers (c ∷ cs) = readers (c .cause) && all-readers cs
 
-pub decoding-low : (s : List ℕ) (cause place : ℕ) → decoding s ≡ found cause place → cause < 24
+first-readers : {cause place : ℕ} {cs : List Condition} → First cause place cs → all-readers cs ≡ true → readers cause ≡ true
+first-readers (first-here {c} {cs} e f) h = subst (λ x. readers x ≡ true) e (and-left (readers (c .cause)) (all-readers cs) h)
+first-readers (first-later {c} {cs} f r) h = first-readers r (and-right (readers (c .cause)) (all-readers cs) h)
+
+-- tag 5 stands in version 2 alone
+readers-conditions : (s : List ℕ) → all-readers (decodingConditions s) ≡ true
+readers-conditions s = go (hasGuards s)
+  where
+    go : (b : Bool)
+        → all-readers ((field s 0 1 (holds 2 1 1) ++ unless 3 (eqb (version s) 1 || eqb (version s) 2)
+        ∷ field s 5 2 (holds 4 1 maxPrincipals) ++ field s (typeField s) 3 (holds 10 2 maxTypes) ++ field s (termField s) 4 (holds 8 1 maxTerms)
+        ++ cond b (field s (guardField s) 5 (holds 16 1 1)) [] ++ unless 2 (eqb (sheetEnd s) (length s)) ∷ []) ++ tableConditions s) ≡ true
+    go true = refl
+    go false = refl
+
+pub decoding-readers : (s : List ℕ) (cause place : ℕ) → decoding s ≡ found cause place → (cause < 24) ⊎ (cause ≡ 31)
 unfolding decoding
-decoding-low s cause place e = first-low (found-first (decodingConditions s) cause place e) refl
+decoding-readers s cause place e = go (ltb cause 24) refl (first-readers (found-first (decodingConditions s) cause place e) (readers-conditions s))
+  where
+    go : (b : Bool) → ltb cause 24 ≡ b → (b || eqb cause 31) ≡ true → (cause < 24) ⊎ (cause ≡ 31)
+    go true h r = inl (ltb-true cause 24 h)
+    go false h r = inr (eqb-true cause 31 r)

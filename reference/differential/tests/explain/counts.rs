@@ -11,14 +11,16 @@ const UNFIT: u32 = 3;
 
 /// What has to happen, beside chains of every length and each cause that the
 /// judge can tell.
-const EXPECTED: [&str; 53] = [
+const EXPECTED: [&str; 58] = [
     "ends in a check",
     "ends in a call",
     "ends in a letrec",
+    "ends in a guarded post",
     "goes on from sign, child 1",
     "goes on from enable of another, child 1",
     "goes on from check of another, child 1",
-    "goes on from post, child 1",
+    "goes on from unguarded post, child 1",
+    "goes on from post guarded by another, child 1",
     "goes on from sum, child 1",
     "goes on from sum, child 2",
     "goes on from difference, child 1",
@@ -44,6 +46,7 @@ const EXPECTED: [&str; 53] = [
     "a call that is a cause, its argument needs it",
     "a letrec that is a cause, its body needs it",
     "a letrec that is a cause, its rest needs it",
+    "a guarded post that is a cause, its child needs it",
     "a need of two privileges",
     "needed, and an enable hides it elsewhere",
     "needed, and a test hides it elsewhere",
@@ -52,6 +55,8 @@ const EXPECTED: [&str; 53] = [
     "not needed, an enable hides it",
     "not needed, a test hides it",
     "not needed, a body needs it",
+    "not needed, an enable hides a guarded post",
+    "not needed, a test hides a guarded post",
     "not needed, nothing has to do with it",
     "an enable hides nothing of whom may not use it",
     "30",
@@ -140,6 +145,14 @@ impl Counts {
             happened.count_if(hidden.by_enable, "not needed, an enable hides it");
             happened.count_if(hidden.by_test, "not needed, a test hides it");
             happened.count_if(hidden.in_body, "not needed, a body needs it");
+            happened.count_if(
+                hidden.post_by_enable,
+                "not needed, an enable hides a guarded post",
+            );
+            happened.count_if(
+                hidden.post_by_test,
+                "not needed, a test hides a guarded post",
+            );
             happened.count_if(!hidden.anywhere, "not needed, nothing has to do with it");
             return;
         };
@@ -178,6 +191,13 @@ impl Counts {
                 happened.count_if(needs(body), "a letrec that is a cause, its body needs it");
                 happened.count_if(needs(rest), "a letrec that is a cause, its rest needs it");
             }
+            Term::Post { inner, .. } => {
+                happened.count("ends in a guarded post");
+                happened.count_if(
+                    needs(inner),
+                    "a guarded post that is a cause, its child needs it",
+                );
+            }
             other => happened.count(format!("ends in {other:?}")),
         }
     }
@@ -210,7 +230,7 @@ impl Counts {
 
     /// What should have happened and never did.
     pub fn never(&self) -> Vec<String> {
-        let told = (1..=13).chain(24..=26);
+        let told = (1..=13).chain(24..=26).chain([31]);
         let refusals = told.flat_map(|cause| [false, true].map(|above| refused_by(cause, above)));
         let lengths = (2..=MAX_CHAIN).map(of_length);
         let expected = EXPECTED.map(String::from).into_iter();
@@ -242,7 +262,11 @@ fn name(question: &Question, id: TermId) -> String {
         Term::Enable { privilege, .. } => format!("enable of {}", of(privilege)),
         Term::Test { privilege, .. } => format!("test of {}", of(privilege)),
         Term::Sign { .. } => "sign".into(),
-        Term::Post(_) => "post".into(),
+        Term::Post { channel, .. } if question.guards(channel) => "post guarded by it".into(),
+        Term::Post { channel, .. } => match question.accepted.sheet.guard(channel) {
+            Some(_) => "post guarded by another".into(),
+            None => "unguarded post".into(),
+        },
         Term::Sum(..) => "sum".into(),
         Term::Difference(..) => "difference".into(),
         Term::Less(..) => "less".into(),
@@ -253,11 +277,21 @@ fn name(question: &Question, id: TermId) -> String {
     }
 }
 
+fn is_guarded_post(question: &Question, id: TermId) -> bool {
+    match question.term(id) {
+        Term::Post { channel, .. } => question.guards(channel),
+        _ => false,
+    }
+}
+
 /// Where in a sheet the privilege is needed and something takes it out.
 #[derive(Default)]
 struct Hidden {
     by_enable: bool,
     by_test: bool,
+    /// The same, right around a guarded post.
+    post_by_enable: bool,
+    post_by_test: bool,
     in_body: bool,
     /// By an enable of a principal that may not use it.
     in_vain: bool,
@@ -273,11 +307,14 @@ impl Hidden {
             match question.term(id) {
                 Term::Enable { privilege, inner } if privilege == question.privilege => {
                     hidden.by_enable |= question.needs(inner) && !needs;
+                    hidden.post_by_enable |= is_guarded_post(question, inner) && !needs;
                     hidden.in_vain |= question.needs(inner) && needs;
                 }
                 Term::Test { .. } => {
                     let yes = question.yes_branch(id);
                     hidden.by_test |= yes.is_some_and(|yes| question.needs(yes)) && !needs;
+                    hidden.post_by_test |=
+                        yes.is_some_and(|yes| is_guarded_post(question, yes)) && !needs;
                 }
                 Term::Function { body, .. } => hidden.in_body |= question.needs(body),
                 _ => {}

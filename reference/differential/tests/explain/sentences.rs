@@ -1,7 +1,7 @@
 //! Request W7's sentences about a chain, one by one, each asked of any list of
-//! terms.
+//! terms; that a guarded post is a cause is of W8.
 
-use sovzedal_reference::{Accepted, Privilege, Set, Term, TermId, TypeId};
+use sovzedal_reference::{Accepted, ChannelId, Privilege, Set, Term, TermId, TypeId};
 
 /// An accepted sheet and the privilege that is asked about.
 pub struct Question<'a> {
@@ -27,7 +27,7 @@ impl Question<'_> {
             ),
             (
                 self.to_a_cause(chain),
-                "the last is a check that names it, or a call or recursive binder whose latent set holds it",
+                "the last is a check that names it, or a call or recursive binder whose latent set holds it, or a post that it guards",
             ),
             (
                 self.by_no_yes_branch(chain),
@@ -72,6 +72,7 @@ impl Question<'_> {
             Term::Check { privilege, .. } => privilege == self.privilege,
             Term::Call { function, .. } => self.is_latent(self.accepted.judgement(function).ty),
             Term::Letrec { ty, .. } => self.is_latent(ty),
+            Term::Post { channel, .. } => self.guards(channel),
             _ => false,
         }
     }
@@ -100,6 +101,11 @@ impl Question<'_> {
     fn is_latent(&self, ty: TypeId) -> bool {
         let function = self.accepted.sheet.function_type(ty);
         function.is_some_and(|function| self.has(function.latent))
+    }
+
+    /// Whether the privilege guards this channel.
+    pub fn guards(&self, channel: ChannelId) -> bool {
+        self.accepted.sheet.guard(channel) == Some(self.privilege)
     }
 
     fn starts_at_the_root(&self, chain: &[TermId]) -> bool {

@@ -21,6 +21,8 @@ pub struct Told<'a> {
     pub other: Other,
     pub returned: u32,
     pub answer: &'a [u32],
+    /// The whole list of posts after it.
+    pub list: &'a [u32],
 }
 
 impl Told<'_> {
@@ -30,6 +32,14 @@ impl Told<'_> {
 
     fn place(&self) -> u64 {
         self.before[PLACE]
+    }
+
+    /// What a run has put into the list.
+    fn posts_made(&self) -> &[u32] {
+        match self.answer[6] as usize {
+            0 => &[],
+            made => &self.list[self.place() as usize..][..made],
+        }
     }
 
     fn turn(&self) -> usize {
@@ -54,8 +64,8 @@ impl Told<'_> {
 #[derive(Default)]
 pub struct Counts(pub Happened);
 
-/// What has to happen, beside the refusals by 1 to 8 and the stops.
-const EXPECTED: [&str; 50] = [
+/// What has to happen, beside the refusals by 1 to 8 and 31 and the stops.
+const EXPECTED: [&str; 53] = [
     "lines that no entry made: a turn above 3",
     "lines that no entry made: a count above 8",
     "lines that no entry made: calls of more than 32 bits",
@@ -88,6 +98,7 @@ const EXPECTED: [&str; 50] = [
     "ended, posts in the middle of the list",
     "stopped, posts in the middle of the list",
     "stopped by 22 in the middle of the list",
+    "posts on a channel above 0 in the middle of the list",
     "run with all 256 entries left in the middle of the list",
     "run with a list that ends at the place",
     "run with a list that is shorter than the place",
@@ -97,6 +108,8 @@ const EXPECTED: [&str; 50] = [
     "refused by 28 where 16 would follow",
     "refused by 1 to 8 where 15 would follow",
     "refused by 1 to 8 where 16 would follow",
+    "refused by 31 where 15 would follow",
+    "refused by 31 where 16 would follow",
     "refused by 15, by the cell store",
     "refused by 15, by what is left of the list",
     "refused by 15 in the middle of the list",
@@ -201,7 +214,7 @@ impl Counts {
 
     fn count_run(&mut self, told: &Told, posts: usize) {
         let (lent, place) = (posts as u64, told.place());
-        let made = told.answer[6] > 0;
+        let made = !told.posts_made().is_empty();
         let in_the_middle = place > 0 && place < lent;
         match (told.returned, told.cause()) {
             (DONE, 0) => {
@@ -230,6 +243,11 @@ impl Counts {
                 .0
                 .count(format!("{returned} returned by serve, cause {cause}")),
         }
+        let posts = told.posts_made();
+        self.0.count_if(
+            in_the_middle && posts.iter().any(|entry| entry >> 16 > 0),
+            "posts on a channel above 0 in the middle of the list",
+        );
         self.0.count_if(
             in_the_middle && lent - place == MAX_POSTS as u64,
             "run with all 256 entries left in the middle of the list",
@@ -301,7 +319,7 @@ impl Counts {
 
     /// What should have happened and never did.
     pub fn never(&self) -> Vec<String> {
-        let refusals = (1..=8).map(|n| format!("refused by {n:2}"));
+        let refusals = (1..=8).chain([31]).map(|n| format!("refused by {n:2}"));
         let stops = (17..=22).map(|n| format!("stopped by {n:2}"));
         let expected = EXPECTED.map(String::from).into_iter();
         self.0.never(expected.chain(refusals).chain(stops))

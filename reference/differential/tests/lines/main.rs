@@ -87,6 +87,7 @@ fn compare(seed: u64, index: u64, counts: &mut Counts) -> Result<(), String> {
             other,
             returned,
             answer: units.library.answer.contents(),
+            list: units.library.posts.contents(),
         });
     }
     Ok(())

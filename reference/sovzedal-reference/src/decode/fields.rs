@@ -1,29 +1,38 @@
-//! The four fields and their frames: causes 1 to 4.
+//! The fields and their frames: causes 1 to 4.
 
 use crate::refusal::{Cause, Refusal};
+use crate::sheet::CHANNELS;
 use std::ops::RangeInclusive;
 
 pub const PRINCIPAL_BYTES: usize = 4;
 pub const TYPE_BYTES: usize = 10;
 pub const TERM_BYTES: usize = 8;
 
-const VERSION: [u8; 2] = [0, 1];
+const VERSION_BYTES: usize = 2;
 
 /// The contents of the tables, each a whole number of records.
 pub struct Fields<'a> {
     pub principals: &'a [u8],
     pub types: &'a [u8],
     pub terms: &'a [u8],
+    /// A byte for each channel; version 2 alone has them.
+    pub guards: Option<&'a [u8]>,
 }
 
 pub fn split(bytes: &[u8]) -> Result<Fields<'_>, Refusal> {
     let mut reader = Reader { rest: bytes };
-    if reader.field(1, VERSION.len(), 1..=1)? != VERSION {
-        return Err(Cause::WrongVersion.anywhere());
-    }
+    let has_guards = match reader.field(1, VERSION_BYTES, 1..=1)? {
+        [0, 1] => false,
+        [0, 2] => true,
+        _ => return Err(Cause::WrongVersion.anywhere()),
+    };
     let principals = reader.field(2, PRINCIPAL_BYTES, 1..=32)?;
     let types = reader.field(3, TYPE_BYTES, 2..=256)?;
     let terms = reader.field(4, TERM_BYTES, 1..=1024)?;
+    let guards = match has_guards {
+        true => Some(reader.field(5, CHANNELS, 1..=1)?),
+        false => None,
+    };
     if !reader.rest.is_empty() {
         return Err(Cause::WrongTag.anywhere());
     }
@@ -31,6 +40,7 @@ pub fn split(bytes: &[u8]) -> Result<Fields<'_>, Refusal> {
         principals,
         types,
         terms,
+        guards,
     })
 }
 

@@ -1,9 +1,10 @@
-//! From bytes to a [`Sheet`]: causes 1 to 8.
+//! From bytes to a [`Sheet`]: causes 1 to 8 and 31.
 //!
 //! Each step looks at the whole of its table before the next begins, so the
 //! order of the calls below is the order in which faults are told.
 
 mod fields;
+mod guards;
 mod shape;
 mod terms;
 mod types;
@@ -16,14 +17,19 @@ pub fn decode(bytes: &[u8]) -> Result<Sheet, Refusal> {
     let fields = fields::split(bytes)?;
     let principals = principals(fields.principals);
     let types = types::decode(fields.types)?;
-    let terms = terms::decode(fields.terms, &principals, &types)?;
-    let sheet = Sheet {
+    let channels = guards::channels(fields.guards);
+    let terms = terms::decode(fields.terms, &principals, &types, channels)?;
+    let mut sheet = Sheet {
         principals,
         types,
         terms,
+        guards: guards::NONE,
     };
     shape::check_parents_and_signs(&sheet)?;
     shape::check_nesting(&sheet)?;
+    if let Some(content) = fields.guards {
+        sheet.guards = guards::decode(content)?;
+    }
     Ok(sheet)
 }
 

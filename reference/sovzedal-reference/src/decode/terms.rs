@@ -3,9 +3,14 @@
 use super::fields::TERM_BYTES;
 use crate::refusal::{Cause, Refusal};
 use crate::set::{Privilege, Set};
-use crate::sheet::{PrincipalId, Term, TermId, Type, TypeId};
+use crate::sheet::{ChannelId, PrincipalId, Term, TermId, Type, TypeId};
 
-pub fn decode(content: &[u8], principals: &[Set], types: &[Type]) -> Result<Vec<Term>, Refusal> {
+pub fn decode(
+    content: &[u8],
+    principals: &[Set],
+    types: &[Type],
+    channels: ChannelId,
+) -> Result<Vec<Term>, Refusal> {
     content
         .chunks_exact(TERM_BYTES)
         .zip(0u16..)
@@ -13,6 +18,7 @@ pub fn decode(content: &[u8], principals: &[Set], types: &[Type]) -> Result<Vec<
             let tables = Tables {
                 principals,
                 types,
+                channels,
                 place,
             };
             tables.term(record).ok_or(Cause::TermRecord.at(place))
@@ -24,6 +30,8 @@ pub fn decode(content: &[u8], principals: &[Set], types: &[Type]) -> Result<Vec<
 struct Tables<'a> {
     principals: &'a [Set],
     types: &'a [Type],
+    /// How many there are.
+    channels: ChannelId,
     place: TermId,
 }
 
@@ -80,7 +88,10 @@ impl Tables<'_> {
             (11, 0, left, right, 0) => Term::Sum(self.child(left)?, self.child(right)?),
             (12, 0, left, right, 0) => Term::Difference(self.child(left)?, self.child(right)?),
             (13, 0, left, right, 0) => Term::Less(self.child(left)?, self.child(right)?),
-            (14, 0, inner, 0, 0) => Term::Post(self.child(inner)?),
+            (14, channel, inner, 0, 0) => Term::Post {
+                channel: self.channel(channel)?,
+                inner: self.child(inner)?,
+            },
             _ => return None,
         })
     }
@@ -91,6 +102,10 @@ impl Tables<'_> {
 
     fn principal(&self, id: PrincipalId) -> Option<PrincipalId> {
         (usize::from(id) < self.principals.len()).then_some(id)
+    }
+
+    fn channel(&self, id: ChannelId) -> Option<ChannelId> {
+        (id < self.channels).then_some(id)
     }
 
     fn function_type(&self, id: TypeId) -> Option<TypeId> {

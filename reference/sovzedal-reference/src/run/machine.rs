@@ -4,7 +4,8 @@ use super::authority::Authority;
 use super::request::{Checks, Request};
 use super::{Outcome, Run, Stop};
 use crate::refusal::Cause;
-use crate::sheet::{Sheet, Term, TermId};
+use crate::set::Privilege;
+use crate::sheet::{ChannelId, Sheet, Term, TermId};
 
 const CELL_BYTES: usize = 8;
 
@@ -38,7 +39,7 @@ pub struct Machine<'a, A> {
     authority: A,
     cells: Vec<Cell>,
     max_cells: usize,
-    posts: &'a mut [u16],
+    posts: &'a mut [u32],
     posts_made: usize,
     calls_made: u32,
     open_calls: u32,
@@ -50,7 +51,7 @@ impl<'a, A: Authority> Machine<'a, A> {
         request: &'a Request,
         authority: A,
         cell_bytes: usize,
-        posts: &'a mut [u16],
+        posts: &'a mut [u32],
     ) -> Self {
         Self {
             sheet,
@@ -100,10 +101,7 @@ impl<'a, A: Authority> Machine<'a, A> {
                 Value::Number(_) | Value::Function(_) => stop(Cause::Stuck, id),
             },
             Term::Check { privilege, inner } => {
-                let in_force = self.request.checks == Checks::InForce;
-                if in_force && !self.authority.grants(privilege) {
-                    return stop(Cause::RefusedCheck, id);
-                }
+                self.check(id, privilege)?;
                 self.eval(inner, bindings)
             }
             Term::Enable { privilege, inner } => {
@@ -134,8 +132,8 @@ impl<'a, A: Authority> Machine<'a, A> {
                 let (left, right) = self.numbers(id, left, right, bindings)?;
                 Ok(Value::Bool(left < right))
             }
-            Term::Post(inner) => match self.eval(inner, bindings)? {
-                Value::Number(number) => self.post(id, number),
+            Term::Post { channel, inner } => match self.eval(inner, bindings)? {
+                Value::Number(number) => self.post(id, channel, number),
                 Value::Bool(_) | Value::Function(_) => stop(Cause::Stuck, id),
             },
         }
@@ -225,14 +223,32 @@ impl<'a, A: Authority> Machine<'a, A> {
         }
     }
 
-    fn post(&mut self, id: TermId, number: u16) -> Result<Value, Stop> {
+    /// Whether a check or a guard lets the run go on: it always does where
+    /// checks are passed over.
+    fn check(&self, id: TermId, privilege: Privilege) -> Result<(), Stop> {
+        match self.request.checks {
+            Checks::InForce if !self.authority.grants(privilege) => stop(Cause::RefusedCheck, id),
+            Checks::InForce | Checks::PassedOver => Ok(()),
+        }
+    }
+
+    /// The guard is asked before a place for the post.
+    fn post(&mut self, id: TermId, channel: ChannelId, number: u16) -> Result<Value, Stop> {
+        if let Some(privilege) = self.sheet.guard(channel) {
+            self.check(id, privilege)?;
+        }
         let Some(place) = self.posts.get_mut(self.posts_made) else {
             return stop(Cause::NoPost, id);
         };
-        *place = number;
+        *place = entry(channel, number);
         self.posts_made += 1;
         Ok(Value::Number(number))
     }
+}
+
+/// What stands in the list for a post.
+fn entry(channel: ChannelId, number: u16) -> u32 {
+    u32::from(channel) * 65_536 + u32::from(number)
 }
 
 fn stop<T>(cause: Cause, term: TermId) -> Result<T, Stop> {

@@ -52,12 +52,12 @@ pub struct Stop {
 
 /// Runs a sheet, holding the granted set. After a refusal `cells` and `posts`
 /// are untouched; otherwise `cells` is all zero and `posts` begins with the
-/// posts made.
+/// posts made, each as channel × 65,536 + number.
 pub fn run_eager(
     bytes: &[u8],
     request: &Request,
     cells: &mut [u8],
-    posts: &mut [u16],
+    posts: &mut [u32],
 ) -> Result<Run, Refusal> {
     let sheet = decode(bytes)?;
     let lent = Lent {
@@ -76,7 +76,7 @@ pub fn run_lazy(
     bytes: &[u8],
     request: &Request,
     cells: &mut [u8],
-    posts: &mut [u16],
+    posts: &mut [u32],
     frames: &mut [u32],
 ) -> Result<Run, Refusal> {
     let sheet = decode(bytes)?;
@@ -99,7 +99,7 @@ fn run(
     request: &Request,
     authority: impl Authority,
     cells: &mut [u8],
-    posts: &mut [u16],
+    posts: &mut [u32],
 ) -> Run {
     let mut machine = Machine::new(sheet, request, authority, cells.len(), posts);
     let outcome = match machine.run() {

@@ -15,7 +15,7 @@ pub const MAX_OPEN_CALLS: u32 = 100;
 #[derive(Clone, Copy, Debug, PartialEq, Eq)]
 pub enum Checks {
     InForce,
-    /// A check is read as its inner term.
+    /// A check is read as its inner term, and no guard is asked.
     PassedOver,
 }
 

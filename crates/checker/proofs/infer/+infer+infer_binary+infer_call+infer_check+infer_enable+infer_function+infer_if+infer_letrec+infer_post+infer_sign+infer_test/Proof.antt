@@ -6,7 +6,7 @@ use native.Mathlib.Omega.{arith}
 use borrow.Author.Needs.{needs}
 use mathlib.Core.Path.{refl}
 use Prim.Native.Nat.{_+_, _*_}
-use Rattle.checker.proofs.TermLaws.{past-ten, kind-most, check-child, enable-child, sign-child, post-child, check-privilege, enable-privilege, test-privilege, call-first, call-second, test-first, test-second, binary-first, binary-second, if-first, if-second, if-third, function-room, function-child, letrec-room, letrec-body, letrec-rest, leaf-is, check-is, enable-is, sign-is, post-is, test-stops, test-is, call-stops, call-is, binary-stops, binary-is, if-stops, branch-stops, if-is, function-is, letrec-stops, letrec-is}
+use Rattle.checker.proofs.TermLaws.{past-ten, kind-most, check-child, enable-child, sign-child, post-child, post-guard-byte, check-privilege, enable-privilege, test-privilege, call-first, call-second, test-first, test-second, binary-first, binary-second, if-first, if-second, if-third, function-room, function-child, letrec-room, letrec-body, letrec-rest, leaf-is, check-is, enable-is, sign-is, post-is, test-stops, test-is, call-stops, call-is, binary-stops, binary-is, if-stops, branch-stops, if-is, function-is, letrec-stops, letrec-is}
 use Prim.Native.Nat.{ℕ, _<_}
 use borrow.Fn.Kinds.{In}
 use borrow.Fn.PlainCycle.{Measures, is, falls, and}
@@ -44,6 +44,7 @@ use Rattle.checker.proofs.infer.infer_test.Reads as infer-test
 use Rattle.checker.proofs.infer.infer_test.Kinds as infer-test-kinds
 use Rattle.checker.proofs.infer.+infer+infer_binary+infer_call+infer_check+infer_enable+infer_function+infer_if+infer_letrec+infer_post+infer_sign+infer_test.Lts-infer_test as infer-test-lts
 use Rattle.accessors.proofs.authority.Reads as authority-reads
+use Rattle.accessors.proofs.guard.Reads as guard-reads
 use Rattle.accessors.proofs.term.Reads as term-reads
 use Rattle.accessors.proofs.type_record.Reads as type-record-reads
 use Rattle.rules.proofs.bindings.push.Reads as push-reads
@@ -724,21 +725,29 @@ infer-letrec-returns-2 t c =
     }
 
 abbrev infer-post-claims : ℕ → infer-post-lts.Claims
-infer-post-claims t = (infer-below t, infer.Post, posted-reads.Asked, posted-reads.Learnt)
+infer-post-claims t = (infer-below t, infer.Post, guard-reads.Asked, guard-reads.Learnt, posted-reads.Asked, posted-reads.Learnt)
 
 infer-post-infer-requires : (t : ℕ) → infer-post-lts.Need-infer-requires (infer-post-claims t) (infer-post-at t) infer-post.Post
 infer-post-infer-requires t c κs =
     let start = c .before .before in
     let h = post-child (start .pre .1 .0) (start .pre .1 .1) in (omega (arith, start .pre .0, h .lower), (h .ready, start .pre .1 .0 .known))
 
+infer-post-guard-requires : (t : ℕ) → infer-post-lts.Need-guard-requires (infer-post-claims t) (infer-post-at t) infer-post.Post
+infer-post-guard-requires t c κs = search needs
+
 infer-post-posted-requires : (t : ℕ) → infer-post-lts.Need-posted-requires (infer-post-claims t) (infer-post-at t) infer-post.Post
-infer-post-posted-requires t c κs = search needs
+infer-post-posted-requires t c κs =
+    let start = c .before .before .before .before in
+    post-guard-byte (start .pre .1 .0) (start .pre .1 .1) (c .guard .ensures)
 
 infer-post-returns : (t : ℕ) → infer-post-lts.Need-returns (infer-post-claims t) (infer-post-at t) infer-post.Post
 infer-post-returns t c =
-    let at-infer = c .before in
+    let at-infer = c .before .before in
     let start = at-infer .before .before .before in
-    record { is = post-is (start .pre .1 .0) _ (start .pre .1 .1) (at-infer .infer .ensures .is) (c .posted .ensures); known = at-infer .infer .ensures .known }
+    record {
+      is = post-is (start .pre .1 .0) _ (start .pre .1 .1) (c .before .guard .ensures) (at-infer .infer .ensures .is) (c .posted .ensures);
+      known = at-infer .infer .ensures .known;
+    }
 
 abbrev infer-sign-claims : ℕ → infer-sign-lts.Claims
 infer-sign-claims t = (infer-below t, infer.Post, authority-reads.Asked, authority-reads.Learnt, signed-reads.Asked, signed-reads.Learnt)
@@ -923,11 +932,11 @@ pub +infer+infer-binary+infer-call+infer-check+infer-enable+infer-function+infer
     (infer-letrec-infer-requires-2 t)
     (infer-letrec-letrec-of-requires t)
     (infer-letrec-returns-2 t))
-    (λ t. infer-post-lts.spec
-    (infer-below t, infer.Post, posted-reads.Asked, posted-reads.Learnt)
+    (λ t. infer-post-lts.spec (infer-post-claims t)
     (infer-post-at t)
     infer-post.Post
     (infer-post-infer-requires t)
+    (infer-post-guard-requires t)
     (infer-post-posted-requires t)
     (infer-post-returns t))
     (λ t. infer-sign-lts.spec (infer-sign-claims t)

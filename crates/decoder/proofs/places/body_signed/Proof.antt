@@ -1,5 +1,6 @@
--- Only kinds 3 and 4, functions and letrecs, have a body. It is the second part, and it is asked whether that is a sign; any other kind passes.
-use Rattle.decoder.proofs.PlaceLaws.{body-is, no-body}
+-- Only kinds 3 and 4, functions and letrecs, have a body. It is the second part, a lower term since the record is right (body-in), and it is asked whether
+-- that is a sign; any other kind passes.
+use Rattle.decoder.proofs.PlaceLaws.{body-in, body-is, no-body}
 use borrow.Author.Needs.{needs}
 use Rattle.decoder.proofs.places.body_signed.Statement.{statement}
 use Rattle.decoder.proofs.places.body_signed.Tie as tie
@@ -8,7 +9,9 @@ term-requires : tie.Need-term-requires
 term-requires c κs = search needs
 
 is-sign-requires : tie.Need-is-sign-requires
-is-sign-requires c κs = search needs
+is-sign-requires c κs =
+    let start = c .before .before .before .before .before in
+    body-in (start .args .s .now) (start .args .c) (start .args .t) (start .pre) (c .before .before .before .term .ensures) (c .if1 .taken)
 
 returns : tie.Need-returns
 returns c =

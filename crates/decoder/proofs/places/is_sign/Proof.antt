@@ -1,4 +1,4 @@
--- The record that is read has the kind of term t, since the fields are right; past the table both are zero. Kind 9 is the sign.
+-- The record that is read has the kind of term t, since the fields are right and t is in the table. Kind 9 is the sign.
 use Rattle.decoder.proofs.PlaceLaws.{sign-is}
 use borrow.Author.Needs.{needs}
 use Rattle.decoder.proofs.places.is_sign.Statement.{statement}

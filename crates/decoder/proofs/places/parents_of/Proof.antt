@@ -23,7 +23,7 @@ loop-holds c =
     (omega arith, (start .pre .laid .counts-are .terms-are, (refl, links-none (start .args .s .now))))
 
 shape-at-requires : tie.Need-shape-at-requires Inv-loop μ-loop
-shape-at-requires c κs = c .before .before .before .pre .laid
+shape-at-requires c κs = (c .before .before .before .pre .laid, omega (arith, c .loop-test .taken, c .before .loop .inv .1 .0))
 
 slice-aggregate-link-all : tie.Need-slice-aggregate-link-all Inv-loop μ-loop
 slice-aggregate-link-all c = sym (c .before .before .before .loop .inv .1 .1 .0)

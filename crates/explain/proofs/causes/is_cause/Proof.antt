@@ -1,8 +1,8 @@
 -- By the kind: a letrec's type is a function's, and so is the type of a call's function part, since the call needs a privilege; a check is one if it
--- names the privilege; no other kind is.
+-- names the privilege, and a post if it is guarded by it; no other kind is.
 use borrow.Author.Needs.{needs}
 use Rattle.explain.proofs.PlaceLaws.{letrec-function, call-ready}
-use Rattle.explain.proofs.CauseLaws.{letrec-cause, check-cause, call-untyped, call-typed, part-function, no-cause}
+use Rattle.explain.proofs.CauseLaws.{letrec-cause, check-cause, post-cause, call-untyped, call-typed, part-function, no-cause}
 use Rattle.explain.proofs.causes.is_cause.Statement.{statement}
 use Rattle.explain.proofs.causes.is_cause.Tie as tie
 
@@ -50,6 +50,9 @@ has-latent-requires-2 c κs =
       ),
     )
 
+guard-requires : tie.Need-guard-requires
+guard-requires c κs = search needs
+
 returns-2 : tie.Need-returns-2
 returns-2 c =
     let start = c .before .before .before .before in
@@ -77,9 +80,20 @@ returns-4 c =
 
 returns-5 : tie.Need-returns-5
 returns-5 c =
+    let at-match = c .before in
+    let at-term = at-match .before in
+    let start = at-term .before .before in
+    record {
+      is = post-cause (start .pre .ready) (at-term .term .ensures) _ (at-match .match .keys4) (start .pre .privilege) (c .guard .ensures);
+      known = start .pre .known;
+    }
+
+returns-6 : tie.Need-returns-6
+returns-6 c =
     let start = c .before .before .before in
     record {
-      is = no-cause (start .pre .ready) (c .before .term .ensures) _ (c .match .rest .0 .0 .1) (c .match .rest .0 .1) (c .match .rest .1);
+      is = no-cause (start .pre .ready) (c .before .term .ensures) _ (c .match .rest .0 .0 .0 .1) (c .match .rest .0 .0 .1) (c .match .rest .0 .1)
+          (c .match .rest .1);
       known = start .pre .known;
     }
 
@@ -94,7 +108,9 @@ is-cause-spec =
     enum-told
     returns
     has-latent-requires-2
+    guard-requires
     returns-2
     returns-3
     returns-4
-    returns-5)
+    returns-5
+    returns-6)

@@ -28,19 +28,22 @@ sub-i : tie.Need-sub-i Inv-loop μ-loop
 sub-i c =
     let at-loop = c .before in
     let start = at-loop .before .before .before .before in
-    omega (arith, start .pre .whole .few, start .pre .whole .even, start .pre .room, at-loop .loop .inv .0, at-loop .loop .inv .1 .0, at-loop .loop .inv .1 .1 .0)
+    let inv = at-loop .loop .inv in
+    omega (arith, start .pre .whole .few, start .pre .whole .even, start .pre .room, inv .0, inv .1 .0, inv .1 .1 .0)
 
 mul-authority : tie.Need-mul-authority Inv-loop μ-loop
 mul-authority c =
     let at-loop = c .before in
     let start = at-loop .before .before .before .before in
-    omega (arith, start .pre .whole .few, start .pre .whole .even, start .pre .room, at-loop .loop .inv .0, at-loop .loop .inv .1 .0, at-loop .loop .inv .1 .1 .0)
+    let inv = at-loop .loop .inv in
+    omega (arith, start .pre .whole .few, start .pre .whole .even, start .pre .room, inv .0, inv .1 .0, inv .1 .1 .0)
 
 shared-slice-read-authority : tie.Need-shared-slice-read-authority Inv-loop μ-loop
 shared-slice-read-authority c =
     let at-loop = c .before .before in
     let start = at-loop .before .before .before .before in
-    omega (arith, start .pre .whole .few, start .pre .whole .even, start .pre .room, at-loop .loop .inv .0, at-loop .loop .inv .1 .0, at-loop .loop .inv .1 .1 .0)
+    let inv = at-loop .loop .inv in
+    omega (arith, start .pre .whole .few, start .pre .whole .even, start .pre .room, inv .0, inv .1 .0, inv .1 .1 .0)
 
 authority-requires : tie.Need-authority-requires Inv-loop μ-loop
 authority-requires c κs = search needs
@@ -49,43 +52,50 @@ mul-frames : tie.Need-mul-frames Inv-loop μ-loop
 mul-frames c =
     let at-loop = c .before .before .before in
     let start = at-loop .before .before .before .before in
-    omega (arith, start .pre .whole .few, start .pre .whole .even, start .pre .room, at-loop .loop .inv .0, at-loop .loop .inv .1 .0, at-loop .loop .inv .1 .1 .0)
+    let inv = at-loop .loop .inv in
+    omega (arith, start .pre .whole .few, start .pre .whole .even, start .pre .room, inv .0, inv .1 .0, inv .1 .1 .0)
 
 slice-write-frames : tie.Need-slice-write-frames Inv-loop μ-loop
 slice-write-frames c =
     let at-loop = c .before .before .before in
     let start = at-loop .before .before .before .before in
-    omega (arith, start .pre .whole .few, start .pre .whole .even, start .pre .room, at-loop .loop .inv .0, at-loop .loop .inv .1 .0, at-loop .loop .inv .1 .1 .0)
+    let inv = at-loop .loop .inv in
+    omega (arith, start .pre .whole .few, start .pre .whole .even, start .pre .room, inv .0, inv .1 .0, inv .1 .1 .0)
 
 add-frames : tie.Need-add-frames Inv-loop μ-loop
 add-frames c =
     let at-loop = c .before .before .before in
     let start = at-loop .before .before .before .before in
-    omega (arith, start .pre .whole .few, start .pre .whole .even, start .pre .room, at-loop .loop .inv .0, at-loop .loop .inv .1 .0, at-loop .loop .inv .1 .1 .0)
+    let inv = at-loop .loop .inv in
+    omega (arith, start .pre .whole .few, start .pre .whole .even, start .pre .room, inv .0, inv .1 .0, inv .1 .1 .0)
 
 mul-frames-2 : tie.Need-mul-frames-2 Inv-loop μ-loop
 mul-frames-2 c =
     let at-loop = c .before .before .before in
     let start = at-loop .before .before .before .before in
-    omega (arith, start .pre .whole .few, start .pre .whole .even, start .pre .room, at-loop .loop .inv .0, at-loop .loop .inv .1 .0, at-loop .loop .inv .1 .1 .0)
+    let inv = at-loop .loop .inv in
+    omega (arith, start .pre .whole .few, start .pre .whole .even, start .pre .room, inv .0, inv .1 .0, inv .1 .1 .0)
 
 shared-slice-read-frames : tie.Need-shared-slice-read-frames Inv-loop μ-loop
 shared-slice-read-frames c =
     let at-loop = c .before .before .before .before in
     let start = at-loop .before .before .before .before in
-    omega (arith, start .pre .whole .few, start .pre .whole .even, start .pre .room, at-loop .loop .inv .0, at-loop .loop .inv .1 .0, at-loop .loop .inv .1 .1 .0)
+    let inv = at-loop .loop .inv in
+    omega (arith, start .pre .whole .few, start .pre .whole .even, start .pre .room, inv .0, inv .1 .0, inv .1 .1 .0)
 
 add-frames-2 : tie.Need-add-frames-2 Inv-loop μ-loop
 add-frames-2 c =
     let at-loop = c .before .before .before .before in
     let start = at-loop .before .before .before .before in
-    omega (arith, start .pre .whole .few, start .pre .whole .even, start .pre .room, at-loop .loop .inv .0, at-loop .loop .inv .1 .0, at-loop .loop .inv .1 .1 .0)
+    let inv = at-loop .loop .inv in
+    omega (arith, start .pre .whole .few, start .pre .whole .even, start .pre .room, inv .0, inv .1 .0, inv .1 .1 .0)
 
 mul-frames-3 : tie.Need-mul-frames-3 Inv-loop μ-loop
 mul-frames-3 c =
     let at-loop = c .before .before .before .before in
     let start = at-loop .before .before .before .before in
-    omega (arith, start .pre .whole .few, start .pre .whole .even, start .pre .room, at-loop .loop .inv .0, at-loop .loop .inv .1 .0, at-loop .loop .inv .1 .1 .0)
+    let inv = at-loop .loop .inv in
+    omega (arith, start .pre .whole .few, start .pre .whole .even, start .pre .room, inv .0, inv .1 .0, inv .1 .1 .0)
 
 slice-write-frames-2 : tie.Need-slice-write-frames-2 Inv-loop μ-loop
 slice-write-frames-2 c =
@@ -106,13 +116,15 @@ add-at : tie.Need-add-at Inv-loop μ-loop
 add-at c =
     let at-loop = c .before .before .before .before in
     let start = at-loop .before .before .before .before in
-    omega (arith, start .pre .whole .few, start .pre .whole .even, start .pre .room, at-loop .loop .inv .0, at-loop .loop .inv .1 .0, at-loop .loop .inv .1 .1 .0)
+    let inv = at-loop .loop .inv in
+    omega (arith, start .pre .whole .few, start .pre .whole .even, start .pre .room, inv .0, inv .1 .0, inv .1 .1 .0)
 
 loop-less : tie.Need-loop-less Inv-loop μ-loop
 loop-less c =
     let at-loop = c .before .before .before .before in
     let start = at-loop .before .before .before .before in
-    omega (arith, start .pre .whole .few, start .pre .whole .even, start .pre .room, at-loop .loop .inv .0, at-loop .loop .inv .1 .0, at-loop .loop .inv .1 .1 .0)
+    let inv = at-loop .loop .inv in
+    omega (arith, start .pre .whole .few, start .pre .whole .even, start .pre .room, inv .0, inv .1 .0, inv .1 .1 .0)
 
 loop-again : tie.Need-loop-again Inv-loop μ-loop
 loop-again c =
@@ -135,7 +147,8 @@ same-length : tie.Need-same-length Inv-loop μ-loop
 same-length c =
     let at-loop = c .before in
     let start = at-loop .before .before .before .before in
-    omega (arith, start .pre .whole .few, start .pre .whole .even, start .pre .room, at-loop .loop .inv .0, at-loop .loop .inv .1 .0, at-loop .loop .inv .1 .1 .0)
+    let inv = at-loop .loop .inv in
+    omega (arith, start .pre .whole .few, start .pre .whole .even, start .pre .room, inv .0, inv .1 .0, inv .1 .1 .0)
 
 returns : tie.Need-returns Inv-loop μ-loop
 returns c =

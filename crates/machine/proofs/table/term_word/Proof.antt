@@ -1,7 +1,7 @@
 -- The word's parts are the record's, since each is below its width.
 use native.Mathlib.Omega.{arith}
-use Rattle.machine.proofs.TableLaws.{sign-holds, plain-holds}
 use borrow.Author.Needs.{needs}
+use Rattle.machine.proofs.TableLaws.{sign-holds, post-holds, plain-holds}
 use Rattle.machine.proofs.table.term_word.Statement.{statement}
 use Rattle.machine.proofs.table.term_word.Tie as tie
 
@@ -53,6 +53,9 @@ returns c =
     sign-holds (at-term .term .ensures) (omega (arith, at-struct-known .struct-known .given)) (omega (arith, at-struct-known2 .struct-known2 .given))
     (omega (arith, at-struct-known3 .struct-known3 .given)) (c .before .before .if1 .taken) (c .authority .ensures) (omega arith)
 
+guard-requires : tie.Need-guard-requires
+guard-requires c κs = search needs
+
 cast-result-2 : tie.Need-cast-result-2
 cast-result-2 c = search needs
 
@@ -61,6 +64,15 @@ mul-result-2 c = search needs
 
 add-result-2 : tie.Need-add-result-2
 add-result-2 c = search needs
+
+returns-2 : tie.Need-returns-2
+returns-2 c =
+    let at-struct-known3 = c .before .before .before .before .before in
+    let at-struct-known2 = at-struct-known3 .before in
+    let at-struct-known = at-struct-known2 .before in
+    let at-term = at-struct-known .before in
+    post-holds (at-term .term .ensures) (omega (arith, at-struct-known .struct-known .given)) (omega (arith, at-struct-known2 .struct-known2 .given))
+    (omega (arith, at-struct-known3 .struct-known3 .given)) (c .before .if2 .taken) (c .guard .ensures) (omega arith)
 
 cast-result-3 : tie.Need-cast-result-3
 cast-result-3 c = search needs
@@ -71,15 +83,25 @@ mul-result-3 c = search needs
 add-result-3 : tie.Need-add-result-3
 add-result-3 c = search needs
 
-returns-2 : tie.Need-returns-2
-returns-2 c =
-    let at-struct-known3 = c .before .before .before .before in
+cast-result-4 : tie.Need-cast-result-4
+cast-result-4 c = search needs
+
+mul-result-4 : tie.Need-mul-result-4
+mul-result-4 c = search needs
+
+add-result-4 : tie.Need-add-result-4
+add-result-4 c = search needs
+
+returns-3 : tie.Need-returns-3
+returns-3 c =
+    let at-if1 = c .before .before .before .before in
+    let at-struct-known3 = at-if1 .before .before in
     let at-struct-known2 = at-struct-known3 .before in
     let at-struct-known = at-struct-known2 .before in
     let at-term = at-struct-known .before in
     plain-holds (at-term .term .ensures) (omega (arith, at-struct-known .struct-known .given)) (omega (arith, at-struct-known2 .struct-known2 .given))
-    (omega (arith, at-struct-known3 .struct-known3 .given)) (c .before .before .if1 .left) (omega (arith, c .before .struct-known6 .given))
-    (omega (arith, c .struct-known7 .given))
+    (omega (arith, at-struct-known3 .struct-known3 .given)) (at-if1 .if1 .left) (c .before .before .if2 .left) (omega (arith, c .before .struct-known7 .given))
+    (omega (arith, c .struct-known8 .given))
 
 pub term-word-spec : {M : Type 1} → statement M
 term-word-spec =
@@ -99,10 +121,15 @@ term-word-spec =
     mul-result
     add-result
     returns
+    guard-requires
     cast-result-2
     mul-result-2
     add-result-2
+    returns-2
     cast-result-3
     mul-result-3
     add-result-3
-    returns-2)
+    cast-result-4
+    mul-result-4
+    add-result-4
+    returns-3)

@@ -1,5 +1,5 @@
--- `of_outcome` gives the registers that `registersOf` says, by case: a stop as the cause and term that `of_stop` tells (stop-registers), an end as a boolean (bool-registers) or
--- a number (num-registers). The calls fit, since they are at most 4,096.
+-- `of_outcome` gives the registers that `registersOf` says, by case: a stop as the cause and term that `of_stop` tells (stop-registers), an end as a boolean
+-- (bool-registers) or a number (num-registers). The calls fit, since they are at most 4,096.
 use borrow.Author.Needs.{needs}
 use mathlib.Core.Path.{_∙_, ap}
 use Rattle.interp.specs.declared.answer.Value.{Value}

@@ -25,7 +25,7 @@ loop-holds c =
     (omega arith, (start .pre .counts-are .terms-are, lowest-starts (termOk (start .args .s .now)) (start .args .c .terms)))
 
 shape-at-requires : tie.Need-shape-at-requires Inv-loop μ-loop
-shape-at-requires c κs = c .before .before .before .pre
+shape-at-requires c κs = (c .before .before .before .pre, omega (arith, c .loop-test .taken, c .before .loop .inv .1 .0))
 
 is-wrong-requires : tie.Need-is-wrong-requires Inv-loop μ-loop
 is-wrong-requires c κs = search needs

@@ -13,7 +13,7 @@ shape-of-requires c κs = search needs
 returns : tie.Need-returns
 returns c =
     let start = c .before .before .before in
-    shape-is (start .args .s .now) (start .args .c) (start .args .t) (start .pre) (c .before .term .ensures) (c .shape-of .ensures)
+    shape-is (start .args .s .now) (start .args .c) (start .args .t) (start .pre .0) (start .pre .1) (c .before .term .ensures) (c .shape-of .ensures)
 
 pub shape-at-spec : {M : Type 1} → statement M
 shape-at-spec = tie.close (tie.spec term-requires shape-of-requires returns)

@@ -42,54 +42,54 @@ shape-if-requires-11 c κs = search needs
 returns : tie.Need-returns
 returns c =
     let start = c .before .before in
-    at-kind (start .args .c .principals) (start .args .c .types) (start .args .t) (start .args .r) 0 (c .before .match .keys1) (c .shape-if .ensures)
+    at-kind (start .args .c) (start .args .t) (start .args .r) 0 (c .before .match .keys1) (c .shape-if .ensures)
 
 returns-2 : tie.Need-returns-2
 returns-2 c =
     let start = c .before .before in
-    at-kind (start .args .c .principals) (start .args .c .types) (start .args .t) (start .args .r) 3 (c .before .match .keys2) (c .shape-if2 .ensures)
+    at-kind (start .args .c) (start .args .t) (start .args .r) 3 (c .before .match .keys2) (c .shape-if2 .ensures)
 
 returns-3 : tie.Need-returns-3
 returns-3 c =
     let start = c .before .before in
-    at-kind (start .args .c .principals) (start .args .c .types) (start .args .t) (start .args .r) 4 (c .before .match .keys3) (c .shape-if3 .ensures)
+    at-kind (start .args .c) (start .args .t) (start .args .r) 4 (c .before .match .keys3) (c .shape-if3 .ensures)
 
 returns-4 : tie.Need-returns-4
 returns-4 c =
     let start = c .before .before in
-    at-kind (start .args .c .principals) (start .args .c .types) (start .args .t) (start .args .r) 5 (c .before .match .keys4) (c .shape-if4 .ensures)
+    at-kind (start .args .c) (start .args .t) (start .args .r) 5 (c .before .match .keys4) (c .shape-if4 .ensures)
 
 returns-5 : tie.Need-returns-5
 returns-5 c =
     let start = c .before .before in
-    at-kind (start .args .c .principals) (start .args .c .types) (start .args .t) (start .args .r) 6 (c .before .match .keys5) (c .shape-if5 .ensures)
+    at-kind (start .args .c) (start .args .t) (start .args .r) 6 (c .before .match .keys5) (c .shape-if5 .ensures)
 
 returns-6 : tie.Need-returns-6
 returns-6 c =
     let start = c .before .before .before in
-    at-kind (start .args .c .principals) (start .args .c .types) (start .args .t) (start .args .r) 9 (c .before .before .match .keys6) (c .shape-if6 .ensures)
+    at-kind (start .args .c) (start .args .t) (start .args .r) 9 (c .before .before .match .keys6) (c .shape-if6 .ensures)
 
 returns-7 : tie.Need-returns-7
 returns-7 c =
     let start = c .before .before in
-    at-kind (start .args .c .principals) (start .args .c .types) (start .args .t) (start .args .r) 10 (c .before .match .keys7) (c .shape-if7 .ensures)
+    at-kind (start .args .c) (start .args .t) (start .args .r) 10 (c .before .match .keys7) (c .shape-if7 .ensures)
 
 returns-8 : tie.Need-returns-8
 returns-8 c =
-    let start = c .before .before in
-    at-kind (start .args .c .principals) (start .args .c .types) (start .args .t) (start .args .r) 14 (c .before .match .keys8) (c .shape-if8 .ensures)
+    let start = c .before .before .before in
+    at-kind (start .args .c) (start .args .t) (start .args .r) 14 (c .before .before .match .keys8) (c .shape-if8 .ensures)
 
 returns-9 : tie.Need-returns-9
 returns-9 c =
     let start = c .before .before .before in
-    kinds-1-2 (start .args .c .principals) (start .args .c .types) (start .args .t) (start .args .r)
+    kinds-1-2 (start .args .c) (start .args .t) (start .args .r)
     (omega (arith, (c .before .before .match .rest .0 .0 .0 .0 .0 .0 .0 .1))) (c .before .if1 .taken) (c .shape-if9 .ensures)
 
 returns-10 : tie.Need-returns-10
 returns-10 c =
     let at-match = c .before .before .before in
     let start = at-match .before in
-    kinds-7-8 (start .args .c .principals) (start .args .c .types) (start .args .t) (start .args .r)
+    kinds-7-8 (start .args .c) (start .args .t) (start .args .r)
     (omega (
       arith,
       c .before .before .if1 .left,
@@ -103,14 +103,14 @@ returns-11 : tie.Need-returns-11
 returns-11 c =
     let at-match = c .before .before .before .before in
     let start = at-match .before in
-    kinds-11-13 (start .args .c .principals) (start .args .c .types) (start .args .t) (start .args .r)
+    kinds-11-13 (start .args .c) (start .args .t) (start .args .r)
     (omega (arith, c .before .before .if2 .left, (at-match .match .rest .0 .0 .1), (at-match .match .rest .0 .1))) (c .before .if3 .taken)
     (c .shape-if11 .ensures)
 
 returns-12 : tie.Need-returns-12
 returns-12 c =
     let start = c .before .before .before .before in
-    kinds-above (start .args .c .principals) (start .args .c .types) (start .args .t) (start .args .r)
+    kinds-above (start .args .c) (start .args .t) (start .args .r)
     (omega (arith, c .if3 .left, (c .before .before .before .match .rest .1)))
 
 pub shape-of-spec : {M : Type 1} → statement M

@@ -1,17 +1,17 @@
--- `fill_posts` has no contract. Shown is that no index is out of bounds, that nothing overflows, and that the loop ends. The invariant: `a` keeps its length.
+-- `fill_numbers` has no contract. Shown is that no index is out of bounds, that nothing overflows, and that the loop ends. The invariant: `a` keeps its length.
 -- The measure is the number of places left, that length less i, and falls since each turn adds 1 to i.
 use mathlib.Core.Path.{_≡_, refl, _∙_}
 use Prim.Native.Nat.{ℕ, _-_}
 use native.Mathlib.Omega.{arith}
 use lib.ListN.{length, length-set}
-use Rattle.vectors.proofs.buffers.fill_posts.Statement.{statement}
-use Rattle.vectors.proofs.buffers.fill_posts.Tie as tie
+use Rattle.vectors.proofs.buffers.fill_numbers.Statement.{statement}
+use Rattle.vectors.proofs.buffers.fill_numbers.Tie as tie
 
 abbrev Inv-loop : tie.InvT-loop
-Inv-loop a₀ v₀ i₀ a v i = length a ≡ length a₀
+Inv-loop a₀ first step v₀ i₀ a v i = length a ≡ length a₀
 
 abbrev μ-loop : tie.MeasureT-loop
-μ-loop a₀ v₀ i₀ a v i = length a₀ - i
+μ-loop a₀ first step v₀ i₀ a v i = length a₀ - i
 
 loop-holds : tie.Need-loop-holds Inv-loop μ-loop
 loop-holds c = refl
@@ -22,8 +22,8 @@ mul-a c = omega (arith, c .loop-test .taken)
 slice-write-a : tie.Need-slice-write-a Inv-loop μ-loop
 slice-write-a c = omega (arith, c .loop-test .taken)
 
-wrapping-add-u16-requires : tie.Need-wrapping-add-u16-requires Inv-loop μ-loop
-wrapping-add-u16-requires c κs = tt
+wrapping-add-u32-requires : tie.Need-wrapping-add-u32-requires Inv-loop μ-loop
+wrapping-add-u32-requires c κs = tt
 
 add-i : tie.Need-add-i Inv-loop μ-loop
 add-i c = omega (arith, c .before .loop-test .taken)
@@ -42,8 +42,8 @@ same-length c = c .before .loop .inv
 returns : tie.Need-returns Inv-loop μ-loop
 returns c = tt
 
-pub fill-posts-spec : {M : Type 1} → statement M
-fill-posts-spec =
+pub fill-numbers-spec : {M : Type 1} → statement M
+fill-numbers-spec =
     tie.close
     (tie.spec
     Inv-loop
@@ -51,7 +51,7 @@ fill-posts-spec =
     loop-holds
     mul-a
     slice-write-a
-    wrapping-add-u16-requires
+    wrapping-add-u32-requires
     add-i
     loop-less
     loop-again

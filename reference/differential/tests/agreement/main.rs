@@ -1,7 +1,10 @@
 //! Every generated sheet, asked of the library and of the reference: they
 //! return the same, and every number in and around every buffer is the same.
 
+mod guards;
+
 use differential::{settings, Asked, Buffers, Entry, Library, Reference, ANSWER_NUMBERS};
+use guards::{Counts, Told};
 use sheets::generate::sample;
 use sheets::hex;
 use sheets::request::Request;
@@ -21,6 +24,7 @@ struct Reached {
     tally: Tally,
     /// Sheets accepted that were refused before W4.
     by_fitting_branches: usize,
+    guards: Counts,
 }
 
 fn main() -> ExitCode {
@@ -41,6 +45,7 @@ fn main() -> ExitCode {
     }
     let seconds = begun.elapsed().as_secs_f64();
     println!("{}", reached.tally);
+    println!("{}", reached.guards.0);
     println!(
         "{} sheets accepted for branches that fit",
         reached.by_fitting_branches
@@ -65,6 +70,11 @@ fn reached_everything(reached: &Reached) -> ExitCode {
     }
     if reached.by_fitting_branches < ENOUGH {
         println!("too few sheets with branches that fit, {ENOUGH} are asked");
+        return ExitCode::FAILURE;
+    }
+    let never = reached.guards.never();
+    if !never.is_empty() {
+        println!("never happened: {never:?}");
         return ExitCode::FAILURE;
     }
     ExitCode::SUCCESS
@@ -92,8 +102,14 @@ fn compare(seed: u64, index: u64, reached: &mut Reached) -> Result<(), String> {
         };
         let answer = random_answer_length(rng);
         let buffers = Buffers::random(rng, entry, &request, answer);
-        let buffers = ask_both(&asked, buffers)?;
+        let (returned, buffers) = ask_both(&asked, buffers)?;
         if let Some(answer) = buffers.answer() {
+            reached.guards.count(&Told {
+                asked: &asked,
+                returned,
+                answer,
+                posts: buffers.posts.contents(),
+            });
             match entry {
                 Entry::Decode => {}
                 Entry::Typecheck => reached.count_judged(&sample.bytes, answer),
@@ -127,13 +143,13 @@ fn random_answer_length(rng: &mut Rng) -> usize {
     }
 }
 
-/// Gives what both left in the buffers, or tells how they differ.
-fn ask_both(asked: &Asked, buffers: Buffers) -> Result<Buffers, String> {
+/// Gives what both returned and left in the buffers, or tells how they differ.
+fn ask_both(asked: &Asked, buffers: Buffers) -> Result<(u32, Buffers), String> {
     let (mut library, mut reference) = (buffers.clone(), buffers);
     let library_status = asked.of::<Library>(&mut library);
     let reference_status = asked.of::<Reference>(&mut reference);
     if library_status == reference_status && library == reference {
-        return Ok(library);
+        return Ok((library_status, library));
     }
     Err(format!(
         "the implementations differ\n\

@@ -1,10 +1,10 @@
--- `mix_frames` has no contract. Shown is that no index is out of bounds, that nothing overflows, and that the loop ends. The invariant is empty: the test
+-- `mix_numbers` has no contract. Shown is that no index is out of bounds, that nothing overflows, and that the loop ends. The invariant is empty: the test
 -- bounds the index. The measure is the count of numbers left, the length of `a` less i, and falls since each turn adds 1 to i.
 use Prim.Native.Nat.{_-_}
 use native.Mathlib.Omega.{arith}
 use lib.ListN.{length}
-use Rattle.vectors.proofs.buffers.mix_frames.Statement.{statement}
-use Rattle.vectors.proofs.buffers.mix_frames.Tie as tie
+use Rattle.vectors.proofs.buffers.mix_numbers.Statement.{statement}
+use Rattle.vectors.proofs.buffers.mix_numbers.Tie as tie
 
 abbrev Inv-loop : tie.InvT-loop
 Inv-loop h a sum₀ i₀ sum i = Unit {0}
@@ -36,8 +36,8 @@ loop-again c = tt
 returns : tie.Need-returns Inv-loop μ-loop
 returns c = tt
 
-pub mix-frames-spec : {M : Type 1} → statement M
-mix-frames-spec =
+pub mix-numbers-spec : {M : Type 1} → statement M
+mix-numbers-spec =
     tie.close
     (tie.spec
     Inv-loop
