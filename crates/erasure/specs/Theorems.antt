@@ -1,6 +1,6 @@
--- The theorems about erasure: what it answers and what it leaves in the buffer; that the sheet it writes is read, accepted with the old type and no needs, and
--- runs like the old one; and that types are merged exactly where their records become equal, with the old order kept. Claims.antt says what "like" means.
-use mathlib.Core.Bool.{Bool, true, false}
+-- The theorems about erasure: that the lean sheet is read, accepted with the old type and no needs, and runs like the old one; what erasure answers and what
+-- it leaves in the buffer; and that types are merged exactly where their records become equal, with the old order kept. Claims.antt says what "like" means.
+use mathlib.Core.Bool.{Bool, true, false, _&&_}
 use mathlib.Core.List.{List}
 use mathlib.Core.Logic.{_↔_}
 use mathlib.Core.Path.{_≡_, refl, sym, ap, _∙_, subst}
@@ -11,29 +11,34 @@ use lib.ListN.{length, take, drop, length-append, length-drop}
 use lib.Seq.{take-append-seam, drop-append-seam}
 use borrow.Author.Tests.{eqb-true, leb-true, leb-false, lt-leb}
 use Rattle.privileges.specs.Booleans.{and-left, and-right}
-use Rattle.program.specs.Layout.{version, types, terms}
+use Rattle.program.specs.Bytes.{byte}
+use Rattle.program.specs.Layout.{version, typeField, types, terms, root, first, typesOf}
 use Rattle.program.specs.Decoding.{Readable}
-use Rattle.program.specs.Laws.Readable.{well-formed}
+use Rattle.program.specs.Laws.Readable.{WellFormed, well-formed}
 use Rattle.typing.specs.Verdicts.{Verdict, accepted, rejected, verdict}
 use Rattle.typing.specs.Theorems.{acceptance}
 use Rattle.semantics.specs.Runs.{Request, Buffers, run}
 use Rattle.semantics.specs.Theorems.{Starts}
 use Rattle.soundness.specs.Claims.{GrantsSet, Comparable}
-use Rattle.erasure.specs.Lean.{keptType, newType, keptTerm, newTerms, newTerm, typeBytes, leanSheet, untested, erasable}
+use Rattle.erasure.specs.Lean.{keptType, newTypes, newType, idle, keptTerm, newTerms, newTerm, typeBytes, leanSheet, untested, erasable}
 use Rattle.erasure.specs.Erasure.{Answer, refused, lean, ifRoom, ifErasable, erased, erasure}
 use Rattle.erasure.specs.Claims.{LikeRun}
-use Rattle.erasure.specs.Laws.Kept.{kept-strict}
-use Rattle.erasure.specs.Laws.Bytes.{terms-are}
+use Rattle.erasure.specs.Laws.Kept.{kept-strict, old-of}
+use Rattle.erasure.specs.Laws.Bytes.{copied, types-are, terms-are, type-latent, term-kind}
 use Rattle.erasure.specs.Laws.Sheets.{lean-accepted, starts-alike, lean-runs}
 use Rattle.erasure.specs.Laws.Types.{merged-exactly, kept-exactly, number-kept}
-use Rattle.erasure.specs.Laws.Terms.{term-kept}
+use Rattle.erasure.specs.Laws.Terms.{kept-idle, term-kept, term-idle, new-root}
 use Rattle.erasure.specs.Laws.Programs.{lean-is-leaner}
 
 -- ---- Theorem 1: the lean sheet
--- 02, W9: "The new sheet is accepted with type unchanged and no needs. From a stack that grants the old needs, where neither run is refused, it ends or stops
--- as the old one does, with the same posts and counts under the same allowances and buffers; a stop tells the old term's new number." Each run is of either
--- runner, with checks in force or passed over, whatever the buffers hold and however long a frame store is.
+-- 02, W9: "a sheet with its checks and enables gone and every latent set empty", with version and principals copied. "The new sheet is accepted with type
+-- unchanged and no needs. From a stack that grants the old needs, where neither run is refused, it ends or stops as the old one does, with the same posts and
+-- counts under the same allowances and buffers; a stop tells the old term's new number." Each run is of either runner, with checks in force or passed over,
+-- whatever the buffers hold and however long a frame store is.
 pub record LeanOf (s new : List ℕ) (τ N : ℕ) : Type 0 where
+  pub copied-front : (i : ℕ) → i < typeField s → byte new i ≡ byte s i
+  pub empty-latent : (t : ℕ) → t < types new → typesOf new .latent t ≡ 0
+  pub none-idle : (t : ℕ) → t < terms new → idle new t ≡ false
   pub readable : Readable new
   pub accepted-without-needs : verdict new ≡ accepted (newTerms s) τ 0
   -- a run of either is refused where one of the other is
@@ -49,14 +54,32 @@ erasable-untested : (s : List ℕ) → erasable s ≡ true → untested s (terms
 unfolding erasable
 erasable-untested s h = and-right (eqb (version s) 1) (untested s (terms s)) h
 
+module _ (s : List ℕ) (w : WellFormed s) where
+  latent-gone : (t : ℕ) → t < types (leanSheet s) → typesOf (leanSheet s) .latent t ≡ 0
+  unfolding newTypes
+  latent-gone t h =
+      let o = old-of (keptType s) (types s) t (omega (arith, types-are s w)) in
+      subst (λ (x : ℕ). typesOf (leanSheet s) .latent x ≡ 0) (o .number) (type-latent s w (o .old) (o .kept) (o .below))
+
+  idle-left : (t : ℕ) → t < terms (leanSheet s) → idle (leanSheet s) t ≡ false
+  unfolding newTerms
+  idle-left t h =
+      let o = old-of (keptTerm s) (terms s) t (omega (arith, terms-are s w)) in
+      subst (λ (x : ℕ). idle (leanSheet s) x ≡ false) (o .number)
+      (ap (λ (k : ℕ). leb 7 k && leb k 8) (term-kind s w (o .old) (o .kept) (o .below)) ∙ kept-idle s (o .old) (o .kept))
+
 pub lean-sheet : (s : List ℕ) (n τ N : ℕ) → verdict s ≡ accepted n τ N → erasable s ≡ true → LeanOf s (leanSheet s) τ N
 lean-sheet s n τ N e h =
     let r = acceptance s n τ N e .readable in
+    let w = well-formed s r in
     let L = lean-is-leaner s r (erasable-version s h) (erasable-untested s h) in
     record {
+      copied-front = copied s w;
+      empty-latent = latent-gone s w;
+      none-idle = idle-left s w;
       readable = L .readable;
       accepted-without-needs = lean-accepted s (leanSheet s) (newType s) (newTerm s) L n τ N e
-          ∙ ap (λ (k : ℕ). accepted k τ 0) (terms-are s (well-formed s r));
+          ∙ ap (λ (k : ℕ). accepted k τ 0) (terms-are s w);
       starts = starts-alike s (leanSheet s) (newType s) (newTerm s) L r;
       runs = λ x y b d c g sx sy. lean-runs s (leanSheet s) (newType s) (newTerm s) L x y b d c n τ N e g sx sy;
     }
@@ -151,14 +174,16 @@ written-sheet s b n e =
     subst (λ (new : List ℕ). LeanOf s new (r .type) (r .needs)) (sym (r .written-is))
     (lean-sheet s (r .terms-told) (r .type) (r .needs) (r .old-accepted) (r .old-erasable))
 
--- ---- Theorem 3: which records are merged
+-- ---- Theorem 3: the new numbers
 -- "Type records that become equal are merged into the first of them, and types and terms keep their old order." `typeBytes s t` is what the record of t
--- becomes, whether it is kept or not.
+-- becomes, whether it is kept or not. A check or an enable has its inner term's new number, so that this one stands in its place as a child.
 pub record Merging (s : List ℕ) : Type 0 where
   pub merged : (t u : ℕ) → t < types s → u < types s → (typeBytes s t ≡ typeBytes s u) ↔ (newType s t ≡ newType s u)
   pub first-kept : (t : ℕ) → t < types s → (keptType s t ≡ true) ↔ ((u : ℕ) → u < t → typeBytes s u ≡ typeBytes s t → ⊥)
   pub types-in-order : (t u : ℕ) → keptType s t ≡ true → keptType s u ≡ true → t < u → newType s t < newType s u
   pub terms-in-order : (t u : ℕ) → keptTerm s t ≡ true → keptTerm s u ≡ true → t < u → newTerm s t < newTerm s u
+  pub inner-stands : (t : ℕ) → t < terms s → idle s t ≡ true → newTerm s t ≡ newTerm s (first s t)
+  pub root-last : newTerm s (root s) ≡ root (leanSheet s)
 
 pub merging : (s : List ℕ) → Readable s → Merging s
 merging s r =
@@ -168,4 +193,6 @@ merging s r =
       first-kept = kept-exactly s w;
       types-in-order = λ t u k g l. omega (arith, number-kept s w t k, number-kept s w u g, kept-strict (keptType s) t u k l);
       terms-in-order = λ t u k g l. omega (arith, term-kept s w t k, term-kept s w u g, kept-strict (keptTerm s) t u k l);
+      inner-stands = term-idle s w;
+      root-last = new-root s w;
     }

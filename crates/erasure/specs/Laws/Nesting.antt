@@ -3,9 +3,8 @@ use mathlib.Core.Bool.{Bool, true, false, cond, _&&_, false≢true}
 use mathlib.Core.List.{List}
 use mathlib.Core.Logic.{⊎-elim}
 use mathlib.Core.Path.{_≡_, refl, sym, ap, _∙_, subst}
-use Prim.Native.Nat.{ℕ, zero, suc, _+_, _<_, _≤_}
+use Prim.Native.Nat.{ℕ, zero, suc, _+_, _<_}
 use native.Mathlib.Decide.{ℕ-discrete}
-use native.Mathlib.Nat.{eq-or-lt-of-le}
 use native.Mathlib.Omega.{arith}
 use lib.Dec.{eqb}
 use borrow.Author.Tests.{eqb-true, eqb-false, eq-eqb, ne-eqb}
@@ -15,7 +14,7 @@ use Rattle.program.specs.Layout.{terms, root, kindByte, first, second, third}
 use Rattle.program.specs.Formats.{isChild, Kind, Check, Enable, kindOf, format}
 use Rattle.program.specs.Decoding.{formatAt, timesIn, timesBelow, parent, nestedIn}
 use Rattle.program.specs.Laws.Readable.{WellFormed}
-use Rattle.program.specs.Laws.Nesting.{one-parent}
+use Rattle.program.specs.Laws.Nesting.{one-parent, pick, parent-is, nested-more}
 use Rattle.program.specs.Laws.Trees.{root-lower}
 use Rattle.erasure.specs.Kept.{keptBelow}
 use Rattle.erasure.specs.Lean.{idle, keptTerm, inner, newTerms, newTerm, leanSheet}
@@ -24,26 +23,7 @@ use Rattle.erasure.specs.Laws.Bytes.{terms-are}
 use Rattle.erasure.specs.Laws.Terms.{idle-named, idle-kept, inner-of, term-kept, term-idle, term-in, root-kept, new-root}
 use Rattle.erasure.specs.Laws.Places.{stands-child, new-times-in, new-times}
 
--- ---- parents, of any bytes
-times-least : (s : List ℕ) (x n t : ℕ) → t < n → timesIn s x t ≤ timesBelow s x n
-times-least s x zero t h = absurd (omega arith)
-times-least s x (suc n) t h =
-    ⊎-elim (λ e. let q = ap (timesIn s x) e in omega arith) (λ l. let q = times-least s x n t l in omega arith) (eq-or-lt-of-le {n = t} {m = n} (omega arith))
-
-abbrev pick : Bool → (a b : ℕ) → ℕ
-pick e a b = elim e [ true ↦ a | false ↦ b ]
-
--- the parent that is found is the only term that has x as a child
-parent-is : (s : List ℕ) (x n t : ℕ) → timesBelow s x n ≡ 1 → t < n → 0 < timesIn s x t → parent s x n ≡ t
-parent-is s x zero t p h g = absurd (omega arith)
-parent-is s x (suc n) t p h g =
-    ⊎-elim
-    (λ e. let q = ap (timesIn s x) e in ap (λ (b : Bool). pick b (parent s x n) n) (ne-eqb (timesIn s x n) 0 (λ z. omega arith)) ∙ sym e)
-    (λ l. let q = times-least s x n t l in
-    ap (λ (b : Bool). pick b (parent s x n) n) (eq-eqb (timesIn s x n) 0 (omega arith)) ∙ parent-is s x n t (omega arith) l g)
-    (eq-or-lt-of-le {n = t} {m = n} (omega arith))
-
--- and it has x as a child
+-- the parent that is found has x as a child
 record Parent (s : List ℕ) (x n p : ℕ) : Type 0 where
   below : p < n
   has-child : 0 < timesIn s x p
@@ -58,15 +38,6 @@ parent-has s x (suc n) h = go (eqb (timesIn s x n) 0) refl (parent-has s x n)
         let r = rest (omega arith) in
         record { below = omega (arith, r .below); has-child = r .has-child }
     go false e rest = let z : (timesIn s x n ≡ 0 → ⊥) = eqb-false (timesIn s x n) 0 e in record { below = omega arith; has-child = omega (arith, z) }
-
-more : (b x y : Bool) → (x ≡ true → y ≡ true) → orElse b (λ _. x) ≡ true → orElse b (λ _. y) ≡ true
-more true x y h p = refl
-more false x y h p = h p
-
-nested-more : (s : List ℕ) (k t : ℕ) → nestedIn s k t ≡ true → nestedIn s (suc k) t ≡ true
-nested-more s zero t h = absurd (false≢true h)
-nested-more s (suc k) t h = more (eqb t (root s)) (nestedIn s k (parent s t (terms s))) (nestedIn s (suc k) (parent s t (terms s)))
-    (nested-more s k (parent s t (terms s))) h
 
 module _ (s : List ℕ) (w : WellFormed s) where
   -- a check or enable has one child
