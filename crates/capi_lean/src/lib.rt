@@ -1,4 +1,5 @@
-// The lean sheet, for C: it goes into a lent buffer. include/sovzedal.h documents each argument.
+// The lean sheet, for C: it goes into a lent buffer. include/sovzedal.h documents each argument, and specs/Theorems.antt says what a call tells of the sheet
+// that then stands there.
 ghost use mathlib.Core.Path.{_≡_};
 ghost use Rattle.replies.specs.Internal.{replyOf};
 ghost use Rattle.erasure.specs.Answers.{erasedModel};

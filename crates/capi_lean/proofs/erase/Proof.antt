@@ -1,4 +1,5 @@
--- `erase` returns 3 and leaves everything as it was where the list for the answer is shorter than eight (away). Else the buffer is as `lean::erase` leaves it, and `put` leaves the reply (given).
+-- `erase` returns 3 and leaves everything as it was where the list for the answer is shorter than eight (away). Else the buffer is as `lean::erase` leaves
+-- it, and `put` leaves the reply (given).
 use borrow.Author.Needs.{needs}
 use Rattle.capi_lean.proofs.EntryLaws.{away, given}
 use Rattle.capi_lean.proofs.erase.Statement.{statement}
