@@ -24,7 +24,7 @@ use Rattle.erasure.specs.Lean.{keptType, newTypes, newType, idle, keptTe
 use Rattle.erasure.specs.Erasure.{Answer, refused, lean, ifRoom, ifErasable, erased, erasure}
 use Rattle.erasure.specs.Claims.{LikeRun}
 use Rattle.erasure.specs.Laws.Kept.{kept-strict, old-of}
-use Rattle.erasure.specs.Laws.Bytes.{copied, types-are, terms-are, type-latent, term-kind}
+use Rattle.erasure.specs.Laws.Bytes.{copied, types-are, terms-are, lean-shorter, type-latent, term-kind}
 use Rattle.erasure.specs.Laws.Sheets.{lean-accepted, starts-alike, lean-runs}
 use Rattle.erasure.specs.Laws.Types.{merged-exactly, kept-exactly, number-kept}
 use Rattle.erasure.specs.Laws.Terms.{kept-idle, term-kept, term-idle, new-root}
@@ -83,6 +83,10 @@ lean-sheet s n τ N e h =
       starts = starts-alike s (leanSheet s) (newType s) (newTerm s) L r;
       runs = λ x y b d c g sx sy. lean-runs s (leanSheet s) (newType s) (newTerm s) L x y b d c n τ N e g sx sy;
     }
+
+-- A buffer as long as the sheet has room for its lean sheet.
+pub never-longer : (s : List ℕ) (n τ N : ℕ) → verdict s ≡ accepted n τ N → length (leanSheet s) ≤ length s
+never-longer s n τ N e = lean-shorter s (well-formed s (acceptance s n τ N e .readable))
 
 -- ---- Theorem 2: what erasure answers
 -- A refusal leaves the buffer as it was. Otherwise the sheet was accepted, of version 1 and without tests; its lean sheet stands in the buffer, as long as

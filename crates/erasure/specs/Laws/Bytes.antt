@@ -2,7 +2,7 @@
 use mathlib.Core.Bool.{true}
 use mathlib.Core.List.{List, [], _∷_, _++_}
 use mathlib.Core.Path.{_≡_, refl, sym, ap, _∙_}
-use Prim.Native.Nat.{ℕ, _+_, _*_, _/_, _%_, _<_}
+use Prim.Native.Nat.{ℕ, _+_, _*_, _/_, _%_, _<_, _≤_}
 use native.Mathlib.Nat.{div-add-mod'}
 use native.Mathlib.Omega.{arith}
 use lib.ListN.{length, take, length-append, List·getD-append}
@@ -13,7 +13,7 @@ use Rattle.program.specs.Decoding.{formatAt}
 use Rattle.program.specs.Laws.Readable.{WellFormed}
 use Rattle.erasure.specs.Kept.{keptBelow, gather}
 use Rattle.erasure.specs.Lean.{keptType, newTypes, newType, keptTerm, newTerms, bytes16, typeBytes, newPart, termBytes, typePart, termPart, leanSheet}
-use Rattle.erasure.specs.Laws.Kept.{gather-length, gather-inside, gather-at}
+use Rattle.erasure.specs.Laws.Kept.{kept-most, gather-length, gather-inside, gather-at}
 
 -- a number is read as it is written
 pub written16 : (x : ℕ) → x / 256 * 256 + x % 256 ≡ x
@@ -113,6 +113,11 @@ module _ (s : List ℕ) (w : WellFormed s) where
   -- the length that is told
   pub lean-size : length (leanSheet s) ≡ 14 + 4 * principals s + 10 * newTypes s + 8 * newTerms s
   lean-size = lean-length ∙ omega (arith, termField-is)
+
+  -- nothing is added, so that a buffer as long as the sheet has room
+  pub lean-shorter : length (leanSheet s) ≤ length s
+  unfolding newTypes newTerms
+  lean-shorter = omega (arith, lean-size, w .terms-inside, kept-most (keptType s) (types s), kept-most (keptTerm s) (terms s))
 
   pub term-byte : (t : ℕ) → keptTerm s t ≡ true → t < terms s → (j : ℕ) → j < 8
       → byte (leanSheet s) (termAt (leanSheet s) (keptBelow (keptTerm s) t) + j) ≡ byte (termBytes s t) j
