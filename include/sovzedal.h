@@ -1,5 +1,5 @@
-/* Sovzedal: rule sheets decoded, type-checked and run, with or without their checks; why a sheet needs a privilege; a block of registers for a
- * controller that has sheets run; and four lines on which jobs wait to be run in turn.
+/* Sovzedal: rule sheets decoded, type-checked and run, with or without their checks; why a sheet needs a privilege; the lean form of a sheet; a block
+ * of registers for a controller that has sheets run; and four lines on which jobs wait to be run in turn.
  *
  * For x86-64. Link libsovzedal.a (README.md, "Embed it", has the command that writes it). Of the C library it needs memcpy and memset alone: no heap,
  * no system call, no global state, so that calls on buffers of their own may be made from several threads. A run recurses: SOVZEDAL_STACK bytes of
@@ -8,35 +8,36 @@
  * What the proof assumes of a C caller, for every function here:
  *   - each pointer is valid for as many elements as the length after it says, and is aligned for its type; with a length of 0 nothing is read or
  *     written through it, and it may be null;
- *   - no buffer that a function writes (`answer`, `cells`, `posts`, `frames`, `block`, `lines`, `chain`) overlaps another argument, and nobody else
- *     writes to any of them or to `sheet`, `start` and `store` until the call returns;
+ *   - no buffer that a function writes (`answer`, `cells`, `posts`, `frames`, `block`, `lines`, `chain`, `lean`) overlaps another argument, and
+ *     nobody else writes to any of them or to `sheet`, `start` and `store` until the call returns;
  *   - no length exceeds PTRDIFF_MAX bytes.
  * Under these each function does exactly what is said here, on any contents.
  *
  * Every function returns
  *   SOVZEDAL_OK       0  the sheet is readable, or accepted, or the run ended; or the register was read or written; or the job was added; or the
- *                        privilege is explained, or not needed;
+ *                        privilege is explained, or not needed; or the lean sheet is written;
  *   SOVZEDAL_STOPPED  1  the run was stopped, for one of the causes 17 to 22;
- *   SOVZEDAL_REFUSED  2  refused, for one of the causes 1 to 16 and 24 to 31, or 23 for an address: every buffer but `answer` is as it was (but
+ *   SOVZEDAL_REFUSED  2  refused, for one of the causes 1 to 16 and 24 to 33, or 23 for an address: every buffer but `answer` is as it was (but
  *                        `lines` has given up a job that was served);
  *   SOVZEDAL_SHORT    3  `answer` or `chain` has fewer entries than are written, `block` is not of 16 bytes or `lines` not of 102 numbers: nothing was
  *                        done and nothing written anywhere;
  *   SOVZEDAL_IDLE     4  no line has a job: nothing was done, and every buffer but `answer` is as it was;
  * and writes exactly the first 8 entries of `answer`, sovzedal_lines_serve the first 9:
  *
- *   entry   decode, readable   typecheck, accepted   explain, accepted   run, ended or stopped    block, accessed     refused   name, SOVZEDAL_AT_..
- *   0       0                  0                     0                   0, or the stop's cause   0                   cause     CAUSE
- *   1       0                  0                     0                   0, or the stop's term    0                   place     PLACE
- *   2       0                  root's type           0                   type of an end's value   interrupt, 0 or 1   0 *       TYPE, INTERRUPT
- *   3       terms              terms                 chain's length      an end's value           byte read, or 0     0         VALUE, TERMS, LENGTH
- *   4       principals         0                     0                   calls made               0                   0         CALLS, PRINCIPALS
- *   5       types              0                     0                   cells made               0                   0         CELLS, TYPES
- *   6       0                  0                     0                   posts made               0                   0         POSTS
- *   7       0                  needs                 0                   0                        0                   0         NEEDS
- *   8                                                                    the line served **                           line **   LINE
+ *   entry   decode, readable   typecheck, accepted   explain, erase   run, ended or stopped    block, accessed     refused   name, SOVZEDAL_AT_..
+ *   0       0                  0                     0                0, or the stop's cause   0                   cause     CAUSE
+ *   1       0                  0                     0                0, or the stop's term    0                   place     PLACE
+ *   2       0                  root's type           0                type of an end's value   interrupt, 0 or 1   0 *       TYPE, INTERRUPT
+ *   3       terms              terms                 length **        an end's value           byte read, or 0     0         VALUE, TERMS, LENGTH
+ *   4       principals         0                     0                calls made               0                   0         CALLS, PRINCIPALS
+ *   5       types              0                     0                cells made               0                   0         CELLS, TYPES
+ *   6       0                  0                     0                posts made               0                   0         POSTS
+ *   7       0                  needs                 0                0                        0                   0         NEEDS
+ *   8                                                                 the line served ***                          line ***  LINE
  *
- *   *  with 23, as in the column before: whether the interrupt is raised after the access, 0 or 1.
- *   ** written by sovzedal_lines_serve alone, also of a job that is refused. All entries are zero of a job added, and all nine with SOVZEDAL_IDLE.
+ *   *   with 23, as in the column before: whether the interrupt is raised after the access, 0 or 1.
+ *   **  of the chain, in terms, or of the lean sheet, in bytes.
+ *   *** written by sovzedal_lines_serve alone, also of a job that is refused. All entries are zero of a job added, and all nine with SOVZEDAL_IDLE.
  *
  * Types: 0 is the boolean, 1 the number. Needs are a set of privileges: bit k, worth 2^k, stands for privilege k. docs/REFUSALS.md explains the causes.
  * An entry of a list of posts is channel * 65,536 + number: the lowest 16 bits are the number, and the others the channel, 0 to 15. A sheet of format 1
@@ -56,7 +57,7 @@ extern "C" {
 /* The version of this interface, and the latest format that it reads: sheets of format 1 are read, too. Before version 2 of the interface, lists of posts
  * had entries of 16 bits. */
 #define SOVZEDAL_VERSION_MAJOR 2
-#define SOVZEDAL_VERSION_MINOR 0
+#define SOVZEDAL_VERSION_MINOR 1
 #define SOVZEDAL_FORMAT 2
 
 /* What a function returns. */
@@ -76,7 +77,7 @@ enum {
     SOVZEDAL_AT_INTERRUPT = 2,   /* of a block: 1 if its interrupt is raised after the access, else 0 */
     SOVZEDAL_AT_VALUE = 3,       /* of a run that ended, or of a register that was read */
     SOVZEDAL_AT_TERMS = 3,       /* of a readable or accepted sheet */
-    SOVZEDAL_AT_LENGTH = 3,      /* of a chain, in terms; 0 if the privilege is not needed */
+    SOVZEDAL_AT_LENGTH = 3,      /* of a chain, in terms, 0 if the privilege is not needed; of a lean sheet, in bytes */
     SOVZEDAL_AT_CALLS = 4,       /* of a run */
     SOVZEDAL_AT_PRINCIPALS = 4,  /* of a readable sheet */
     SOVZEDAL_AT_CELLS = 5,       /* of a run */
@@ -93,7 +94,8 @@ enum {
 
 /* The causes, by the headings of docs/REFUSALS.md. 1 to 8 and 31 are told of a sheet that is not readable, 9 to 13 and 24 to 26 of one that the rules
  * refuse, 14 to 16 of a request to run one; 17 to 22 are stops; 23 is told of an address that a block does not have, 27 to 29 of a job that no line
- * takes, and 28 also of one whose turn comes when its part is no longer in the store; 30 is told of a privilege above 31. */
+ * takes, and 28 also of one whose turn comes when its part is no longer in the store; 30 is told of a privilege above 31; 32 is told of a sheet that has
+ * no lean form, and 33 of a buffer that is too short for it. */
 enum {
     SOVZEDAL_CUT_SHORT = 1,
     SOVZEDAL_WRONG_TAG = 2,
@@ -125,7 +127,9 @@ enum {
     SOVZEDAL_OUTSIDE = 28,
     SOVZEDAL_QUEUE_FULL = 29,
     SOVZEDAL_PRIVILEGE = 30,
-    SOVZEDAL_GUARD = 31
+    SOVZEDAL_GUARD = 31,
+    SOVZEDAL_NO_LEAN_FORM = 32,
+    SOVZEDAL_NO_ROOM = 33
 };
 
 enum {
@@ -192,7 +196,8 @@ static inline const char *sovzedal_cause_text(uint32_t cause)
         "not a function", "argument", "branches",
         "no such line", "outside the store", "queue full",
         "no such privilege",
-        "guard"
+        "guard",
+        "no lean form", "no room"
     };
     return cause < sizeof texts / sizeof texts[0] ? texts[cause] : "unknown";
 }
@@ -240,6 +245,24 @@ uint32_t sovzedal_explain(const uint8_t *sheet, size_t sheet_len,
                           uint32_t privilege,
                           uint16_t *chain, size_t chain_len,
                           uint32_t *answer, size_t answer_len);
+
+/* Writes the lean form of an accepted sheet that is of format 1 and has no test: the sheet without its checks and enables, and with every latent set
+ * empty. A term around a check or an enable has what is inside it for a child instead. Types whose records become equal are merged into the first of
+ * them. Types and terms keep their order and are numbered anew without gaps, so that a term's new number is its old one less the checks and enables
+ * before it. Principals stay as they are. The lean sheet is of format 1; sovzedal_typecheck accepts it, with the type of the old sheet and no needs.
+ *   sheet, sheet_len    the sheet and its length in bytes; only read
+ *   lean, lean_len      the buffer for the lean sheet and its length in bytes; as many as the sheet has are always enough. After SOVZEDAL_OK its first
+ *                       bytes are the lean sheet, and the others are as they were
+ *   answer, answer_len  the list for the answer and its length in entries; it tells the lean sheet's length
+ * Let a start stack grant what the old sheet needs. From there both sheets run alike, by either runner, checks enforced or skipped: with the same
+ * allowances and lengths of buffers they end in the same value or stop for the same cause, with the same posts and counts, and a stop of the lean sheet
+ * tells the new number of the old one's term. From another stack they need not: the old sheet may be stopped by 17 where the lean one, which has no checks
+ * left, goes on. So see to the old needs before the lean sheet is run in its place.
+ * Refusals, in this order: 1 to 13, 24 to 26 and 31, as of sovzedal_typecheck; 32, of a sheet of format 2 or with a test, whether a run comes to it or
+ * not; 33, of a buffer that is shorter than the lean sheet. The place of 32 and 33 is 0, and by each of these `lean` is as it was. */
+uint32_t sovzedal_erase(const uint8_t *sheet, size_t sheet_len,
+                        uint8_t *lean, size_t lean_len,
+                        uint32_t *answer, size_t answer_len);
 
 /* Runs a readable sheet, accepted or not, holding the set of granted privileges.
  *   sheet, sheet_len    the sheet and its length in bytes; only read

@@ -7,6 +7,7 @@ ghost use Rattle.replies.specs.Replies.{decodeReply, typecheckReply, replied, c
 ghost use Rattle.lines.specs.Answers.{jobOf};
 ghost use Rattle.capi_lines.specs.Entries.{linesAdd, leftAdd, linesServe, leftServe};
 ghost use Rattle.capi_explain.specs.Entries.{explainCall, leftExplain};
+ghost use Rattle.capi_lean.specs.Entries.{eraseCall, leftErase};
 ghost use Rattle.capi.specs.Blocks.{blockRead, leftBlock, blockWrite};
 
 mod block;
@@ -189,4 +190,13 @@ pub extern "C" fn sovzedal_explain(
         ≡ explainCall (now (sheet .entry)) privilege (now (chain .entry)) (now (answer .entry)) ⌝ }
 {
     capi_explain::explain(sheet, privilege, chain, answer)
+}
+
+// The lean sheet of an accepted one, at the front of a buffer.
+#[no_mangle]
+pub extern "C" fn sovzedal_erase(sheet: &[u8], lean: &mut [u8], answer: &mut [u32]) -> u32
+    ensures { λ r. ⌜ leftErase r (now (answer .exit)) (now (lean .exit))
+        ≡ eraseCall (now (sheet .entry)) (now (lean .entry)) (now (answer .entry)) ⌝ }
+{
+    capi_lean::erase(sheet, lean, answer)
 }

@@ -16,7 +16,7 @@ use std::process::ExitCode;
 use std::{env, fs};
 
 /// The headings of docs/REFUSALS.md, by their numbers.
-const CAUSES: [&str; 32] = [
+const CAUSES: [&str; 34] = [
     "none",
     "cut short",
     "wrong tag",
@@ -49,6 +49,8 @@ const CAUSES: [&str; 32] = [
     "queue full",
     "no such privilege",
     "guard",
+    "no lean form",
+    "no room",
 ];
 
 fn main() -> ExitCode {

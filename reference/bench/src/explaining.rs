@@ -1,13 +1,10 @@
 //! What it costs to explain a need that is as deep as can be, beside what it
 //! costs to judge the sheet.
 
+use crate::best_time;
 use differential::{Implementation, Library, Reference, Why, ANSWER_NUMBERS};
 use sheets::extremes::{costly_need, deep_calls, deep_need, NEEDED};
 use sheets::rng::Rng;
-use std::time::Instant;
-
-const REPEATS: u32 = 100;
-const ROUNDS: u32 = 21;
 
 pub fn print() {
     println!();
@@ -43,17 +40,4 @@ fn time<I: Implementation>(sheet: &[u8]) -> f64 {
     best_time(|| {
         why.ask::<I>(sheet, NEEDED.into());
     })
-}
-
-/// Seconds for one round of work, the best of several.
-fn best_time(mut work: impl FnMut()) -> f64 {
-    (0..ROUNDS)
-        .map(|_| {
-            let begun = Instant::now();
-            for _ in 0..REPEATS {
-                work();
-            }
-            begun.elapsed().as_secs_f64() / f64::from(REPEATS)
-        })
-        .fold(f64::INFINITY, f64::min)
 }

@@ -1,12 +1,14 @@
 //! Times the library against the reference: the same sheets, in one process,
 //! by turns, the best of several rounds.
 
+mod erasing;
 mod explaining;
 mod floor;
 mod timing;
 mod workload;
 
 use differential::Entry;
+use std::time::Instant;
 use timing::Bench;
 use workload::Workload;
 
@@ -28,6 +30,7 @@ fn main() {
         print_workload(&mut bench, &workload);
     }
     explaining::print();
+    erasing::print();
     floor::print();
 }
 
@@ -48,4 +51,18 @@ fn print_workload(bench: &mut Bench, workload: &Workload) {
             times.reference / times.library
         );
     }
+}
+
+/// Seconds for one piece of work, the best of several rounds of some.
+fn best_time(mut work: impl FnMut()) -> f64 {
+    const REPEATS: u32 = 100;
+    (0..timing::ROUNDS)
+        .map(|_| {
+            let begun = Instant::now();
+            for _ in 0..REPEATS {
+                work();
+            }
+            begun.elapsed().as_secs_f64() / f64::from(REPEATS)
+        })
+        .fold(f64::INFINITY, f64::min)
 }

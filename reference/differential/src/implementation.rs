@@ -22,8 +22,8 @@ pub struct RunArguments<'a> {
 }
 
 /// Each function returns 0 (readable, accepted, ended, a register read or
-/// written, a job added, or a need explained), 1 (stopped), 2 (refused), 3
-/// (`answer` is shorter than [`ANSWER_NUMBERS`] or [`SERVE_NUMBERS`], `block`
+/// written, a job added, a need explained, or a lean sheet written), 1
+/// (stopped), 2 (refused), 3 (`answer` is shorter than [`ANSWER_NUMBERS`] or [`SERVE_NUMBERS`], `block`
 /// isn't of 16 bytes, `lines` not of 102 numbers or `chain` is shorter than
 /// [`CHAIN_NUMBERS`]) or 4 (no line has a job).
 pub trait Implementation {
@@ -73,4 +73,6 @@ pub trait Implementation {
     ) -> u32;
 
     fn explain(sheet: &[u8], privilege: u32, chain: &mut [u16], answer: &mut [u32]) -> u32;
+
+    fn erase(sheet: &[u8], lean: &mut [u8], answer: &mut [u32]) -> u32;
 }

@@ -3,21 +3,25 @@
 
 mod asked;
 mod board;
+mod granting;
 mod happened;
 mod implementation;
 mod library;
 mod reference;
 pub mod settings;
+mod shipped;
 mod unit;
 mod why;
 
 pub use asked::{Asked, Buffers, Entry, Lent};
 pub use board::Board;
+pub use granting::granting_stack;
 pub use happened::Happened;
 pub use implementation::{
     Implementation, RunArguments, ANSWER_NUMBERS, CHAIN_NUMBERS, SERVE_NUMBERS,
 };
 pub use library::Library;
 pub use reference::Reference;
+pub use shipped::Shipped;
 pub use unit::Unit;
 pub use why::Why;

@@ -112,6 +112,15 @@ mod c {
             answer: *mut u32,
             answer_len: usize,
         ) -> u32;
+
+        pub fn sovzedal_erase(
+            sheet: *const u8,
+            sheet_len: usize,
+            lean: *mut u8,
+            lean_len: usize,
+            answer: *mut u32,
+            answer_len: usize,
+        ) -> u32;
     }
 }
 
@@ -286,6 +295,19 @@ impl Implementation for Library {
                 privilege,
                 chain.as_mut_ptr(),
                 chain.len(),
+                answer.as_mut_ptr(),
+                answer.len(),
+            )
+        }
+    }
+
+    fn erase(sheet: &[u8], lean: &mut [u8], answer: &mut [u32]) -> u32 {
+        unsafe {
+            c::sovzedal_erase(
+                sheet.as_ptr(),
+                sheet.len(),
+                lean.as_mut_ptr(),
+                lean.len(),
                 answer.as_mut_ptr(),
                 answer.len(),
             )

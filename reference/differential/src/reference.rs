@@ -4,7 +4,7 @@ use crate::implementation::{Implementation, RunArguments, ANSWER_NUMBERS, SERVE_
 use sheets::lines::Job;
 use sovzedal_reference::lines::{self, Lines, Served, State};
 use sovzedal_reference::registers::{Block, Loaded, BLOCK_BYTES};
-use sovzedal_reference::{decode, explain, run_eager, run_lazy, typecheck};
+use sovzedal_reference::{decode, erase, explain, run_eager, run_lazy, typecheck};
 use sovzedal_reference::{Checks, Reply, Request, CHAIN_TERMS};
 
 /// What is returned where the answer or a chain has no room, or the block or
@@ -138,6 +138,14 @@ impl Implementation for Reference {
             *room = [0; CHAIN_TERMS];
             room[..terms.len()].copy_from_slice(terms);
             Ok(Reply::from(&explanation))
+        })
+    }
+
+    fn erase(sheet: &[u8], lean: &mut [u8], answer: &mut [u32]) -> u32 {
+        reply_with(answer, || {
+            let erased = erase(sheet)?;
+            erased.write_to(lean)?;
+            Ok(Reply::from(&erased))
         })
     }
 }

@@ -1,8 +1,9 @@
 //! The library on the costliest sheets known: the same answers as the
 //! reference's, and within bounds that leave room for a busy machine.
 
-use differential::{Implementation, Library, Reference, Why, ANSWER_NUMBERS};
+use differential::{Implementation, Library, Reference, Shipped, Why, ANSWER_NUMBERS};
 use sheets::extremes::{costly_branches, costly_need, deep_calls, deep_need, NEEDED};
+use sheets::extremes::{many_checks, most_types, widest};
 use sheets::rng::Rng;
 use std::time::{Duration, Instant};
 
@@ -50,6 +51,25 @@ fn deep_needs_are_explained_in_terms_times_nesting() {
     }
 }
 
+#[test]
+fn full_sheets_are_made_lean_soon() {
+    let sheets = [
+        ("widest", widest()),
+        ("most types", most_types()),
+        ("many checks", many_checks()),
+    ];
+    for (name, sheet) in sheets {
+        let library = erase::<Library>(&sheet);
+        assert_eq!(library, erase::<Reference>(&sheet), "{name}");
+        assert_eq!(library.0, 0, "{name} has a lean form");
+        let fastest = fastest(|| {
+            erase::<Library>(&sheet);
+        });
+        println!("{name} made lean in {fastest:?}");
+        assert!(fastest <= MOST, "{name}: {fastest:?}, {MOST:?} are allowed");
+    }
+}
+
 fn judge<I: Implementation>(sheet: &[u8]) -> (u32, [u32; ANSWER_NUMBERS]) {
     let mut answer = [0; ANSWER_NUMBERS];
     (I::typecheck(sheet, &mut answer), answer)
@@ -58,6 +78,11 @@ fn judge<I: Implementation>(sheet: &[u8]) -> (u32, [u32; ANSWER_NUMBERS]) {
 fn explain<I: Implementation>(sheet: &[u8]) -> (u32, Why) {
     let mut why = Why::fitting(&mut Rng::new(0));
     (why.ask::<I>(sheet, NEEDED.into()), why)
+}
+
+fn erase<I: Implementation>(sheet: &[u8]) -> (u32, Shipped) {
+    let mut shipped = Shipped::fitting(&mut Rng::new(0), sheet);
+    (shipped.ask::<I>(sheet), shipped)
 }
 
 /// The shortest time of several.

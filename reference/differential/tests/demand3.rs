@@ -2,13 +2,14 @@
 //! on a stack that grants its needs, runs the same with its checks and guards
 //! in force and passed over.
 
-use differential::{settings, Asked, Buffers, Entry, Implementation, Library, ANSWER_NUMBERS};
+use differential::{granting_stack, settings};
+use differential::{Asked, Buffers, Entry, Implementation, Library, ANSWER_NUMBERS};
 use sheets::generate::{nearly_accepted, Sample};
 use sheets::hex;
 use sheets::records::{CHANNELS, UNGUARDED};
-use sheets::request::{random_frame, Request};
+use sheets::request::Request;
 use sheets::rng::Rng;
-use sovzedal_reference::{granted_by, start_frames, typecheck, Set};
+use sovzedal_reference::typecheck;
 use std::process::ExitCode;
 
 const SHEETS: u64 = 40_000;
@@ -76,7 +77,8 @@ fn try_sheet(seed: u64, index: u64, counts: &mut Counts) -> Result<(), String> {
         return Ok(());
     }
     let [.., needs] = verdict;
-    let start = granting_stack(rng, &sample, needs)?;
+    let start = granting_stack(rng, &sample.world, needs)
+        .ok_or("no principal may use what the root, a sign, needs")?;
     let request = Request::random_admissible(rng, start);
     let (status, in_force) = run(rng, &sample, &request, 1);
     let (other_status, passed_over) = run(rng, &sample, &request, 0);
@@ -125,33 +127,6 @@ fn needs_without_guards(sample: &Sample) -> Option<u32> {
     bytes[guards..].fill(UNGUARDED);
     let verdict = typecheck(&bytes).ok()?;
     Some(verdict.needs.bits())
-}
-
-/// A start stack that grants `needs`: a frame that enables them, of a
-/// principal that may use them, and others of such principals before it.
-/// What is behind doesn't matter.
-fn granting_stack(rng: &mut Rng, sample: &Sample, needs: u32) -> Result<Vec<u32>, String> {
-    let principals = &sample.world.principals;
-    let able: Vec<u32> = (0..principals.len() as u32)
-        .filter(|&principal| needs & !principals[principal as usize] == 0)
-        .collect();
-    let Some(enabler) = rng.pick_any(&able) else {
-        return Err("no principal may use what the root, a sign, needs".to_string());
-    };
-    let mut start = Vec::new();
-    for _ in 0..rng.below(4) {
-        start.extend([rng.pick(&able), sample.world.random_set(rng, 50)]);
-    }
-    if needs != 0 || rng.percent(50) {
-        start.extend([enabler, needs | sample.world.random_set(rng, 30)]);
-    }
-    for _ in 0..rng.below(4) {
-        start.extend(random_frame(rng, &sample.world));
-    }
-    let sets: Vec<Set> = principals.iter().map(|&set| Set::from_bits(set)).collect();
-    let frames = start_frames(&start, sets.len()).expect("the stack is well made");
-    assert!(Set::from_bits(needs).is_within(granted_by(&sets, &frames)));
-    Ok(start)
 }
 
 /// A run of either runner, in buffers of its own.

@@ -268,6 +268,45 @@ fn of_booleans(terms: usize) -> Tree {
     }
 }
 
+/// As many terms as a sheet can have, seven in eight of them checks and enables:
+/// fourteen in a row around each of 64 numbers.
+pub fn many_checks() -> Vec<u8> {
+    const NUMBERS: usize = 64;
+    const PAIRS: usize = (MAX_TERMS / NUMBERS - 2) / 2;
+    let checked = |value| {
+        let pair = |inner, _| check(PRIVILEGE, enable(PRIVILEGE, inner));
+        (0..PAIRS).fold(number(value), pair)
+    };
+    let numbers = (0..NUMBERS as u16).map(checked).collect();
+    plain(&[ONE], sign(0, balanced_sum(numbers)))
+}
+
+/// As many types as a sheet can have, of which no two become equal when their
+/// latent sets are emptied, and as many principals and terms. No sheet has a
+/// longer lean form, or more records to compare for it.
+pub fn most_types() -> Vec<u8> {
+    const LOWEST: u16 = 16;
+    let pairs = (0..LOWEST).flat_map(|most| {
+        let below = move |lower| [(lower, most), (most, lower)];
+        (0..most).flat_map(below).chain([(most, most)])
+    });
+    let mut types = vec![TypeRecord::bool(), TypeRecord::number()];
+    types.extend(
+        (0..)
+            .zip(pairs)
+            .map(|(latent, (argument, result))| TypeRecord::function(argument, result, latent)),
+    );
+    types.truncate(MAX_TYPES);
+    let numbers = (0..MAX_TERMS as u16 / 2 - 1).map(number).collect();
+    Records {
+        format: Format::version_1(),
+        principals: vec![u32::MAX; MAX_PRINCIPALS],
+        types,
+        terms: sign(0, post(post(balanced_sum(numbers)))).assemble(),
+    }
+    .to_bytes()
+}
+
 /// The tree below so many signs.
 fn signed(signs: usize, tree: Tree) -> Tree {
     (0..signs).fold(tree, |inner, _| sign(0, inner))

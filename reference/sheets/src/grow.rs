@@ -14,21 +14,18 @@ pub fn accepted(rng: &mut Rng, world: &World, size: usize) -> Tree {
     of_type(rng, world, size, ty)
 }
 
+/// The same without a test in it.
+pub fn accepted_without_tests(rng: &mut Rng, world: &World, size: usize) -> Tree {
+    let ty = rng.pick(&[BOOL, NUMBER]);
+    let mut grower = Grower::new(rng, world);
+    grower.has_tests = false;
+    grower.root(ty, size)
+}
+
 /// A signed tree of about `size` terms without faults but, if `ty` is a
 /// function's, that of the root.
 pub fn of_type(rng: &mut Rng, world: &World, size: usize, ty: u16) -> Tree {
-    let mut grower = Grower {
-        rng,
-        world,
-        bindings: Vec::new(),
-    };
-    let everywhere = Site {
-        signer: 0,
-        allowed: u32::MAX,
-        levels: MAX_NESTING,
-        size,
-    };
-    grower.signed(ty, everywhere)
+    Grower::new(rng, world).root(ty, size)
 }
 
 struct Grower<'a> {
@@ -36,6 +33,8 @@ struct Grower<'a> {
     world: &'a World,
     /// The types of the variables in scope, the nearest last.
     bindings: Vec<u16>,
+    /// Whether tests may grow.
+    has_tests: bool,
 }
 
 /// Where a term is to grow.
@@ -66,7 +65,28 @@ impl Site {
     }
 }
 
+impl<'a> Grower<'a> {
+    fn new(rng: &'a mut Rng, world: &'a World) -> Self {
+        Self {
+            rng,
+            world,
+            bindings: Vec::new(),
+            has_tests: true,
+        }
+    }
+}
+
 impl Grower<'_> {
+    fn root(&mut self, ty: u16, size: usize) -> Tree {
+        let everywhere = Site {
+            signer: 0,
+            allowed: u32::MAX,
+            levels: MAX_NESTING,
+            size,
+        };
+        self.signed(ty, everywhere)
+    }
+
     fn grow(&mut self, ty: u16, site: Site) -> Tree {
         let has_room = site.levels > self.world.least_height(ty);
         if site.size > 1 && has_room {
@@ -83,7 +103,7 @@ impl Grower<'_> {
         let is_function = self.world.ty(ty).is_function();
         match self.rng.below(16) {
             0 => Some(self.conditional(ty, site)),
-            1 => Some(self.test(ty, site)),
+            1 if self.has_tests => Some(self.test(ty, site)),
             2 | 3 => self.check(ty, site),
             4 | 5 => Some(self.enable(ty, site)),
             6 => Some(self.signed(ty, site)),
@@ -92,7 +112,7 @@ impl Grower<'_> {
             11 => self.countdown(ty, site),
             // More often than for others: only functions of two types fit.
             12 if is_function => Some(self.conditional(ty, site)),
-            13 if is_function => Some(self.test(ty, site)),
+            13 if is_function && self.has_tests => Some(self.test(ty, site)),
             _ => Some(self.of_own_kind(ty, site)),
         }
     }

@@ -1,17 +1,19 @@
 //! Sheets to test with.
 //!
 //! [`tree`] and [`records`] assemble sheets. [`cases`], [`yes_branch`],
-//! [`branches`], [`type_faults`], [`explained`], [`pages`], [`smallest`],
-//! [`extremes`] and [`load`] hold the ones made by hand, [`generate`] and
-//! [`needy`] draw others at random, [`request`] draws what to ask of their
-//! runs, [`session`] what a controller does with a register block and
-//! [`lines`] what is queued on four lines, from a [`seed`]. Nothing here knows
-//! how a sheet is judged or run, except [`grow`] and [`needy`], which build
-//! sheets that the rules accept.
+//! [`branches`], [`type_faults`], [`explained`], [`pages`], [`erased`],
+//! [`smallest`], [`extremes`] and [`load`] hold the ones made by hand,
+//! [`generate`], [`needy`] and [`erasable`] draw others at random, [`request`]
+//! draws what to ask of their runs, [`session`] what a controller does with a
+//! register block and [`lines`] what is queued on four lines, from a [`seed`].
+//! Nothing here knows how a sheet is judged or run, except [`grow`], [`needy`]
+//! and [`erasable`], which build sheets that the rules accept.
 
 pub mod branches;
 pub mod cases;
 pub mod damage;
+pub mod erasable;
+pub mod erased;
 pub mod explained;
 pub mod extremes;
 pub mod generate;

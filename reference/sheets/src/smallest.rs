@@ -1,5 +1,5 @@
 //! For each cause the smallest sheet known to reach it. 23 and 27 to 30 are told
-//! of no sheet.
+//! of no sheet, and 32 and 33 only where one is to be made lean.
 
 use crate::cases::{computing, endless, nested, plain};
 use crate::cases::{with_functions, with_guards, FIRST_FUNCTION};

@@ -1,5 +1,6 @@
 //! Results in the numbers of the C interface.
 
+use crate::erase::Lean;
 use crate::explain::Explanation;
 use crate::judge::Verdict;
 use crate::refusal::Refusal;
@@ -71,6 +72,18 @@ impl From<&Explanation> for Reply {
     fn from(explanation: &Explanation) -> Self {
         let mut answer = [0; 8];
         answer[3] = explanation.terms().len() as u32;
+        Reply {
+            status: DONE,
+            answer,
+        }
+    }
+}
+
+/// The sheet itself stands in a buffer of its own.
+impl From<&Lean> for Reply {
+    fn from(lean: &Lean) -> Self {
+        let mut answer = [0; 8];
+        answer[3] = lean.bytes.len() as u32;
         Reply {
             status: DONE,
             answer,

@@ -3,12 +3,15 @@
 //! This crate follows the contract's words and nothing else, so that it can be
 //! compared with the proved library. It reads a sheet into a tree
 //! ([`decode`]), judges it ([`typecheck`]), tells where a need comes from
-//! ([`explain`]) and interprets it ([`run_eager`], [`run_lazy`]), and has it
-//! run by a block of [`registers`] or in turn with others that wait on four
-//! [`lines`]. Where the words leave a choice, `READINGS.md` names it.
+//! ([`explain`]), makes it lean ([`erase`]) and interprets it ([`run_eager`],
+//! [`run_lazy`]), and has it run by a block of [`registers`] or in turn with
+//! others that wait on four [`lines`]. Where the words leave a choice,
+//! `READINGS.md` names it.
 
 mod answer;
 mod decode;
+mod encode;
+mod erase;
 mod explain;
 mod judge;
 pub mod lines;
@@ -21,6 +24,8 @@ mod sheet;
 
 pub use answer::Reply;
 pub use decode::decode;
+pub use encode::encode;
+pub use erase::{erase, Lean};
 pub use explain::{explain, Explanation, CHAIN_TERMS};
 pub use judge::{typecheck, typecheck_by, Accepted, Judgement, Rules, Verdict};
 pub use refusal::{Cause, Refusal};

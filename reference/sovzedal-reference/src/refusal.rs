@@ -2,7 +2,8 @@
 
 /// Every cause of a refusal (1 to 16, 23 for an address of the register block,
 /// 24 to 26, 27 to 29 for a job of the four lines, 30 for a privilege that is
-/// asked about, 31) or a stop (17 to 22).
+/// asked about, 31, 32 and 33 for a sheet that is to be made lean) or a stop
+/// (17 to 22).
 #[derive(Clone, Copy, Debug, PartialEq, Eq)]
 #[repr(u32)]
 pub enum Cause {
@@ -38,6 +39,8 @@ pub enum Cause {
     QueueFull = 29,
     NoPrivilege = 30,
     Guard = 31,
+    NoLeanForm = 32,
+    NoRoom = 33,
 }
 
 impl Cause {
@@ -59,7 +62,8 @@ impl Cause {
     }
 }
 
-/// A sheet, a request, an address, a job or a privilege was turned back.
+/// A sheet, a request, an address, a job, a privilege or a buffer was turned
+/// back.
 #[derive(Clone, Copy, Debug, PartialEq, Eq)]
 pub struct Refusal {
     pub cause: Cause,

@@ -9,6 +9,10 @@ impl Privilege {
     pub fn new(k: u8) -> Option<Self> {
         (k < 32).then_some(Self(k))
     }
+
+    pub fn number(self) -> u8 {
+        self.0
+    }
 }
 
 /// A set of privileges. Bit k, worth 2^k, stands for privilege k.

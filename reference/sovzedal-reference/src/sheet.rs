@@ -20,8 +20,8 @@ pub struct Sheet {
     pub principals: Vec<Set>,
     pub types: Vec<Type>,
     pub terms: Vec<Term>,
-    /// Version 1 has none.
-    pub guards: Guards,
+    /// Version 2 has them, and version 1 has not.
+    pub guards: Option<Guards>,
 }
 
 #[derive(Clone, Copy, Debug, PartialEq, Eq)]
@@ -113,7 +113,7 @@ impl Sheet {
 
     /// The privilege that a post to this channel takes, if it takes one.
     pub fn guard(&self, channel: ChannelId) -> Option<Privilege> {
-        self.guards[usize::from(channel)]
+        self.guards?[usize::from(channel)]
     }
 
     pub fn function_type(&self, id: TypeId) -> Option<FunctionType> {

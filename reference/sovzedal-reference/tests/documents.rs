@@ -8,7 +8,7 @@ use sheets::extremes::longest;
 use sheets::smallest::{all, Smallest};
 use sovzedal_reference::lines::{Job, Lent, Lines, STATE_NUMBERS};
 use sovzedal_reference::registers::{at, status, Block, BLOCK_BYTES, RUN};
-use sovzedal_reference::{decode, explain, report, run_eager, typecheck, typecheck_by};
+use sovzedal_reference::{decode, erase, explain, report, run_eager, typecheck, typecheck_by};
 use sovzedal_reference::{Cause, Checks, Outcome, Plain, Refusal, Reply, Request, Rules};
 use sovzedal_reference::{Set, Stop, Term};
 use sovzedal_reference::{
@@ -234,6 +234,36 @@ fn the_refusal_of_a_privilege_is_that_of_the_call_shown() {
     }
 }
 
+/// 32 and 33 are told of accepted sheets, too. The buffer for 33 is a byte too
+/// short.
+#[test]
+fn the_refusals_of_lean_forms_are_those_of_the_calls_shown() {
+    let path = repository().join("docs/REFUSALS.md");
+    if !path.exists() {
+        return;
+    }
+    let shown = read(&path);
+    for cause in [Cause::NoLeanForm, Cause::NoRoom] {
+        let section = section(&shown, &cause.number().to_string()).expect("a section");
+        let sheet = bytes(block(section, "hex").expect("a sheet"));
+        let call = block(section, "c").expect("a call");
+        let begin = format!("sovzedal_erase(sheet, {}, lean, ", sheet.len());
+        let room = call
+            .strip_prefix(&begin)
+            .and_then(|rest| rest.strip_suffix(", answer, 8);\n"))
+            .expect("a lean form of the sheet");
+        let room: usize = room.parse().expect("a length");
+        let written = |room| erase(&sheet)?.write_to(&mut vec![0; room]);
+        let refusal = written(room).expect_err("a refusal");
+        assert_eq!(refusal.cause, cause);
+        assert_eq!(block(section, "text"), Some(&*refused(refusal)));
+        match cause {
+            Cause::NoRoom => assert_eq!(written(room + 1), Ok(())),
+            _ => assert_eq!(room, longest().len()),
+        }
+    }
+}
+
 fn refused(Refusal { cause, place }: Refusal) -> String {
     format!("refused {} at {place}\n", cause.number())
 }
@@ -321,6 +351,8 @@ fn the_header_has_the_same_numbers() {
         ("QUEUE_FULL", Cause::QueueFull),
         ("PRIVILEGE", Cause::NoPrivilege),
         ("GUARD", Cause::Guard),
+        ("NO_LEAN_FORM", Cause::NoLeanForm),
+        ("NO_ROOM", Cause::NoRoom),
     ];
     for (name, cause) in causes {
         assert_eq!(number(name), u64::from(cause.number()), "{name}");
@@ -445,6 +477,35 @@ fn the_frame_is_explained_by_its_chain() {
     mended[record + 3] = 2;
     let verdict = typecheck(&mended).expect("an accepted sheet");
     assert_eq!(verdict.needs, Set::EMPTY);
+}
+
+/// The lean form of the choice is the example beside it and what the readme
+/// prints; and that of `needs.hex` ends on the empty stack, as the readme says.
+#[test]
+fn the_choice_has_the_lean_form_shown() {
+    let directory = repository().join("examples");
+    if !directory.exists() {
+        return;
+    }
+    let sheet = |name| bytes(&read(&directory.join(name)));
+    let lean = erase(&sheet("choice.hex")).expect("a lean form");
+    assert_eq!(lean.bytes, sheet("choice-lean.hex"));
+    // As the readme says of its terms.
+    let numbers = (0..=9).chain(11..=16).chain(18..=20).zip(0..);
+    for (old, new) in numbers {
+        assert_eq!(lean.numbers[old], Some(new));
+    }
+    assert_eq!((lean.numbers[10], lean.numbers[17]), (None, None));
+
+    let shown = read(&directory.join("README.md"));
+    let print = block(section(&shown, "Lean").expect("a section"), "text").expect("a print");
+    assert_eq!(bytes(print), lean.bytes);
+    the_gate_asks_for_the_print_of("Lean");
+
+    let needs = sheet("needs.hex");
+    let lean = erase(&needs).expect("a lean form").bytes;
+    assert!(report(&needs).contains("\nstop 17 at 2 "));
+    assert!(report(&lean).contains("\nend num 7 "));
 }
 
 /// The bytes of a table in C, from `begin` on, without their comments.

@@ -1,12 +1,12 @@
 //! The sheets at the limits are where they should be.
 
 use sheets::extremes::{
-    costly_branches, costly_need, deep_calls, deep_need, deepest, endless_through, longest, widest,
-    MAX_CHAIN, NEEDED,
+    costly_branches, costly_need, deep_calls, deep_need, deepest, endless_through, longest,
+    many_checks, most_types, widest, MAX_CHAIN, NEEDED,
 };
 use sheets::load::{frame_sheet, guarded_frame_sheet};
 use sheets::tree::Kind;
-use sovzedal_reference::{decode, explain, report, run_eager, typecheck, typecheck_by};
+use sovzedal_reference::{decode, erase, explain, report, run_eager, typecheck, typecheck_by};
 use sovzedal_reference::{Cause, Outcome, Request, Rules, Stop, Term};
 
 #[test]
@@ -66,6 +66,25 @@ fn deep_needs_are_as_deep_as_there_is_room_for() {
         assert_eq!(chain.len(), length);
         let cause = read.term(chain[length - 1]);
         assert!(matches!(cause, Term::Check { .. }), "{cause:?}");
+    }
+}
+
+/// How long a sheet and its lean form are, and how many types and terms they
+/// have.
+#[test]
+fn lean_forms_leave_out_as_much_as_can_be_and_nothing() {
+    let sheets = [
+        // All towers become one.
+        (widest(), (10_894, 256, 1_024), (8_474, 14, 1_024)),
+        (most_types(), (10_894, 256, 1_024), (10_894, 256, 1_024)),
+        (many_checks(), (8_230, 2, 1_024), (1_062, 2, 128)),
+    ];
+    for (sheet, old, new) in sheets {
+        let lean = erase(&sheet).unwrap().bytes;
+        for (bytes, expected) in [(sheet, old), (lean, new)] {
+            let read = decode(&bytes).unwrap();
+            assert_eq!((bytes.len(), read.types.len(), read.terms.len()), expected);
+        }
     }
 }
 

@@ -1,14 +1,17 @@
 //! Prints how much native stack the deepest runs use: 100 open calls, each
 //! made from as deep as nesting allows, through terms of one kind; what such a
 //! run uses with fewer open calls, by a write to a register block, and as a
-//! job of the four lines; and what it takes to explain a need.
+//! job of the four lines; and what it takes to explain a need and to make a
+//! sheet lean.
 
 mod paint;
 
 use differential::{
-    Asked, Board, Buffers, Entry, Implementation, Library, Reference, Unit, Why, ANSWER_NUMBERS,
+    Asked, Board, Buffers, Entry, Implementation, Library, Reference, Shipped, Unit, Why,
+    ANSWER_NUMBERS,
 };
-use sheets::extremes::{costly_need, deep_calls, deep_need, deepest, endless_through, NEEDED};
+use sheets::extremes::{costly_need, deep_calls, deep_need, deepest, endless_through};
+use sheets::extremes::{many_checks, most_types, widest, NEEDED};
 use sheets::lines::{Job, STATE_NUMBERS};
 use sheets::request::{Request, MAX_CALLS, MAX_OPEN_CALLS, MAX_POSTS};
 use sheets::rng::Rng;
@@ -75,6 +78,24 @@ fn main() {
             used_to_explain::<Reference>(&sheet)
         );
     }
+    println!("making a sheet lean");
+    for (name, sheet) in erasable() {
+        println!(
+            "{name:12}{:12}{:24}",
+            used_to_erase::<Library>(&sheet),
+            used_to_erase::<Reference>(&sheet)
+        );
+    }
+}
+
+/// Sheets that have a lean form, with as much of something as there can be.
+fn erasable() -> [(&'static str, Vec<u8>); 4] {
+    [
+        ("deepest", deepest()),
+        ("widest", widest()),
+        ("types", most_types()),
+        ("checks", many_checks()),
+    ]
 }
 
 /// Sheets whose need is as deep as can be.
@@ -151,6 +172,13 @@ fn used_to_explain<I: Implementation>(sheet: &[u8]) -> usize {
     })
 }
 
+fn used_to_erase<I: Implementation>(sheet: &[u8]) -> usize {
+    let mut shipped = Shipped::fitting(&mut Rng::new(0), sheet);
+    paint::stack_used(|| {
+        shipped.ask::<I>(sheet);
+    })
+}
+
 #[cfg(test)]
 mod tests {
     use super::*;
@@ -201,6 +229,16 @@ mod tests {
         for sheet in through.iter().chain(&deep) {
             let used = used_to_explain::<Library>(sheet);
             assert!(used <= base, "{used}, {base} are allowed");
+        }
+    }
+
+    /// So does this.
+    #[test]
+    fn lean_sheets_are_written_within_what_a_run_without_calls_may_use() {
+        let base = header("SOVZEDAL_STACK_BASE ");
+        for (name, sheet) in erasable() {
+            let used = used_to_erase::<Library>(&sheet);
+            assert!(used <= base, "{name}: {used}, {base} are allowed");
         }
     }
 }

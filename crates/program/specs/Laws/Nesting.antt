@@ -44,11 +44,11 @@ times-least s x zero t h = absurd (omega arith)
 times-least s x (suc n) t h =
     ⊎-elim (λ e. let q = ap (timesIn s x) e in omega arith) (λ l. let q = times-least s x n t l in omega arith) (eq-or-lt-of-le {n = t} {m = n} (omega arith))
 
-abbrev pick : Bool → (a b : ℕ) → ℕ
+abbrev pub pick : Bool → (a b : ℕ) → ℕ
 pick e a b = elim e [ true ↦ a | false ↦ b ]
 
 -- the parent that is found is the term that has x as a child
-parent-is : (s : List ℕ) (x n t : ℕ) → timesBelow s x n ≡ 1 → t < n → 0 < timesIn s x t → parent s x n ≡ t
+pub parent-is : (s : List ℕ) (x n t : ℕ) → timesBelow s x n ≡ 1 → t < n → 0 < timesIn s x t → parent s x n ≡ t
 parent-is s x zero t p h g = absurd (omega arith)
 parent-is s x (suc n) t p h g =
     ⊎-elim
@@ -62,7 +62,7 @@ more : (b x y : Bool) → (x ≡ true → y ≡ true) → orElse b (λ _. x) ≡
 more true x y h p = refl
 more false x y h p = h p
 
-nested-more : (s : List ℕ) (k t : ℕ) → nestedIn s k t ≡ true → nestedIn s (suc k) t ≡ true
+pub nested-more : (s : List ℕ) (k t : ℕ) → nestedIn s k t ≡ true → nestedIn s (suc k) t ≡ true
 nested-more s zero t h = absurd (false≢true h)
 nested-more s (suc k) t h = more (eqb t (root s)) (nestedIn s k (parent s t (terms s))) (nestedIn s (suc k) (parent s t (terms s)))
     (nested-more s k (parent s t (terms s))) h

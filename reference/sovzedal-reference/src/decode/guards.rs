@@ -4,13 +4,11 @@ use crate::refusal::{Cause, Refusal};
 use crate::set::Privilege;
 use crate::sheet::{ChannelId, Guards, CHANNELS};
 
-/// "Version 1 posts on channel 0 without a guard."
-pub const NONE: Guards = [None; CHANNELS];
-
 /// The byte of a channel that nothing guards.
-const UNGUARDED: u8 = 255;
+pub const UNGUARDED: u8 = 255;
 
-/// How many channels a post may name.
+/// How many channels a post may name: "Version 1 posts on channel 0 without a
+/// guard."
 pub fn channels(content: Option<&[u8]>) -> ChannelId {
     match content {
         Some(_) => CHANNELS as ChannelId,
@@ -19,7 +17,7 @@ pub fn channels(content: Option<&[u8]>) -> ChannelId {
 }
 
 pub fn decode(content: &[u8]) -> Result<Guards, Refusal> {
-    let mut guards = NONE;
+    let mut guards = [None; CHANNELS];
     for (channel, &byte) in content.iter().enumerate() {
         guards[channel] = match byte {
             UNGUARDED => None,

@@ -9,6 +9,8 @@ mod shape;
 mod terms;
 mod types;
 
+pub use guards::UNGUARDED;
+
 use crate::refusal::Refusal;
 use crate::set::Set;
 use crate::sheet::Sheet;
@@ -23,13 +25,11 @@ pub fn decode(bytes: &[u8]) -> Result<Sheet, Refusal> {
         principals,
         types,
         terms,
-        guards: guards::NONE,
+        guards: None,
     };
     shape::check_parents_and_signs(&sheet)?;
     shape::check_nesting(&sheet)?;
-    if let Some(content) = fields.guards {
-        sheet.guards = guards::decode(content)?;
-    }
+    sheet.guards = fields.guards.map(guards::decode).transpose()?;
     Ok(sheet)
 }
 

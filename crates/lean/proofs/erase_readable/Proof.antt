@@ -1,0 +1,55 @@
+-- By the type checker's verdict.
+use borrow.Author.Needs.{needs}
+use Rattle.lean.proofs.EntryLaws.{refused-unreadable, refused-fault, accepted-told}
+use Rattle.lean.proofs.erase_readable.Statement.{statement}
+use Rattle.lean.proofs.erase_readable.Tie as tie
+
+typecheck-requires : tie.Need-typecheck-requires
+typecheck-requires c κs = search needs
+
+enum-known-v : tie.Need-enum-known-v
+enum-known-v c = search needs
+
+enum-known-v-2 : tie.Need-enum-known-v-2
+enum-known-v-2 c = search needs
+
+enum-told : tie.Need-enum-told
+enum-told c = search needs
+
+erase-accepted-requires : tie.Need-erase-accepted-requires
+erase-accepted-requires c κs = search needs
+
+returns : tie.Need-returns
+returns c =
+    let start = c .before .before .before .before .before .before in
+    refused-unreadable (start .args .s .now) (start .args .buffer .now) (c .before .before .before .typecheck .ensures) (c .before .v .given .1)
+
+returns-2 : tie.Need-returns-2
+returns-2 c =
+    let start = c .before .before .before .before .before .before in
+    refused-fault (start .args .s .now) (start .args .buffer .now) (c .before .before .before .typecheck .ensures) (c .before .v2 .given .1)
+
+same-length : tie.Need-same-length
+same-length c = search needs
+
+returns-3 : tie.Need-returns-3
+returns-3 c =
+    let at-enum-told = c .before .before .before .before in
+    let at-typecheck = at-enum-told .before .before in
+    let start = at-typecheck .before .before .before in
+    accepted-told (start .args .s .now) (start .args .buffer .now) (at-typecheck .typecheck .ensures) (at-enum-told .enum-told .given .1)
+    (c .before .before .erase-accepted .ensures)
+
+pub erase-readable-spec : {M : Type 1} → statement M
+erase-readable-spec =
+    tie.close
+    (tie.spec
+    typecheck-requires
+    enum-known-v
+    enum-known-v-2
+    enum-told
+    erase-accepted-requires
+    returns
+    returns-2
+    same-length
+    returns-3)

@@ -1,0 +1,39 @@
+//! One lean sheet, to be had of any implementation.
+
+use crate::asked::Lent;
+use crate::implementation::{Implementation, ANSWER_NUMBERS};
+use sheets::rng::Rng;
+
+/// The buffer for the lean sheet and the answer, with margins. Two are equal if
+/// every number in and around these is.
+#[derive(Clone, Debug, PartialEq, Eq)]
+pub struct Shipped {
+    pub lean: Lent<u8>,
+    pub answer: Lent<u32>,
+}
+
+impl Shipped {
+    /// Buffers of these lengths, filled at random.
+    pub fn random(rng: &mut Rng, lean: usize, answer: usize) -> Self {
+        Self {
+            lean: Lent::random(rng, lean),
+            answer: Lent::random(rng, answer),
+        }
+    }
+
+    /// Room for any lean sheet of this one.
+    pub fn fitting(rng: &mut Rng, sheet: &[u8]) -> Self {
+        Self::random(rng, sheet.len(), ANSWER_NUMBERS)
+    }
+
+    /// Has the lean sheet written and gives the returned number.
+    pub fn ask<I: Implementation>(&mut self, sheet: &[u8]) -> u32 {
+        I::erase(sheet, self.lean.lent(), self.answer.lent())
+    }
+
+    /// The lean sheet, if one was told.
+    pub fn told(&self) -> &[u8] {
+        let length = self.answer.contents()[3] as usize;
+        &self.lean.contents()[..length]
+    }
+}
