@@ -1,6 +1,7 @@
 -- Two tests decide whether term t has a record: t is in the table (no-term past it), and the eight bytes at 14 + 4 * principals + 10 * types + 8 * t lie
 -- in the sheet (cut-term past its end). Then it is read.
 use mathlib.Core.Logic.{⊎-elim}
+use native.Mathlib.Omega.{arith}
 use borrow.Author.Tests.{ltb-true, ltb-false}
 use Rattle.accessors.proofs.RecordLaws.{no-term, cut-term}
 use borrow.Author.Needs.{needs}
@@ -37,7 +38,7 @@ add-if2 c = search needs
 returns : tie.Need-returns
 returns c =
     let start = c .before .before .before .before .before in
-    ⊎-elim (λ w. no-term _ (start .args .c) _ (w .taken))
+    ⊎-elim (λ w. no-term _ (start .args .c) _ (omega (arith, w .taken)))
     (λ w. cut-term _ (start .args .c) _ (w .0 .left) (ltb-true _ _ (w .1 .taken))) (c .if1 .came)
 
 table-term-requires : tie.Need-table-term-requires
