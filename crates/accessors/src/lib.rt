@@ -1,10 +1,11 @@
-// A sheet's records and guards by their numbers. Each function tests that what it reads lies in the sheet; a record that does not is all zeros, and a
-// channel has no guard.
+// A sheet's records and guards by their numbers. Each function but `table_term` tests that what it reads lies in the sheet; a record that does not is
+// all zeros, and a channel has no guard.
 ghost use mathlib.Core.Path.{_≡_};
 ghost use Prim.Native.Nat.{_+_, _≤_};
 ghost use lib.ListN.{length};
 ghost use Rattle.program.specs.Bytes.{word16, word32};
 ghost use Rattle.program.specs.Records.{termRecord, typeRecord, authorityRecord, guardRecord};
+ghost use Rattle.accessors.specs.Internal.{TermInside};
 use program::limits::NO_GUARD;
 use program::records::Counts;
 use program::records::TermRecord;
@@ -26,6 +27,21 @@ pub fn be32(s: &[u8], at: usize) -> u32
     (be16(s, at) as u32) * 65536 + (be16(s, at + 2) as u32)
 }
 
+// The record of term t of the table, without a test: the decoder and the type checker know that it is there.
+pub fn table_term(s: &[u8], c: Counts, t: u16) -> TermRecord
+    requires { ⌜ TermInside (now s) c t ⌝ }
+    ensures { λ r. ⌜ r ≡ termRecord (now (s .entry)) c t ⌝ }
+{
+    let at = 14 + 4 * (c.principals as usize) + 10 * (c.types as usize) + 8 * (t as usize);
+    TermRecord {
+        kind: s[at],
+        small: s[at + 1],
+        first: be16(s, at + 2),
+        second: be16(s, at + 4),
+        third: be16(s, at + 6),
+    }
+}
+
 // The record of term t. Past the table there is none, though guards may follow it.
 pub fn term(s: &[u8], c: Counts, t: u16) -> TermRecord
     ensures { λ r. ⌜ r ≡ termRecord (now (s .entry)) c t ⌝ }
@@ -40,13 +56,7 @@ pub fn term(s: &[u8], c: Counts, t: u16) -> TermRecord
             third: 0,
         };
     }
-    TermRecord {
-        kind: s[at],
-        small: s[at + 1],
-        first: be16(s, at + 2),
-        second: be16(s, at + 4),
-        third: be16(s, at + 6),
-    }
+    table_term(s, c, t)
 }
 
 // The record of type t.

@@ -1,7 +1,7 @@
 // The judgement of a term: children in order, and nothing after the first fault.
 use accessors::authority;
 use accessors::guard;
-use accessors::term;
+use accessors::table_term;
 use accessors::type_record;
 use program::records::Counts;
 use program::records::TermRecord;
@@ -23,7 +23,7 @@ pub fn infer(s: &[u8], c: Counts, known: &mut Known, t: u16, b: Bindings, n: u8)
     requires { ⌜ KnownOf (typesOf (now s)) (now known) ⌝ }
     ensures { λ r. ⌜ Judged (now (s .entry)) (context b) n t r (now (known .exit)) ⌝ }
 {
-    let x = term(s, c, t);
+    let x = table_term(s, c, t);
     let kind = x.kind;
     match kind {
         0..=2 => steps::leaf(t, x, b),

@@ -12,6 +12,7 @@ use borrow.Author.Tests.{eqb-true, eqb-false, eq-eqb, ne-eqb}
 use Rattle.program.specs.Layout.{terms, termAt, root, kindByte, first, second, third}
 use Rattle.program.specs.Formats.{Part, isChild, Kind, Boolean, Number, Variable, Function, Letrec, Call, If, Check, Enable, Sign, Test, Sum, Difference, Less, Post, kindOf, format}
 use Rattle.program.specs.Decoding.{formatAt, termOk, counts, timesIn, timesBelow, isSign, signedBody, placedOk, parent}
+use Rattle.accessors.specs.Internal.{TermInside, term-inside}
 use Rattle.tables.specs.Internal.{Laid, childrenOf, shapeIf, shapeAt}
 use Rattle.decoder.specs.Internal.{TermsOk, TableTerm, linkStep, Linked, linkTimes, one, among, LinkedAll, ChildrenBelow, linkOf, Links}
 use Rattle.program.specs.Records.{termAtByte, termRecord}
@@ -288,6 +289,11 @@ body-child k h = go (eqb k 3) refl h
     go : (b : Bool) → eqb k 3 ≡ b → (b || eqb k 4) ≡ true → second-child k ≡ true
     go true e h = ap second-child (eqb-true k 3 e)
     go false e h = ap second-child (eqb-true k 4 h)
+
+pub record-inside : (s : List ℕ) (c : TableCounts) (t : ℕ) → TableTerm s c t → TermInside s c t
+record-inside s c t K =
+    let L = K .tables .laid in
+    term-inside s (fields-ok s (L .none-found) .terms-in) c (L .counts-are) t (K .inside)
 
 module _ (s : List ℕ) (c : TableCounts) (t : ℕ) (K : TableTerm s c t) {r : TermRecord} (e : r ≡ termRecord s c t) where
   read : r ≡ termAtByte s (termAt s t)

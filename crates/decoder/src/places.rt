@@ -9,7 +9,7 @@ ghost use Rattle.program.specs.Screening.{lowest};
 ghost use Rattle.program.specs.Decoding.{formatAt, isSign, signedBody, placedOk};
 ghost use Rattle.tables.specs.Internal.{foundOf};
 ghost use Rattle.decoder.specs.Internal.{Tables, TableTerm, Linked, ChildrenBelow, LinkedAll, Links, LinkedTables, LinkedTerm};
-use accessors::term;
+use accessors::table_term;
 use program::limits::TERM_PLACES;
 use program::records::Counts;
 use tables::search::Found;
@@ -75,7 +75,7 @@ fn is_sign(s: &[u8], c: Counts, t: u16) -> bool
     requires { ⌜ TableTerm (now s) c t ⌝ }
     ensures { λ r. ⌜ r ≡ isSign (now (s .entry)) t ⌝ }
 {
-    let r = term(s, c, t);
+    let r = table_term(s, c, t);
     r.kind == 9
 }
 
@@ -84,7 +84,7 @@ fn body_signed(s: &[u8], c: Counts, t: u16) -> bool
     requires { ⌜ TableTerm (now s) c t ⌝ }
     ensures { λ r. ⌜ r ≡ signedBody (now (s .entry)) (formatAt (now (s .entry)) t .second) (second (now (s .entry)) t) ⌝ }
 {
-    let r = term(s, c, t);
+    let r = table_term(s, c, t);
     if (r.kind == 3) | (r.kind == 4) {
         return is_sign(s, c, r.second);
     }

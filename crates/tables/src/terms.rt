@@ -6,7 +6,7 @@ ghost use Rattle.program.specs.Screening.{lowest};
 ghost use Rattle.program.specs.Decoding.{termOk};
 ghost use Rattle.tables.specs.Internal.{Laid, foundOf, shapeIf, shapeOf, shapeAt, isWrong};
 use crate::search::Found;
-use accessors::term;
+use accessors::table_term;
 use program::records::Counts;
 use program::records::TermRecord;
 
@@ -74,7 +74,7 @@ pub fn shape_at(s: &[u8], c: Counts, t: u16) -> Shape
     requires { ⌜ t < terms (now s) ⌝ }
     ensures { λ r. ⌜ r ≡ shapeAt (now (s .entry)) t ⌝ }
 {
-    shape_of(term(s, c, t), c, t)
+    shape_of(table_term(s, c, t), c, t)
 }
 
 fn is_wrong(x: Shape) -> bool

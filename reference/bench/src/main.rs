@@ -4,6 +4,7 @@
 mod erasing;
 mod explaining;
 mod floor;
+mod placement;
 mod timing;
 mod workload;
 

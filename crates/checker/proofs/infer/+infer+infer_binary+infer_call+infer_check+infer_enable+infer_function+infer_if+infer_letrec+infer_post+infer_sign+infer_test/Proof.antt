@@ -6,6 +6,7 @@ use native.Mathlib.Omega.{arith}
 use borrow.Author.Needs.{needs}
 use mathlib.Core.Path.{refl}
 use Prim.Native.Nat.{_+_, _*_}
+use Rattle.accessors.specs.Internal.{term-inside}
 use Rattle.checker.proofs.TermLaws.{past-ten, kind-most, check-child, enable-child, sign-child, post-child, post-guard-byte, check-privilege, enable-privilege, test-privilege, call-first, call-second, test-first, test-second, binary-first, binary-second, if-first, if-second, if-third, function-room, function-child, letrec-room, letrec-body, letrec-rest, leaf-is, check-is, enable-is, sign-is, post-is, test-stops, test-is, call-stops, call-is, binary-stops, binary-is, if-stops, branch-stops, if-is, function-is, letrec-stops, letrec-is}
 use Prim.Native.Nat.{ℕ, _<_}
 use borrow.Fn.Kinds.{In}
@@ -45,7 +46,7 @@ use Rattle.checker.proofs.infer.infer_test.Kinds as infer-test-kinds
 use Rattle.checker.proofs.infer.+infer+infer_binary+infer_call+infer_check+infer_enable+infer_function+infer_if+infer_letrec+infer_post+infer_sign+infer_test.Lts-infer_test as infer-test-lts
 use Rattle.accessors.proofs.authority.Reads as authority-reads
 use Rattle.accessors.proofs.guard.Reads as guard-reads
-use Rattle.accessors.proofs.term.Reads as term-reads
+use Rattle.accessors.proofs.table_term.Reads as table-term-reads
 use Rattle.accessors.proofs.type_record.Reads as type-record-reads
 use Rattle.rules.proofs.bindings.push.Reads as push-reads
 use Rattle.rules.proofs.steps.branched.Reads as branched-reads
@@ -207,8 +208,8 @@ infer-test-below t =
 
 abbrev infer-claims : ℕ → infer-lts.Claims
 infer-claims t = (
-  term-reads.Asked,
-  term-reads.Learnt,
+  table-term-reads.Asked,
+  table-term-reads.Learnt,
   infer-function-below t,
   infer-function.Post,
   infer-letrec-below t,
@@ -233,15 +234,18 @@ infer-claims t = (
   infer-post.Post,
 )
 
-infer-term-requires : (t : ℕ) → infer-lts.Need-term-requires (infer-claims t) (infer-at t) infer.Post
-infer-term-requires t c κs = search needs
+infer-table-term-requires : (t : ℕ) → infer-lts.Need-table-term-requires (infer-claims t) (infer-at t) infer.Post
+infer-table-term-requires t c κs =
+    let start = c .before in
+    let r = start .pre .1 .0 in
+    term-inside (start .args .s .now) (r .sheet .well-formed .terms-inside) (start .args .c) (r .sheet .counts) (start .args .t) (r .inside)
 
 infer-infer-function-requires : (t : ℕ) → infer-lts.Need-infer-function-requires (infer-claims t) (infer-at t) infer.Post
 infer-infer-function-requires t c κs =
     let start = c .before .before .before .before in (
       omega (arith, start .pre .0),
       (
-        record { ready = start .pre .1 .0; known = start .pre .1 .1; record-is = c .before .before .term .ensures },
+        record { ready = start .pre .1 .0; known = start .pre .1 .1; record-is = c .before .before .table-term .ensures },
         c .before .match .keys1,
       ),
     )
@@ -251,7 +255,7 @@ infer-infer-letrec-requires t c κs =
     let start = c .before .before .before .before in (
       omega (arith, start .pre .0),
       (
-        record { ready = start .pre .1 .0; known = start .pre .1 .1; record-is = c .before .before .term .ensures },
+        record { ready = start .pre .1 .0; known = start .pre .1 .1; record-is = c .before .before .table-term .ensures },
         c .before .match .keys2,
       ),
     )
@@ -261,7 +265,7 @@ infer-infer-call-requires t c κs =
     let start = c .before .before .before .before in (
       omega (arith, start .pre .0),
       (
-        record { ready = start .pre .1 .0; known = start .pre .1 .1; record-is = c .before .before .term .ensures },
+        record { ready = start .pre .1 .0; known = start .pre .1 .1; record-is = c .before .before .table-term .ensures },
         c .before .match .keys3,
       ),
     )
@@ -271,7 +275,7 @@ infer-infer-if-requires t c κs =
     let start = c .before .before .before .before in (
       omega (arith, start .pre .0),
       (
-        record { ready = start .pre .1 .0; known = start .pre .1 .1; record-is = c .before .before .term .ensures },
+        record { ready = start .pre .1 .0; known = start .pre .1 .1; record-is = c .before .before .table-term .ensures },
         c .before .match .keys4,
       ),
     )
@@ -281,7 +285,7 @@ infer-infer-check-requires t c κs =
     let start = c .before .before .before .before in (
       omega (arith, start .pre .0),
       (
-        record { ready = start .pre .1 .0; known = start .pre .1 .1; record-is = c .before .before .term .ensures },
+        record { ready = start .pre .1 .0; known = start .pre .1 .1; record-is = c .before .before .table-term .ensures },
         c .before .match .keys5,
       ),
     )
@@ -291,7 +295,7 @@ infer-infer-enable-requires t c κs =
     let start = c .before .before .before .before in (
       omega (arith, start .pre .0),
       (
-        record { ready = start .pre .1 .0; known = start .pre .1 .1; record-is = c .before .before .term .ensures },
+        record { ready = start .pre .1 .0; known = start .pre .1 .1; record-is = c .before .before .table-term .ensures },
         c .before .match .keys6,
       ),
     )
@@ -301,7 +305,7 @@ infer-infer-sign-requires t c κs =
     let start = c .before .before .before .before in (
       omega (arith, start .pre .0),
       (
-        record { ready = start .pre .1 .0; known = start .pre .1 .1; record-is = c .before .before .term .ensures },
+        record { ready = start .pre .1 .0; known = start .pre .1 .1; record-is = c .before .before .table-term .ensures },
         c .before .match .keys7,
       ),
     )
@@ -311,7 +315,7 @@ infer-infer-test-requires t c κs =
     let start = c .before .before .before .before in (
       omega (arith, start .pre .0),
       (
-        record { ready = start .pre .1 .0; known = start .pre .1 .1; record-is = c .before .before .term .ensures },
+        record { ready = start .pre .1 .0; known = start .pre .1 .1; record-is = c .before .before .table-term .ensures },
         c .before .match .keys8,
       ),
     )
@@ -324,11 +328,11 @@ infer-leaf-requires t c κs =
 infer-infer-binary-requires : (t : ℕ) → infer-lts.Need-infer-binary-requires (infer-claims t) (infer-at t) infer.Post
 infer-infer-binary-requires t c κs =
     let at-match = c .before .before .before in
-    let at-term = at-match .before in
-    let start = at-term .before .before in (
+    let at-table-term = at-match .before in
+    let start = at-table-term .before .before in (
       omega (arith, start .pre .0),
       (
-        record { ready = start .pre .1 .0; known = start .pre .1 .1; record-is = at-term .term .ensures },
+        record { ready = start .pre .1 .0; known = start .pre .1 .1; record-is = at-table-term .table-term .ensures },
         (
           past-ten _ (c .before .before .if1 .left) (at-match .match .rest .0 .0 .0 .0 .0 .0 .0 .1) (at-match .match .rest .0 .0 .0 .0 .0 .0 .1)
               (at-match .match .rest .0 .0 .0 .0 .0 .1) (at-match .match .rest .0 .0 .0 .0 .1) (at-match .match .rest .0 .0 .0 .1)
@@ -340,12 +344,12 @@ infer-infer-binary-requires t c κs =
 
 infer-infer-post-requires : (t : ℕ) → infer-lts.Need-infer-post-requires (infer-claims t) (infer-at t) infer.Post
 infer-infer-post-requires t c κs =
-    let at-term = c .before .before .before .before in
-    let start = at-term .before .before in
-    let h = kind-most (record { ready = start .pre .1 .0; known = start .pre .1 .1; record-is = at-term .term .ensures }) in (
+    let at-table-term = c .before .before .before .before in
+    let start = at-table-term .before .before in
+    let h = kind-most (record { ready = start .pre .1 .0; known = start .pre .1 .1; record-is = at-table-term .table-term .ensures }) in (
       omega (arith, start .pre .0),
       (
-        record { ready = start .pre .1 .0; known = start .pre .1 .1; record-is = at-term .term .ensures },
+        record { ready = start .pre .1 .0; known = start .pre .1 .1; record-is = at-table-term .table-term .ensures },
         omega
             (arith, h, c .before .if2 .left),
       ),
@@ -379,7 +383,7 @@ infer-returns-9 : (t : ℕ) → infer-lts.Need-returns-9 (infer-claims t) (infer
 infer-returns-9 t c =
     let start = c .before .before .before .before .before in
     record {
-      is = leaf-is (record { ready = start .pre .1 .0; known = start .pre .1 .1; record-is = c .before .before .before .term .ensures }) _
+      is = leaf-is (record { ready = start .pre .1 .0; known = start .pre .1 .1; record-is = c .before .before .before .table-term .ensures }) _
           (omega (arith, c .before .if1 .taken)) (c .leaf .ensures);
       known = start .pre .1 .1;
     }
@@ -840,7 +844,7 @@ pub +infer+infer-binary+infer-call+infer-check+infer-enable+infer-function+infer
     (λ t. infer-lts.spec (infer-claims t)
     (infer-at t)
     infer.Post
-    (infer-term-requires t)
+    (infer-table-term-requires t)
     (infer-infer-function-requires t)
     (infer-infer-letrec-requires t)
     (infer-infer-call-requires t)

@@ -1,11 +1,16 @@
 -- Since the fields are right, the counts are the sheet's and the record that is read is that of term t, so that its shape is the definition's (shape-is).
+use Rattle.program.specs.Laws.Readable.{fields-ok}
+use Rattle.accessors.specs.Internal.{term-inside}
 use Rattle.tables.proofs.TermLaws.{shape-is}
 use borrow.Author.Needs.{needs}
 use Rattle.tables.proofs.terms.shape_at.Statement.{statement}
 use Rattle.tables.proofs.terms.shape_at.Tie as tie
 
-term-requires : tie.Need-term-requires
-term-requires c κs = search needs
+table-term-requires : tie.Need-table-term-requires
+table-term-requires c κs =
+    let start = c .before in
+    term-inside (start .args .s .now) (fields-ok (start .args .s .now) (start .pre .0 .none-found) .terms-in) (start .args .c) (start .pre .0 .counts-are)
+    (start .args .t) (start .pre .1)
 
 shape-of-requires : tie.Need-shape-of-requires
 shape-of-requires c κs = search needs
@@ -13,7 +18,7 @@ shape-of-requires c κs = search needs
 returns : tie.Need-returns
 returns c =
     let start = c .before .before .before in
-    shape-is (start .args .s .now) (start .args .c) (start .args .t) (start .pre .0) (start .pre .1) (c .before .term .ensures) (c .shape-of .ensures)
+    shape-is (start .args .s .now) (start .args .c) (start .args .t) (start .pre .0) (start .pre .1) (c .before .table-term .ensures) (c .shape-of .ensures)
 
 pub shape-at-spec : {M : Type 1} → statement M
-shape-at-spec = tie.close (tie.spec term-requires shape-of-requires returns)
+shape-at-spec = tie.close (tie.spec table-term-requires shape-of-requires returns)

@@ -1,0 +1,20 @@
+-- What the contract of a read without a test says. No reader of the public promise needs this file.
+use mathlib.Core.List.{List}
+use Prim.Native.Nat.{ℕ, _+_, _*_, _<_, _≤_}
+use native.Mathlib.Omega.{arith}
+use lib.ListN.{length}
+use Rattle.program.specs.Layout.{terms, termAt}
+use Rattle.program.specs.Records.{CountsOf}
+use Rattle.program.specs.declared.records.Counts.{Counts}
+
+-- the record of term t is in its table, and all of it in the sheet
+pub record TermInside (s : List ℕ) (c : Counts) (t : ℕ) : Type 0 where
+  pub in-table : t < c .terms
+  pub in-sheet : 14 + 4 * c .principals + 10 * c .types + 8 * t + 8 ≤ length s
+
+-- so is each term of a sheet with its own counts in which the table of terms ends
+pub term-inside : (s : List ℕ) → termAt s (terms s) ≤ length s → (c : Counts) → CountsOf s c → (t : ℕ) → t < terms s → TermInside s c t
+term-inside s i c k t h = record {
+  in-table = omega (arith, k .terms-are);
+  in-sheet = omega (arith, i, k .principals-are, k .types-are);
+}
