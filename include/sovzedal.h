@@ -32,7 +32,7 @@
  *   4       principals         0                     0                calls made               0                   0         CALLS, PRINCIPALS
  *   5       types              0                     0                cells made               0                   0         CELLS, TYPES
  *   6       0                  0                     0                posts made               0                   0         POSTS
- *   7       0                  needs                 0                0                        0                   0         NEEDS
+ *   7       0                  needs                 0                held results made        0                   0         NEEDS, HELD
  *   8                                                                 the line served ***                          line ***  LINE
  *
  *   *   with 23, as in the column before: whether the interrupt is raised after the access, 0 or 1.
@@ -42,7 +42,10 @@
  * Types: 0 is the boolean, 1 the number. Needs are a set of privileges: bit k, worth 2^k, stands for privilege k. docs/REFUSALS.md explains the causes.
  * An entry of a list of posts is channel * 65,536 + number: the lowest 16 bits are the number, and the others the channel, 0 to 15. A sheet of format 1
  * posts on channel 0 alone, so that its entries are its numbers.
- * How a run went that a write to a block asked for is told by the block's registers and not here: that write returns SOVZEDAL_OK.
+ * A held result is a sum whose exact result is above 65,535, which gives 65,535, or a difference whose exact result is below 0, which gives 0. One that
+ * just reaches the limit is not held. A run has at most 4,195,328 of them.
+ * How a run went that a write to a block asked for is told by the block's registers and not here: that write returns SOVZEDAL_OK. No register tells the
+ * held results.
  */
 #ifndef SOVZEDAL_H
 #define SOVZEDAL_H
@@ -55,9 +58,9 @@ extern "C" {
 #endif
 
 /* The version of this interface, and the latest format that it reads: sheets of format 1 are read, too. Before version 2 of the interface, lists of posts
- * had entries of 16 bits. */
+ * had entries of 16 bits; before 2.2, entry 7 of a run's answer was zero. */
 #define SOVZEDAL_VERSION_MAJOR 2
-#define SOVZEDAL_VERSION_MINOR 1
+#define SOVZEDAL_VERSION_MINOR 2
 #define SOVZEDAL_FORMAT 2
 
 /* What a function returns. */
@@ -84,6 +87,7 @@ enum {
     SOVZEDAL_AT_TYPES = 5,       /* of a readable sheet */
     SOVZEDAL_AT_POSTS = 6,       /* of a run */
     SOVZEDAL_AT_NEEDS = 7,       /* of an accepted sheet */
+    SOVZEDAL_AT_HELD = 7,        /* of a run: its sums and differences that were held at a limit */
     SOVZEDAL_AT_LINE = 8         /* of a job that was served */
 };
 

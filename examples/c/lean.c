@@ -53,8 +53,9 @@ static void run(const char *name, const uint8_t *bytes, size_t length, const uin
     } else {
         printf("ended in %" PRIu32, answer[SOVZEDAL_AT_VALUE]);
     }
-    printf(", calls %" PRIu32 ", cells %" PRIu32 ", posts %" PRIu32 "\n",
-           answer[SOVZEDAL_AT_CALLS], answer[SOVZEDAL_AT_CELLS], answer[SOVZEDAL_AT_POSTS]);
+    printf(", calls %" PRIu32 ", cells %" PRIu32 ", posts %" PRIu32 ", held %" PRIu32 "\n",
+           answer[SOVZEDAL_AT_CALLS], answer[SOVZEDAL_AT_CELLS], answer[SOVZEDAL_AT_POSTS],
+           answer[SOVZEDAL_AT_HELD]);
 }
 
 /* Prints the parts that a line has, and gives where the next line begins. */

@@ -90,8 +90,9 @@ static int run(size_t sheet_len)
     } else {
         printf("ended in the %s %" PRIu32, types[answer[SOVZEDAL_AT_TYPE]], answer[SOVZEDAL_AT_VALUE]);
     }
-    printf(", calls %" PRIu32 ", cells %" PRIu32 ", posts %" PRIu32 "\n",
-           answer[SOVZEDAL_AT_CALLS], answer[SOVZEDAL_AT_CELLS], answer[SOVZEDAL_AT_POSTS]);
+    printf(", calls %" PRIu32 ", cells %" PRIu32 ", posts %" PRIu32 ", held %" PRIu32 "\n",
+           answer[SOVZEDAL_AT_CALLS], answer[SOVZEDAL_AT_CELLS], answer[SOVZEDAL_AT_POSTS],
+           answer[SOVZEDAL_AT_HELD]);
 
     print_posts(answer[SOVZEDAL_AT_POSTS]);
     return status == SOVZEDAL_OK;

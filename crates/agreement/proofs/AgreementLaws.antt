@@ -62,7 +62,7 @@ module _ (s start : List ℕ) (e : Bool) (calls depth : ℕ) (cells posts frames
   whole a b = record { answer = a; buffers = b }
 
   same-counts-made : (u : Budget) → counts Q (sizes (buffersOf cells posts [])) u ≡ counts Q (sizes (buffersOf cells posts frames)) u
-  same-counts-made (budget c d r ps) = refl
+  same-counts-made (budget c d r log) = refl
 
   kept-frames : (x : Course) (a : Answer) (cells′ posts′ : List ℕ)
       → whole a (buffersOf cells′ posts′ []) ≡ whole (answerOf (root s) Q (sizes (buffersOf cells posts [])) x)

@@ -16,8 +16,8 @@ use Rattle.stores.specs.Words.{pick, booleanWord, numberWord, functionWord, sto
 use Rattle.machine.specs.Table.{wordKind, wordSmall, wordFirst, wordSecond, wordThird, wordAuthority, wordGuard}
 use Rattle.stores.specs.Cells.{lookOf, cellSet, madeWith, storeWith, Bound}
 use Rattle.stores.specs.Access.{grantedOf, allowedOf, signAccess, signFrames, enableAccess, enableFrames, enabledNow, restoreFrames}
-use Rattle.machine.specs.Steps.{callsLeft, cellsMade, postsMade, modeOf, operateOf, Guard, postCause, postCounters, Appended}
-use Rattle.machine.specs.Store.{Store, Done, storeOf, doneOf, withFrames, andThen, Runs, Applier, Shape, childless, letrec, call, if, check, enable, sign, test, binary, post, shapeOf, leafOf, hasRoom, ownCell, bound, called, letrecS, callS, branchS, ifS, checkS, testS, signS, restored, enableS, binaryS, postDone, postS, byShape, begin, step, below, applyAt, evalAt}
+use Rattle.machine.specs.Steps.{callsLeft, cellsMade, postsMade, modeOf, saturatedMade, operateSaturates, wrapped, countSaturated, operateCounters, Operated, Guard, postCause, postCounters, Appended}
+use Rattle.machine.specs.Store.{Store, Done, storeOf, doneOf, withFrames, andThen, Runs, Applier, Shape, childless, letrec, call, if, check, enable, sign, test, binary, post, shapeOf, leafOf, hasRoom, ownCell, bound, called, letrecS, callS, branchS, ifS, checkS, testS, signS, restored, enableS, operateDone, binaryS, postDone, postS, byShape, begin, step, below, applyAt, evalAt}
 use Rattle.machine.specs.Lower.{evaluatesFirst, evaluatesSecond, evaluatesThird, readsPrivilege, readsGuard, Lower}
 use Rattle.machine.specs.Enter.{Enterable, goesTo, Enters}
 use Rattle.machine.specs.declared.enter.Entered.{Entered}
@@ -228,7 +228,7 @@ module _ {terms : List ℕ} {t x : ℕ} (P : Pair terms t x) where
 
   -- how it ends: an application, or a word
   unfoldable pub pairEnd : (k acc a b : ℕ) → Store → Done
-  pairEnd k acc a b st = pick (eqb (wordKind x) 5) (applyAt terms k t a b acc st) (doneOf (operateOf (wordKind x) t a b) st)
+  pairEnd k acc a b st = pick (eqb (wordKind x) 5) (applyAt terms k t a b acc st) (operateDone (wordKind x) t a b st)
 
   pub pair-is : (k env acc : ℕ) {u v : ℕ} → u ≡ wordFirst x → v ≡ wordSecond x → (st : Store) → evalAt terms k t env acc st
       ≡ andThen (evalAt terms k u env acc st) (λ a st₁. andThen (evalAt terms k v env acc st₁) (λ b st₂. pairEnd k acc a b st₂))
@@ -237,7 +237,7 @@ module _ {terms : List ℕ} {t x : ℕ} (P : Pair terms t x) where
     where
       ending : Bool → Done
       ending c = andThen (evalAt terms k u env acc st)
-          (λ a st₁. andThen (evalAt terms k v env acc st₁) (λ b st₂. pick c (applyAt terms k t a b acc st₂) (doneOf (operateOf (wordKind x) t a b) st₂)))
+          (λ a st₁. andThen (evalAt terms k v env acc st₁) (λ b st₂. pick c (applyAt terms k t a b acc st₂) (operateDone (wordKind x) t a b st₂)))
 
       applied : wordKind x ≡ 5 → callS (below terms (applyAt terms k) t (wordFirst x)) (below terms (applyAt terms k) t (wordSecond x))
           (applyAt terms k) t env acc st
@@ -259,9 +259,11 @@ module _ {terms : List ℕ} {t x : ℕ} (P : Pair terms t x) where
   unfolding pairEnd
   pair-applies k acc a b st e z = rw (eq-eqb (wordKind x) 5 (sym e ∙ z)) refl
 
-  pub pair-operates : (k acc a b : ℕ) (st : Store) {o w : ℕ} → o ≡ wordKind x → (o ≡ 5 → ⊥) → w ≡ operateOf o t a b → pairEnd k acc a b st ≡ doneOf w st
-  unfolding pairEnd
-  pair-operates k acc a b st e n q = rw (ne-eqb (wordKind x) 5 (λ z. n (e ∙ z)), ← e, q) refl
+  pub pair-operates : (k acc a b : ℕ) (cells posts frames : List ℕ) {o w : ℕ} {n n′ : List ℕ} → o ≡ wordKind x → (o ≡ 5 → ⊥) → Operated o t a b n w n′
+      → doneOf w (storeOf n′ cells posts frames) ≡ pairEnd k acc a b (storeOf n cells posts frames)
+  unfolding pairEnd operateDone
+  pair-operates k acc a b c p f e n d =
+      (λ i. doneOf (d .word-is i) (storeOf (d .counters-are i) c p f)) ∙ rw (ne-eqb (wordKind x) 5 (λ z. n (e ∙ z)), ← e) refl
 
 -- ---- a branch, by the condition's word
 pub branch-stuck : (t w : ℕ) (p q : Done) (st : Store) {s r : ℕ} → s ≡ sortOf w → (s ≡ 0 → ⊥) → r ≡ stopWord 18 t → branchS t w p q st ≡ doneOf r st
@@ -318,7 +320,7 @@ module _ (terms : List ℕ) (k t f v acc : ℕ) (st : Store) where
             apply-begin
             ∙ simp (ne-eqb (callsLeft (st .n)) 0 calls, lt-ltb (cellsMade (st .n)) (length (st .cells) / 8) (h .0)) (rw (h .1 .0, h .1 .1, b, e, o) refl)
 
--- ---- the calls left after a cell is counted, and after a call is
+-- ---- the calls left after a cell is counted, after a call is, and after an operation
 pub same-calls : (n : List ℕ) (m : ℕ) → callsLeft (set n 1 m) ≡ callsLeft n
 same-calls n m = getD-set-other n 1 0 m 0 (λ e. omega (arith, e))
 
@@ -328,6 +330,14 @@ one-call-less n m h = go n h
     go : (n : List ℕ) → (callsLeft n ≡ 0 → ⊥) → callsLeft (set (set n 0 (callsLeft n - 1)) 1 m) < callsLeft n
     go [] h = absurd (h refl)
     go (a ∷ l) h = omega (arith, h, same-calls (set (a ∷ l) 0 (a - 1)) m)
+
+pub operate-calls : {k t a b r : ℕ} {n n′ : List ℕ} → Operated k t a b n r n′ → callsLeft n′ ≤ callsLeft n
+unfolding operateCounters
+operate-calls {k} {a = a} {b = b} {n = n} d = omega (arith, ap (λ (m : List ℕ). callsLeft m) (d .counters-are), go (operateSaturates k a b))
+  where
+    go : (over : Bool) → callsLeft (pick over (countSaturated n) n) ≡ callsLeft n
+    go true = getD-set-other n 4 0 (wrapped (saturatedMade n + 1)) 0 (λ e. omega (arith, e))
+    go false = refl
 
 -- ---- a post that is appended, or not
 module _ {t x acc w : ℕ} {n l f n′ l′ f′ : List ℕ} {r : ℕ} (a : Appended t x acc w n l f r n′ l′ f′) where

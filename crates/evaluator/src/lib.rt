@@ -1,6 +1,7 @@
 // The evaluator of both runners over the words of a readable sheet's terms: evaluating a term and applying a function call each other. Its contracts
 // speak of the store-level interpreter in machine/specs/Store.antt; the crate `refinement` takes that to the meaning. `n` holds the calls left, the
-// cells made, the posts made and the run's mode. The lent stores are handed on as references to the slices, so that no call copies one.
+// cells made, the posts made, the run's mode and the saturated results. The lent stores are handed on as references to the slices, so that no call copies
+// one.
 ghost use Rattle.machine.specs.Store.{if, enable, post, evalAt, applyAt};
 ghost use Rattle.evaluator.specs.Contracts.{Table, Node, Tail, Pair, Evaluated};
 
@@ -29,7 +30,7 @@ pub fn eval(
     cells: &mut &mut [u8],
     posts: &mut &mut [u32],
     frames: &mut &mut [u32],
-    n: &mut [usize; 4],
+    n: &mut [usize; 5],
     t: u16,
     env: u16,
     acc: u64,
@@ -60,7 +61,7 @@ fn eval_tail(
     cells: &mut &mut [u8],
     posts: &mut &mut [u32],
     frames: &mut &mut [u32],
-    n: &mut [usize; 4],
+    n: &mut [usize; 5],
     t: u16,
     x: u64,
     env: u16,
@@ -84,7 +85,7 @@ fn eval_pair(
     cells: &mut &mut [u8],
     posts: &mut &mut [u32],
     frames: &mut &mut [u32],
-    n: &mut [usize; 4],
+    n: &mut [usize; 5],
     t: u16,
     x: u64,
     env: u16,
@@ -117,7 +118,7 @@ fn eval_pair(
     if kind == 5 {
         return apply(terms, cells, posts, frames, n, t, a, b, acc, depth);
     }
-    operate(kind, t, a, b)
+    operate(n, kind, t, a, b)
 }
 
 // A condition and one of two branches.
@@ -126,7 +127,7 @@ fn eval_if(
     cells: &mut &mut [u8],
     posts: &mut &mut [u32],
     frames: &mut &mut [u32],
-    n: &mut [usize; 4],
+    n: &mut [usize; 5],
     t: u16,
     x: u64,
     env: u16,
@@ -154,7 +155,7 @@ fn eval_enable(
     cells: &mut &mut [u8],
     posts: &mut &mut [u32],
     frames: &mut &mut [u32],
-    n: &mut [usize; 4],
+    n: &mut [usize; 5],
     t: u16,
     x: u64,
     env: u16,
@@ -189,7 +190,7 @@ fn eval_post(
     cells: &mut &mut [u8],
     posts: &mut &mut [u32],
     frames: &mut &mut [u32],
-    n: &mut [usize; 4],
+    n: &mut [usize; 5],
     t: u16,
     x: u64,
     env: u16,
@@ -213,7 +214,7 @@ fn apply(
     cells: &mut &mut [u8],
     posts: &mut &mut [u32],
     frames: &mut &mut [u32],
-    n: &mut [usize; 4],
+    n: &mut [usize; 5],
     t: u16,
     f: u64,
     v: u64,

@@ -18,16 +18,16 @@ use Rattle.program.specs.Laws.Records.{authority-is}
 use Rattle.program.specs.declared.records.Counts.{Counts}
 use Rattle.semantics.specs.Values.{Budget, budget, Result}
 use Rattle.semantics.specs.Access.{Frame, privs}
-use Rattle.semantics.specs.Runs.{eager, lazy, Request, Buffers, Sizes, sizes, stack, known, runConditions, evaluation, started, ran, left, counts, answerOf, clearedFrames, buffersAfter, run}
-use Rattle.semantics.specs.Theorems.{course-clear, course-found, run-course}
+use Rattle.semantics.specs.Runs.{eager, lazy, Request, Buffers, Sizes, sizes, stack, known, runConditions, evaluation, started, Counts as Told, outcome, ran, left, counts, After, answerOf, clearedFrames, buffersAfter, run}
+use Rattle.semantics.specs.Theorems.{course-clear, course-found, run-course, Few, counts-few}
 use Rattle.stores.specs.declared.state.Out.{Out}
 use Rattle.stores.specs.Words.{outOf}
 use Rattle.machine.specs.Table.{Empty}
 use Rattle.stores.specs.Cells.{zerosLike}
 use Rattle.stores.specs.Access.{pairOf, enforced, lazyMode}
-use Rattle.machine.specs.Steps.{callsLeft, cellsMade, postsMade}
+use Rattle.machine.specs.Steps.{callsLeft, cellsMade, postsMade, saturatedMade, wrapped}
 use Rattle.machine.specs.Store.{Done, storeOf, doneOf, evalAt}
-use Rattle.refinement.specs.Claims.{outcomeOf, countsOf, laidOut, Refined}
+use Rattle.refinement.specs.Claims.{outcomeOf, countsOf, wrappedCounts, laidOut, Refined}
 use Rattle.refinement.specs.Theorems.{eager-refined, lazy-refined}
 use Rattle.interp.specs.Answers.{refusalCause, refusalPlace, outcomeModel, requestOf, buffersOf, after}
 use Rattle.interp.specs.Internal.{Cleared, Admits, rootDone, Answered, Evaluated}
@@ -46,13 +46,20 @@ pub refused-after : (s : List ℕ) (q : Request) (cells posts frames : List ℕ)
 refused-after s q cells posts frames f e = sym (run-course s q (buffersOf cells posts frames) _
     (course-found s q (buffersOf cells posts frames) (refusalCause f) (refusalPlace f) e))
 
+-- the counter of saturated results has room for every count that is told
+unwrapped : (k : Told) → Few k → wrappedCounts k ≡ k
+unwrapped k f =
+    let same : wrapped (k .saturated) ≡ k .saturated = omega (arith, f .saturated-most) in
+    λ i. record { calls = k .calls; cells = k .cells; posts = k .posts; saturated = same i }
+
 -- ---- a run that starts: `store` is what the frame store holds when evaluation begins
 module _ (root₀ : ℕ) (q : Request) (cells posts frames store : List ℕ) (x : Result) where
   -- counts do not depend on the frame store
   same-counts-made : (u : Budget) → counts q (sizes (buffersOf cells posts store)) u ≡ counts q (sizes (buffersOf cells posts frames)) u
-  same-counts-made (budget c d r ps) = refl
+  same-counts-made (budget c d r log) = refl
 
-  answered-after : {d : Done} {r : Run} {cells′ posts′ frames′ last : List ℕ} → Answered root₀ (q .calls) d r (buffersOf cells′ posts′ frames′)
+  answered-after : Few (counts q (sizes (buffersOf cells posts frames)) (left x))
+      → {d : Done} {r : Run} {cells′ posts′ frames′ last : List ℕ} → Answered root₀ (q .calls) d r (buffersOf cells′ posts′ frames′)
       → Refined root₀ q (buffersOf cells posts store) d x → last ≡ clearedFrames (q .runner) frames
       → after r cells′ posts′ last
       ≡ record {
@@ -60,8 +67,8 @@ module _ (root₀ : ℕ) (q : Request) (cells posts frames store : List ℕ) (x 
         buffers = buffersAfter (q .runner)
             (buffersOf cells posts frames) (started x);
       }
-  answered-after v R l = λ i. record {
-    answer = (v .answer-is ∙ (λ j. ran (R .same-outcome j) ((R .same-counts ∙ same-counts-made (left x)) j))) i;
+  answered-after f v R l = λ i. record {
+    answer = (v .answer-is ∙ (λ j. ran (R .same-outcome j) ((R .same-counts ∙ ap wrappedCounts (same-counts-made (left x)) ∙ unwrapped _ f) j))) i;
     buffers = buffersOf
         ((v .cells-are ∙ ap (λ (z : Sizes). replicate (z .cells) 0) (R .same-sizes)) i)
         ((v .posts-are ∙ R .same-posts) i)
@@ -74,8 +81,12 @@ pub ran-after : (s : List ℕ) (q : Request) (cells posts frames store : List �
     → last ≡ clearedFrames (q .runner) frames
     → after r cells′ posts′ last ≡ run s q (buffersOf cells posts frames)
 ran-after s q cells posts frames store e v R l =
-    answered-after (root s) q cells posts frames store _ v R l
-    ∙ sym (run-course s q (buffersOf cells posts frames) _ (course-clear s q (buffersOf cells posts frames) e))
+    let b = buffersOf cells posts frames in
+    let x = evaluation (q .runner) s q (sizes b) in
+    let is = run-course s q b _ (course-clear s q b e) in
+    answered-after (root s) q cells posts frames store x
+    (counts-few s q b (outcome (root s) x) (counts q (sizes b) (left x)) (ap (λ (a : After). a .answer) is)) v R l
+    ∙ sym is
 
 -- ---- evaluation
 -- a table of zeros is an empty one
@@ -97,7 +108,8 @@ outcome-same root₀ p e = ap (outcomeOf root₀) (sym e)
 pub answered-by : (root₀ calls : ℕ) {w : ℕ} {n cells posts frames cells′ : List ℕ} {d : Done} {x : Out} {o : Outcome} → doneOf w (storeOf n cells posts frames)
     ≡ d → x ≡ outOf w
     → outcomeModel o ≡ outcomeOf root₀ x → cells′ ≡ zerosLike cells
-    → Answered root₀ calls d (IsRan o (record { calls = calls - callsLeft n; cells = cellsMade n; posts = postsMade n })) (buffersOf cells′ posts frames)
+    → Answered root₀ calls d (IsRan o (record { calls = calls - callsLeft n; cells = cellsMade n; posts = postsMade n; saturated = saturatedMade n }))
+    (buffersOf cells′ posts frames)
 answered-by root₀ calls e p q z = record {
   answer-is = λ i. ran ((q ∙ ap (outcomeOf root₀) p ∙ ap (λ (d : Done). outcomeOf root₀ (outOf (d .out))) e) i) (countsOf calls (e i .store .n));
   cells-are = z ∙ ap (λ (d : Done). zerosLike (d .store .cells)) e;
@@ -134,9 +146,9 @@ module _ (s start : List ℕ) (e : Bool) (cells posts : List ℕ) (calls depth :
   -- a in the place of the number that it is
   moved : (terms frames : List ℕ) (mode acc : ℕ) {a : ℕ} {r : Run} {b : Buffers} → CountsOf s c → acc ≡ a
       → Answered (c .terms - 1) calls (rootDone terms c mode acc calls depth (buffersOf cells posts frames)) r b
-      → Answered (root s) calls (evalAt terms depth (root s) 0 a (storeOf (calls ∷ 0 ∷ 0 ∷ mode ∷ []) cells posts frames)) r b
+      → Answered (root s) calls (evalAt terms depth (root s) 0 a (storeOf (calls ∷ 0 ∷ 0 ∷ mode ∷ 0 ∷ []) cells posts frames)) r b
   moved terms frames mode acc {r = r} {b = b} k q v =
-      let st = storeOf (calls ∷ 0 ∷ 0 ∷ mode ∷ []) cells posts frames in
+      let st = storeOf (calls ∷ 0 ∷ 0 ∷ mode ∷ 0 ∷ []) cells posts frames in
       subst (λ x. Answered (root s) calls (evalAt terms depth (root s) 0 x st) r b) q (root-answered k (λ n. evalAt terms depth n 0 acc st) v)
 
   pub eager-after : (store : List ℕ) {may P mode acc : ℕ} {r : Run} {cells′ posts′ frames′ : List ℕ}

@@ -38,9 +38,9 @@ abbrev pub outcomeModel : Outcome → runs.Outcome
 outcomeModel (End v) = ended (groundOf v)
 outcomeModel (Stop x) = stopped (stopCause x) (stopPlace x)
 
--- "both carry calls, cells and posts made"
+-- "both carry calls, cells and posts made"; 02, W10: "ends and stops carry that count beside the calls"
 abbrev pub countsModel : Made → Counts
-countsModel m = record { calls = m .calls; cells = m .cells; posts = m .posts }
+countsModel m = record { calls = m .calls; cells = m .cells; posts = m .posts; saturated = m .saturated }
 
 abbrev pub runModel : Run → Answer
 runModel (Refused f) = refused (refusalCause f) (refusalPlace f)

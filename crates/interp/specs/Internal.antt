@@ -61,7 +61,7 @@ Admits s start cells posts frames calls depth (Refused f) = screen (conditions s
 -- ---- evaluation
 -- what the interpreter comes to at the root, with the terms' words in `terms`
 abbrev pub rootDone : (terms : List ℕ) → Counts → (mode acc calls depth : ℕ) → Buffers → Done
-rootDone terms c mode acc calls depth b = evalAt terms depth (c .terms - 1) 0 acc (storeOf (calls ∷ 0 ∷ 0 ∷ mode ∷ []) (b .cells) (b .posts) (b .frames))
+rootDone terms c mode acc calls depth b = evalAt terms depth (c .terms - 1) 0 acc (storeOf (calls ∷ 0 ∷ 0 ∷ mode ∷ 0 ∷ []) (b .cells) (b .posts) (b .frames))
 
 -- the answer from what it comes to, and the stores: cells cleared, posts and frames as it leaves them
 pub record Answered (root calls : ℕ) (d : Done) (r : Run) (b : Buffers) : Type 0 where

@@ -26,11 +26,12 @@ pub enum Outcome {
     Stop(Stop),
 }
 
-// Calls, cells and posts made.
+// Calls, cells and posts made, and the sums and differences that were saturated.
 pub struct Made {
     pub calls: usize,
     pub cells: usize,
     pub posts: usize,
+    pub saturated: usize,
 }
 
 pub enum Run {

@@ -69,7 +69,7 @@ fn evaluate(
     let mut terms = [0; TERM_PLACES];
     decode_terms(s, c, &mut terms);
     let allowed = calls as usize;
-    let mut n = [allowed, 0, 0, mode];
+    let mut n = [allowed, 0, 0, mode, 0];
     let mut word = 0;
     evaluator::entry::run(
         &terms,
@@ -87,6 +87,7 @@ fn evaluate(
         calls: allowed - n[0],
         cells: n[1],
         posts: n[2],
+        saturated: n[4],
     };
     let outcome = outcome_of(root, out_of(word));
     Run::Ran {

@@ -30,7 +30,8 @@ by-course r n q b (rejected c p) o k h e = absurd (refused≢ran e)
 by-course r n q b (started x) o k h e = go (left x) h (ap (posted n) e)
   where
     go : (u : Budget) → length (inOrder u ++ drop (length (inOrder u)) (b .posts)) ≡ n → counts q (sizes b) u .posts ≡ k .posts → k .posts ≤ n
-    go (budget c d m ps) g f = omega (arith, length-append (reverse ps) (drop (length (reverse ps)) (b .posts)), length-reverse ps)
+    go (budget c d m log) g f =
+        omega (arith, length-append (reverse (log .posts)) (drop (length (reverse (log .posts))) (b .posts)), length-reverse (log .posts))
 
 module _ (s : List ℕ) (q : Request) (b : Buffers) where
   run-posts : (o : Outcome) (k : Counts) → run s q b .answer ≡ ran o k → k .posts ≤ length (b .posts)

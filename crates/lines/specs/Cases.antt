@@ -76,7 +76,7 @@ unfolding serveOf turnFrom lentRun run screen tell course eval apply evalWith ad
 first-leaves = refl
 
 pub first-told : heard (serveOf waiting store (lent (1 ∷ 2 ∷ [])))
-    ≡ (told (ran (ended (ground-num 7)) (record { calls = 0; cells = 0; posts = 1 })), 1, 2, 1, 7 ∷ 2 ∷ [])
+    ≡ (told (ran (ended (ground-num 7)) (record { calls = 0; cells = 0; posts = 1; saturated = 0 })), 1, 2, 1, 7 ∷ 2 ∷ [])
 unfolding serveOf turnFrom lentRun run screen tell course eval apply evalWith addAuthorised has meet union insert remove subset
 first-told = refl
 
@@ -94,12 +94,13 @@ second-told = refl
 
 -- the next post has its place behind the first
 pub third-told : heard (serveOf after2 store (lent (7 ∷ 2 ∷ [])))
-    ≡ (told (ran (ended (ground-num 7)) (record { calls = 0; cells = 0; posts = 1 })), 1, 2, 2, 7 ∷ 7 ∷ [])
+    ≡ (told (ran (ended (ground-num 7)) (record { calls = 0; cells = 0; posts = 1; saturated = 0 })), 1, 2, 2, 7 ∷ 7 ∷ [])
 unfolding serveOf turnFrom lentRun run screen tell course eval apply evalWith addAuthorised has meet union insert remove subset
 third-told = refl
 
 -- nothing is left of a list that is shorter
-pub nothing-left : heard (serveOf after2 store (lent [])) ≡ (told (ran (stopped 22 1) (record { calls = 0; cells = 0; posts = 0 })), 1, 2, 1, [])
+pub nothing-left : heard (serveOf after2 store (lent []))
+    ≡ (told (ran (stopped 22 1) (record { calls = 0; cells = 0; posts = 0; saturated = 0 })), 1, 2, 1, [])
 unfolding serveOf turnFrom lentRun run screen tell course eval apply evalWith addAuthorised has meet union insert remove subset
 nothing-left = refl
 

@@ -7,12 +7,12 @@ use native.Mathlib.Nat.{min-eq-left, min-eq-right}
 use native.Mathlib.Omega.{arith}
 use lib.Dec.{ltb, eqb}
 use lib.ListN.{length, set}
-use borrow.Author.Tests.{eq-eqb, ne-eqb, ltb-true}
+use borrow.Author.Tests.{eq-eqb, ne-eqb, lt-ltb, le-ltb, ltb-true}
 use Rattle.program.specs.Limits.{noGuard}
-use Rattle.stores.specs.Words.{booleanWord, numberWord, stopWord, sortOf, payloadOf}
+use Rattle.stores.specs.Words.{pick, booleanWord, numberWord, stopWord, sortOf, payloadOf}
 use Rattle.stores.specs.Access.{allowedOf}
 use Rattle.machine.specs.Table.{wordSmall, wordGuard}
-use Rattle.machine.specs.Steps.{postsMade, modeOf, resultOf, operateOf, Guard, guardPassed, causeOf, entryOf, postCause, postWord, postCounters, postList, Appended}
+use Rattle.machine.specs.Steps.{postsMade, modeOf, resultOf, operateOf, saturatesOf, operateSaturates, countSaturated, operateCounters, Operated, Guard, guardPassed, causeOf, entryOf, postCause, postWord, postCounters, postList, Appended}
 
 -- ---- what two numbers give, by the kind
 sum-is : {k : ℕ} (x y : ℕ) → k ≡ 11 → resultOf k x y ≡ numberWord (min (x + y) 65535)
@@ -23,38 +23,66 @@ difference-is : {k : ℕ} (x y : ℕ) → (k ≡ 11 → ⊥) → k ≡ 12 → re
 unfolding resultOf
 difference-is {k} x y n e = simp (ne-eqb k 11 n, eq-eqb k 12 e)
 
-module _ (k t a b : ℕ) {r : ℕ} where
-  pub operate-left : (sortOf a ≡ 1 → ⊥) → r ≡ stopWord 18 t → r ≡ operateOf k t a b
-  unfolding operateOf
-  operate-left n q = q ∙ sym (simp (ne-eqb (sortOf a) 1 n))
+sum-saturates : {k : ℕ} (x y : ℕ) → k ≡ 11 → saturatesOf k x y ≡ ltb 65535 (x + y)
+unfolding saturatesOf
+sum-saturates {k} x y e = simp (eq-eqb k 11 e)
+
+difference-saturates : {k : ℕ} (x y : ℕ) → (k ≡ 11 → ⊥) → k ≡ 12 → saturatesOf k x y ≡ ltb x y
+unfolding saturatesOf
+difference-saturates {k} x y n e = simp (ne-eqb k 11 n, eq-eqb k 12 e)
+
+module _ (k t a b : ℕ) (n : List ℕ) {r : ℕ} where
+  pub operate-left : (sortOf a ≡ 1 → ⊥) → r ≡ stopWord 18 t → Operated k t a b n r n
+  unfolding operateOf operateSaturates operateCounters
+  operate-left h q = record { word-is = q ∙ sym (simp (ne-eqb (sortOf a) 1 h)); counters-are = sym (simp (ne-eqb (sortOf a) 1 h)) }
 
   module _ (p : sortOf a ≡ 1) where
-    pub operate-right : (sortOf b ≡ 1 → ⊥) → r ≡ stopWord 18 t → r ≡ operateOf k t a b
-    unfolding operateOf
-    operate-right n q = q ∙ sym (simp (eq-eqb (sortOf a) 1 p, ne-eqb (sortOf b) 1 n))
+    pub operate-right : (sortOf b ≡ 1 → ⊥) → r ≡ stopWord 18 t → Operated k t a b n r n
+    unfolding operateOf operateSaturates operateCounters
+    operate-right h q = record {
+      word-is = q ∙ sym (simp (eq-eqb (sortOf a) 1 p, ne-eqb (sortOf b) 1 h));
+      counters-are = sym (simp (eq-eqb (sortOf a) 1 p, ne-eqb (sortOf b) 1 h));
+    }
 
     module _ {x y : ℕ} (q : sortOf b ≡ 1) (u : x ≡ payloadOf a) (v : y ≡ payloadOf b) where
-      operate-both : r ≡ resultOf k x y → r ≡ operateOf k t a b
-      unfolding operateOf
-      operate-both e = e ∙ (λ i. resultOf k (u i) (v i)) ∙ sym (simp (eq-eqb (sortOf a) 1 p, eq-eqb (sortOf b) 1 q))
+      operate-both : {n′ : List ℕ} (over : Bool) → r ≡ resultOf k x y → over ≡ saturatesOf k x y → n′ ≡ pick over (countSaturated n) n
+          → Operated k t a b n r n′
+      unfolding operateOf operateSaturates operateCounters
+      operate-both over e s c = record {
+        word-is = e ∙ (λ i. resultOf k (u i) (v i)) ∙ sym (simp (eq-eqb (sortOf a) 1 p, eq-eqb (sortOf b) 1 q));
+        counters-are = c ∙ ap counters (s ∙ (λ i. saturatesOf k (u i) (v i))) ∙ sym (simp (eq-eqb (sortOf a) 1 p, eq-eqb (sortOf b) 1 q));
+      }
+        where
+          counters : Bool → List ℕ
+          counters o = pick o (countSaturated n) n
 
       module _ (sum : k ≡ 11) where
-        pub sum-fits : y ≤ 65535 - x → x ≤ 65535 → r ≡ numberWord (x + y) → r ≡ operateOf k t a b
-        sum-fits h g e = operate-both (e ∙ ap numberWord (sym (min-eq-left (omega arith))) ∙ sym (sum-is x y sum))
+        pub sum-fits : y ≤ 65535 - x → x ≤ 65535 → r ≡ numberWord (x + y) → Operated k t a b n r n
+        sum-fits h g e =
+            let l : x + y ≤ 65535 = omega arith in
+            operate-both false (e ∙ ap numberWord (sym (min-eq-left l)) ∙ sym (sum-is x y sum))
+            (sym (sum-saturates x y sum ∙ le-ltb 65535 (x + y) l)) refl
 
-        pub sum-over : 65535 - x < y → x ≤ 65535 → r ≡ numberWord 65535 → r ≡ operateOf k t a b
-        sum-over h g e = operate-both (e ∙ ap numberWord (sym (min-eq-right (omega arith))) ∙ sym (sum-is x y sum))
+        pub sum-over : {n′ : List ℕ} → 65535 - x < y → x ≤ 65535 → r ≡ numberWord 65535 → n′ ≡ countSaturated n → Operated k t a b n r n′
+        sum-over h g e c =
+            let l : 65535 < x + y = omega arith in
+            operate-both true (e ∙ ap numberWord (sym (min-eq-right (omega arith))) ∙ sym (sum-is x y sum))
+            (sym (sum-saturates x y sum ∙ lt-ltb 65535 (x + y) l)) c
 
       module _ (no-sum : k ≡ 11 → ⊥) (difference : k ≡ 12) where
-        pub difference-fits : r ≡ numberWord (x - y) → r ≡ operateOf k t a b
-        difference-fits e = operate-both (e ∙ sym (difference-is x y no-sum difference))
+        pub difference-fits : y ≤ x → r ≡ numberWord (x - y) → Operated k t a b n r n
+        difference-fits h e =
+            operate-both false (e ∙ sym (difference-is x y no-sum difference)) (sym (difference-saturates x y no-sum difference ∙ le-ltb x y h)) refl
 
-        pub difference-none : x < y → r ≡ numberWord 0 → r ≡ operateOf k t a b
-        difference-none h e = let z : 0 ≡ x - y = omega arith in operate-both (e ∙ ap numberWord z ∙ sym (difference-is x y no-sum difference))
+        pub difference-under : {n′ : List ℕ} → x < y → r ≡ numberWord 0 → n′ ≡ countSaturated n → Operated k t a b n r n′
+        difference-under h e c =
+            let z : 0 ≡ x - y = omega arith in
+            operate-both true (e ∙ ap numberWord z ∙ sym (difference-is x y no-sum difference))
+            (sym (difference-saturates x y no-sum difference ∙ lt-ltb x y h)) c
 
-      pub less-is : (k ≡ 11 → ⊥) → (k ≡ 12 → ⊥) → r ≡ booleanWord (ltb x y) → r ≡ operateOf k t a b
-      unfolding resultOf
-      less-is n m e = operate-both (e ∙ sym (simp (ne-eqb k 11 n, ne-eqb k 12 m)))
+      pub less-is : (k ≡ 11 → ⊥) → (k ≡ 12 → ⊥) → r ≡ booleanWord (ltb x y) → Operated k t a b n r n
+      unfolding resultOf saturatesOf
+      less-is l m e = operate-both false (e ∙ sym (simp (ne-eqb k 11 l, ne-eqb k 12 m))) (sym (simp (ne-eqb k 11 l, ne-eqb k 12 m))) refl
 
 -- ---- a post
 pub guard-low : {g y : ℕ} → g ≡ y → (g ≡ noGuard → ⊥) → Guard y → g < 32

@@ -1,8 +1,8 @@
--- What the steps that evaluate no other term give, and the counters of a run: calls left, cells made, posts made, and its mode.
-use mathlib.Core.Bool.{Bool, true}
+-- What the steps that evaluate no other term give, and the counters of a run: calls left, cells made, posts made, its mode, and the saturated results.
+use mathlib.Core.Bool.{Bool, true, false}
 use mathlib.Core.List.{List}
 use mathlib.Core.Path.{_≡_}
-use Prim.Native.Nat.{ℕ, _+_, _-_, _*_, _<_, min}
+use Prim.Native.Nat.{ℕ, _+_, _-_, _*_, _%_, _<_, min}
 use lib.Dec.{ltb, eqb}
 use lib.ListN.{length, getD, set}
 use Rattle.program.specs.Limits.{noGuard}
@@ -22,12 +22,37 @@ postsMade n = getD n 2 0
 abbrev pub modeOf : (counters : List ℕ) → ℕ
 modeOf n = getD n 3 0
 
+abbrev pub saturatedMade : (counters : List ℕ) → ℕ
+saturatedMade n = getD n 4 0
+
 -- sum, difference, less
 unfoldable pub resultOf : (kind a b : ℕ) → ℕ
 resultOf k a b = pick (eqb k 11) (numberWord (min (a + b) 65535)) (pick (eqb k 12) (numberWord (a - b)) (booleanWord (ltb a b)))
 
 unfoldable pub operateOf : (kind t a b : ℕ) → ℕ
 operateOf k t a b = pick (eqb (sortOf a) 1) (pick (eqb (sortOf b) 1) (resultOf k (payloadOf a) (payloadOf b)) (stopWord 18 t)) (stopWord 18 t)
+
+-- 02, W10: "whether the exact result was outside 0 to 65,535"; less has no such result
+unfoldable pub saturatesOf : (kind a b : ℕ) → Bool
+saturatesOf k a b = pick (eqb k 11) (ltb 65535 (a + b)) (pick (eqb k 12) (ltb a b) false)
+
+-- the same of two words: what is stuck has no result
+unfoldable pub operateSaturates : (kind a b : ℕ) → Bool
+operateSaturates k a b = pick (eqb (sortOf a) 1) (pick (eqb (sortOf b) 1) (saturatesOf k (payloadOf a) (payloadOf b)) false) false
+
+-- one more is counted, in a counter of 64 bits, which no run fills
+abbrev pub wrapped : (count : ℕ) → ℕ
+wrapped m = m % 18446744073709551616
+
+abbrev pub countSaturated : (counters : List ℕ) → List ℕ
+countSaturated n = set n 4 (wrapped (saturatedMade n + 1))
+
+unfoldable pub operateCounters : (kind a b : ℕ) (counters : List ℕ) → List ℕ
+operateCounters k a b n = pick (operateSaturates k a b) (countSaturated n) n
+
+pub record Operated (kind t a b : ℕ) (n : List ℕ) (r : ℕ) (n′ : List ℕ) : Type 0 where
+  pub word-is : r ≡ operateOf kind t a b
+  pub counters-are : n′ ≡ operateCounters kind a b n
 
 -- 02, W8: "a privilege 0 to 31, or 255 for none"
 abbrev pub Guard : (guard : ℕ) → Type 0

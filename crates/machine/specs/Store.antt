@@ -9,7 +9,7 @@ use Rattle.stores.specs.Words.{pick, booleanWord, numberWord, functionWord, sto
 use Rattle.machine.specs.Table.{wordKind, wordSmall, wordFirst, wordSecond, wordThird, wordAuthority}
 use Rattle.stores.specs.Cells.{lookOf, cellSet, nextCell}
 use Rattle.stores.specs.Access.{grantedOf, allowedOf, signAccess, signFrames, enableAccess, enableFrames, enabledNow, restoreFrames}
-use Rattle.machine.specs.Steps.{callsLeft, cellsMade, modeOf, operateOf, postCause, postWord, postCounters, postList}
+use Rattle.machine.specs.Steps.{callsLeft, cellsMade, modeOf, operateOf, operateCounters, postCause, postWord, postCounters, postList}
 
 -- ---- the state of a run between two steps: its counters and the lent stores
 pub record Store : Type 0 where
@@ -102,8 +102,11 @@ enableS r p env acc st =
     restored (modeOf (st .n)) acc (enabledNow (modeOf (st .n)) acc (st .frames))
     (r env (enableAccess (modeOf (st .n)) acc p) (withFrames (enableFrames (modeOf (st .n)) acc (st .frames) p) st))
 
+unfoldable pub operateDone : (kind t a b : ℕ) → Store → Done
+operateDone kind t a b st = doneOf (operateOf kind t a b) (storeOf (operateCounters kind a b (st .n)) (st .cells) (st .posts) (st .frames))
+
 unfoldable pub binaryS : Runs → Runs → (kind t : ℕ) → Runs
-binaryS p q kind t env acc st = andThen (p env acc st) (λ a st₁. andThen (q env acc st₁) (λ b st₂. doneOf (operateOf kind t a b) st₂))
+binaryS p q kind t env acc st = andThen (p env acc st) (λ a st₁. andThen (q env acc st₁) (λ b st₂. operateDone kind t a b st₂))
 
 -- the word of the post's term says its channel and its guard, which is decided in the access of the post
 unfoldable pub postDone : (t x acc word : ℕ) → Store → Done

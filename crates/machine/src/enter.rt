@@ -48,7 +48,7 @@ fn halts(stop: u64, next: u16) -> Entered
 pub fn enter(
     cells: &mut [u8],
     frames: &mut [u32],
-    n: &mut [usize; 4],
+    n: &mut [usize; 5],
     t: u16,
     x: u64,
     env: u16,

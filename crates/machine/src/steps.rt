@@ -1,11 +1,12 @@
 // The steps of a run that evaluate no other term.
 ghost use mathlib.Core.Path.{_≡_};
-ghost use Rattle.stores.specs.Words.{pick};
-ghost use Rattle.machine.specs.Steps.{operateOf, Guard, guardPassed, causeOf, entryOf, Appended};
+ghost use Rattle.stores.specs.Words.{pick, numberWord};
+ghost use Rattle.machine.specs.Steps.{countSaturated, Operated, Guard, guardPassed, causeOf, entryOf, Appended};
 ghost use Rattle.machine.specs.Table.{wordGuard};
 use crate::table::guard_of;
 use crate::table::small_of;
 use program::limits::NO_GUARD;
+use std::num::wrapping_add_usize;
 use stores::access::allowed;
 use stores::words;
 
@@ -16,9 +17,17 @@ pub fn choose(yes: bool, a: u16, b: u16) -> u16
     if yes { a } else { b }
 }
 
+// A limit in the place of a result past it, which is counted.
+fn saturate(n: &mut [usize; 5], limit: u16) -> u64
+    ensures { λ r. ⌜ (r ≡ numberWord limit) × (now (n .exit) ≡ countSaturated (now (n .entry))) ⌝ }
+{
+    n[4] = wrapping_add_usize(n[4], 1);
+    words::number(limit)
+}
+
 // Sum, difference or less of two words.
-pub fn operate(kind: u8, t: u16, a: u64, b: u64) -> u64
-    ensures { λ r. ⌜ r ≡ operateOf kind t a b ⌝ }
+pub fn operate(n: &mut [usize; 5], kind: u8, t: u16, a: u64, b: u64) -> u64
+    ensures { λ r. ⌜ Operated kind t a b (now (n .entry)) r (now (n .exit)) ⌝ }
 {
     if words::sort(a) != 1 {
         return words::stop(18, t);
@@ -32,13 +41,13 @@ pub fn operate(kind: u8, t: u16, a: u64, b: u64) -> u64
         if y <= 65535 - x {
             return words::number(x + y);
         }
-        return words::number(65535);
+        return saturate(n, 65535);
     }
     if kind == 12 {
         if y <= x {
             return words::number(x - y);
         }
-        return words::number(0);
+        return saturate(n, 0);
     }
     words::boolean(x < y)
 }
@@ -73,7 +82,7 @@ fn entry(channel: u8, number: u16) -> u32
 pub fn append(
     posts: &mut [u32],
     frames: &mut [u32],
-    n: &mut [usize; 4],
+    n: &mut [usize; 5],
     t: u16,
     x: u64,
     acc: u64,

@@ -7,5 +7,6 @@ pub mod Readable
 pub mod Types
 pub mod Trees
 pub mod Nesting
+pub mod Sizes
 pub mod Guards
 pub mod Records

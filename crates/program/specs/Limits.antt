@@ -1,5 +1,5 @@
 -- 01's limits, and 02's, each named once; every other file cites them.
-use Prim.Native.Nat.{ℕ}
+use Prim.Native.Nat.{ℕ, _+_, _*_}
 
 -- "1 to 32 principals", "2 to 256 types", "1 to 1,024 terms"
 abbrev pub maxPrincipals : ℕ
@@ -48,3 +48,8 @@ maxCalls = 4096
 
 abbrev pub maxDepth : ℕ
 maxDepth = 100
+
+-- 02, W10: the most sums and differences that are held. A term is evaluated at most once outside of calls and once in each call, so they are 4,195,328, which
+-- is below 2^32.
+abbrev pub maxSaturated : ℕ
+maxSaturated = (maxCalls + 1) * maxTerms

@@ -3,7 +3,7 @@ use mathlib.Core.Bool.{Bool, false}
 use mathlib.Core.List.{List}
 use mathlib.Core.Option.{Option, none}
 use mathlib.Core.Path.{_≡_}
-use Prim.Native.Nat.{ℕ, zero, suc}
+use Prim.Native.Nat.{ℕ, zero, suc, _+_}
 use lib.Dec.{eqb}
 use Rattle.program.specs.Layout.{kindByte, small, first, second, third, guardOf, root}
 use Rattle.program.specs.Formats.{Kind, Boolean, Number, Variable, Function, Letrec, Call, If, Check, Enable, Sign, Test, Sum, Difference, Less, Post, kindOf}
@@ -58,6 +58,38 @@ tree s t = treeTo s (suc t) t
 -- the whole program: the tree of the root
 abbrev pub program : List ℕ → Term
 program s = tree s (root s)
+
+-- the number of terms in a tree, itself counted
+abbrev pub size : Term → ℕ
+size (boolean at b) = 1
+size (number at n) = 1
+size (variable at i) = 1
+size (function at ty body) = 1 + size body
+size (letrec at ty body rest) = 1 + size body + size rest
+size (call at f a) = 1 + size f + size a
+size (if at c y n) = 1 + size c + size y + size n
+size (check at p c) = 1 + size c
+size (enable at p c) = 1 + size c
+size (sign at n c) = 1 + size c
+size (test at p y n) = 1 + size y + size n
+size (binary at op a b) = 1 + size a + size b
+size (post at ch g c) = 1 + size c
+
+-- what a term and every term below it have, those of bodies too
+abbrev pub Every : (Term → Type 0) → Term → Type 0
+Every Q (boolean at b) = Q (boolean at b)
+Every Q (number at n) = Q (number at n)
+Every Q (variable at i) = Q (variable at i)
+Every Q (function at ty body) = Q (function at ty body) × Every Q body
+Every Q (letrec at ty body rest) = Q (letrec at ty body rest) × Every Q body × Every Q rest
+Every Q (call at f a) = Q (call at f a) × Every Q f × Every Q a
+Every Q (if at c y n) = Q (if at c y n) × Every Q c × Every Q y × Every Q n
+Every Q (check at p c) = Q (check at p c) × Every Q c
+Every Q (enable at p c) = Q (enable at p c) × Every Q c
+Every Q (sign at n c) = Q (sign at n c) × Every Q c
+Every Q (test at p y n) = Q (test at p y n) × Every Q y × Every Q n
+Every Q (binary at op a b) = Q (binary at op a b) × Every Q a × Every Q b
+Every Q (post at ch g c) = Q (post at ch g c) × Every Q c
 
 -- what every post of a term has, said of its channel and guard
 abbrev pub EveryPost : (ℕ → Option ℕ → Type 0) → Term → Type 0

@@ -10,7 +10,7 @@ use Rattle.stores.specs.declared.state.Value.the-variants.{Bool as VBool, Num, 
 use Rattle.stores.specs.declared.state.Out.{Out}
 use Rattle.stores.specs.declared.state.Out.the-variants.{Val, Stop as Stopped}
 use Rattle.stores.specs.Words.{outOf}
-use Rattle.machine.specs.Steps.{callsLeft, cellsMade, postsMade}
+use Rattle.machine.specs.Steps.{callsLeft, cellsMade, postsMade, saturatedMade, wrapped}
 use Rattle.machine.specs.Store.{Store, Done, storeOf}
 use Rattle.stores.specs.Stops.{stopCause, stopPlace}
 
@@ -23,7 +23,11 @@ outcomeOf r (Stopped x) = stopped (stopCause x) (stopPlace x)
 
 -- what was made, of so many calls allowed: the counters hold the calls that are left
 abbrev pub countsOf : (calls : ℕ) → (counters : List ℕ) → Counts
-countsOf c n = record { calls = c - callsLeft n; cells = cellsMade n; posts = postsMade n }
+countsOf c n = record { calls = c - callsLeft n; cells = cellsMade n; posts = postsMade n; saturated = saturatedMade n }
+
+-- the counter of saturated results has 64 bits
+abbrev pub wrappedCounts : Counts → Counts
+wrappedCounts k = record { calls = k .calls; cells = k .cells; posts = k .posts; saturated = wrapped (k .saturated) }
 
 abbrev pub sizesOf : Store → Sizes
 sizesOf st = record { cells = length (st .cells); posts = length (st .posts); frames = length (st .frames) }
@@ -35,11 +39,11 @@ laidOut A (f ∷ fs) = laidOut A fs ++ (A (f .principal) ∷ f .enabled ∷ [])
 
 -- where a run starts
 abbrev pub startOf : (mode : ℕ) → Request → Buffers → Store
-startOf mode q b = storeOf (q .calls ∷ 0 ∷ 0 ∷ mode ∷ []) (b .cells) (b .posts) (b .frames)
+startOf mode q b = storeOf (q .calls ∷ 0 ∷ 0 ∷ mode ∷ 0 ∷ []) (b .cells) (b .posts) (b .frames)
 
 -- evaluating the root of a sheet gives and leaves what the meaning's result says
 pub record Refined (root : ℕ) (q : Request) (b : Buffers) (d : Done) (x : Result) : Type 0 where
   pub same-outcome : outcomeOf root (outOf (d .out)) ≡ outcome root x
-  pub same-counts : countsOf (q .calls) (d .store .n) ≡ counts q (sizes b) (left x)
+  pub same-counts : countsOf (q .calls) (d .store .n) ≡ wrappedCounts (counts q (sizes b) (left x))
   pub same-posts : d .store .posts ≡ inOrder (left x) ++ drop (length (inOrder (left x))) (b .posts)
   pub same-sizes : sizesOf (d .store) ≡ sizes b

@@ -25,7 +25,7 @@ ofDecoded (Unreadable f) = refusal (decodingCause f) (decodingPlace f)
 
 -- what is told with the counts of a run
 abbrev pub withCounts : (status cause place sort value : ℕ) → Made → replies.Reply
-withCounts status c p k v m = record { status = status; numbers = c ∷ p ∷ k ∷ v ∷ m .calls ∷ m .cells ∷ m .posts ∷ 0 ∷ [] }
+withCounts status c p k v m = record { status = status; numbers = c ∷ p ∷ k ∷ v ∷ m .calls ∷ m .cells ∷ m .posts ∷ m .saturated ∷ [] }
 
 -- the counts of a run that was not refused fit into 32 bits
 abbrev pub Small : Run → Type 0

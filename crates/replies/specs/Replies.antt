@@ -38,11 +38,11 @@ typecheckReply s = verdictReply (verdict s)
 abbrev pub bit : Bool → ℕ
 bit b = cond b 1 0
 
--- an end: 0 and a boolean, or 1 and a number; a stop: its cause and term; both with calls, cells and posts
+-- an end: 0 and a boolean, or 1 and a number; a stop: its cause and term; both with calls, cells, posts and saturated results
 abbrev pub finished : Outcome → Counts → Reply
-finished (ended (ground-bool b)) k = record { status = 0; numbers = 0 ∷ 0 ∷ 0 ∷ bit b ∷ k .calls ∷ k .cells ∷ k .posts ∷ 0 ∷ [] }
-finished (ended (ground-num n)) k = record { status = 0; numbers = 0 ∷ 0 ∷ 1 ∷ n ∷ k .calls ∷ k .cells ∷ k .posts ∷ 0 ∷ [] }
-finished (stopped c t) k = record { status = 1; numbers = c ∷ t ∷ 0 ∷ 0 ∷ k .calls ∷ k .cells ∷ k .posts ∷ 0 ∷ [] }
+finished (ended (ground-bool b)) k = record { status = 0; numbers = 0 ∷ 0 ∷ 0 ∷ bit b ∷ k .calls ∷ k .cells ∷ k .posts ∷ k .saturated ∷ [] }
+finished (ended (ground-num n)) k = record { status = 0; numbers = 0 ∷ 0 ∷ 1 ∷ n ∷ k .calls ∷ k .cells ∷ k .posts ∷ k .saturated ∷ [] }
+finished (stopped c t) k = record { status = 1; numbers = c ∷ t ∷ 0 ∷ 0 ∷ k .calls ∷ k .cells ∷ k .posts ∷ k .saturated ∷ [] }
 
 abbrev pub runReply : Answer → Reply
 runReply (refused c p) = refusal c p

@@ -80,7 +80,7 @@ fn counted(status: u32, first: Code, sort: u32, value: u32, m: Made) -> Reply
             m.calls as u32,
             m.cells as u32,
             m.posts as u32,
-            0,
+            m.saturated as u32,
         ],
     }
 }

@@ -30,7 +30,7 @@ use Rattle.report.specs.declared.draft.Draft.{Draft}
 abbrev whole : Fate → Buffers → List ℕ → Report
 whole f b t = record { fate = f; buffers = b; text = t }
 
-module _ (d : Draft) (t : List ℕ) (size : length (d .bytes) ≡ 192) (room : d .len ≤ 192) where
+module _ (d : Draft) (t : List ℕ) (size : length (d .bytes) ≡ 224) (room : d .len ≤ 224) where
   held-length : length (held d) ≡ d .len
   held-length = length-take-le (d .len) (d .bytes) (omega arith)
 
@@ -67,7 +67,7 @@ module _ (s : List ℕ) (terms type needs : ℕ) (b : Buffers) (cells posts : Li
   }
 
   pub ran-reported : {o : Outcome} {m : Made} {r : Draft} → x ≡ Ran o m
-      → Holds (acceptance terms type needs ++ line (outcomeText (outcomeModel o) ++ countsText (countsModel m))) 183 r
+      → Holds (acceptance terms type needs ++ line (outcomeText (outcomeModel o) ++ countsText (countsModel m))) 209 r
       → RunReported s terms type needs b (buffersOf cells posts []) r
   ran-reported {o = o} {m = m} e p = record {
     held-is = p .held-is ∙ reported-by (Ran o m) e;

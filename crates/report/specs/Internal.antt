@@ -34,12 +34,12 @@ pub record Holds (text : List ℕ) (most : ℕ) (r : Draft) : Type 0 where
 -- the text of an accepted sheet and its run, which leaves the buffers so
 pub record RunReported (s : List ℕ) (terms type needs : ℕ) (b b′ : Buffers) (r : Draft) : Type 0 where
   pub held-is : held r ≡ ofRun (acceptance terms type needs) (run s request b .answer)
-  pub len-most : r .len ≤ 192
+  pub len-most : r .len ≤ 224
   pub buffers-are : b′ ≡ run s request b .buffers
 
 pub record Rendered (s : List ℕ) (b b′ : Buffers) (r : Draft) : Type 0 where
   pub held-is : held r ≡ printed s
-  pub len-most : r .len ≤ 192
+  pub len-most : r .len ≤ 224
   pub buffers-are : b′ ≡ used (verdict s) s b
 
 -- whatever the other buffers hold

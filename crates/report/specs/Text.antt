@@ -66,8 +66,9 @@ outcomeText (ended (ground-bool b)) = ascii "end bool " ++ cond b (ascii "1") (a
 outcomeText (ended (ground-num n)) = labelled "end num " n
 outcomeText (stopped c t) = labelled "stop " c ++ at t
 
+-- 02, W10: "the program's run line closes with `held` and the count"
 abbrev pub countsText : Counts → List ℕ
-countsText k = labelled " calls " (k .calls) ++ labelled " cells " (k .cells) ++ labelled " posts " (k .posts)
+countsText k = labelled " calls " (k .calls) ++ labelled " cells " (k .cells) ++ labelled " posts " (k .posts) ++ labelled " held " (k .saturated)
 
 -- "A refusal prints one line, `refused C at T`."
 abbrev pub refusal : (cause place : ℕ) → List ℕ

@@ -1,4 +1,4 @@
--- What a reader may count on: 20 decimal digits are enough, the run of an accepted sheet starts, no text is longer than 183 bytes, and what was
+-- What a reader may count on: 20 decimal digits are enough, the run of an accepted sheet starts, no text is longer than 209 bytes, and what was
 -- written is the text.
 use mathlib.Core.Bool.{Bool, true, false, cond}
 use mathlib.Core.List.{List, [], _∷_, _++_}
@@ -82,18 +82,20 @@ outcome-most (ended (ground-bool false)) = omega arith
 outcome-most (ended (ground-num n)) = omega (arith, decimal-most n)
 outcome-most (stopped c t) = omega (arith, decimal-most c, decimal-most t, length-append (decimal c) (at t))
 
-counts-most : (k : Counts) → length (countsText k) ≤ 81
+counts-most : (k : Counts) → length (countsText k) ≤ 107
 counts-most k =
     omega (
       arith,
       decimal-most (k .calls),
       decimal-most (k .cells),
       decimal-most (k .posts),
+      decimal-most (k .saturated),
       length-append (decimal (k .calls)) (labelled " cells " (k .cells)),
       length-append (decimal (k .calls) ++ labelled " cells " (k .cells)) (labelled " posts " (k .posts)),
+      length-append (decimal (k .calls) ++ labelled " cells " (k .cells) ++ labelled " posts " (k .posts)) (labelled " held " (k .saturated)),
     )
 
-refusal-most : (c t : ℕ) → length (refusal c t) ≤ 183
+refusal-most : (c t : ℕ) → length (refusal c t) ≤ 209
 refusal-most c t =
     omega (
       arith,
@@ -116,7 +118,7 @@ acceptance-most n τ N =
       length-append (decimal n ++ ascii "\n" ++ line (ascii "needs " ++ hexadecimal 8 N)) (typeLine τ),
     )
 
-run-most : (xs : List ℕ) (a : Answer) → length xs ≤ 52 → length (ofRun xs a) ≤ 183
+run-most : (xs : List ℕ) (a : Answer) → length xs ≤ 52 → length (ofRun xs a) ≤ 209
 run-most xs (refused c p) h = refusal-most c p
 run-most xs (ran o k) h =
     omega (
@@ -128,11 +130,11 @@ run-most xs (ran o k) h =
       length-append xs (line (outcomeText o ++ countsText k)),
     )
 
-verdict-most : (v : Verdict) (a : Answer) → length (ofVerdict v (λ _. a)) ≤ 183
+verdict-most : (v : Verdict) (a : Answer) → length (ofVerdict v (λ _. a)) ≤ 209
 verdict-most (accepted n τ N) a = run-most (acceptance n τ N) a (acceptance-most n τ N)
 verdict-most (rejected c p) a = refusal-most c p
 
-pub text-most : (s : List ℕ) → length (printed s) ≤ 183
+pub text-most : (s : List ℕ) → length (printed s) ≤ 209
 unfolding printed
 text-most s = verdict-most (verdict s) (answer s)
 
@@ -140,8 +142,8 @@ text-most s = verdict-most (verdict s) (answer s)
 abbrev by : (s text : List ℕ) (after before : Buffers) (large fits : Bool) → Report
 by s text u b large fits = cond large (delivered fits (printed s) text u) (record { fate = unfit; buffers = b; text = text })
 
--- so 183 bytes of place are enough for every sheet
-pub always-written : (s : List ℕ) (b : Buffers) (text : List ℕ) → areLargest b ≡ true → 183 ≤ length text → reported s b text .fate
+-- so 209 bytes of place are enough for every sheet
+pub always-written : (s : List ℕ) (b : Buffers) (text : List ℕ) → areLargest b ≡ true → 209 ≤ length text → reported s b text .fate
     ≡ written (length (printed s))
 unfolding reported
 always-written s b text e h = λ i. by s text (used (verdict s) s b) b (e i) (le-leb (length (printed s)) (length text) (omega (arith, text-most s)) i) .fate

@@ -83,7 +83,7 @@ fn run_accepted(
 
 // Copies the text to its place, if it fits there.
 fn deliver(d: Draft, text: &mut [u8]) -> Reported
-    requires { ⌜ d .len ≤ 192 ⌝ }
+    requires { ⌜ d .len ≤ 224 ⌝ }
     ensures { λ r. ⌜ Delivered (held d) (now (text .entry)) r (now (text .exit)) ⌝ }
 {
     let n = d.len;

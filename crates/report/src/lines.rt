@@ -18,7 +18,7 @@ use numbers::of_stop;
 
 // A number behind its label.
 fn labelled(d: Draft, label: &[u8], n: usize) -> Draft
-    requires { ⌜ d .len + (length (now label) + 20) ≤ 192 ⌝ }
+    requires { ⌜ d .len + (length (now label) + 20) ≤ 224 ⌝ }
     ensures { λ r. ⌜ Appended d (now (label .entry) ++ decimalOf n) (length (now (label .entry)) + 20) r ⌝ }
 {
     let front = word(d, label);
@@ -26,7 +26,7 @@ fn labelled(d: Draft, label: &[u8], n: usize) -> Draft
 }
 
 fn terms_line(d: Draft, terms: u16) -> Draft
-    requires { ⌜ d .len + 27 ≤ 192 ⌝ }
+    requires { ⌜ d .len + 27 ≤ 224 ⌝ }
     ensures { λ r. ⌜ Appended d (termsLine terms) 27 r ⌝ }
 {
     let front = labelled(d, b"terms ", terms as usize);
@@ -34,7 +34,7 @@ fn terms_line(d: Draft, terms: u16) -> Draft
 }
 
 fn needs_line(d: Draft, needs: u32) -> Draft
-    requires { ⌜ d .len + 15 ≤ 192 ⌝ }
+    requires { ⌜ d .len + 15 ≤ 224 ⌝ }
     ensures { λ r. ⌜ Appended d (needsLine needs) 15 r ⌝ }
 {
     let front = word(d, b"needs ");
@@ -43,7 +43,7 @@ fn needs_line(d: Draft, needs: u32) -> Draft
 }
 
 fn type_line(d: Draft, ty: u16) -> Draft
-    requires { ⌜ d .len + 10 ≤ 192 ⌝ }
+    requires { ⌜ d .len + 10 ≤ 224 ⌝ }
     ensures { λ r. ⌜ Appended d (typeLine ty) 10 r ⌝ }
 {
     if ty == 0 {
@@ -63,7 +63,7 @@ fn acceptance(terms: u16, ty: u16, needs: u32) -> Draft
 
 // A cause behind its label, and the place.
 fn placed(d: Draft, label: &[u8], n: Code) -> Draft
-    requires { ⌜ d .len + (length (now label) + 44) ≤ 192 ⌝ }
+    requires { ⌜ d .len + (length (now label) + 44) ≤ 224 ⌝ }
     ensures { λ r. ⌜ Appended d (now (label .entry) ++ decimalOf (n .cause) ++ placeText (n .place)) (length (now (label .entry)) + 44) r ⌝ }
 {
     let front = labelled(d, label, n.cause as usize);
@@ -71,7 +71,7 @@ fn placed(d: Draft, label: &[u8], n: Code) -> Draft
 }
 
 fn outcome(d: Draft, o: Outcome) -> Draft
-    requires { ⌜ d .len + 49 ≤ 192 ⌝ }
+    requires { ⌜ d .len + 49 ≤ 224 ⌝ }
     ensures { λ r. ⌜ Appended d (outcomeText (outcomeModel o)) 49 r ⌝ }
 {
     match o {
@@ -89,17 +89,18 @@ fn outcome(d: Draft, o: Outcome) -> Draft
 }
 
 fn counts(d: Draft, m: Made) -> Draft
-    requires { ⌜ d .len + 81 ≤ 192 ⌝ }
-    ensures { λ r. ⌜ Appended d (countsText (countsModel m)) 81 r ⌝ }
+    requires { ⌜ d .len + 107 ≤ 224 ⌝ }
+    ensures { λ r. ⌜ Appended d (countsText (countsModel m)) 107 r ⌝ }
 {
     let calls = labelled(d, b" calls ", m.calls);
     let cells = labelled(calls, b" cells ", m.cells);
-    labelled(cells, b" posts ", m.posts)
+    let posts = labelled(cells, b" posts ", m.posts);
+    labelled(posts, b" held ", m.saturated)
 }
 
 // The whole print of an accepted sheet and its run.
 pub fn accepted(terms: u16, ty: u16, needs: u32, o: Outcome, m: Made) -> Draft
-    ensures { λ r. ⌜ Holds (acceptanceOf terms ty needs ++ line (outcomeText (outcomeModel o) ++ countsText (countsModel m))) 183 r ⌝ }
+    ensures { λ r. ⌜ Holds (acceptanceOf terms ty needs ++ line (outcomeText (outcomeModel o) ++ countsText (countsModel m))) 209 r ⌝ }
 {
     let accepted = acceptance(terms, ty, needs);
     let ended = outcome(accepted, o);

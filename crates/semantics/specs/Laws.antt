@@ -2,4 +2,6 @@
 pub mod Agree
 pub mod Access
 pub mod Budgets
+pub mod Bodies
+pub mod Saturation
 pub mod Posts

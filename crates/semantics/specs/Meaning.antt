@@ -1,12 +1,11 @@
 -- The meaning of a term: a definitional interpreter, for any access control. 003's Figures 2 and 4 are its two instances in Access.antt, so
 -- that each clause below is one clause of both figures. Numbers 17 to 22 are 01's stops.
 use mathlib.Core.Bool.{Bool, true, false}
-use mathlib.Core.List.{_∷_}
 use mathlib.Core.Option.{Option, none, some}
 use Prim.Native.Nat.{ℕ, zero, suc, _+_, _*_, _-_, min}
 use lib.Dec.{ltb}
 use Rattle.program.specs.Terms.{Op, sum, difference, less, Term, boolean, number, variable, function, letrec, call, if, check, enable, sign, test, binary, post}
-use Rattle.semantics.specs.Values.{Value, bool, num, closure, Env, bind, lookup, entered, Budget, budget, Result, ends, stops}
+use Rattle.semantics.specs.Values.{Value, bool, num, closure, Env, bind, lookup, entered, logPost, logSaturated, Budget, budget, Result, ends, stops}
 
 -- what access control keeps, how a sign and an enable change it, and what it grants
 pub record Control : Type 1 where
@@ -42,9 +41,18 @@ operate sum m n = num (min 65535 (m + n))
 operate difference m n = num (m - n)
 operate less m n = bool (ltb m n)
 
+-- 02, W10: "Sum and difference now also say whether the exact result was outside 0 to 65,535."
+abbrev pub saturates : Op → (m n : ℕ) → Bool
+saturates sum m n = ltb 65535 (m + n)
+saturates difference m n = ltb m n
+saturates less m n = false
+
+abbrev pub countSaturated : Bool → Budget → Budget
+countSaturated b (budget c d r l) = budget c d r (logSaturated b l)
+
 -- "The kinds of values are looked at when all operands of a term have one"
 abbrev pub compute : (at : ℕ) → Op → (left right : Value) → Budget → Result
-compute at op (num m) (num n) u = ends (operate op m n) u
+compute at op (num m) (num n) u = ends (operate op m n) (countSaturated (saturates op m n) u)
 compute at op (num m) (bool b) u = stops 18 at u
 compute at op (num m) (closure r ty body env) u = stops 18 at u
 compute at op (bool b) w u = stops 18 at u
@@ -56,8 +64,8 @@ postEntry ch n = ch * 65536 + n
 
 -- "A post appends its number and yields it." "22 no place for a post".
 abbrev pub appendPost : (at channel number : ℕ) → Budget → Result
-appendPost at ch n (budget c d zero ps) = stops 22 at (budget c d zero ps)
-appendPost at ch n (budget c d (suc r) ps) = ends (num n) (budget c d r (postEntry ch n ∷ ps))
+appendPost at ch n (budget c d zero l) = stops 22 at (budget c d zero l)
+appendPost at ch n (budget c d (suc r) l) = ends (num n) (budget c d r (logPost (postEntry ch n) l))
 
 -- A post of a value, whose guard passes or not. 02, W8: "it is refused by 17 after its number is worked out, after 18 and before 22".
 abbrev pub postValue : (at channel : ℕ) (allowed : Bool) → Value → Budget → Result
@@ -67,14 +75,14 @@ postValue at ch allowed (closure r ty body env) u = stops 18 at u
 
 -- "a recursive binder one" cell; "21 no cell … also at a recursive binder"
 abbrev pub takeCell : (at : ℕ) → (Budget → Result) → Budget → Result
-takeCell at k (budget c zero r ps) = stops 21 at (budget c zero r ps)
-takeCell at k (budget c (suc d) r ps) = k (budget c d r ps)
+takeCell at k (budget c zero r l) = stops 21 at (budget c zero r l)
+takeCell at k (budget c (suc d) r l) = k (budget c d r l)
 
 -- A call takes one of the calls and one cell: "20 calls spent, then 21 no cell". "A call, cell or post that a stop prevents isn't counted."
 abbrev pub beginCall : (at : ℕ) → (Budget → Result) → Budget → Result
-beginCall at k (budget zero d r ps) = stops 20 at (budget zero d r ps)
-beginCall at k (budget (suc c) zero r ps) = stops 21 at (budget (suc c) zero r ps)
-beginCall at k (budget (suc c) (suc d) r ps) = k (budget c d r ps)
+beginCall at k (budget zero d r l) = stops 20 at (budget zero d r l)
+beginCall at k (budget (suc c) zero r l) = stops 21 at (budget (suc c) zero r l)
+beginCall at k (budget (suc c) (suc d) r l) = k (budget c d r l)
 
 -- a call where no more may be open: "calling a non-function is stuck after its argument, before 19"; "19 open calls would pass the allowance, then 20"
 abbrev pub tooDeep : (at : ℕ) → (fun : Value) → Budget → Result

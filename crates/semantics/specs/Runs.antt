@@ -9,7 +9,7 @@ use Rattle.program.specs.Layout.{principals, authority, root}
 use Rattle.program.specs.Terms.{program}
 use Rattle.program.specs.Screening.{Condition, Screening, clear, found, screen, unless}
 use Rattle.program.specs.Decoding.{decodingConditions}
-use Rattle.semantics.specs.Values.{bool, num, closure, empty, Budget, budget, Result, ends, stops}
+use Rattle.semantics.specs.Values.{bool, num, closure, empty, emptyLog, Budget, budget, Result, ends, stops}
 use Rattle.semantics.specs.Meaning.{eval}
 use Rattle.semantics.specs.Access.{Frame, frame, privs, lazyControl, rights, eagerControl}
 
@@ -75,7 +75,7 @@ runConditions s q z = decodingConditions s ++ unless 14 (startOk s q) ∷ unless
 
 -- "A cell takes eight bytes of the store; bytes left over hold none."
 abbrev pub initial : Request → Sizes → Budget
-initial q z = budget (q .calls) (z .cells / 8) (z .posts) []
+initial q z = budget (q .calls) (z .cells / 8) (z .posts) emptyLog
 
 -- The eager runner starts with the set that the start stack grants, the lazy one with the stack. The program is a sign, so that the signer named
 -- here is never looked at.
@@ -98,7 +98,8 @@ course s q z = settled (screen (runConditions s q z)) λ _. evaluation (q .runne
 
 -- ---- the answer
 
--- "an end carries a boolean or a number, a stop its cause and term; both carry calls, cells and posts made"
+-- "an end carries a boolean or a number, a stop its cause and term; both carry calls, cells and posts made"; 02, W10: "ends and stops carry that count"
+-- of held sums and differences "beside the calls"
 pub data Ground : Type 0 where
   ground-bool : Bool → Ground
   ground-num : ℕ → Ground
@@ -111,6 +112,7 @@ pub record Counts : Type 0 where
   pub calls : ℕ
   pub cells : ℕ
   pub posts : ℕ
+  pub saturated : ℕ
 
 pub data Answer : Type 0 where
   refused : (cause place : ℕ) → Answer
@@ -129,7 +131,7 @@ left (stops cause at u) = u
 
 -- what was made is what was allowed less what is left
 abbrev pub counts : Request → Sizes → Budget → Counts
-counts q z (budget c d r ps) = record { calls = q .calls - c; cells = z .cells / 8 - d; posts = length ps }
+counts q z (budget c d r l) = record { calls = q .calls - c; cells = z .cells / 8 - d; posts = length (l .posts); saturated = l .saturated }
 
 -- "After 1 to 16 … no count is told."
 abbrev pub answerOf : (root : ℕ) → Request → Sizes → Course → Answer
@@ -139,7 +141,7 @@ answerOf r q z (started x) = ran (outcome r x) (counts q z (left x))
 -- ---- the buffers afterwards
 
 abbrev pub inOrder : Budget → List ℕ
-inOrder (budget c d r ps) = reverse ps
+inOrder (budget c d r l) = reverse (l .posts)
 
 -- the posts made, in order
 abbrev pub postsMade : Course → List ℕ

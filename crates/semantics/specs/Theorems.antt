@@ -1,17 +1,17 @@
 -- The theorems about whole runs: what a stack grants as a set is what 01's sentence grants; a run is refused exactly on 01's conditions; every buffer
--- keeps its length; the counts stay within the largest allowances and buffers; 17 is told at checks and guarded posts alone, and posts are of the sheet's
--- channels; version 1 has neither guards nor channels.
+-- keeps its length; the counts stay within the largest allowances and buffers, and the count of held sums below 2^32; 17 is told at checks and guarded posts
+-- alone, and posts are of the sheet's channels; version 1 has neither guards nor channels.
 use mathlib.Core.Bool.{Bool, true, _&&_}
-use mathlib.Core.List.{List, _∷_, _++_, reverse}
+use mathlib.Core.List.{List, _++_, reverse}
 use mathlib.Core.Logic.{_↔_}
 use mathlib.Core.Option.{none, Option·none-ne-some}
 use mathlib.Core.Path.{_≡_, refl, sym, ap, _∙_, subst}
-use Prim.Native.Nat.{ℕ, suc, _+_, _<_, _≤_}
+use Prim.Native.Nat.{ℕ, suc, _+_, _*_, _<_, _≤_}
 use native.Mathlib.Omega.{arith}
 use lib.Dec.{leb}
 use lib.ListN.{length, drop, length-replicate, length-append, length-drop, length-reverse}
 use borrow.Author.Tests.{leb-true}
-use Rattle.program.specs.Limits.{maxCells, maxPosts, maxCalls, maxDepth}
+use Rattle.program.specs.Limits.{maxTerms, maxCells, maxPosts, maxCalls, maxDepth, maxSaturated}
 use Rattle.privileges.specs.Sets.{has}
 use Rattle.privileges.specs.Booleans.{and-left, and-right}
 use Rattle.program.specs.Bytes.{Bytes}
@@ -23,12 +23,13 @@ use Rattle.program.specs.Decoding.{decodingConditions, decoding}
 use Rattle.program.specs.Laws.Screening.{found-first, first-found, clear-none, none-clear, none-append, none-cons, unless-none}
 use Rattle.program.specs.Laws.Readable.{WellFormed, well-formed}
 use Rattle.program.specs.Laws.Guards.{without-guards}
-use Rattle.semantics.specs.Values.{num, Env, empty, Budget, budget, ends}
+use Rattle.semantics.specs.Values.{num, Env, empty, Log, logPost, Budget, budget, ends}
 use Rattle.semantics.specs.Meaning.{Control, _then_, postEntry, postValue, evalWith, eval}
 use Rattle.semantics.specs.Access.{Frame, chk, privs, lazyControl, rights, eagerControl}
 use Rattle.semantics.specs.Runs.{Runner, eager, lazy, Request, Buffers, Sizes, sizes, stack, framesOk, runConditions, initial, evaluation, Course, rejected, started, settled, course, Outcome, stopped, Counts, Answer, refused, ran, left, counts, answerOf, inOrder, postsMade, clearedFrames, buffersAfter, After, run}
 use Rattle.semantics.specs.Laws.Access.{privs-chk}
 use Rattle.semantics.specs.Laws.Budgets.{places, Spent, spends}
+use Rattle.semantics.specs.Laws.Saturation.{saturatedIn, evaluation-saturated}
 use Rattle.semantics.specs.Laws.Posts.{Each, each-all, MayRefuse, at-check, at-guard, OnChannel, evaluation-refused, evaluation-posts}
 
 -- ---- What a stack grants
@@ -92,25 +93,24 @@ module _ (s : List ℕ) (q : Request) (b : Buffers) where
   pub starts-exactly : Starts ↔ None (runConditions s q (sizes b))
   starts-exactly = (λ st. clear-none (runConditions s q (sizes b)) (starts-screened st), λ n. (_, _, answer-course _ (course-clear (none-clear n))))
 
+  started-well : Starts → WellFormed s
+  unfolding decoding
+  started-well st = well-formed s (none-clear (none-append (decodingConditions s) _ (clear-none (runConditions s q (sizes b)) (starts-screened st)) .0))
+
 -- ---- Where a run is refused by 17, and what it posts
 module _ (s : List ℕ) (bytes : Bytes s) (q : Request) (b : Buffers) where
-  started-well : Starts s q b → WellFormed s
-  unfolding decoding
-  started-well st =
-      well-formed s (none-clear (none-append (decodingConditions s) _ (clear-none (runConditions s q (sizes b)) (starts-screened s q b st)) .0))
-
   -- 17 is told at a check, or at a post whose channel has a guard.
   pub refused-by-17 : (t : ℕ) (k : Counts) → run s q b .answer ≡ ran (stopped 17 t) k → MayRefuse s t
   refused-by-17 t k e =
       let st : Starts s q b = (_, _, e) in
       let same : ran _ _ ≡ ran (stopped 17 t) k = sym (answer-course s q b _ (course-clear s q b (starts-screened s q b st))) ∙ e in
-      evaluation-refused s bytes (started-well st) (q .runner) q (sizes b) t cc
+      evaluation-refused s bytes (started-well s q b st) (q .runner) q (sizes b) t cc
 
   -- Every post is a channel of the sheet's version and a 16-bit number: "channel × 65,536 + number".
   pub posts-on-channels : Starts s q b → Each (OnChannel s) (postsMade (course s q (sizes b)))
   posts-on-channels st =
       subst (λ (x : Course). Each (OnChannel s) (postsMade x)) (sym (course-clear s q b (starts-screened s q b st)))
-      (evaluation-posts s bytes (started-well st) (q .runner) q (sizes b))
+      (evaluation-posts s bytes (started-well s q b st) (q .runner) q (sizes b))
 
   -- "Version 1 posts on channel 0 without a guard": it is refused at checks alone, and its list holds 16-bit numbers.
   pub version-1-refused : version s ≡ 1 → (t : ℕ) (k : Counts) → run s q b .answer ≡ ran (stopped 17 t) k → kindOf (kindByte s t) ≡ Check
@@ -125,13 +125,13 @@ module _ (s : List ℕ) (bytes : Bytes s) (q : Request) (b : Buffers) where
       each-all (λ x. x < 65536) (λ x h. omega (arith, h .below, without-guards s one .one-channel)) (postsMade (course s q (sizes b))) (posts-on-channels st)
 
 -- They are the numbers posted: on channel 0 and without a guard "A post appends its number and yields it", whatever is granted.
-pub plain-post : (X : Control) (enforce : Bool) (depth at : ℕ) (c : Term) (st : X .State) (e : Env) (u : Budget) (n k d r : ℕ) (ps : List ℕ)
-    → eval X enforce depth c st e u ≡ ends (num n) (budget k d (suc r) ps)
-    → eval X enforce depth (post at 0 none c) st e u ≡ ends (num n) (budget k d r (n ∷ ps))
+pub plain-post : (X : Control) (enforce : Bool) (depth at : ℕ) (c : Term) (st : X .State) (e : Env) (u : Budget) (n k d r : ℕ) (l : Log)
+    → eval X enforce depth c st e u ≡ ends (num n) (budget k d (suc r) l)
+    → eval X enforce depth (post at 0 none c) st e u ≡ ends (num n) (budget k d r (logPost n l))
 unfolding eval evalWith
-plain-post X enforce depth at c st e u n k d r ps h =
+plain-post X enforce depth at c st e u n k d r l h =
     let z : postEntry 0 n ≡ n = omega arith in
-    (λ i. h i then λ v u₁. postValue at 0 true v u₁) ∙ ap (λ (x : ℕ). ends (num n) (budget k d r (x ∷ ps))) z
+    (λ i. h i then λ v u₁. postValue at 0 true v u₁) ∙ ap (λ (x : ℕ). ends (num n) (budget k d r (logPost x l))) z
 
 -- ---- What a run leaves
 -- Every buffer keeps its length, whatever becomes of the run: the posts made find their places in the lent list.
@@ -145,7 +145,8 @@ frames-length eager fs = refl
 frames-length lazy fs = length-replicate {A = ℕ} (length fs) 0
 
 posts-length : (u : Budget) (ps : List ℕ) → places u ≡ length ps + 0 → length (inOrder u ++ drop (length (inOrder u)) ps) ≡ length ps
-posts-length (budget c d r qs) ps e =
+posts-length (budget c d r l) ps e =
+    let qs = l .posts in
     length-append (reverse qs) _ ∙ ap (λ (n : ℕ). length (reverse qs) + n) (length-drop (length (reverse qs)) ps)
     ∙ omega (arith, length-reverse qs)
 
@@ -167,12 +168,15 @@ pub record Few (k : Counts) : Type 0 where
   pub calls-most : k .calls ≤ maxCalls
   pub cells-most : k .cells ≤ 8192
   pub posts-most : k .posts ≤ maxPosts
+  pub saturated-most : k .saturated ≤ maxSaturated
 
-few : (q : Request) (z : Sizes) (u : Budget) → q .calls ≤ maxCalls → z .cells ≤ maxCells → z .posts ≤ maxPosts → Spent (initial q z) u → Few (counts q z u)
-few q z (budget c d r ps) calls cells posts h = record {
+few : (q : Request) (z : Sizes) (u : Budget) → q .calls ≤ maxCalls → z .cells ≤ maxCells → z .posts ≤ maxPosts → Spent (initial q z) u
+    → saturatedIn u ≤ q .calls * maxTerms + maxTerms → Few (counts q z u)
+few q z (budget c d r l) calls cells posts h n = record {
   calls-most = omega (arith, calls);
   cells-most = omega (arith, cells);
   posts-most = omega (arith, posts, h .posts);
+  saturated-most = omega (arith, calls, n);
 }
 
 abbrev countsIn : Counts → Answer → Counts
@@ -193,4 +197,4 @@ counts-few s q b o k e =
     (leb-true (q .calls) maxCalls (search (within, and-left)))
     (leb-true (length (b .cells)) maxCells (search (fits, and-left, and-right)))
     (leb-true (length (b .posts)) maxPosts (search (fits, and-left, and-right)))
-    (evaluation-spends (q .runner) s q (sizes b)))
+    (evaluation-spends (q .runner) s q (sizes b)) (evaluation-saturated s (started-well s q b (o, k, e)) (q .runner) q (sizes b)))

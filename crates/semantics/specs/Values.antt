@@ -1,6 +1,6 @@
 -- What a run holds: values and environments, what is left of its allowances, and the result of a term.
-use mathlib.Core.Bool.{Bool, true, false}
-use mathlib.Core.List.{List}
+use mathlib.Core.Bool.{Bool, true, false, cond}
+use mathlib.Core.List.{List, [], _∷_}
 use mathlib.Core.Option.{Option, none, some}
 use Prim.Native.Nat.{ℕ, zero, suc}
 use Rattle.program.specs.Terms.{Term}
@@ -27,9 +27,23 @@ abbrev pub entered : (recursive : Bool) (ty : ℕ) (body : Term) (env : Env) (ar
 entered true ty body env w = bind w (bind (closure true ty body env) env)
 entered false ty body env w = bind w env
 
--- what is left: calls, cells and places for posts; and the posts made so far, the latest first
+-- what was made so far: the posts, the latest first; and 02, W10: "Both runners count the held ones", the sums and differences that were saturated
+pub record Log : Type 0 where
+  pub posts : List ℕ
+  pub saturated : ℕ
+
+abbrev pub emptyLog : Log
+emptyLog = record { posts = []; saturated = 0 }
+
+abbrev pub logPost : (entry : ℕ) → Log → Log
+logPost x l = record { posts = x ∷ l .posts; saturated = l .saturated }
+
+abbrev pub logSaturated : Bool → Log → Log
+logSaturated b l = record { posts = l .posts; saturated = cond b (suc (l .saturated)) (l .saturated) }
+
+-- what is left: calls, cells and places for posts; and what was made
 pub data Budget : Type 0 where
-  budget : (calls cells room : ℕ) (posts : List ℕ) → Budget
+  budget : (calls cells room : ℕ) (log : Log) → Budget
 
 -- a term ends with a value, or a cause stops it at a term
 pub data Result : Type 0 where

@@ -150,8 +150,9 @@ due (granting s start set) = grants set
 abbrev pub request : (start : List ℕ) (calls depth : ℕ) → Runner → Request
 request start calls depth r = record { runner = r; enforce = true; start = start; calls = calls; depth = depth }
 
+-- where nothing was saturated
 abbrev pub counted : (calls cells posts : ℕ) → Counts
-counted c d p = record { calls = c; cells = d; posts = p }
+counted c d p = record { calls = c; cells = d; posts = p; saturated = 0 }
 
 abbrev pub both : List ℕ → (Runner → Request) → Answer → List ℕ → List Case
 both s q a ps = running s (q eager) a ps ∷ running s (q lazy) a ps ∷ []

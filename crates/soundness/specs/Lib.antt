@@ -3,3 +3,4 @@ pub mod Laws
 pub mod Theorems
 pub mod Cases
 pub mod Pages
+pub mod Saturation

@@ -19,13 +19,13 @@ fn tell(text: &[u8]) {
 }
 
 // A sheet has at most 10,913 bytes; of a longer one, one byte more is read, and the reader refuses it. A read error counts as the end of the input.
-// There is always a text: the buffers are the largest, and no text is longer than 183 bytes (report/specs/Theorems.antt: always-written).
+// There is always a text: the buffers are the largest, and no text is longer than 209 bytes (report/specs/Theorems.antt: always-written).
 fn main() {
     let mut sheet = [0u8; MAX_SHEET + 1];
     let n = io::read_full(STDIN_FILENO, &mut sheet);
     let mut cells = [0u8; MAX_CELLS];
     let mut posts = [0u32; MAX_POSTS];
-    let mut text = [0u8; 192];
+    let mut text = [0u8; 224];
     let reported = report(&sheet[..n], &mut cells, &mut posts, &mut text);
     let Reported::Written(k) = reported else {
         return;

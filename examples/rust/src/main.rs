@@ -148,9 +148,10 @@ fn run_in_words(run: &Run) -> String {
         calls,
         cells,
         posts,
+        held,
         ..
     } = run;
-    format!("{outcome}, calls {calls}, cells {cells}, posts {posts}")
+    format!("{outcome}, calls {calls}, cells {cells}, posts {posts}, held {held}")
 }
 
 fn cause_in_words(cause: u32) -> String {

@@ -86,6 +86,8 @@ pub struct Run {
     pub cells: u32,
     /// The first entries of the lent list are the posts made.
     pub posts: u32,
+    /// Sums and differences that were held at a limit.
+    pub held: u32,
 }
 
 /// What an entry of a list of posts stands for.
@@ -179,6 +181,7 @@ pub fn run_eager(
         calls: answer[4],
         cells: answer[5],
         posts: answer[6],
+        held: answer[7],
     })
 }
 

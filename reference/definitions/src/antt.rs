@@ -88,11 +88,12 @@ fn frames(numbers: &[u32]) -> String {
 fn answer(answer: Result<Run, Refusal>) -> String {
     match answer {
         Ok(run) => format!(
-            "(ran {} (counted {} {} {}))",
+            "(ran {} (counted {} {} {} {}))",
             outcome(run.outcome),
             run.calls,
             run.cells,
-            run.posts
+            run.posts,
+            run.held
         ),
         Err(refusal) => format!("(refused {})", cause_and_place(refusal)),
     }
@@ -150,7 +151,7 @@ mod tests {
                 "deciding s (accepted 5 1 0)",
                 "running s (requestOf eager true [] 4096 100) \
                  (buffersOf (replicate 20 7) (8 ∷ 8 ∷ []) (9 ∷ [])) \
-                 (after (ran (ended (ground-num 7)) (counted 0 0 1)) \
+                 (after (ran (ended (ground-num 7)) (counted 0 0 1 0)) \
                  (buffersOf (replicate 20 0) (7 ∷ 8 ∷ []) (9 ∷ [])))",
             ]
         );

@@ -7,7 +7,7 @@ use sheets::request::{
     Request, FRAME_NUMBERS, MAX_CALLS, MAX_CELL_BYTES, MAX_OPEN_CALLS, MAX_POSTS,
 };
 use sheets::rng::Rng;
-use sheets::{branches, cases, pages, smallest, type_faults, yes_branch};
+use sheets::{branches, cases, held, pages, smallest, type_faults, yes_branch};
 use sovzedal_reference::{decode, Checks};
 
 const MAX_TYPES: usize = 12;
@@ -26,8 +26,8 @@ const WAYS: [(Runner, Checks); 4] = [
 ];
 
 /// The smallest sheet for each cause, the contract's cases and those of W1, W4,
-/// W5 and W8, each with its own request or a shorter one, and the limits of a
-/// request.
+/// W5, W8 and W10, each with its own request or a shorter one, and the limits
+/// of a request.
 pub fn named() -> Vec<Entry> {
     let smallest = smallest::all()
         .into_iter()
@@ -38,6 +38,7 @@ pub fn named() -> Vec<Entry> {
         .chain(branches::all())
         .chain(type_faults::all())
         .chain(pages::all())
+        .chain(held::all())
         .map(|case| (case.sheet, case.request));
     smallest
         .chain(cases)

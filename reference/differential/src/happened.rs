@@ -18,6 +18,11 @@ impl Happened {
         }
     }
 
+    /// How often this has happened.
+    pub fn times(&self, what: &str) -> usize {
+        self.0.get(what).copied().unwrap_or(0)
+    }
+
     /// What should have happened and never did.
     pub fn never(&self, expected: impl IntoIterator<Item = String>) -> Vec<String> {
         let expected = expected.into_iter();

@@ -18,8 +18,10 @@ const ENOUGH: usize = 10_000;
 const ENDED: u32 = 0;
 const STOPPED: u32 = 1;
 
-/// How many of the sheets at least have made a post that is guarded.
+/// How many of the sheets at least have made a post that is guarded, and how
+/// many had a sum or difference held.
 const ENOUGH_GUARDED: usize = 1_000;
+const ENOUGH_HELD: usize = 2_000;
 
 /// How the runs that were compared came out.
 #[derive(Default)]
@@ -32,6 +34,8 @@ struct Counts {
     for_a_guard: usize,
     /// Runs with posts that are guarded.
     guarded: usize,
+    /// Runs with results that were held.
+    held: usize,
 }
 
 fn main() -> ExitCode {
@@ -59,10 +63,13 @@ fn main() -> ExitCode {
         "{} sheets of version 2: {} need something for a guard alone, {} made guarded posts",
         counts.of_version_2, counts.for_a_guard, counts.guarded
     );
-    let too_few =
-        compared < ENOUGH || counts.for_a_guard < ENOUGH_GUARDED || counts.guarded < ENOUGH_GUARDED;
+    println!("{} sheets had results held", counts.held);
+    let too_few = compared < ENOUGH
+        || counts.for_a_guard < ENOUGH_GUARDED
+        || counts.guarded < ENOUGH_GUARDED
+        || counts.held < ENOUGH_HELD;
     if settings::are_whole() && too_few {
-        println!("too few, {ENOUGH} and {ENOUGH_GUARDED} are asked");
+        println!("too few, {ENOUGH}, {ENOUGH_GUARDED} and {ENOUGH_HELD} are asked");
         return ExitCode::FAILURE;
     }
     ExitCode::SUCCESS
@@ -110,6 +117,7 @@ fn try_sheet(seed: u64, index: u64, counts: &mut Counts) -> Result<(), String> {
         }
     }
     counts.with_needs += usize::from(needs != 0);
+    counts.held += usize::from(answer[7] > 0);
     if sample.world.guards.is_some() {
         counts.of_version_2 += 1;
         counts.for_a_guard += usize::from(needs_without_guards(&sample) != Some(needs));

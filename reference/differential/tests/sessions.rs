@@ -7,7 +7,7 @@ use sheets::hex;
 use sheets::request::{MAX_CELL_BYTES, MAX_POSTS};
 use sheets::rng::Rng;
 use sheets::session::{random_accesses, random_block, random_sheet, Access, BLOCK_BYTES};
-use sovzedal_reference::{decode, Term};
+use sovzedal_reference::{decode, run_eager, Request, Term};
 use std::mem;
 use std::process::ExitCode;
 use std::time::Instant;
@@ -71,6 +71,9 @@ fn compare(seed: u64, index: u64, counts: &mut Counts) -> Result<(), String> {
         counts.count_access(access, returned, other, &before, &boards.library);
         if (returned, access) == (DONE, Access::RUN) {
             counts.count_pages(other, &sheet, &posts, &boards.library);
+            if other == Other::Nothing {
+                counts.count_held(&sheet, &before);
+            }
         }
     }
     Ok(())
@@ -196,7 +199,7 @@ impl Boards {
 struct Counts(Happened);
 
 /// What has to happen, beside an end and each cause that a run can have.
-const EXPECTED: [&str; 19] = [
+const EXPECTED: [&str; 20] = [
     "a block that no entry made",
     "a read",
     "a write that runs nothing",
@@ -216,6 +219,7 @@ const EXPECTED: [&str; 19] = [
     "refused by 31 where 15 would follow",
     "stopped by 17 at a post",
     "a post on a channel above 0",
+    "a run with results held",
 ];
 
 impl Counts {
@@ -297,6 +301,19 @@ impl Counts {
         let mut pairs = before.iter().zip(board.posts.contents());
         let on_another = pairs.any(|(old, new)| old != new && (1..16).contains(&(new >> 16)));
         self.0.count_if(on_another, "a post on a channel above 0");
+    }
+
+    /// Counts a run with held results, which a block doesn't tell, by the block
+    /// before it.
+    fn count_held(&mut self, sheet: &[u8], before: &[u8]) {
+        let request = Request {
+            calls: u16::from_be_bytes([before[4], before[5]]).into(),
+            ..Request::LARGEST
+        };
+        let (mut cells, mut posts) = (vec![0; MAX_CELL_BYTES], vec![0; MAX_POSTS]);
+        let run = run_eager(sheet, &request, &mut cells, &mut posts);
+        let held = run.is_ok_and(|run| run.held > 0);
+        self.0.count_if(held, "a run with results held");
     }
 
     /// What should have happened and never did.

@@ -2,17 +2,17 @@
 
 use crate::vector::Vector;
 use sheets::cases::Case;
-use sheets::extremes::{deepest, longest, widest};
+use sheets::extremes::{deepest, longest, most_held, widest};
 use sheets::generate::sample;
 use sheets::load::{frame_sheet, guarded_frame_sheet};
 use sheets::request::{
     Request, FRAME_NUMBERS, MAX_CALLS, MAX_CELL_BYTES, MAX_OPEN_CALLS, MAX_POSTS,
 };
 use sheets::rng::Rng;
-use sheets::{branches, cases, pages, smallest, type_faults, yes_branch};
+use sheets::{branches, cases, held, pages, smallest, type_faults, yes_branch};
 
 const SEED: u64 = 20;
-const GENERATED: usize = 240;
+const GENERATED: usize = 220;
 /// Keeps the recording short.
 const LONGEST_GENERATED: usize = 2_000;
 
@@ -27,6 +27,7 @@ pub fn vectors() -> Vec<Vector> {
     vectors.extend(as_asked(branches::all()));
     vectors.extend(as_asked(type_faults::all()));
     vectors.extend(as_asked(pages::all()));
+    vectors.extend(as_asked(held::all()));
     vectors
 }
 
@@ -106,6 +107,7 @@ fn edges_of_sheets() -> impl Iterator<Item = Vector> {
         widest(),
         longest(),
         one_byte_more,
+        most_held(),
         frame_sheet(0),
         frame_sheet(1),
         guarded_frame_sheet(0),

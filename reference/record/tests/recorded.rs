@@ -16,9 +16,26 @@ fn every_cause_is_recorded() {
     assert!(recording.stdin.len() <= MAX_BYTES);
 }
 
-/// The first number of the answer, after the name and the returned number.
+/// W10's counts, one of them with more than 16 bits. Of a sheet that is
+/// accepted the number stands for its needs.
+#[test]
+fn held_results_are_recorded() {
+    let recording = Recording::make();
+    let runs = recording.stdout.lines();
+    let runs = runs.filter(|line| line.starts_with("eager") || line.starts_with("lazy"));
+    let counts: BTreeSet<u32> = runs.map(|line| number(line, 7)).collect();
+    assert!((0..=3).all(|count| counts.contains(&count)), "{counts:?}");
+    assert!(counts.last() > Some(&65_535), "{counts:?}");
+}
+
+/// The first number of the answer.
 fn cause(line: &str) -> u32 {
-    let word = line.split(' ').nth(2).expect("an answer");
+    number(line, 0)
+}
+
+/// A number of the answer, after the name and the returned number.
+fn number(line: &str, entry: usize) -> u32 {
+    let word = line.split(' ').nth(2 + entry).expect("an answer");
     word.parse().expect("a number")
 }
 

@@ -307,6 +307,32 @@ pub fn most_types() -> Vec<u8> {
     .to_bytes()
 }
 
+/// As many terms as a sheet can have, half of them sums that are all held, and
+/// about as many calls as there can be. No sheet is known to hold more.
+///
+/// f(n) = held + (if n less 1 then 1 else f(n - 1) + f(n - 1)), called with 11.
+pub fn most_held() -> Vec<u8> {
+    const ROUNDS: u16 = 11;
+    let around = |held| {
+        let again = || call(variable(1), difference(variable(0), number(1)));
+        let calls = when(
+            less(variable(0), number(1)),
+            number(1),
+            sum(again(), again()),
+        );
+        let rest = call(variable(0), number(ROUNDS));
+        sign(0, letrec(FIRST_FUNCTION, sign(0, sum(held, calls)), rest))
+    };
+    let others = around(number(0)).size() - 1;
+    let numbers = (MAX_TERMS - others).div_ceil(2);
+    let held = balanced_sum(vec![number(65_535); numbers]);
+    with_functions(
+        &[0],
+        &[TypeRecord::function(NUMBER, NUMBER, 0)],
+        around(held),
+    )
+}
+
 /// The tree below so many signs.
 fn signed(signs: usize, tree: Tree) -> Tree {
     (0..signs).fold(tree, |inner, _| sign(0, inner))

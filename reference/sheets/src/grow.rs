@@ -152,9 +152,11 @@ impl Grower<'_> {
     fn of_own_kind(&mut self, ty: u16, site: Site) -> Tree {
         match ty {
             BOOL => self.of_two_numbers(less, site),
-            NUMBER => match self.rng.below(3) {
-                0 => self.of_two_numbers(sum, site),
-                1 => self.of_two_numbers(difference, site),
+            NUMBER => match self.rng.below(15) {
+                0 => self.sum_at_the_limit(),
+                1 => self.difference_at_the_limit(),
+                2..=5 => self.of_two_numbers(sum, site),
+                6..=9 => self.of_two_numbers(difference, site),
                 _ => self.post(site),
             },
             _ => self.function(ty, site),
@@ -185,6 +187,20 @@ impl Grower<'_> {
     fn of_two_numbers(&mut self, make: fn(Tree, Tree) -> Tree, site: Site) -> Tree {
         let [left, right] = self.split(site);
         make(self.grow(NUMBER, left), self.grow(NUMBER, right))
+    }
+
+    /// Its exact result is the highest number, or one more.
+    fn sum_at_the_limit(&mut self) -> Tree {
+        let left = self.rng.between(1, 65_535);
+        let right = 65_535 - left + self.rng.below(2);
+        sum(number(left as u16), number(right as u16))
+    }
+
+    /// Its exact result is 0, or one less.
+    fn difference_at_the_limit(&mut self) -> Tree {
+        let left = self.rng.below(65_535);
+        let right = left + self.rng.below(2);
+        difference(number(left as u16), number(right as u16))
     }
 
     fn conditional(&mut self, ty: u16, site: Site) -> Tree {

@@ -2,12 +2,13 @@
 //!
 //! [`tree`] and [`records`] assemble sheets. [`cases`], [`yes_branch`],
 //! [`branches`], [`type_faults`], [`explained`], [`pages`], [`erased`],
-//! [`smallest`], [`extremes`] and [`load`] hold the ones made by hand,
-//! [`generate`], [`needy`] and [`erasable`] draw others at random, [`request`]
-//! draws what to ask of their runs, [`session`] what a controller does with a
-//! register block and [`lines`] what is queued on four lines, from a [`seed`].
-//! Nothing here knows how a sheet is judged or run, except [`grow`], [`needy`]
-//! and [`erasable`], which build sheets that the rules accept.
+//! [`held`], [`smallest`], [`extremes`] and [`load`] hold the ones made by hand,
+//! [`generate`], [`needy`], [`erasable`] and [`sums`] draw others at random,
+//! [`request`] draws what to ask of their runs, [`session`] what a controller
+//! does with a register block and [`lines`] what is queued on four lines, from
+//! a [`seed`]. Nothing here knows how a sheet is judged or run, except [`grow`],
+//! [`needy`] and [`erasable`], which build sheets that the rules accept, and
+//! [`sums`], which builds some of known results.
 
 pub mod branches;
 pub mod cases;
@@ -18,6 +19,7 @@ pub mod explained;
 pub mod extremes;
 pub mod generate;
 pub mod grow;
+pub mod held;
 pub mod lines;
 pub mod load;
 pub mod needy;
@@ -29,6 +31,7 @@ pub mod seed;
 pub mod session;
 pub mod smallest;
 pub mod spoil;
+pub mod sums;
 pub mod tally;
 pub mod tree;
 pub mod type_faults;

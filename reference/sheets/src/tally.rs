@@ -17,6 +17,9 @@ pub struct Tally {
     runs: usize,
     ended_bool: usize,
     ended_number: usize,
+    /// Runs with results that were held, and the most of one run.
+    with_held: usize,
+    most_held: u32,
     /// Indexed by cause; entry 0 is unused.
     judged: [usize; CAUSES + 1],
     ran: [usize; CAUSES + 1],
@@ -41,9 +44,12 @@ impl Tally {
         }
     }
 
-    /// Counts a runner's reply. `answer[2]` is an end's kind of value.
+    /// Counts a runner's reply. `answer[2]` is an end's kind of value and
+    /// `answer[7]` the count of held results.
     pub fn count_run(&mut self, answer: &[u32; 8]) {
         self.runs += 1;
+        self.with_held += usize::from(answer[7] > 0);
+        self.most_held = self.most_held.max(answer[7]);
         match answer {
             [0, _, 0, ..] => self.ended_bool += 1,
             [0, ..] => self.ended_number += 1,
@@ -99,6 +105,11 @@ impl fmt::Display for Tally {
             f,
             "runs {}, ended with a boolean {}, with a number {}",
             self.runs, self.ended_bool, self.ended_number
+        )?;
+        writeln!(
+            f,
+            "runs with held results {}, with {} at most",
+            self.with_held, self.most_held
         )?;
         writeln!(f, "cause     judge      runs")?;
         for cause in causes() {

@@ -45,10 +45,11 @@ fn print_run(case: &Smallest) {
 }
 
 fn in_words(reply: Reply) -> String {
-    let [cause, place, _, value, calls, cells, posts, _] = reply.answer;
+    let [cause, place, _, value, calls, cells, posts, held] = reply.answer;
+    let counts = format!("calls {calls} cells {cells} posts {posts} held {held}");
     match reply.status {
-        0 => format!("end {value} calls {calls} cells {cells} posts {posts}"),
-        1 => format!("stop {cause} at {place} calls {calls} cells {cells} posts {posts}"),
+        0 => format!("end {value} {counts}"),
+        1 => format!("stop {cause} at {place} {counts}"),
         _ => format!("refused {cause} at {place}"),
     }
 }

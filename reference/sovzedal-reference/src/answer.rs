@@ -97,6 +97,7 @@ impl From<Run> for Reply {
         answer[4] = run.calls;
         answer[5] = run.cells;
         answer[6] = run.posts;
+        answer[7] = run.held;
         let status = match run.outcome {
             Outcome::End(Plain::Bool(value)) => {
                 answer[3] = u32::from(value);

@@ -42,7 +42,7 @@ fn run_line(run: Run) -> String {
         Outcome::Stop(Stop { cause, term }) => format!("stop {} at {term}", cause.number()),
     };
     format!(
-        "{outcome} calls {} cells {} posts {}\n",
-        run.calls, run.cells, run.posts
+        "{outcome} calls {} cells {} posts {} held {}\n",
+        run.calls, run.cells, run.posts, run.held
     )
 }

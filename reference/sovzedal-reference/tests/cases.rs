@@ -69,7 +69,7 @@ fn needs(sheet: &[u8]) -> u32 {
 
 #[test]
 fn the_sheet_above() {
-    let text = "terms 5\nneeds 00000000\ntype num\nend num 7 calls 0 cells 0 posts 1\n";
+    let text = "terms 5\nneeds 00000000\ntype num\nend num 7 calls 0 cells 0 posts 1 held 0\n";
     assert_eq!(report(&posting(ONE)), text);
     let (_, posts) = run(&posting(ONE), Request::LARGEST);
     assert_eq!(posts, [7]);
@@ -96,7 +96,7 @@ fn the_sheet_above_without_its_enable() {
     assert_eq!(outcome(&sheet, on(&[0, ONE])), number_end(7));
     assert_eq!(
         report(&sheet),
-        "terms 4\nneeds 00000002\ntype num\nstop 17 at 2 calls 0 cells 0 posts 0\n"
+        "terms 4\nneeds 00000002\ntype num\nstop 17 at 2 calls 0 cells 0 posts 0 held 0\n"
     );
 }
 

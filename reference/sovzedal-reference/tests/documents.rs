@@ -4,13 +4,15 @@
 //! `include/sovzedal.h`. Where the repository is not around this workspace,
 //! there is nothing to compare.
 
+use sheets::cases::computing;
 use sheets::extremes::longest;
 use sheets::smallest::{all, Smallest};
+use sheets::tree;
 use sovzedal_reference::lines::{Job, Lent, Lines, STATE_NUMBERS};
 use sovzedal_reference::registers::{at, status, Block, BLOCK_BYTES, RUN};
 use sovzedal_reference::{decode, erase, explain, report, run_eager, typecheck, typecheck_by};
 use sovzedal_reference::{Cause, Checks, Outcome, Plain, Refusal, Reply, Request, Rules};
-use sovzedal_reference::{Set, Stop, Term};
+use sovzedal_reference::{Set, Stop, Term, TermId};
 use sovzedal_reference::{
     CHAIN_TERMS, CHANNELS, FRAME_NUMBERS, MAX_CALLS, MAX_CELL_BYTES, MAX_OPEN_CALLS, MAX_POSTS,
 };
@@ -73,6 +75,32 @@ fn the_release_page_is_the_inspectors() {
         term: 1,
     });
     assert_eq!(posts(&unauthorised), (stop, vec![40]));
+}
+
+/// As the readme says of it: with one less the total is what it was, and
+/// nothing is held; less 65,535 it is 0, and held all the same.
+#[test]
+fn the_total_is_past_the_limit_by_one() {
+    let path = repository().join("examples/total.hex");
+    if !path.exists() {
+        return;
+    }
+    const THIRD: usize = 3;
+    let total = bytes(&read(&path));
+    let sheet = decode(&total).expect("a readable sheet");
+    assert!(matches!(sheet.term(THIRD as TermId), Term::Number(5_536)));
+    let mut reached = total.clone();
+    let record = total.len() - 8 * (sheet.terms.len() - THIRD);
+    reached[record + 2..record + 4].copy_from_slice(&[0x15, 0x9F]);
+    let (held, not_held) = (report(&total), report(&reached));
+    assert_eq!(not_held, held.replace("held 1", "held 0"));
+    assert_ne!(not_held, held);
+
+    let members = [30_000, 30_000, 5_536].map(tree::number);
+    let added = members.into_iter().reduce(tree::sum).expect("three");
+    assert_eq!(computing(tree::post(added.clone())), total);
+    let less = computing(tree::difference(added, tree::number(65_535)));
+    assert!(report(&less).ends_with("end num 0 calls 0 cells 0 posts 0 held 1\n"));
 }
 
 #[test]
@@ -603,9 +631,11 @@ fn run(case: &Smallest) -> String {
     };
     let (mut cells, mut posts) = (vec![0; asked.cell_bytes], vec![0; asked.posts]);
     let reply = Reply::from(run_eager(&case.sheet, &request, &mut cells, &mut posts));
-    let [cause, place, _, _, calls, cells, posts, _] = reply.answer;
+    let [cause, place, _, _, calls, cells, posts, held] = reply.answer;
     match reply.status {
-        1 => format!("stop {cause} at {place} calls {calls} cells {cells} posts {posts}\n"),
+        1 => format!(
+            "stop {cause} at {place} calls {calls} cells {cells} posts {posts} held {held}\n"
+        ),
         2 => format!("refused {cause} at {place}\n"),
         _ => panic!("the run for {} ends", case.cause),
     }

@@ -11,7 +11,7 @@ use sovzedal_reference::{Cause, Outcome, Request, Rules, Stop, Term};
 
 #[test]
 fn the_deepest_has_100_open_calls() {
-    assert!(report(&deepest()).ends_with("end num 0 calls 100 cells 101 posts 0\n"));
+    assert!(report(&deepest()).ends_with("end num 0 calls 100 cells 101 posts 0 held 0\n"));
 }
 
 #[test]

@@ -364,6 +364,7 @@ fn a_job_sees_only_what_is_left_of_the_list() {
         calls: 0,
         cells: 0,
         posts,
+        held: 0,
     };
     assert_eq!(unit.answer(), Ok(full(3, 1)));
     assert_eq!(unit.answer(), Ok(full(1, 0)));

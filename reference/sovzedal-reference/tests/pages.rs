@@ -275,11 +275,11 @@ fn the_program_prints_what_guards_do() {
     assert_eq!(report(&named("31 before 9")), "refused 31 at 3\n");
     assert_eq!(
         report(&named("a guarded channel")),
-        "terms 3\nneeds 00000002\ntype num\nstop 17 at 1 calls 0 cells 0 posts 0\n"
+        "terms 3\nneeds 00000002\ntype num\nstop 17 at 1 calls 0 cells 0 posts 0 held 0\n"
     );
     assert_eq!(
         report(&named("a function with an enable of its own")),
-        "terms 9\nneeds 00000000\ntype num\nend num 7 calls 1 cells 1 posts 1\n"
+        "terms 9\nneeds 00000000\ntype num\nend num 7 calls 1 cells 1 posts 1 held 0\n"
     );
 }
 

@@ -58,8 +58,8 @@ module _ (ρ ν : ℕ → ℕ) where
   erased-compute at op (v-closure c e) w u = r-stops
 
   erased-append : (at ch n : ℕ) (u : Budget) → ErasesResult ρ ν (appendPost at ch n u) (appendPost (ν at) ch n u)
-  erased-append at ch n (budget c d zero ps) = r-stops
-  erased-append at ch n (budget c d (suc r) ps) = r-ends v-num
+  erased-append at ch n (budget c d zero log) = r-stops
+  erased-append at ch n (budget c d (suc r) log) = r-ends v-num
 
   erased-post : (at ch : ℕ) {v w : Value} → ErasesValue ρ ν v w → (u : Budget) → ErasesResult ρ ν (postValue at ch true v u) (postValue (ν at) ch true w u)
   erased-post at ch (v-num {n}) u = erased-append at ch n u
@@ -68,14 +68,14 @@ module _ (ρ ν : ℕ → ℕ) where
 
   erased-cell : (at : ℕ) (k l : Budget → Result) → ((u : Budget) → ErasesResult ρ ν (k u) (l u)) → (u : Budget)
       → ErasesResult ρ ν (takeCell at k u) (takeCell (ν at) l u)
-  erased-cell at k l h (budget c zero r ps) = r-stops
-  erased-cell at k l h (budget c (suc d) r ps) = h (budget c d r ps)
+  erased-cell at k l h (budget c zero r log) = r-stops
+  erased-cell at k l h (budget c (suc d) r log) = h (budget c d r log)
 
   erased-begin : (at : ℕ) (k l : Budget → Result) → ((u : Budget) → ErasesResult ρ ν (k u) (l u)) → (u : Budget)
       → ErasesResult ρ ν (beginCall at k u) (beginCall (ν at) l u)
-  erased-begin at k l h (budget zero d r ps) = r-stops
-  erased-begin at k l h (budget (suc c) zero r ps) = r-stops
-  erased-begin at k l h (budget (suc c) (suc d) r ps) = h (budget c d r ps)
+  erased-begin at k l h (budget zero d r log) = r-stops
+  erased-begin at k l h (budget (suc c) zero r log) = r-stops
+  erased-begin at k l h (budget (suc c) (suc d) r log) = h (budget c d r log)
 
   erased-deep : (at : ℕ) {v w : Value} → ErasesValue ρ ν v w → (u : Budget) → ErasesResult ρ ν (tooDeep at v u) (tooDeep (ν at) w u)
   erased-deep at v-bool u = r-stops

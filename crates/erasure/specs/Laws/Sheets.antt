@@ -17,7 +17,7 @@ use Rattle.program.specs.Laws.Screening.{clear-none, none-append, append-none}
 use Rattle.program.specs.Laws.Readable.{well-formed}
 use Rattle.typing.specs.Verdicts.{accepted, verdict, SheetDerives}
 use Rattle.typing.specs.Theorems.{acceptance, accepted-exactly}
-use Rattle.semantics.specs.Values.{empty, Budget, budget, Result}
+use Rattle.semantics.specs.Values.{empty, emptyLog, Budget, budget, Result}
 use Rattle.semantics.specs.Meaning.{Control, eval}
 use Rattle.semantics.specs.Access.{eagerControl, lazyControl}
 use Rattle.semantics.specs.Runs.{Runner, eager, lazy, Request, Buffers, sizes, stack, known, buffersOk, limitsOk, initial, evaluation, started, ran, outcome, left, counts, answerOf, stopped, inOrder, buffersAfter, run}
@@ -85,7 +85,7 @@ module _ (s s′ : List ℕ) (ρ ν : ℕ → ℕ) (L : Leaner s s′ ρ ν) whe
         (eval Y enforce (y .depth) (program s′) q empty (initial y (sizes d)))
     evaluated X Y enforce p q =
         subst (λ (z : Result). ErasesResult ρ ν (eval X false (x .depth) (program s) p empty (initial x (sizes b))) z)
-        (λ i. eval Y enforce (c .same-depth i) (program s′) q empty (budget (c .same-calls i) (c .same-cells i / 8) (c .same-posts i) []))
+        (λ i. eval Y enforce (c .same-depth i) (program s′) q empty (budget (c .same-calls i) (c .same-cells i / 8) (c .same-posts i) emptyLog))
         (runs-erased ρ ν X Y enforce (x .depth) (L .erases) p q (initial x (sizes b)))
 
     skipped-like : (r r′ : Runner) → ErasesResult ρ ν (evaluation r s skipping (sizes b)) (evaluation r′ s′ y (sizes d))
@@ -109,7 +109,8 @@ module _ (s s′ : List ℕ) (ρ ν : ℕ → ℕ) (L : Leaner s s′ ρ ν) whe
 
     -- results related by erasure are told alike
     same-counts : (u : Budget) → counts y (sizes d) u ≡ counts x (sizes b) u
-    same-counts (budget k l m ps) = λ i. record { calls = sym (c .same-calls) i - k; cells = sym (c .same-cells) i / 8 - l; posts = length ps }
+    same-counts (budget k m r l) = λ i.
+        record { calls = sym (c .same-calls) i - k; cells = sym (c .same-cells) i / 8 - m; posts = length (l .posts); saturated = l .saturated }
 
     told-like : {f g : Result} → ErasesResult ρ ν f g
         → LikeRun ν

@@ -12,7 +12,7 @@ use lib.Dec.{ltb}
 use Rattle.machine.specs.Store.{shapeOf}
 use Rattle.evaluator.specs.Contracts.{workLeft}
 use Rattle.evaluator.proofs.ContractLaws.{ends, ends-same, goes-on, stays, follows, same-cells}
-use Rattle.evaluator.proofs.ShapeLaws.{node-of, node-leaf, node-post, pair-of, nine-or-ten, first-below, second-below, third-below, privilege-below, guard-right, lower, tail-of, tail-stops, next-below, tail-goes, boolean-is, number-is, variable-is, function-is, operand-below, pair-is, pair-applies, pair-operates, post-is, if-is, enable-is, branch-stuck, branch-to, chosen-below, apply-stuck, apply-deep, apply-spent, apply-full, apply-runs, one-call-less, post-done, post-calls}
+use Rattle.evaluator.proofs.ShapeLaws.{node-of, node-leaf, node-post, pair-of, nine-or-ten, first-below, second-below, third-below, privilege-below, guard-right, lower, tail-of, tail-stops, next-below, tail-goes, boolean-is, number-is, variable-is, function-is, operand-below, pair-is, pair-applies, pair-operates, post-is, if-is, enable-is, branch-stuck, branch-to, chosen-below, apply-stuck, apply-deep, apply-spent, apply-full, apply-runs, one-call-less, operate-calls, post-done, post-calls}
 use Rattle.stores.proofs.CellLaws.{bound-full}
 use Prim.Native.Nat.{ℕ, _<_}
 use borrow.Fn.Kinds.{In}
@@ -688,7 +688,7 @@ eval-pair-operate-requires t c κs = search needs
 
 eval-pair-returns-4 : (t : ℕ) → eval-pair-lts.Need-returns-4 (eval-pair-claims t) (eval-pair-at t) eval-pair.Post
 eval-pair-returns-4 t c =
-    let at-is-stop2 = c .before .before .before .before in
+    let at-is-stop2 = c .before .before .before .before .before in
     let at-eval2 = at-is-stop2 .before in
     let at-second-of = at-eval2 .before in
     let at-if1 = at-second-of .before .before .before .before .before in
@@ -698,8 +698,12 @@ eval-pair-returns-4 t c =
     let start = at-first-of .before .before .before .before .before in
     follows _ (pair-is (start .pre .1) _ _ _ (at-first-of .first-of .ensures) (at-second-of .second-of .ensures)) (at-eval .eval .ensures)
     (sym (at-is-stop .is-stop .ensures) ∙ at-if1 .if1 .left) (follows _ (λ st. refl) (at-eval2 .eval2 .ensures)
-    (sym (at-is-stop2 .is-stop2 .ensures) ∙ c .before .before .before .if2 .left)
-    (ends (pair-operates (start .pre .1) _ _ _ _ _ (c .before .before .kind-of .ensures) (c .before .if3 .left) (c .operate .ensures))))
+    (sym (at-is-stop2 .is-stop2 .ensures) ∙ c .before .before .before .before .if2 .left)
+    (record {
+      done = pair-operates (start .pre .1) _ _ _ _ _ _ _ (c .before .before .before .kind-of .ensures) (c .before .before .if3 .left) (c .operate .ensures);
+      calls = operate-calls (c .operate .ensures);
+      names = refl;
+    }))
 
 abbrev eval-post-claims : ℕ → eval-post-lts.Claims
 eval-post-claims t = (

@@ -43,6 +43,9 @@ array-read-t37 c = search needs
 array-read-t40 : tie.Need-array-read-t40
 array-read-t40 c = search needs
 
+array-read-t43 : tie.Need-array-read-t43
+array-read-t43 c = search needs
+
 out-of-requires : tie.Need-out-of-requires
 out-of-requires c κs = search needs
 
@@ -86,6 +89,7 @@ evaluate-spec =
     sub-t34
     array-read-t37
     array-read-t40
+    array-read-t43
     out-of-requires
     outcome-of-requires
     same-length

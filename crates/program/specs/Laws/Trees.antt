@@ -10,7 +10,7 @@ use borrow.Author.Tests.{ltb-true, leb-true, eqb-true, eq-eqb}
 use Rattle.privileges.specs.Booleans.{and-left, and-right}
 use Rattle.program.specs.Layout.{terms, guardOf, root, kindByte, small, first, second, third, Types, typesOf}
 use Rattle.program.specs.Formats.{Part, unused, flag, anyNumber, privilege, principal, channel, functionType, child, bodyChild, isChild, Format, Kind, Boolean, Number, Variable, Function, Letrec, Call, If, Check, Enable, Sign, Test, Sum, Difference, Less, Post, kindOf, format}
-use Rattle.program.specs.Terms.{Term, boolean, number, variable, function, letrec, call, if, check, enable, sign, test, binary, post, sum, difference, less, node, treeTo, tree, program}
+use Rattle.program.specs.Terms.{Term, boolean, number, variable, function, letrec, call, if, check, enable, sign, test, binary, post, sum, difference, less, node, treeTo, tree, program, Every}
 use Rattle.program.specs.Decoding.{partOk, formatAt, termOk, timesBelow, isSign, signedBody}
 use Rattle.program.specs.Laws.Readable.{WellFormed}
 
@@ -95,6 +95,55 @@ pub tree-node : (s : List ℕ) → WellFormed s → (t : ℕ) → t < terms s
 tree-node s w t l =
     node-same (guardOf s) (kindOf (kindByte s t)) t (small s t) (first s t) (second s t) (third s t) (λ y. treeTo s t y) (tree s) (below s w t l)
     (λ y h. tree-depth s w t (suc y) y (omega arith) h (omega arith))
+
+-- ---- what every term of a tree has, the whole has
+pub every-here : (Q : Term → Type 0) (c : Term) → Every Q c → Q c
+every-here Q (boolean at b) h = h
+every-here Q (number at n) h = h
+every-here Q (variable at i) h = h
+every-here Q (function at ty body) h = h .0
+every-here Q (letrec at ty body rest) h = h .0
+every-here Q (call at f a) h = h .0
+every-here Q (if at c y n) h = h .0
+every-here Q (check at p c) h = h .0
+every-here Q (enable at p c) h = h .0
+every-here Q (sign at n c) h = h .0
+every-here Q (test at p y n) h = h .0
+every-here Q (binary at op a b) h = h .0
+every-here Q (post at ch g c) h = h .0
+
+-- and what the tree of each number has, every term of a tree has
+module _ (s : List ℕ) (w : WellFormed s) (Q : Term → Type 0) (each : (t : ℕ) → t < terms s → Q (tree s t)) where
+  node-every : (G : ℕ → Option ℕ) (k : Kind) (t x a b c : ℕ) (f : ℕ → Term) → Below (format k) t a b c → ((y : ℕ) → y < t → Every Q (f y))
+      → Q (node G k t x a b c f) → Every Q (node G k t x a b c f)
+  node-every G Boolean t x a b c f v h q = q
+  node-every G Number t x a b c f v h q = q
+  node-every G Variable t x a b c f v h q = q
+  node-every G Function t x a b c f v h q = (q, h b (v .second-below refl))
+  node-every G Letrec t x a b c f v h q = (q, h b (v .second-below refl), h c (v .third-below refl))
+  node-every G Call t x a b c f v h q = (q, h a (v .first-below refl), h b (v .second-below refl))
+  node-every G If t x a b c f v h q = (q, h a (v .first-below refl), h b (v .second-below refl), h c (v .third-below refl))
+  node-every G Check t x a b c f v h q = (q, h a (v .first-below refl))
+  node-every G Enable t x a b c f v h q = (q, h a (v .first-below refl))
+  node-every G Sign t x a b c f v h q = (q, h a (v .first-below refl))
+  node-every G Test t x a b c f v h q = (q, h a (v .first-below refl), h b (v .second-below refl))
+  node-every G Sum t x a b c f v h q = (q, h a (v .first-below refl), h b (v .second-below refl))
+  node-every G Difference t x a b c f v h q = (q, h a (v .first-below refl), h b (v .second-below refl))
+  node-every G Less t x a b c f v h q = (q, h a (v .first-below refl), h b (v .second-below refl))
+  node-every G Post t x a b c f v h q = (q, h a (v .first-below refl))
+
+  every-below : (k t : ℕ) → t < terms s → t < k → Every Q (tree s t)
+  every-below zero t l h = absurd (omega arith)
+  every-below (suc k) t l h =
+      subst (Every Q) (sym (tree-node s w t l))
+      (node-every (guardOf s) (kindOf (kindByte s t)) t (small s t) (first s t) (second s t) (third s t) (tree s) (below s w t l)
+      (λ y g. every-below k y (omega arith) (omega arith)) (subst Q (tree-node s w t l) (each t l)))
+
+  pub tree-every : (t : ℕ) → t < terms s → Every Q (tree s t)
+  tree-every t l = every-below (suc t) t l (omega arith)
+
+  pub program-every : Every Q (program s)
+  program-every = tree-every (root s) (omega (arith, w .terms-least))
 
 -- ---- 003's standard expressions (its Definition 2.1): the body of every function is signed. Here its type is also a function type.
 pub data Signed : Term → Type 0 where

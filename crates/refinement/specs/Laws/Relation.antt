@@ -11,14 +11,14 @@ use Rattle.program.specs.Limits.{maxCells, maxNesting}
 use Rattle.program.specs.Layout.{guardIn}
 use Rattle.program.specs.Terms.{Op, sum, difference, less, Term, boolean, number, variable, function, letrec, call, if, check, enable, sign, test, binary, post}
 use Rattle.program.specs.Laws.Nesting.{height}
-use Rattle.semantics.specs.Values.{Value, bool, num, closure, Env, empty, bind, Budget, budget, Result, ends, stops}
+use Rattle.semantics.specs.Values.{Value, bool, num, closure, Env, empty, bind, Log, Budget, budget, Result, ends, stops}
 use Rattle.semantics.specs.Meaning.{_then_}
 use Rattle.stores.specs.declared.state.Stop.{Stop}
 use Rattle.stores.specs.declared.state.Stop.the-variants.{Check, Stuck, OpenCalls, Calls, Cells, Posts}
 use Rattle.stores.specs.Words.{pick, booleanWord, numberWord, functionWord, stopWord, sortOf, payloadOf, envOf, isStop}
 use Rattle.machine.specs.Table.{wordKind, wordSmall, wordFirst, wordSecond, wordThird, wordAuthority, wordGuard}
 use Rattle.stores.specs.Cells.{behindOf, heldOf}
-use Rattle.machine.specs.Steps.{cellsMade}
+use Rattle.machine.specs.Steps.{cellsMade, wrapped}
 use Rattle.machine.specs.Store.{Store as State, Done, doneOf, andThen}
 use Rattle.stores.specs.Stops.{stopCause, stopPlace}
 use Rattle.refinement.specs.Laws.Cells.{Agree, agree-held, agree-behind}
@@ -41,19 +41,19 @@ pub length-written : (l ps : List ℕ) → length (written l ps) ≡ length l
 length-written l [] = refl
 length-written l (p ∷ ps) = length-set (written l ps) (length ps) p ∙ length-written l ps
 
-abbrev pub countersOf : (calls cells posts mode : ℕ) → List ℕ
-countersOf c m p mode = c ∷ m ∷ p ∷ mode ∷ []
-
 -- with m cells made
-pub record Balance (z : Fixed) (st : State) (c m d r : ℕ) (ps : List ℕ) : Type 0 where
-  pub counters : st .n ≡ countersOf c m (length ps) (z .mode)
+abbrev pub countersOf : (calls m mode : ℕ) → Log → List ℕ
+countersOf c m mode log = c ∷ m ∷ length (log .posts) ∷ mode ∷ wrapped (log .saturated) ∷ []
+
+pub record Balance (z : Fixed) (st : State) (c m d r : ℕ) (log : Log) : Type 0 where
+  pub counters : st .n ≡ countersOf c m (z .mode) log
   pub cells : m + d ≡ length (st .cells) / 8
   pub most : length (st .cells) ≤ maxCells
-  pub room : length ps + r ≡ length (z .posts)
-  pub list : st .posts ≡ written (z .posts) ps
+  pub room : length (log .posts) + r ≡ length (z .posts)
+  pub list : st .posts ≡ written (z .posts) (log .posts)
 
 pub data Balances (z : Fixed) (st : State) : Budget → Type 0 where
-  balance : {c m d r : ℕ} {ps : List ℕ} → Balance z st c m d r ps → Balances z st (budget c d r ps)
+  balance : {c m d r : ℕ} {log : Log} → Balance z st c m d r log → Balances z st (budget c d r log)
 
 -- ---- later states
 

@@ -22,9 +22,10 @@ use Rattle.stores.specs.declared.state.Stop.the-variants.{Check, Stuck, OpenCal
 use Rattle.stores.specs.declared.state.Out.the-variants.{Stop as Stopped}
 use Rattle.stores.specs.Words.{payloadOf, envOf, stopWord, outBy, outOf}
 use Rattle.machine.specs.Table.{Decoded}
+use Rattle.machine.specs.Steps.{wrapped}
 use Rattle.machine.specs.Store.{Store as State, Done, doneOf, evalAt}
 use Rattle.stores.specs.Stops.{stopCause, stopPlace}
-use Rattle.refinement.specs.Claims.{outcomeOf, countsOf, sizesOf, laidOut, startOf, Refined}
+use Rattle.refinement.specs.Claims.{outcomeOf, countsOf, wrappedCounts, sizesOf, laidOut, startOf, Refined}
 use Rattle.refinement.specs.Laws.Relation.{Fixed, written, length-written, Balances, balance, Later, stop-word, Rep, rep-bool, rep-num, rep-fun, rep-rec, env-none, Meets, valued, halted}
 use Rattle.refinement.specs.Laws.Steps.{Models}
 use Rattle.refinement.specs.Laws.Simulation.{eval-does}
@@ -80,15 +81,17 @@ module _ (s table : List ℕ) (mode : ℕ) (q : Request) (b : Buffers) where
   run = fixedOf s table (b .posts) mode
 
   record Agrees (st : State) (u : Budget) : Type 0 where
-    counts-agree : countsOf (q .calls) (st .n) ≡ counts q (sizes b) u
+    counts-agree : countsOf (q .calls) (st .n) ≡ wrappedCounts (counts q (sizes b) u)
     posts-agree : st .posts ≡ inOrder u ++ drop (length (inOrder u)) (b .posts)
     sizes-agree : sizesOf st ≡ sizes b
 
   agrees : {depth : ℕ} {st : State} {u : Budget} → Balances run st u → Later depth (startOf mode q b) st → Agrees st u
-  agrees (balance {c = c} {m = m} {d = d} {ps = ps} h) l =
+  agrees (balance {c = c} {m = m} {d = d} {log = log} h) l =
+      let ps = log .posts in
       let p : m ≡ length (b .cells) / 8 - d = omega (arith, h .cells, l .old .long) in
       record {
-        counts-agree = (λ i. countsOf (q .calls) (h .counters i)) ∙ (λ i. record { calls = q .calls - c; cells = p i; posts = length ps });
+        counts-agree = (λ i. countsOf (q .calls) (h .counters i))
+            ∙ (λ i. record { calls = q .calls - c; cells = p i; posts = length ps; saturated = wrapped (log .saturated) });
         posts-agree = h .list ∙ written-is (b .posts) ps (omega (arith, h .room)) ∙ ap (λ (n : ℕ). reverse ps ++ drop n (b .posts)) (sym (length-reverse ps));
         sizes-agree = λ i. record { cells = l .old .long i; posts = (ap length (h .list) ∙ length-written (b .posts) ps) i; frames = l .frames .long i };
       }

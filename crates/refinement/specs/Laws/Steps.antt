@@ -1,7 +1,7 @@
 -- Each way of putting runs together keeps the relation, for any access control that the interpreter's numbers stand for.
 use mathlib.Core.Bool.{Bool, true, false, cond}
 use mathlib.Core.Path.{_≡_, refl, sym, ap, _∙_, subst}
-use mathlib.Core.List.{List, _∷_}
+use mathlib.Core.List.{List, [], _∷_}
 use mathlib.Core.Option.{Option, none, some}
 use Prim.Native.Nat.{ℕ, zero, suc, _+_, _*_, _/_, _-_, _<_, _≤_, min}
 use native.Mathlib.Omega.{arith}
@@ -11,16 +11,16 @@ use borrow.Author.Tests.{ne-eqb, lt-ltb, le-ltb}
 use Rattle.program.specs.Limits.{noGuard}
 use Rattle.program.specs.Layout.{guardIn}
 use Rattle.program.specs.Terms.{Op, sum, difference, less, Term}
-use Rattle.semantics.specs.Values.{Value, num, closure, Env, bind, lookup, entered, Budget, budget, Result, ends, stops}
-use Rattle.semantics.specs.Meaning.{Control, Evaluation, Application, _then_, choose, found, branch, operate, compute, postEntry, appendPost, postValue, takeCell, beginCall, passes, guardPasses}
+use Rattle.semantics.specs.Values.{Value, num, closure, Env, bind, lookup, entered, Log, logPost, logSaturated, Budget, budget, Result, ends, stops}
+use Rattle.semantics.specs.Meaning.{Control, Evaluation, Application, _then_, choose, found, branch, operate, saturates, countSaturated, compute, postEntry, appendPost, postValue, takeCell, beginCall, passes, guardPasses}
 use Rattle.stores.specs.declared.state.Stop.{Stop}
 use Rattle.stores.specs.declared.state.Stop.the-variants.{Check, Stuck, Calls, Cells, Posts}
 use Rattle.stores.specs.Words.{pick, numberWord, functionWord, stopWord, sortOf, payloadOf, envOf}
 use Rattle.stores.specs.Cells.{behindOf, walkOf, heldOf, lookOf, cellSet}
 use Rattle.stores.specs.Access.{enforced, grantedOf, allowedOf, signAccess, signFrames, enableAccess, enableFrames, enabledNow, restoreFrames}
 use Rattle.machine.specs.Table.{wordSmall, wordGuard}
-use Rattle.machine.specs.Steps.{callsLeft, cellsMade, postsMade, modeOf, resultOf, operateOf, guardPassed, causeOf, postCause, postWord, postCounters, postList}
-use Rattle.machine.specs.Store.{Store as State, Done, storeOf, doneOf, withFrames, andThen, Runs, Applier, hasRoom, ownCell, bound, called, letrecS, callS, branchS, ifS, checkS, testS, signS, restored, enableS, binaryS, postDone, postS, begin}
+use Rattle.machine.specs.Steps.{callsLeft, cellsMade, postsMade, modeOf, saturatedMade, resultOf, operateOf, saturatesOf, operateSaturates, wrapped, countSaturated as countIn, operateCounters, guardPassed, causeOf, postCause, postWord, postCounters, postList}
+use Rattle.machine.specs.Store.{Store as State, Done, storeOf, doneOf, withFrames, andThen, Runs, Applier, hasRoom, ownCell, bound, called, letrecS, callS, branchS, ifS, checkS, testS, signS, restored, enableS, operateDone, binaryS, postDone, postS, begin}
 use Rattle.stores.specs.Stops.{stopCause, stopPlace}
 use Rattle.refinement.specs.Laws.Cells.{agree-cell, cell-holds, cell-behind, length-cell}
 use Rattle.refinement.specs.Laws.Relation.{Fixed, length-written, countersOf, Balance, Balances, balance, Kept, kept-refl, Later, later-refl, sortFor, Function, function-word, kindNumber, Body, Rep, rep-bool, rep-num, rep-fun, rep-rec, RepEnv, RepAt, EnvAt, env-none, env-some, boolean-rep, number-rep, rep-word, rep-low, rep-later, env-later, Meets, valued, halted, meets-later, meets-then}
@@ -89,17 +89,17 @@ module _ (z : Fixed) where
       (rep-later z (omega arith) (agree-cell l m w (envOf f)) r)
 
   -- ---- the counters
-  calls-are : {st : State} {c m d r : ℕ} {ps : List ℕ} → Balance z st c m d r ps → callsLeft (st .n) ≡ c
+  calls-are : {st : State} {c m d r : ℕ} {log : Log} → Balance z st c m d r log → callsLeft (st .n) ≡ c
   calls-are h = λ i. callsLeft (h .counters i)
 
-  made-is : {st : State} {c m d r : ℕ} {ps : List ℕ} → Balance z st c m d r ps → cellsMade (st .n) ≡ m
+  made-is : {st : State} {c m d r : ℕ} {log : Log} → Balance z st c m d r log → cellsMade (st .n) ≡ m
   made-is h = λ i. cellsMade (h .counters i)
 
-  posts-are : {st : State} {c m d r : ℕ} {ps : List ℕ} → Balance z st c m d r ps → postsMade (st .n) ≡ length ps
+  posts-are : {st : State} {c m d r : ℕ} {log : Log} → Balance z st c m d r log → postsMade (st .n) ≡ length (log .posts)
   posts-are h = λ i. postsMade (h .counters i)
 
-  long-is : {st : State} {c m d r : ℕ} {ps : List ℕ} → Balance z st c m d r ps → length (st .posts) ≡ length (z .posts)
-  long-is {ps = ps} h = ap length (h .list) ∙ length-written (z .posts) ps
+  long-is : {st : State} {c m d r : ℕ} {log : Log} → Balance z st c m d r log → length (st .posts) ≡ length (z .posts)
+  long-is {log = log} h = ap length (h .list) ∙ length-written (z .posts) (log .posts)
 
   mode-is : {st : State} {o : Budget} → Balances z st o → modeOf (st .n) ≡ z .mode
   mode-is (balance h) = λ i. modeOf (h .counters i)
@@ -108,23 +108,23 @@ module _ (z : Fixed) where
   few-cells (balance h) = omega (arith, made-is h, h .cells, h .most)
 
   -- cells left, and the number of the next
-  room-none : {st : State} {c m r : ℕ} {ps : List ℕ} → Balance z st c m 0 r ps → hasRoom st ≡ false
+  room-none : {st : State} {c m r : ℕ} {log : Log} → Balance z st c m 0 r log → hasRoom st ≡ false
   unfolding hasRoom
   room-none {st} h = le-ltb (cellsMade (st .n)) (length (st .cells) / 8) (omega (arith, made-is h, h .cells))
 
-  room-some : {st : State} {c m d r : ℕ} {ps : List ℕ} → Balance z st c m (suc d) r ps → hasRoom st ≡ true
+  room-some : {st : State} {c m d r : ℕ} {log : Log} → Balance z st c m (suc d) r log → hasRoom st ≡ true
   unfolding hasRoom
   room-some {st} h = lt-ltb (cellsMade (st .n)) (length (st .cells) / 8) (omega (arith, made-is h, h .cells))
 
-  own-is : {st : State} {c m d r : ℕ} {ps : List ℕ} → Balance z st c m (suc d) r ps → ownCell st ≡ cellsMade (st .n) + 1
+  own-is : {st : State} {c m d r : ℕ} {log : Log} → Balance z st c m (suc d) r log → ownCell st ≡ cellsMade (st .n) + 1
   own-is h = omega (arith, made-is h, h .cells, h .most)
 
-  fits-is : {st : State} {c m d r : ℕ} {ps : List ℕ} → Balance z st c m (suc d) r ps → cellsMade (st .n) * 8 + 7 < length (st .cells)
+  fits-is : {st : State} {c m d r : ℕ} {log : Log} → Balance z st c m (suc d) r log → cellsMade (st .n) * 8 + 7 < length (st .cells)
   fits-is h = omega (arith, made-is h, h .cells)
 
   -- a cell more
-  cell-tally : (st : State) (n : List ℕ) (w e : ℕ) {c c′ m d r : ℕ} {ps : List ℕ} → n ≡ countersOf c′ (m + 1) (length ps) (z .mode)
-      → Balance z st c m (suc d) r ps → Balance z (withCell st n w e) c′ (m + 1) d r ps
+  cell-tally : (st : State) (n : List ℕ) (w e : ℕ) {c c′ m d r : ℕ} {log : Log} → n ≡ countersOf c′ (m + 1) (z .mode) log
+      → Balance z st c m (suc d) r log → Balance z (withCell st n w e) c′ (m + 1) d r log
   cell-tally st n w e k h = record {
     counters = k;
     cells = omega (arith, h .cells, length-cell (st .cells) (cellsMade (st .n)) w e);
@@ -168,6 +168,36 @@ module _ (z : Fixed) where
   results difference l m a b p q = number-rep z (a - b) (omega arith)
   results less l m a b p q = boolean-rep z (ltb a b)
 
+  saturates-is : (op : Op) (a b : ℕ) → saturatesOf (kindNumber op) a b ≡ saturates op a b
+  unfolding saturatesOf
+  saturates-is sum a b = refl
+  saturates-is difference a b = refl
+  saturates-is less a b = refl
+
+  -- and its result counted, where it is saturated
+  abbrev counted : Bool → State → State
+  counted over st = storeOf (pick over (countIn (st .n)) (st .n)) (st .cells) (st .posts) (st .frames)
+
+  counted-tally : {st : State} {c m d r : ℕ} {log : Log} → Balance z st c m d r log → Balance z (counted true st) c m d r (logSaturated true log)
+  counted-tally {c = c} {m = m} {log = log} h =
+      let one-more : wrapped (wrapped (log .saturated) + 1) ≡ wrapped (suc (log .saturated)) = omega arith in
+      record {
+        counters = (λ i. set (h .counters i) 4 (wrapped (saturatedMade (h .counters i) + 1)))
+            ∙ (λ i. c ∷ m ∷ length (log .posts) ∷ z .mode ∷ one-more i ∷ []);
+        cells = h .cells;
+        most = h .most;
+        room = h .room;
+        list = h .list;
+      }
+
+  meets-counted : {depth : ℕ} {st : State} {o : Budget} {w : ℕ} {x : Value} (over : Bool) → RepAt z st w x → Balances z st o
+      → Meets z depth st (doneOf w (counted over st)) (ends x (countSaturated over o))
+  meets-counted false r (balance h) = meets-end r (balance h)
+  meets-counted {depth} {st} {w = w} {x = x} true r (balance h) =
+      let same : cellsMade (counted true st .n) ≡ cellsMade (st .n) = made-is (counted-tally h) ∙ sym (made-is h) in
+      valued {st = counted true st} (subst (λ k. Rep z (st .cells) k w x) (sym same) r) (balance (counted-tally h))
+      record { more = omega arith; old = record { long = refl; same = λ j g. refl }; frames = kept-refl depth (st .frames) }
+
   module _ {depth : ℕ} {st : State} {o : Budget} (t : ℕ) (i : t < 65536) (h : Balances z st o) where
     meets-branch : {w : ℕ} {x : Value} (p q : Done) (P Q : Budget → Result) → RepAt z st w x
         → Meets z depth st p (P o) → Meets z depth st q (Q o) → Meets z depth st (branchS t w p q st) (branch t x P Q o)
@@ -184,22 +214,33 @@ module _ (z : Fixed) where
         go (rep-rec k b p q v e) = meets-stop (Stuck t) i h
 
     meets-compute : {v w : ℕ} {x y : Value} (op : Op) → RepAt z st v x → RepAt z st w y
-        → Meets z depth st (doneOf (operateOf (kindNumber op) t v w) st) (compute t op x y o)
-    unfolding operateOf
+        → Meets z depth st (operateDone (kindNumber op) t v w st) (compute t op x y o)
+    unfolding operateDone operateOf operateSaturates operateCounters
     meets-compute {v} {w} {x} {y} op r u =
-        subst (λ k. Meets z depth st (doneOf (by k (sortOf w)) st) (compute t op x y o)) (sym (rep-word z r .sort-is))
-        (subst (λ k. Meets z depth st (doneOf (by (sortFor x) k) st) (compute t op x y o)) (sym (rep-word z u .sort-is)) (go r u))
+        subst (λ k. Meets z depth st (by k (sortOf w)) (compute t op x y o)) (sym (rep-word z r .sort-is))
+        (subst (λ k. Meets z depth st (by (sortFor x) k) (compute t op x y o)) (sym (rep-word z u .sort-is)) (go r u))
       where
-        by : (j k : ℕ) → ℕ
-        by j k = pick (eqb j 1) (pick (eqb k 1) (resultOf (kindNumber op) (payloadOf v) (payloadOf w)) (stopWord 18 t)) (stopWord 18 t)
+        m : ℕ
+        m = payloadOf v
 
-        go : {x y : Value} → RepAt z st v x → RepAt z st w y → Meets z depth st (doneOf (by (sortFor x) (sortFor y)) st) (compute t op x y o)
+        n : ℕ
+        n = payloadOf w
+
+        by : (j k : ℕ) → Done
+        by j k = doneOf (pick (eqb j 1) (pick (eqb k 1) (resultOf (kindNumber op) m n) (stopWord 18 t)) (stopWord 18 t))
+            (counted (pick (eqb j 1) (pick (eqb k 1) (saturatesOf (kindNumber op) m n) false) false) st)
+
+        result : Meets z depth st (doneOf (resultOf (kindNumber op) m n) (counted (saturatesOf (kindNumber op) m n) st)) (compute t op (num m) (num n) o)
+        result =
+            subst (λ b. Meets z depth st (doneOf (resultOf (kindNumber op) m n) (counted b st)) (compute t op (num m) (num n) o)) (sym (saturates-is op m n))
+            (meets-counted (saturates op m n) (results op (st .cells) (cellsMade (st .n)) m n (omega arith) (omega arith)) h)
+
+        go : {x y : Value} → RepAt z st v x → RepAt z st w y → Meets z depth st (by (sortFor x) (sortFor y)) (compute t op x y o)
         go (rep-bool k e) u = meets-stop (Stuck t) i h
         go (rep-num k e) (rep-bool k′ e′) = meets-stop (Stuck t) i h
         go (rep-num {n = a} k e) (rep-num {n = b} k′ e′) =
-            meets-end (subst (λ n. RepAt z st (resultOf (kindNumber op) (payloadOf v) (payloadOf w)) (operate op n b)) e
-            (subst (λ n. RepAt z st (resultOf (kindNumber op) (payloadOf v) (payloadOf w)) (operate op (payloadOf v) n)) e′
-            (results op (st .cells) (cellsMade (st .n)) (payloadOf v) (payloadOf w) (omega arith) (omega arith)))) h
+            subst (λ j. Meets z depth st (by 1 1) (compute t op (num j) (num b) o)) e
+            (subst (λ j. Meets z depth st (by 1 1) (compute t op (num m) (num j) o)) e′ result)
         go (rep-num k e) (rep-fun k′ b e′) = meets-stop (Stuck t) i h
         go (rep-num k e) (rep-rec k′ b p q g e′) = meets-stop (Stuck t) i h
         go (rep-fun k b e) u = meets-stop (Stuck t) i h
@@ -223,10 +264,10 @@ module _ (z : Fixed) where
     unfolding postDone postCause postWord postCounters postList
     post-is k g e f = λ i. postBy (causeOf (eqb (e i) 1) (f i) room)
 
-    posted-tally : {c m d r y : ℕ} {ps : List ℕ} → payloadOf w ≡ y → Balance z st c m d (suc r) ps
-        → Balance z posted c m d r (postEntry (wordSmall x) y ∷ ps)
-    posted-tally {ps = ps} e h =
-        let one-more : postsMade (st .n) + 1 ≡ suc (length ps) = omega (arith, posts-are h) in
+    posted-tally : {c m d r y : ℕ} {log : Log} → payloadOf w ≡ y → Balance z st c m d (suc r) log
+        → Balance z posted c m d r (logPost (postEntry (wordSmall x) y) log)
+    posted-tally {log = log} e h =
+        let one-more : postsMade (st .n) + 1 ≡ suc (length (log .posts)) = omega (arith, posts-are h) in
         record {
           counters = λ i. set (h .counters i) 2 (one-more i);
           cells = h .cells;
@@ -235,17 +276,17 @@ module _ (z : Fixed) where
           list = λ i. set (h .list i) (posts-are h i) (postEntry (wordSmall x) (e i));
         }
 
-    post-number : {depth c m d y : ℕ} {ps : List ℕ} (r : ℕ) → t < 65536 → RepAt z st w (num y) → payloadOf w ≡ y → Balance z st c m d r ps
-        → Meets z depth st (postBy (causeOf true true room)) (appendPost t (wordSmall x) y (budget c d r ps))
+    post-number : {depth c m d y : ℕ} {log : Log} (r : ℕ) → t < 65536 → RepAt z st w (num y) → payloadOf w ≡ y → Balance z st c m d r log
+        → Meets z depth st (postBy (causeOf true true room)) (appendPost t (wordSmall x) y (budget c d r log))
     unfolding causeOf
-    post-number {depth} {c} {m} {d} {y} {ps} zero i u v h =
+    post-number {depth} {c} {m} {d} {y} {log} zero i u v h =
         let e : length (st .posts) ≤ postsMade (st .n) = omega (arith, posts-are h, long-is h, h .room) in
-        subst (λ b. Meets z depth st (postBy (causeOf true true b)) (stops 22 t (budget c d 0 ps))) (sym (le-ltb (postsMade (st .n)) (length (st .posts)) e))
+        subst (λ b. Meets z depth st (postBy (causeOf true true b)) (stops 22 t (budget c d 0 log))) (sym (le-ltb (postsMade (st .n)) (length (st .posts)) e))
         (meets-stop (Posts t) i (balance h))
-    post-number {depth} {c} {m} {d} {y} {ps} (suc r) i u v h =
+    post-number {depth} {c} {m} {d} {y} {log} (suc r) i u v h =
         let e : postsMade (st .n) < length (st .posts) = omega (arith, posts-are h, long-is h, h .room) in
         let same : cellsMade (posted .n) ≡ cellsMade (st .n) = made-is (posted-tally v h) ∙ sym (made-is h) in
-        subst (λ b. Meets z depth st (postBy (causeOf true true b)) (ends (num y) (budget c d r (postEntry (wordSmall x) y ∷ ps))))
+        subst (λ b. Meets z depth st (postBy (causeOf true true b)) (ends (num y) (budget c d r (logPost (postEntry (wordSmall x) y) log))))
         (sym (lt-ltb (postsMade (st .n)) (length (st .posts)) e))
         (valued {st = posted} (subst (λ k. Rep z (st .cells) k w (num y)) (sym same) u) (balance (posted-tally v h))
         record { more = omega arith; old = record { long = refl; same = λ j g. refl }; frames = kept-refl depth (st .frames) })
@@ -328,7 +369,7 @@ module _ (z : Fixed) (X : Control) (enforce : Bool) (R : X .State → (acc depth
       → Does h (binaryS p q (kindNumber op) t) (λ a E o. P a E o then λ v o₁. Q a E o₁ then λ w o₂. compute t op v w o₂)
   unfolding binaryS
   sim-binary h t i op p q P Q hp hq = record {
-    go = sim-both h p q P Q (λ v w acc st. doneOf (operateOf (kindNumber op) t v w) st) (λ x y a o. compute t op x y o) hp hq
+    go = sim-both h p q P Q (λ v w acc st. operateDone (kindNumber op) t v w st) (λ x y a o. compute t op x y o) hp hq
         (λ v x w y acc d a st o l r rv rw′ b. meets-compute z t i b op rv rw′);
   }
 
@@ -427,10 +468,10 @@ module _ (z : Fixed) (X : Control) (enforce : Bool) (R : X .State → (acc depth
 
   -- ---- a run that goes on with a new cell
   on-cell : (h : ℕ) (p : Runs) (P : Evaluation X) → Does h p P
-      → (E : Env) (acc d : ℕ) (a : X .State) (st : State) (n : List ℕ) (w e : ℕ) {c c′ m k r : ℕ} {ps : List ℕ}
-      → d + h ≤ 3248 → R a acc d (st .frames) → Balance z st c m (suc k) r ps → n ≡ countersOf c′ (m + 1) (length ps) (z .mode)
+      → (E : Env) (acc d : ℕ) (a : X .State) (st : State) (n : List ℕ) (w e : ℕ) {c c′ m k r : ℕ} {log : Log}
+      → d + h ≤ 3248 → R a acc d (st .frames) → Balance z st c m (suc k) r log → n ≡ countersOf c′ (m + 1) (z .mode) log
       → RepEnv z (cellSet (st .cells) (cellsMade (st .n)) w e) (cellsMade (st .n) + 1) (cellsMade (st .n) + 1) E
-      → Meets z d st (p (cellsMade (st .n) + 1) acc (withCell st n w e)) (P a E (budget c′ k r ps))
+      → Meets z d st (p (cellsMade (st .n) + 1) acc (withCell st n w e)) (P a E (budget c′ k r log))
   on-cell h p P hp E acc d a st n w e l r y k v =
       let made : cellsMade n ≡ cellsMade (st .n) + 1 = (λ j. cellsMade (k j)) ∙ (λ j. sym (made-is z y) j + 1) in
       meets-later z (later-cell d st n w e made)
@@ -446,13 +487,13 @@ module _ (z : Fixed) (X : Control) (enforce : Bool) (R : X .State → (acc depth
     letrec-is room own e f = λ j. pick (e j) (q (f j) acc (bound (functionWord b (f j)) env st)) (doneOf (stopWord 21 t) st)
 
     letrec-meets : {o : Budget} → Balances z st o → Meets z d st (letrecS q b t env acc st) (takeCell t (λ o₁. Q a (bind (closure true ty body E) E) o₁) o)
-    letrec-meets (balance {c = c} {d = zero} {r = u} {ps = ps} y) =
-        subst (λ x. Meets z d st x (stops 21 t (budget c 0 u ps))) (sym (letrec-is false (ownCell st) (room-none z y) refl))
+    letrec-meets (balance {c = c} {d = zero} {r = u} {log = log} y) =
+        subst (λ x. Meets z d st x (stops 21 t (budget c 0 u log))) (sym (letrec-is false (ownCell st) (room-none z y) refl))
         (meets-stop z (Cells t) i (balance y))
-    letrec-meets (balance {c = c} {d = suc e} {r = u} {ps = ps} y) =
+    letrec-meets (balance {c = c} {d = suc e} {r = u} {log = log} y) =
         let own : ℕ = cellsMade (st .n) + 1 in
         let f : ℕ = functionWord b own in
-        subst (λ x. Meets z d st x (Q a (bind (closure true ty body E) E) (budget c e u ps))) (sym (letrec-is true own (room-some z y) (own-is z y)))
+        subst (λ x. Meets z d st x (Q a (bind (closure true ty body E) E) (budget c e u log))) (sym (letrec-is true own (room-some z y) (own-is z y)))
         (on-cell h q Q hq (bind (closure true ty body E) E) acc d a st (set (st .n) 1 own) f env w r y (λ j. set (y .counters j) 1 (made-is z y j + 1))
         (fresh-again z (st .cells) (cellsMade (st .n)) env E (fits-is z y) v f b ty body
         (function-word b own inside (omega (arith, few-cells z (balance y)))) k))
@@ -472,17 +513,17 @@ module _ (z : Fixed) (X : Control) (enforce : Bool) (R : X .State → (acc depth
     module _ (i : t < 65536) (h ty : ℕ) (ag : Bool) (body : Term) (E : Env) (y : Value) (Q : Evaluation X) (hq : Does h (ev (payloadOf f)) Q)
         (d : ℕ) (a : X .State) (l : d + h ≤ 3248) (r : R a acc d (st .frames)) (rf : RepAt z st f (closure ag ty body E)) (rx : RepAt z st w y) where
       pub begin-meets : {o : Budget} → Balances z st o → Meets z d st (begin ev t f w acc st) (beginCall t (λ o₁. Q a (entered ag ty body E y) o₁) o)
-      begin-meets (balance {c = zero} {d = c} {r = u} {ps = ps} b) =
-          subst (λ x. Meets z d st x (stops 20 t (budget 0 c u ps)))
+      begin-meets (balance {c = zero} {d = c} {r = u} {log = log} b) =
+          subst (λ x. Meets z d st x (stops 20 t (budget 0 c u log)))
           (sym (begin-is true (hasRoom st) (ownCell st) (λ j. eqb (calls-are z b j) 0) refl refl)) (meets-stop z (Calls t) i (balance b))
-      begin-meets (balance {c = suc k} {d = zero} {r = u} {ps = ps} b) =
-          subst (λ x. Meets z d st x (stops 21 t (budget (suc k) 0 u ps)))
+      begin-meets (balance {c = suc k} {d = zero} {r = u} {log = log} b) =
+          subst (λ x. Meets z d st x (stops 21 t (budget (suc k) 0 u log)))
           (sym (begin-is false false (ownCell st) (ne-eqb (callsLeft (st .n)) 0 (λ e. omega (arith, calls-are z b))) (room-none z b) refl))
           (meets-stop z (Cells t) i (balance b))
-      begin-meets (balance {c = suc k} {d = suc c} {r = u} {ps = ps} b) =
+      begin-meets (balance {c = suc k} {d = suc c} {r = u} {log = log} b) =
           let own : ℕ = cellsMade (st .n) + 1 in
           let less-one : callsLeft (st .n) - 1 ≡ k = omega (arith, calls-are z b) in
-          subst (λ x. Meets z d st x (Q a (entered ag ty body E y) (budget k c u ps)))
+          subst (λ x. Meets z d st x (Q a (entered ag ty body E y) (budget k c u log)))
           (sym (begin-is false true own (ne-eqb (callsLeft (st .n)) 0 (λ e. omega (arith, calls-are z b))) (room-some z b) (own-is z b)))
           (on-cell h (ev (payloadOf f)) Q hq (entered ag ty body E y) acc d a st (called w (envOf f) st .n) w (envOf f) l r b
           (λ j. set (set (b .counters j) 0 (less-one j)) 1 (made-is z b j + 1))

@@ -20,7 +20,7 @@ abbrev μ-loop : tie.MeasureT-loop
 returns : tie.Need-returns Inv-loop μ-loop
 returns c =
     let start = c .before in
-    too-short (start .args .t1) (start .args .text .now) (sized (start .args .t1 .bytes) 192 (start .good .0 .1 .1 .0 .1 .0 .1)) (start .pre) (c .if1 .taken)
+    too-short (start .args .t1) (start .args .text .now) (sized (start .args .t1 .bytes) 224 (start .good .0 .1 .1 .0 .1 .0 .1)) (start .pre) (c .if1 .taken)
 
 loop-holds : tie.Need-loop-holds Inv-loop μ-loop
 loop-holds c = (omega arith, (refl, refl))
@@ -47,7 +47,7 @@ loop-again c =
       (
         simp length-set (at-loop .loop .inv .1 .0),
         copy-more (start .args .t1 .bytes) (start .args .text .now) (at-loop .loop .text)
-            (at-loop .loop .i) (omega (arith, sized (start .args .t1 .bytes) 192 (start .good .0 .1 .1 .0 .1 .0 .1), start .pre))
+            (at-loop .loop .i) (omega (arith, sized (start .args .t1 .bytes) 224 (start .good .0 .1 .1 .0 .1 .0 .1), start .pre))
             (omega (arith, c .before .before .before .if1 .left)) (at-loop .loop .inv .1 .1),
       ),
     )
@@ -59,7 +59,7 @@ returns-2 : tie.Need-returns-2 Inv-loop μ-loop
 returns-2 c =
     let at-loop = c .before in
     let start = at-loop .before .before in
-    fitting (start .args .t1) (start .args .text .now) (sized (start .args .t1 .bytes) 192 (start .good .0 .1 .1 .0 .1 .0 .1)) (start .pre) (at-loop .loop .i)
+    fitting (start .args .t1) (start .args .text .now) (sized (start .args .t1 .bytes) 224 (start .good .0 .1 .1 .0 .1 .0 .1)) (start .pre) (at-loop .loop .i)
     (at-loop .loop .text) (at-loop .loop .inv .0) (c .loop-test .left) (c .before .before .if1 .left) (at-loop .loop .inv .1 .1)
 
 pub deliver-spec : {M : Type 1} → statement M

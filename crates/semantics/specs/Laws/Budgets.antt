@@ -12,14 +12,14 @@ use Rattle.semantics.specs.Meaning.{Control, _then_, choose, found, bran
 use Rattle.semantics.specs.Runs.{left}
 
 abbrev pub callsIn : Budget → ℕ
-callsIn (budget c d r ps) = c
+callsIn (budget c d r l) = c
 
 abbrev pub cellsIn : Budget → ℕ
-cellsIn (budget c d r ps) = d
+cellsIn (budget c d r l) = d
 
 -- the places of the list, taken or not
 abbrev pub places : Budget → ℕ
-places (budget c d r ps) = r + length ps
+places (budget c d r l) = r + length (l .posts)
 
 pub record Spent (u v : Budget) : Type 0 where
   pub calls : callsIn v ≤ callsIn u
@@ -57,15 +57,15 @@ spends-branch at (num m) y n u hy hn = spends-none u refl
 spends-branch at (closure r ty body env) y n u hy hn = spends-none u refl
 
 spends-compute : (at : ℕ) (op : Op) (v w : Value) (u : Budget) → Spends u (compute at op v w u)
-spends-compute at op (num m) (num n) u = spends-none u refl
+spends-compute at op (num m) (num n) (budget c d r l) = record { spent = record { calls = le-refl c; cells = le-refl d; posts = refl } }
 spends-compute at op (num m) (bool b) u = spends-none u refl
 spends-compute at op (num m) (closure r ty body env) u = spends-none u refl
 spends-compute at op (bool b) w u = spends-none u refl
 spends-compute at op (closure r ty body env) w u = spends-none u refl
 
 spends-append : (at ch n : ℕ) (u : Budget) → Spends u (appendPost at ch n u)
-spends-append at ch n (budget c d zero ps) = spends-none (budget c d zero ps) refl
-spends-append at ch n (budget c d (suc r) ps) = record { spent = record { calls = le-refl c; cells = le-refl d; posts = omega arith } }
+spends-append at ch n (budget c d zero l) = spends-none (budget c d zero l) refl
+spends-append at ch n (budget c d (suc r) l) = record { spent = record { calls = le-refl c; cells = le-refl d; posts = omega arith } }
 
 spends-post : (at ch : ℕ) (allowed : Bool) (v : Value) (u : Budget) → Spends u (postValue at ch allowed v u)
 spends-post at ch allowed (num n) u = spends-choose allowed _ _ u (spends-append at ch n u) (spends-none u refl)
@@ -73,18 +73,18 @@ spends-post at ch allowed (bool b) u = spends-none u refl
 spends-post at ch allowed (closure r ty body env) u = spends-none u refl
 
 spends-cell : (at : ℕ) (k : Budget → Result) → ((w : Budget) → Spends w (k w)) → (u : Budget) → Spends u (takeCell at k u)
-spends-cell at k h (budget c zero r ps) = spends-none (budget c zero r ps) refl
-spends-cell at k h (budget c (suc d) r ps) = record {
+spends-cell at k h (budget c zero r l) = spends-none (budget c zero r l) refl
+spends-cell at k h (budget c (suc d) r l) = record {
   spent = spent-trans (record { calls = le-refl c; cells = omega arith; posts = refl })
-      (h (budget c d r ps) .spent);
+      (h (budget c d r l) .spent);
 }
 
 spends-begin : (at : ℕ) (k : Budget → Result) → ((w : Budget) → Spends w (k w)) → (u : Budget) → Spends u (beginCall at k u)
-spends-begin at k h (budget zero d r ps) = spends-none (budget zero d r ps) refl
-spends-begin at k h (budget (suc c) zero r ps) = spends-none (budget (suc c) zero r ps) refl
-spends-begin at k h (budget (suc c) (suc d) r ps) = record {
+spends-begin at k h (budget zero d r l) = spends-none (budget zero d r l) refl
+spends-begin at k h (budget (suc c) zero r l) = spends-none (budget (suc c) zero r l) refl
+spends-begin at k h (budget (suc c) (suc d) r l) = record {
   spent = spent-trans (record { calls = omega arith; cells = omega arith; posts = refl })
-      (h (budget c d r ps) .spent);
+      (h (budget c d r l) .spent);
 }
 
 spends-deep : (at : ℕ) (v : Value) (u : Budget) → Spends u (tooDeep at v u)

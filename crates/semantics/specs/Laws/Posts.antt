@@ -13,7 +13,7 @@ use Rattle.program.specs.Terms.{Op, sum, difference, less, Term, boolean, numbe
 use Rattle.program.specs.Laws.Readable.{WellFormed}
 use Rattle.program.specs.Laws.Trees.{Below, below, root-lower}
 use Rattle.program.specs.Laws.Guards.{channel-in}
-use Rattle.semantics.specs.Values.{Value, bool, num, closure, Env, empty, bind, lookup, entered, Budget, budget, Result, ends, stops}
+use Rattle.semantics.specs.Values.{Value, bool, num, closure, Env, empty, bind, lookup, entered, logPost, Budget, budget, Result, ends, stops}
 use Rattle.semantics.specs.Meaning.{Control, _then_, choose, found, branch, operate, compute, postEntry, appendPost, postValue, takeCell, beginCall, tooDeep, enter, passes, guardPasses, Application, evalWith, apply, eval}
 use Rattle.semantics.specs.Access.{privs, lazyControl, rights, eagerControl}
 use Rattle.semantics.specs.Runs.{Runner, eager, lazy, Request, Sizes, stack, initial, evaluation, Ground, ended, stopped, outcome, left, inOrder}
@@ -60,7 +60,7 @@ module _ (R E : ℕ → Type 0) where
     HeldIn (bind v e) = Held v × HeldIn e
 
   abbrev Posted : Budget → Type 0
-  Posted (budget c d r ps) = Each E ps
+  Posted (budget c d r l) = Each E (l .posts)
 
   pub data Kept : Result → Type 0 where
     kept-end : {v : Value} {u : Budget} → Held v → Posted u → Kept (ends v u)
@@ -99,15 +99,15 @@ module _ (R E : ℕ → Type 0) where
   operate-held less m n h g = tt
 
   kept-compute : (at : ℕ) (op : Op) (v w : Value) (u : Budget) → Held v → Held w → Posted u → Kept (compute at op v w u)
-  kept-compute at op (num m) (num n) u h g p = kept-end (operate-held op m n h g) p
+  kept-compute at op (num m) (num n) (budget c d r l) h g p = kept-end (operate-held op m n h g) p
   kept-compute at op (num m) (bool b) u h g p = stuck at u p
   kept-compute at op (num m) (closure r ty body env) u h g p = stuck at u p
   kept-compute at op (bool b) w u h g p = stuck at u p
   kept-compute at op (closure r ty body env) w u h g p = stuck at u p
 
   kept-append : (at ch n : ℕ) (u : Budget) → n < 65536 → E (postEntry ch n) → Posted u → Kept (appendPost at ch n u)
-  kept-append at ch n (budget c d zero ps) h e p = other 22 at (budget c d zero ps) (λ z. omega (arith, z)) p
-  kept-append at ch n (budget c d (suc r) ps) h e p = kept-end {v = num n} {u = budget c d r (postEntry ch n ∷ ps)} h (e, p)
+  kept-append at ch n (budget c d zero l) h e p = other 22 at (budget c d zero l) (λ z. omega (arith, z)) p
+  kept-append at ch n (budget c d (suc r) l) h e p = kept-end {v = num n} {u = budget c d r (logPost (postEntry ch n) l)} h (e, p)
 
   -- 17 is told only where a guard does not pass, and so only where there is one
   kept-value : (at ch : ℕ) (allowed : Bool) (v : Value) (u : Budget) → (allowed ≡ false → R at) → ((n : ℕ) → n < 65536 → E (postEntry ch n)) → Held v
@@ -122,13 +122,13 @@ module _ (R E : ℕ → Type 0) where
   guard-fails enforce grants (some p) at r e = r p refl
 
   kept-cell : (at : ℕ) (k : Budget → Result) → ((u : Budget) → Posted u → Kept (k u)) → (u : Budget) → Posted u → Kept (takeCell at k u)
-  kept-cell at k h (budget c zero r ps) p = other 21 at (budget c zero r ps) (λ z. omega (arith, z)) p
-  kept-cell at k h (budget c (suc d) r ps) p = h (budget c d r ps) p
+  kept-cell at k h (budget c zero r l) p = other 21 at (budget c zero r l) (λ z. omega (arith, z)) p
+  kept-cell at k h (budget c (suc d) r l) p = h (budget c d r l) p
 
   kept-begin : (at : ℕ) (k : Budget → Result) → ((u : Budget) → Posted u → Kept (k u)) → (u : Budget) → Posted u → Kept (beginCall at k u)
-  kept-begin at k h (budget zero d r ps) p = other 20 at (budget zero d r ps) (λ z. omega (arith, z)) p
-  kept-begin at k h (budget (suc c) zero r ps) p = other 21 at (budget (suc c) zero r ps) (λ z. omega (arith, z)) p
-  kept-begin at k h (budget (suc c) (suc d) r ps) p = h (budget c d r ps) p
+  kept-begin at k h (budget zero d r l) p = other 20 at (budget zero d r l) (λ z. omega (arith, z)) p
+  kept-begin at k h (budget (suc c) zero r l) p = other 21 at (budget (suc c) zero r l) (λ z. omega (arith, z)) p
+  kept-begin at k h (budget (suc c) (suc d) r l) p = h (budget c d r l) p
 
   kept-deep : (at : ℕ) (v : Value) (u : Budget) → Posted u → Kept (tooDeep at v u)
   kept-deep at (closure r ty body env) u p = other 19 at u (λ z. omega (arith, z)) p
@@ -255,8 +255,8 @@ module _ (s : List ℕ) (bytes : Bytes s) (w : WellFormed s) where
   stop-may (kept-stop {c} {at} h p) t e = subst (MayRefuse s) (let z : at ≡ t = cc in z) (h (let z : c ≡ 17 = cc in z))
 
   posts-may : {x : Result} → Kept (MayRefuse s) (OnChannel s) x → Each (OnChannel s) (inOrder (left x))
-  posts-may (kept-end {u = budget c d m ps} h p) = each-reversed (OnChannel s) ps [] p tt
-  posts-may (kept-stop {u = budget c d m ps} h p) = each-reversed (OnChannel s) ps [] p tt
+  posts-may (kept-end {u = budget c d m l} h p) = each-reversed (OnChannel s) (l .posts) [] p tt
+  posts-may (kept-stop {u = budget c d m l} h p) = each-reversed (OnChannel s) (l .posts) [] p tt
 
   pub evaluation-refused : (r : Runner) (q : Request) (z : Sizes) (t : ℕ) → outcome (root s) (evaluation r s q z) ≡ stopped 17 t → MayRefuse s t
   evaluation-refused r q z t e = stop-may (evaluation-kept r q z) t e

@@ -18,7 +18,7 @@ use Rattle.program.specs.Laws.Readable.{WellFormed}
 use Rattle.program.specs.Laws.Trees.{program-signed, program-standard}
 use Rattle.typing.specs.Verdicts.{SheetDerives}
 use Rattle.typing.specs.Laws.Subtyping.{sub-isFun}
-use Rattle.semantics.specs.Values.{bool, num, closure, empty, Budget, budget, Result, ends, stops}
+use Rattle.semantics.specs.Values.{bool, num, closure, empty, emptyLog, Budget, budget, Result, ends, stops}
 use Rattle.semantics.specs.Meaning.{eval}
 use Rattle.semantics.specs.Access.{privs, rights, eagerControl}
 use Rattle.semantics.specs.Runs.{Runner, eager, lazy, Request, Buffers, Sizes, sizes, stack, known, framesOk, runConditions, initial, evaluation, Course, rejected, started, ran, outcome, left, counts, answerOf, inOrder, postsMade, buffersAfter, After}
@@ -45,7 +45,7 @@ module _ (s : List ℕ) (x y : Request) (b d : Buffers) (c : Comparable x y b d)
   pub same-eagerly : (enforce : Bool) → eagerly s x (sizes b) enforce ≡ eagerly s y (sizes d) enforce
   same-eagerly enforce = λ i.
       eval (eagerControl (authority s)) enforce (c .same-depth i) (program s) (rights 0 (privs (authority s) (stack (c .same-start i)))) empty
-      (budget (c .same-calls i) (c .same-cells i / 8) (c .same-posts i) [])
+      (budget (c .same-calls i) (c .same-cells i / 8) (c .same-posts i) emptyLog)
 
 -- ---- the same results are told alike
 abbrev whole : (root : ℕ) → Request → Buffers → Course → After
@@ -57,8 +57,9 @@ posts-listed r q b (rejected c p) = refl
 posts-listed r q b (started x) = go (left x)
   where
     go : (u : Budget) → take (counts q (sizes b) u .posts) (inOrder u ++ drop (length (inOrder u)) (b .posts)) ≡ inOrder u
-    go (budget k d m ps) = ap (λ (n : ℕ). take n (reverse ps ++ drop (length (reverse ps)) (b .posts))) (sym (length-reverse ps))
-        ∙ take-append-seam (reverse ps) _
+    go (budget k d m l) =
+        let ps = l .posts in
+        ap (λ (n : ℕ). take n (reverse ps ++ drop (length (reverse ps)) (b .posts))) (sym (length-reverse ps)) ∙ take-append-seam (reverse ps) _
 
 pub same-whole : (r : ℕ) (x y : Request) (b d : Buffers) → Comparable x y b d → (f g : Result) → f ≡ g
     → SameRun (whole r x b (started f)) (whole r y d (started g))
@@ -68,7 +69,8 @@ same-whole r x y b d c f g e = record {
 }
   where
     same-made : (u : Budget) → counts x (sizes b) u ≡ counts y (sizes d) u
-    same-made (budget k l m ps) = λ i. record { calls = c .same-calls i - k; cells = c .same-cells i / 8 - l; posts = length ps }
+    same-made (budget k d m l) = λ i.
+        record { calls = c .same-calls i - k; cells = c .same-cells i / 8 - d; posts = length (l .posts); saturated = l .saturated }
 
 -- ---- a run that starts is one of a readable sheet
 pub clear-readable : (s : List ℕ) (q : Request) (z : Sizes) → screen (runConditions s q z) ≡ clear → Readable s

@@ -159,17 +159,17 @@ module _ (T : Types) (A : ℕ → ℕ) (base : Base T) where
   alike-choose h false y y′ n n′ u hy hn = alike-widen (n u) (n′ u) (wider-bounds T h .1) hn
 
   alike-cell : (τ at : ℕ) (k l : Budget → Result) → ((u : Budget) → Alike τ (k u) (l u)) → (u : Budget) → Alike τ (takeCell at k u) (takeCell at l u)
-  alike-cell τ at k l h (budget c zero r ps) = alike-stop 21 at τ _ (omega arith)
-  alike-cell τ at k l h (budget c (suc d) r ps) = h (budget c d r ps)
+  alike-cell τ at k l h (budget c zero r log) = alike-stop 21 at τ _ (omega arith)
+  alike-cell τ at k l h (budget c (suc d) r log) = h (budget c d r log)
 
   alike-begin : (τ at : ℕ) (k l : Budget → Result) → ((u : Budget) → Alike τ (k u) (l u)) → (u : Budget) → Alike τ (beginCall at k u) (beginCall at l u)
-  alike-begin τ at k l h (budget zero d r ps) = alike-stop 20 at τ _ (omega arith)
-  alike-begin τ at k l h (budget (suc c) zero r ps) = alike-stop 21 at τ _ (omega arith)
-  alike-begin τ at k l h (budget (suc c) (suc d) r ps) = h (budget c d r ps)
+  alike-begin τ at k l h (budget zero d r log) = alike-stop 20 at τ _ (omega arith)
+  alike-begin τ at k l h (budget (suc c) zero r log) = alike-stop 21 at τ _ (omega arith)
+  alike-begin τ at k l h (budget (suc c) (suc d) r log) = h (budget c d r log)
 
   alike-append : (at ch x : ℕ) (u : Budget) → Alike 1 (appendPost at ch x u) (appendPost at ch x u)
-  alike-append at ch x (budget c d zero ps) = alike-stop 22 at 1 _ (omega arith)
-  alike-append at ch x (budget c d (suc r) ps) = alike-end (num x) 1 _ refl
+  alike-append at ch x (budget c d zero log) = alike-stop 22 at 1 _ (omega arith)
+  alike-append at ch x (budget c d (suc r) log) = alike-end (num x) 1 _ refl
 
   -- of a number, where the guard passes in both
   alike-post : (at ch : ℕ) {a b : Bool} → a ≡ true → b ≡ true → (v : Value) → HasType v 1 → (u : Budget)
@@ -196,7 +196,7 @@ module _ (T : Types) (A : ℕ → ℕ) (base : Base T) where
   alike-compute at op v w hv hw u =
       num-only (λ v. Alike (resultType op) (compute at op v w u) (compute at op v w u))
       (λ x. num-only (λ w. Alike (resultType op) (compute at op (num x) w u) (compute at op (num x) w u))
-      (λ y. alike-end (operate op x y) (resultType op) u (operate-type op x y)) w hw) v hv
+      (λ y. alike-end (operate op x y) (resultType op) _ (operate-type op x y)) w hw) v hv
 
   -- ---- evaluations: one with checks in force, one with checks passed over
   abbrev AlikeApplication : Application (eagerControl A) → Application (eagerControl A) → Type 0

@@ -82,15 +82,15 @@ pub struct Told<'a> {
 }
 
 impl Told<'_> {
-    fn cause(&self) -> u32 {
+    pub fn cause(&self) -> u32 {
         self.answer[0]
     }
 
-    fn place(&self) -> u32 {
+    pub fn place(&self) -> u32 {
         self.answer[1]
     }
 
-    fn is_run(&self) -> bool {
+    pub fn is_run(&self) -> bool {
         matches!(self.asked.entry, Entry::RunEager | Entry::RunLazy)
     }
 

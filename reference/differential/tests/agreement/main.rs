@@ -2,9 +2,10 @@
 //! return the same, and every number in and around every buffer is the same.
 
 mod guards;
+mod held;
 
 use differential::{settings, Asked, Buffers, Entry, Library, Reference, ANSWER_NUMBERS};
-use guards::{Counts, Told};
+use guards::Told;
 use sheets::generate::sample;
 use sheets::hex;
 use sheets::request::Request;
@@ -24,7 +25,8 @@ struct Reached {
     tally: Tally,
     /// Sheets accepted that were refused before W4.
     by_fitting_branches: usize,
-    guards: Counts,
+    guards: guards::Counts,
+    held: held::Counts,
 }
 
 fn main() -> ExitCode {
@@ -46,6 +48,7 @@ fn main() -> ExitCode {
     let seconds = begun.elapsed().as_secs_f64();
     println!("{}", reached.tally);
     println!("{}", reached.guards.0);
+    println!("{}", reached.held.0);
     println!(
         "{} sheets accepted for branches that fit",
         reached.by_fitting_branches
@@ -72,7 +75,7 @@ fn reached_everything(reached: &Reached) -> ExitCode {
         println!("too few sheets with branches that fit, {ENOUGH} are asked");
         return ExitCode::FAILURE;
     }
-    let never = reached.guards.never();
+    let never = [reached.guards.never(), reached.held.never()].concat();
     if !never.is_empty() {
         println!("never happened: {never:?}");
         return ExitCode::FAILURE;
@@ -104,12 +107,14 @@ fn compare(seed: u64, index: u64, reached: &mut Reached) -> Result<(), String> {
         let buffers = Buffers::random(rng, entry, &request, answer);
         let (returned, buffers) = ask_both(&asked, buffers)?;
         if let Some(answer) = buffers.answer() {
-            reached.guards.count(&Told {
+            let told = Told {
                 asked: &asked,
                 returned,
                 answer,
                 posts: buffers.posts.contents(),
-            });
+            };
+            reached.guards.count(&told);
+            reached.held.count(&told);
             match entry {
                 Entry::Decode => {}
                 Entry::Typecheck => reached.count_judged(&sample.bytes, answer),

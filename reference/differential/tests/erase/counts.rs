@@ -15,7 +15,7 @@ const NO_ROOM: u32 = 33;
 
 /// What has to happen, beside each cause that the judge can tell and all pairs
 /// of ways to run.
-const EXPECTED: [&str; 65] = [
+const EXPECTED: [&str; 67] = [
     "a short answer",
     "a short answer, and the sheet is refused",
     "a short answer, and 32 would follow",
@@ -79,6 +79,8 @@ const EXPECTED: [&str; 65] = [
     "stopped at a term that has another number",
     "stopped at a term that has its old number",
     "posts made",
+    "ended, with results held",
+    "stopped, with results held",
     "on the empty stack",
     "on a stack that grants something needed",
 ];
@@ -273,7 +275,13 @@ impl Counts {
         happened.count_if(start.is_empty(), "on the empty stack");
         happened.count_if(needs != 0, "on a stack that grants something needed");
         happened.count_if(!told.posts.is_empty(), "posts made");
-        let [cause, term, ty, ..] = told.answer;
+        let [cause, term, ty, .., held] = told.answer;
+        if held > 0 {
+            happened.count(match told.stopped() {
+                true => "stopped, with results held",
+                false => "ended, with results held",
+            });
+        }
         if told.stopped() {
             let kind = name(old.term(term as TermId));
             happened.count(format!("stopped by {cause} at {kind}"));

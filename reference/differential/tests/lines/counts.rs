@@ -65,7 +65,7 @@ impl Told<'_> {
 pub struct Counts(pub Happened);
 
 /// What has to happen, beside the refusals by 1 to 8 and 31 and the stops.
-const EXPECTED: [&str; 53] = [
+const EXPECTED: [&str; 55] = [
     "lines that no entry made: a turn above 3",
     "lines that no entry made: a count above 8",
     "lines that no entry made: calls of more than 32 bits",
@@ -95,6 +95,8 @@ const EXPECTED: [&str; 53] = [
     "served line 2",
     "served line 3",
     "ended",
+    "ended, with results held",
+    "stopped, with results held",
     "ended, posts in the middle of the list",
     "stopped, posts in the middle of the list",
     "stopped by 22 in the middle of the list",
@@ -216,9 +218,11 @@ impl Counts {
         let (lent, place) = (posts as u64, told.place());
         let made = !told.posts_made().is_empty();
         let in_the_middle = place > 0 && place < lent;
+        let has_held = told.answer[7] > 0;
         match (told.returned, told.cause()) {
             (DONE, 0) => {
                 self.0.count("ended");
+                self.0.count_if(has_held, "ended, with results held");
                 self.0.count_if(
                     made && in_the_middle,
                     "ended, posts in the middle of the list",
@@ -226,6 +230,7 @@ impl Counts {
             }
             (STOPPED, cause) => {
                 self.0.count(format!("stopped by {cause:2}"));
+                self.0.count_if(has_held, "stopped, with results held");
                 self.0.count_if(
                     made && in_the_middle,
                     "stopped, posts in the middle of the list",

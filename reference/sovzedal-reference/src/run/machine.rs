@@ -43,6 +43,7 @@ pub struct Machine<'a, A> {
     posts_made: usize,
     calls_made: u32,
     open_calls: u32,
+    held: u32,
 }
 
 impl<'a, A: Authority> Machine<'a, A> {
@@ -63,6 +64,7 @@ impl<'a, A: Authority> Machine<'a, A> {
             posts_made: 0,
             calls_made: 0,
             open_calls: 0,
+            held: 0,
         }
     }
 
@@ -77,6 +79,7 @@ impl<'a, A: Authority> Machine<'a, A> {
             calls: self.calls_made,
             cells: self.cells.len() as u32,
             posts: self.posts_made as u32,
+            held: self.held,
         }
     }
 
@@ -122,11 +125,11 @@ impl<'a, A: Authority> Machine<'a, A> {
             }
             Term::Sum(left, right) => {
                 let (left, right) = self.numbers(id, left, right, bindings)?;
-                Ok(Value::Number(left.saturating_add(right)))
+                Ok(self.hold(i32::from(left) + i32::from(right)))
             }
             Term::Difference(left, right) => {
                 let (left, right) = self.numbers(id, left, right, bindings)?;
-                Ok(Value::Number(left.saturating_sub(right)))
+                Ok(self.hold(i32::from(left) - i32::from(right)))
             }
             Term::Less(left, right) => {
                 let (left, right) = self.numbers(id, left, right, bindings)?;
@@ -221,6 +224,14 @@ impl<'a, A: Authority> Machine<'a, A> {
             (Value::Number(left), Value::Number(right)) => Ok((left, right)),
             _ => stop(Cause::Stuck, id),
         }
+    }
+
+    /// A sum's or a difference's number. An exact result past a limit is held
+    /// there, and counted; one that just reaches it isn't.
+    fn hold(&mut self, exact: i32) -> Value {
+        let number = exact.clamp(0, u16::MAX.into());
+        self.held += u32::from(number != exact);
+        Value::Number(number as u16)
     }
 
     /// Whether a check or a guard lets the run go on: it always does where

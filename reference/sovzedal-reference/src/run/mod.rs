@@ -29,6 +29,8 @@ pub struct Run {
     pub calls: u32,
     pub cells: u32,
     pub posts: u32,
+    /// The sums and differences that were held at a limit (W10).
+    pub held: u32,
 }
 
 #[derive(Clone, Copy, Debug, PartialEq, Eq)]

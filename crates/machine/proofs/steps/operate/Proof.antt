@@ -1,8 +1,8 @@
--- A law for each end: an operand that is no number, a sum that fits or is held, a difference that fits or is held, a comparison.
+-- A law for each end: an operand that is no number, a sum that fits or is saturated, a difference that fits or is saturated, a comparison.
 use native.Mathlib.Omega.{arith}
-use mathlib.Core.Path.{sym, _∙_}
-use Rattle.machine.proofs.StepLaws.{operate-left, operate-right, sum-fits, sum-over, difference-fits, difference-none, less-is}
 use borrow.Author.Needs.{needs}
+use mathlib.Core.Path.{sym, _∙_}
+use Rattle.machine.proofs.StepLaws.{operate-left, operate-right, sum-fits, sum-over, difference-fits, difference-under, less-is}
 use Rattle.machine.proofs.steps.operate.Statement.{statement}
 use Rattle.machine.proofs.steps.operate.Tie as tie
 
@@ -13,7 +13,7 @@ stop-requires : tie.Need-stop-requires
 stop-requires c κs = search needs
 
 returns : tie.Need-returns
-returns c = operate-left _ _ _ _ (λ e. c .before .if1 .taken (c .before .before .sort .ensures ∙ e)) (c .stop .ensures)
+returns c = operate-left _ _ _ _ _ (λ e. c .before .if1 .taken (c .before .before .sort .ensures ∙ e)) (c .stop .ensures)
 
 sort-requires-2 : tie.Need-sort-requires-2
 sort-requires-2 c κs = search needs
@@ -24,7 +24,7 @@ stop-requires-2 c κs = search needs
 returns-2 : tie.Need-returns-2
 returns-2 c =
     let at-sort = c .before .before .before .before in
-    operate-right _ _ _ _ (sym (at-sort .sort .ensures) ∙ c .before .before .before .if1 .left)
+    operate-right _ _ _ _ _ (sym (at-sort .sort .ensures) ∙ c .before .before .before .if1 .left)
     (λ e. c .before .if2 .taken (c .before .before .sort2 .ensures ∙ e)) (c .stop2 .ensures)
 
 payload-requires : tie.Need-payload-requires
@@ -49,26 +49,27 @@ returns-3 c =
     let at-sort2 = at-if2 .before in
     let at-if1 = at-sort2 .before in
     let at-sort = at-if1 .before in
-    sum-fits _ _ _ _ (sym (at-sort .sort .ensures) ∙ at-if1 .if1 .left) (sym (at-sort2 .sort2 .ensures) ∙ at-if2 .if2 .left) (at-payload .payload .ensures)
-    (c .before .before .before .payload2 .ensures) (c .before .before .if3 .taken) (c .before .if4 .taken) (omega (arith, at-payload .payload .ensures))
-    (c .number .ensures)
+    sum-fits _ _ _ _ _ (sym (at-sort .sort .ensures) ∙ at-if1 .if1 .left) (sym (at-sort2 .sort2 .ensures) ∙ at-if2 .if2 .left) (at-payload .payload .ensures)
+    (c .before .before .before .payload2 .ensures) (c .before .before .if3 .taken) (omega (arith, c .before .if4 .taken))
+    (omega (arith, at-payload .payload .ensures)) (c .number .ensures)
 
-number-requires-2 : tie.Need-number-requires-2
-number-requires-2 c κs = search needs
+saturate-requires : tie.Need-saturate-requires
+saturate-requires c κs = search needs
 
 returns-4 : tie.Need-returns-4
 returns-4 c =
-    let at-payload = c .before .before .before .before in
+    let at-payload2 = c .before .before .before .before in
+    let at-payload = at-payload2 .before in
     let at-if2 = at-payload .before in
     let at-sort2 = at-if2 .before in
     let at-if1 = at-sort2 .before in
     let at-sort = at-if1 .before in
-    sum-over _ _ _ _ (sym (at-sort .sort .ensures) ∙ at-if1 .if1 .left) (sym (at-sort2 .sort2 .ensures) ∙ at-if2 .if2 .left) (at-payload .payload .ensures)
-    (c .before .before .before .payload2 .ensures) (c .before .before .if3 .taken) (c .before .if4 .left) (omega (arith, at-payload .payload .ensures))
-    (c .number2 .ensures)
+    sum-over _ _ _ _ _ (sym (at-sort .sort .ensures) ∙ at-if1 .if1 .left) (sym (at-sort2 .sort2 .ensures) ∙ at-if2 .if2 .left) (at-payload .payload .ensures)
+    (at-payload2 .payload2 .ensures) (c .before .before .before .if3 .taken) (c .before .before .if4 .left) (omega (arith, at-payload .payload .ensures))
+    (c .saturate .ensures .0) (c .saturate .ensures .1)
 
-number-requires-3 : tie.Need-number-requires-3
-number-requires-3 c κs = search needs
+number-requires-2 : tie.Need-number-requires-2
+number-requires-2 c κs = search needs
 
 returns-5 : tie.Need-returns-5
 returns-5 c =
@@ -78,23 +79,25 @@ returns-5 c =
     let at-sort2 = at-if2 .before in
     let at-if1 = at-sort2 .before in
     let at-sort = at-if1 .before in
-    difference-fits _ _ _ _ (sym (at-sort .sort .ensures) ∙ at-if1 .if1 .left) (sym (at-sort2 .sort2 .ensures) ∙ at-if2 .if2 .left)
-    (at-payload .payload .ensures) (at-payload2 .payload2 .ensures) (c .before .before .before .if3 .left) (c .before .before .if5 .taken) (c .number3 .ensures)
+    difference-fits _ _ _ _ _ (sym (at-sort .sort .ensures) ∙ at-if1 .if1 .left) (sym (at-sort2 .sort2 .ensures) ∙ at-if2 .if2 .left)
+    (at-payload .payload .ensures) (at-payload2 .payload2 .ensures) (c .before .before .before .if3 .left) (c .before .before .if5 .taken)
+    (c .before .if6 .taken) (c .number2 .ensures)
 
-number-requires-4 : tie.Need-number-requires-4
-number-requires-4 c κs = search needs
+saturate-requires-2 : tie.Need-saturate-requires-2
+saturate-requires-2 c κs = search needs
 
 returns-6 : tie.Need-returns-6
 returns-6 c =
-    let at-payload2 = c .before .before .before .before in
+    let at-if3 = c .before .before .before .before in
+    let at-payload2 = at-if3 .before in
     let at-payload = at-payload2 .before in
     let at-if2 = at-payload .before in
     let at-sort2 = at-if2 .before in
     let at-if1 = at-sort2 .before in
     let at-sort = at-if1 .before in
-    difference-none _ _ _ _ (sym (at-sort .sort .ensures) ∙ at-if1 .if1 .left) (sym (at-sort2 .sort2 .ensures) ∙ at-if2 .if2 .left)
-    (at-payload .payload .ensures) (at-payload2 .payload2 .ensures) (c .before .before .before .if3 .left) (c .before .before .if5 .taken)
-    (c .before .if6 .left) (c .number4 .ensures)
+    difference-under _ _ _ _ _ (sym (at-sort .sort .ensures) ∙ at-if1 .if1 .left) (sym (at-sort2 .sort2 .ensures) ∙ at-if2 .if2 .left)
+    (at-payload .payload .ensures) (at-payload2 .payload2 .ensures) (at-if3 .if3 .left) (c .before .before .before .if5 .taken) (c .before .before .if6 .left)
+    (c .saturate2 .ensures .0) (c .saturate2 .ensures .1)
 
 boolean-requires : tie.Need-boolean-requires
 boolean-requires c κs = search needs
@@ -106,7 +109,7 @@ returns-7 c =
     let at-sort2 = at-if2 .before in
     let at-if1 = at-sort2 .before in
     let at-sort = at-if1 .before in
-    less-is _ _ _ _ (sym (at-sort .sort .ensures) ∙ at-if1 .if1 .left) (sym (at-sort2 .sort2 .ensures) ∙ at-if2 .if2 .left) (at-payload .payload .ensures)
+    less-is _ _ _ _ _ (sym (at-sort .sort .ensures) ∙ at-if1 .if1 .left) (sym (at-sort2 .sort2 .ensures) ∙ at-if2 .if2 .left) (at-payload .payload .ensures)
     (c .before .before .before .payload2 .ensures) (c .before .before .if3 .left) (c .before .if5 .left) (c .boolean .ensures)
 
 pub operate-spec : {M : Type 1} → statement M
@@ -125,11 +128,11 @@ operate-spec =
     add-number
     number-requires
     returns-3
-    number-requires-2
+    saturate-requires
     returns-4
-    number-requires-3
+    number-requires-2
     returns-5
-    number-requires-4
+    saturate-requires-2
     returns-6
     boolean-requires
     returns-7)

@@ -1,4 +1,4 @@
--- Where `len` is below 192, the length of the array, `put` appends its byte: the byte is set at `len`, and one byte more is then held (put-held).
+-- Where `len` is below 224, the length of the array, `put` appends its byte: the byte is set at `len`, and one byte more is then held (put-held).
 use native.Mathlib.Omega.{arith}
 use Rattle.program.specs.Laws.Lists.{sized}
 use Rattle.report.proofs.DraftLaws.{put-held}
@@ -15,7 +15,7 @@ add-r c = search needs
 returns : tie.Need-returns
 returns c = record {
   held-is = put-held (c .args .d .bytes) (c .args .d .len) (c .args .b)
-      (omega (arith, sized (c .args .d .bytes) 192 (c .good .0 .1 .1 .0 .1 .0 .1), c .pre));
+      (omega (arith, sized (c .args .d .bytes) 224 (c .good .0 .1 .1 .0 .1 .0 .1), c .pre));
   len-most = omega arith;
 }
 

@@ -1,5 +1,5 @@
 -- The draft of `accepted` holds the whole print of a run: the three lines of `acceptance`, then one line of outcome and counts (chained, then-held).
--- At most 183 bytes: 52 for `acceptance`, and 131 for the last line: 49 for the outcome and 81 for the counts, which are 130, and 1 for the newline.
+-- At most 209 bytes: 52 for `acceptance`, and 157 for the last line: 49 for the outcome and 107 for the counts, which are 156, and 1 for the newline.
 use native.Mathlib.Omega.{arith}
 use Rattle.report.proofs.DraftLaws.{chained, then-held}
 use borrow.Author.Needs.{needs}
@@ -24,8 +24,8 @@ word-requires c κs = search needs
 returns : tie.Need-returns
 returns c =
     let at-acceptance = c .before .before .before .before in
-    then-held 183 (omega arith) (at-acceptance .acceptance .ensures)
-    (chained 131 (omega arith) (chained 130 (omega arith) (c .before .before .before .outcome .ensures) (c .before .before .counts .ensures))
+    then-held 209 (omega arith) (at-acceptance .acceptance .ensures)
+    (chained 157 (omega arith) (chained 156 (omega arith) (c .before .before .before .outcome .ensures) (c .before .before .counts .ensures))
     (c .word .ensures))
 
 pub accepted-spec : {M : Type 1} → statement M

@@ -1,5 +1,5 @@
--- `counts` appends calls, cells and posts, each behind its label (chained). At most 81 bytes: for each of the three 7 for the label and 20 for the number;
--- 54 is the bound for the first two.
+-- `counts` appends calls, cells, posts and saturated results, each behind its label (chained). At most 107 bytes: 20 for each number, 7 for each of the first
+-- three labels and 6 for the last; 54 is the bound for the first two, and 81 for the first three.
 use native.Mathlib.Omega.{arith}
 use Rattle.report.proofs.DraftLaws.{chained}
 use borrow.Author.Needs.{needs}
@@ -24,10 +24,18 @@ slice-aggregate-labelled-3 c = search needs
 labelled-requires-3 : tie.Need-labelled-requires-3
 labelled-requires-3 c κs = search needs
 
+slice-aggregate-labelled-4 : tie.Need-slice-aggregate-labelled-4
+slice-aggregate-labelled-4 c = search needs
+
+labelled-requires-4 : tie.Need-labelled-requires-4
+labelled-requires-4 c κs = search needs
+
 returns : tie.Need-returns
 returns c =
-    let at-labelled = c .before .before .before .before in
-    chained 81 (omega arith) (chained 54 (omega arith) (at-labelled .labelled .ensures) (c .before .before .labelled2 .ensures)) (c .labelled3 .ensures)
+    let at-labelled2 = c .before .before .before .before in
+    let at-labelled = at-labelled2 .before .before in
+    chained 107 (omega arith) (chained 81 (omega arith) (chained 54 (omega arith) (at-labelled .labelled .ensures) (at-labelled2 .labelled2 .ensures))
+    (c .before .before .labelled3 .ensures)) (c .labelled4 .ensures)
 
 pub counts-spec : {M : Type 1} → statement M
 counts-spec =
@@ -39,4 +47,6 @@ counts-spec =
     labelled-requires-2
     slice-aggregate-labelled-3
     labelled-requires-3
+    slice-aggregate-labelled-4
+    labelled-requires-4
     returns)
