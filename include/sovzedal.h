@@ -1,5 +1,5 @@
-/* Sovzedal: rule sheets decoded, type-checked and run, with or without their checks; why a sheet needs a privilege; the lean form of a sheet; a block
- * of registers for a controller that has sheets run; and four lines on which jobs wait to be run in turn.
+/* Sovzedal: rule sheets decoded, type-checked and run, with or without their checks; why a sheet needs a privilege, and whether it names one; the lean
+ * form of a sheet; a block of registers for a controller that has sheets run; and four lines on which jobs wait to be run in turn.
  *
  * For x86-64. Link libsovzedal.a (README.md, "Embed it", has the command that writes it). Of the C library it needs memcpy and memset alone: no heap,
  * no system call, no global state, so that calls on buffers of their own may be made from several threads. A run recurses: SOVZEDAL_STACK bytes of
@@ -15,7 +15,7 @@
  *
  * Every function returns
  *   SOVZEDAL_OK       0  the sheet is readable, or accepted, or the run ended; or the register was read or written; or the job was added; or the
- *                        privilege is explained, or not needed; or the lean sheet is written;
+ *                        privilege is explained, or not needed; or the lean sheet is written; or it is told whether the sheet names the privilege;
  *   SOVZEDAL_STOPPED  1  the run was stopped, for one of the causes 17 to 22;
  *   SOVZEDAL_REFUSED  2  refused, for one of the causes 1 to 16 and 24 to 33, or 23 for an address: every buffer but `answer` is as it was (but
  *                        `lines` has given up a job that was served);
@@ -27,8 +27,8 @@
  *   entry   decode, readable   typecheck, accepted   explain, erase   run, ended or stopped    block, accessed     refused   name, SOVZEDAL_AT_..
  *   0       0                  0                     0                0, or the stop's cause   0                   cause     CAUSE
  *   1       0                  0                     0                0, or the stop's term    0                   place     PLACE
- *   2       0                  root's type           0                type of an end's value   interrupt, 0 or 1   0 *       TYPE, INTERRUPT
- *   3       terms              terms                 length **        an end's value           byte read, or 0     0         VALUE, TERMS, LENGTH
+ *   2       0                  root's type           0 ****           type of an end's value   interrupt, 0 or 1   0 *       TYPE, INTERRUPT, NAMED
+ *   3       terms              terms                 length **        an end's value           byte read, or 0     0         VALUE, TERMS, LENGTH, TERM
  *   4       principals         0                     0                calls made               0                   0         CALLS, PRINCIPALS
  *   5       types              0                     0                cells made               0                   0         CELLS, TYPES
  *   6       0                  0                     0                posts made               0                   0         POSTS
@@ -38,6 +38,7 @@
  *   *   with 23, as in the column before: whether the interrupt is raised after the access, 0 or 1.
  *   **  of the chain, in terms, or of the lean sheet, in bytes.
  *   *** written by sovzedal_lines_serve alone, also of a job that is refused. All entries are zero of a job added, and all nine with SOVZEDAL_IDLE.
+ *   **** by sovzedal_names 1 if the sheet names the privilege, and then entry 3 is the lowest term that does; else 0 in both.
  *
  * Types: 0 is the boolean, 1 the number. Needs are a set of privileges: bit k, worth 2^k, stands for privilege k. docs/REFUSALS.md explains the causes.
  * An entry of a list of posts is channel * 65,536 + number: the lowest 16 bits are the number, and the others the channel, 0 to 15. A sheet of format 1
@@ -60,7 +61,7 @@ extern "C" {
 /* The version of this interface, and the latest format that it reads: sheets of format 1 are read, too. Before version 2 of the interface, lists of posts
  * had entries of 16 bits; before 2.2, entry 7 of a run's answer was zero. */
 #define SOVZEDAL_VERSION_MAJOR 2
-#define SOVZEDAL_VERSION_MINOR 2
+#define SOVZEDAL_VERSION_MINOR 3
 #define SOVZEDAL_FORMAT 2
 
 /* What a function returns. */
@@ -78,9 +79,11 @@ enum {
     SOVZEDAL_AT_PLACE = 1,
     SOVZEDAL_AT_TYPE = 2,        /* of the root, or of an end's value: SOVZEDAL_BOOLEAN or SOVZEDAL_NUMBER */
     SOVZEDAL_AT_INTERRUPT = 2,   /* of a block: 1 if its interrupt is raised after the access, else 0 */
+    SOVZEDAL_AT_NAMED = 2,       /* 1 if a privilege is named, else 0 */
     SOVZEDAL_AT_VALUE = 3,       /* of a run that ended, or of a register that was read */
     SOVZEDAL_AT_TERMS = 3,       /* of a readable or accepted sheet */
     SOVZEDAL_AT_LENGTH = 3,      /* of a chain, in terms, 0 if the privilege is not needed; of a lean sheet, in bytes */
+    SOVZEDAL_AT_TERM = 3,        /* the lowest term that names a privilege, 0 if none does */
     SOVZEDAL_AT_CALLS = 4,       /* of a run */
     SOVZEDAL_AT_PRINCIPALS = 4,  /* of a readable sheet */
     SOVZEDAL_AT_CELLS = 5,       /* of a run */
@@ -266,6 +269,22 @@ uint32_t sovzedal_explain(const uint8_t *sheet, size_t sheet_len,
  * not; 33, of a buffer that is shorter than the lean sheet. The place of 32 and 33 is 0, and by each of these `lean` is as it was. */
 uint32_t sovzedal_erase(const uint8_t *sheet, size_t sheet_len,
                         uint8_t *lean, size_t lean_len,
+                        uint32_t *answer, size_t answer_len);
+
+/* Whether a readable sheet, accepted or not, names a privilege: in a check, in a test, or as the guard of a channel that a post is on. Every term of the
+ * table counts, whether a run comes to it or not. An enable does not name its privilege; nor does a set of privileges, a principal's or a latent one, or
+ * the guard of a channel on which nothing is posted.
+ *   sheet, sheet_len    the sheet and its length in bytes; only read
+ *   privilege           the privilege, 0 to 31
+ *   answer, answer_len  the list for the answer and its length in entries; it tells whether the privilege is named, and the lowest term that names it,
+ *                       which is never term 0
+ * A privilege that is not named plays no part. Let two start stacks grant the same but for this privilege, which each of them may grant or not, as a stack
+ * and the same without the privilege in any frame do. Runs with checks enforced that are not refused, each by either runner, with the same allowances and
+ * lengths of buffers, come from both to the same end, or to the same stop at the same term, with the same posts and counts. Of a privilege that is named
+ * nothing is said: runs may be alike all the same.
+ * Refusals, in this order: 1 to 8, then 31, as of sovzedal_decode; 30, of a privilege above 31, with the place 0. */
+uint32_t sovzedal_names(const uint8_t *sheet, size_t sheet_len,
+                        uint32_t privilege,
                         uint32_t *answer, size_t answer_len);
 
 /* Runs a readable sheet, accepted or not, holding the set of granted privileges.

@@ -1,4 +1,4 @@
--- Demand 3 of the definitions, taken to the answers of two runs whose promises are the definitions.
+-- Demand 3 of the definitions, and that a privilege plays no part, taken to the answers of two runs whose promises are the definitions.
 use mathlib.Core.Bool.{Bool, true, false}
 use mathlib.Core.List.{List, []}
 use mathlib.Core.Path.{_≡_, refl, sym, ap, _∙_, subst, subst₂}
@@ -13,10 +13,14 @@ use Rattle.semantics.specs.Theorems.{Starts, run-course}
 use Rattle.program.specs.Layout.{root}
 use Rattle.soundness.specs.Claims.{SameRun, Proper}
 use Rattle.soundness.specs.Theorems.{demand-3}
+use Rattle.irrelevance.specs.Naming.{naming}
+use Rattle.irrelevance.specs.Answers.{namedModel}
+use Rattle.irrelevance.specs.Theorems.{plays-no-part, unnamed-exactly}
+use Rattle.irrelevance.specs.declared.answer.Named.{Named}
 use Rattle.interp.specs.Answers.{runModel, requestOf, buffersOf, after}
 use Rattle.interp.specs.declared.answer.Run.{Run}
 use Rattle.agreement.specs.Runners.{runnerOf}
-use Rattle.agreement.specs.Agreement.{NotRefused, Agreement}
+use Rattle.agreement.specs.Agreement.{NotRefused, Agreement, Irrelevance}
 
 -- a run that is not refused starts
 starts : (s : List ℕ) (q : Request) (b : Buffers) {a : After} → a ≡ run s q b → NotRefused (a .answer) → Starts s q b
@@ -39,13 +43,40 @@ agreed s start calls depth first second cells posts frames cells′ posts′ fra
       subst₂ (λ (a b : After). SameRun a b × Proper τ (a .answer)) (sym p) (sym q)
       (demand-3 s n τ N X Y B D (sym e ∙ h)
       record {
-        comparable = record { same-start = refl; same-calls = refl; same-depth = refl; same-cells = c; same-posts = l };
+        comparable = record {
+          same-start = refl;
+          limits = record { same-calls = refl; same-depth = refl; same-cells = c; same-posts = l };
+        };
         enforced = refl;
         skipped = refl;
         first-starts = starts s X B p x;
         second-starts = starts s Y D q y;
       }
       g);
+}
+
+pub alike : (s : List ℕ) (p calls depth : ℕ) (start : List ℕ) (first : Bool) (cells posts frames start′ : List ℕ) (second : Bool)
+    (cells′ posts′ frames′ : List ℕ) {n : Named} {a b : After}
+    → namedModel n ≡ naming s p
+    → a ≡ run s (requestOf (runnerOf first) true start calls depth) (buffersOf cells posts frames)
+    → b ≡ run s (requestOf (runnerOf second) true start′ calls depth) (buffersOf cells′ posts′ frames′)
+    → length cells ≡ length cells′ → length posts ≡ length posts′ → Irrelevance s p start start′ n a b
+alike s p calls depth start first cells posts frames start′ second cells′ posts′ frames′ e h g c l = record {
+  plays-no-part = λ m d x y.
+      let X = requestOf (runnerOf first) true start calls depth in
+      let Y = requestOf (runnerOf second) true start′ calls depth in
+      let B = buffersOf cells posts frames in
+      let D = buffersOf cells′ posts′ frames′ in
+      subst₂ SameRun (sym h) (sym g)
+      (plays-no-part s p X Y B D (unnamed-exactly s p .0 (sym e ∙ m) .1)
+      record {
+        limits = record { same-calls = refl; same-depth = refl; same-cells = c; same-posts = l };
+        differ = d;
+        first-enforced = refl;
+        second-enforced = refl;
+        first-starts = starts s X B h x;
+        second-starts = starts s Y D g y;
+      });
 }
 
 -- ---- one run, by the runner that is asked for

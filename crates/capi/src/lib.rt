@@ -8,6 +8,8 @@ ghost use Rattle.lines.specs.Answers.{jobOf};
 ghost use Rattle.capi_lines.specs.Entries.{linesAdd, leftAdd, linesServe, leftServe};
 ghost use Rattle.capi_explain.specs.Entries.{explainCall, leftExplain};
 ghost use Rattle.capi_lean.specs.Entries.{eraseCall, leftErase};
+ghost use Rattle.irrelevance.specs.Naming.{naming};
+ghost use Rattle.capi_names.specs.Entries.{namesReply};
 ghost use Rattle.capi.specs.Blocks.{blockRead, leftBlock, blockWrite};
 
 mod block;
@@ -199,4 +201,12 @@ pub extern "C" fn sovzedal_erase(sheet: &[u8], lean: &mut [u8], answer: &mut [u3
         ≡ eraseCall (now (sheet .entry)) (now (lean .entry)) (now (answer .entry)) ⌝ }
 {
     capi_lean::erase(sheet, lean, answer)
+}
+
+// Whether a sheet names a privilege, and the lowest term that does.
+#[no_mangle]
+pub extern "C" fn sovzedal_names(sheet: &[u8], privilege: u32, answer: &mut [u32]) -> u32
+    ensures { λ r. ⌜ left r (now (answer .exit)) ≡ replied (now (answer .entry)) (namesReply (naming (now (sheet .entry)) privilege)) ⌝ }
+{
+    capi_names::names(sheet, privilege, answer)
 }

@@ -1,18 +1,16 @@
 -- Which terms are causes, from the term's record. Of a call that needs a privilege the function part has a function type. Assumes nothing.
-use mathlib.Core.Bool.{Bool, true, false, cond, false≢true}
+use mathlib.Core.Bool.{Bool, true, false, false≢true}
 use mathlib.Core.List.{List}
-use mathlib.Core.Option.{none, some}
 use mathlib.Core.Path.{_≡_, refl, sym, ap, _∙_}
 use Prim.Native.Nat.{ℕ, _<_}
 use native.Mathlib.Omega.{arith}
 use lib.Dec.{eqb}
-use borrow.Author.Tests.{eqb-true, ne-eqb}
 use denote.Enum.Declared.{tagOf}
 use Rattle.privileges.specs.Sets.{has}
-use Rattle.program.specs.Limits.{noGuard}
 use Rattle.program.specs.Layout.{Types, authority, typesOf, guardIn}
-use Rattle.program.specs.Terms.{Term, tree}
+use Rattle.program.specs.Terms.{Term, tree, contains}
 use Rattle.program.specs.Records.{termRecord, typeRecord, guardRecord}
+use Rattle.program.specs.Laws.Guards.{guard-contains}
 use Rattle.program.specs.declared.records.Counts.{Counts}
 use Rattle.program.specs.declared.records.TermRecord.{TermRecord}
 use Rattle.program.specs.declared.records.TypeRecord.{TypeRecord}
@@ -25,7 +23,7 @@ use Rattle.rules.specs.Steps.{callStep}
 use Rattle.rules.specs.Laws.Records.{type-parts}
 use Rattle.rules.specs.declared.bindings.Bindings.{Bindings}
 use Rattle.checker.proofs.TermLaws.{post-guard, call-is}
-use Rattle.explain.specs.Explaining.{placed, needing, latentOf, guards, needs, isCause}
+use Rattle.explain.specs.Explaining.{placed, needing, latentOf, needs, isCause}
 use Rattle.explain.proofs.PlaceLaws.{_and_, all, among, at-record, most, term-of, tree-is}
 
 -- the latent set of a function type is that of its record
@@ -41,14 +39,6 @@ untyped-latent T p (Typed τ N) h = absurd (omega (arith, h))
 pub untyped-needs : (p : ℕ) (j : Inferred) → tagOf the-type j ≡ 1 → false ≡ needing p (inferredModel j)
 untyped-needs p (Faulty f) h = refl
 untyped-needs p (Typed τ N) h = absurd (omega (arith, h))
-
--- a privilege guards a post exactly if it is the guard byte, since no privilege is the byte for none
-guards-byte : (p g : ℕ) → p < 32 → eqb g p ≡ guards p (guardIn g)
-guards-byte p g l = go (eqb g noGuard) refl
-  where
-    go : (z : Bool) → eqb g noGuard ≡ z → eqb g p ≡ guards p (cond z none (some g))
-    go true e = ne-eqb g p (λ q. omega (arith, q, eqb-true g noGuard e))
-    go false e = refl
 
 -- a call with needs has passed the test of its function part
 call-function : (T : Types) (p at φ N : ℕ) (j : Judgement) → needing p (callStep T at φ N j) ≡ true → T .isFun φ ≡ true
@@ -75,7 +65,7 @@ module _ {s : List ℕ} {c : Counts} {t : ℕ} {b : Bindings} {n : ℕ} (R : Rea
   pub post-cause : x .kind ≡ 14 → p < 32 → {g : ℕ} → g ≡ guardRecord s c (x .small) → eqb g p ≡ cause (tree s t)
   unfolding isCause
   post-cause e l {g} q =
-      guards-byte p g l ∙ ap (λ (g : ℕ). guards p (guardIn g)) (post-guard (at-record R h) e q) ∙ ap cause (sym (tree-is R h e))
+      guard-contains p g l ∙ ap (λ (g : ℕ). contains p (guardIn g)) (post-guard (at-record R h) e q) ∙ ap cause (sym (tree-is R h e))
 
   module _ (e : x .kind ≡ 5) (j : Inferred) (q : inferredModel j ≡ termJudgement s (context b) n (x .first)) where
     call-cause : latentOf (typesOf s) p (inferredModel j) ≡ cause (tree s t)

@@ -8,7 +8,7 @@ use lib.Dec.{eqb, leb}
 use Rattle.privileges.specs.Sets.{has}
 use Rattle.program.specs.Limits.{maxNesting}
 use Rattle.program.specs.Layout.{Types, authority, typesOf}
-use Rattle.program.specs.Terms.{Term, boolean, number, variable, function, letrec, call, if, check, enable, sign, test, binary, post, program}
+use Rattle.program.specs.Terms.{Term, boolean, number, variable, function, letrec, call, if, check, enable, sign, test, binary, post, program, contains}
 use Rattle.typing.specs.Checking.{Judgement, typed, fault, infer}
 use Rattle.typing.specs.Verdicts.{Verdict, accepted, rejected, verdict}
 
@@ -63,11 +63,6 @@ abbrev pub latentOf : Types → (p : ℕ) → Judgement → Bool
 latentOf T p (typed φ N) = has p (T .latent φ)
 latentOf T p (fault c at) = false
 
--- whether a privilege guards a post
-abbrev pub guards : (p : ℕ) → (guard : Option ℕ) → Bool
-guards p none = false
-guards p (some q) = eqb q p
-
 module _ (T : Types) (A : ℕ → ℕ) (p : ℕ) where
   -- "each has the privilege among its own needs": as it is judged in its bindings and under its principal
   unfoldable pub needs : Placed → Bool
@@ -87,7 +82,7 @@ module _ (T : Types) (A : ℕ → ℕ) (p : ℕ) where
   causeIn Γ n (sign at m c) = false
   causeIn Γ n (test at q y o) = false
   causeIn Γ n (binary at op a b) = false
-  causeIn Γ n (post at ch g c) = guards p g
+  causeIn Γ n (post at ch g c) = contains p g
 
   unfoldable pub isCause : Placed → Bool
   isCause (placed Γ n c) = causeIn Γ n c

@@ -3,6 +3,7 @@ pub mod Lists
 pub mod Screening
 pub mod Search
 pub mod Order
+pub mod Kinds
 pub mod Readable
 pub mod Types
 pub mod Trees

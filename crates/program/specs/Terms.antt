@@ -1,7 +1,7 @@
 -- A sheet's terms as a tree.
 use mathlib.Core.Bool.{Bool, false}
 use mathlib.Core.List.{List}
-use mathlib.Core.Option.{Option, none}
+use mathlib.Core.Option.{Option, none, some}
 use mathlib.Core.Path.{_≡_}
 use Prim.Native.Nat.{ℕ, zero, suc, _+_}
 use lib.Dec.{eqb}
@@ -90,6 +90,11 @@ Every Q (sign at n c) = Q (sign at n c) × Every Q c
 Every Q (test at p y n) = Q (test at p y n) × Every Q y × Every Q n
 Every Q (binary at op a b) = Q (binary at op a b) × Every Q a × Every Q b
 Every Q (post at ch g c) = Q (post at ch g c) × Every Q c
+
+-- whether p is the privilege that a term has, such as a post's guard
+abbrev pub contains : (p : ℕ) → Option ℕ → Bool
+contains p none = false
+contains p (some q) = eqb q p
 
 -- what every post of a term has, said of its channel and guard
 abbrev pub EveryPost : (ℕ → Option ℕ → Type 0) → Term → Type 0

@@ -1,5 +1,6 @@
 pub mod Values
 pub mod Meaning
+pub mod Names
 pub mod Access
 pub mod Runs
 pub mod Blunders

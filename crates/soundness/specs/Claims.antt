@@ -14,13 +14,17 @@ use Rattle.semantics.specs.Theorems.{Starts}
 pub record GrantsSet (s : List ℕ) (start : List ℕ) (N : ℕ) : Type 0 where
   pub each : (p : ℕ) → has p N ≡ true → chk (authority s) (stack start) p ≡ true
 
--- The same start stack, allowances and lengths of buffers. Runner, checks, what the buffers hold, and a frame store, may differ.
-pub record Comparable (x y : Request) (b d : Buffers) : Type 0 where
-  pub same-start : x .start ≡ y .start
+-- The same allowances and lengths of buffers. Start stack, runner, checks, what the buffers hold, and a frame store, may differ.
+pub record SameLimits (x y : Request) (b d : Buffers) : Type 0 where
   pub same-calls : x .calls ≡ y .calls
   pub same-depth : x .depth ≡ y .depth
   pub same-cells : length (b .cells) ≡ length (d .cells)
   pub same-posts : length (b .posts) ≡ length (d .posts)
+
+-- and the same start stack
+pub record Comparable (x y : Request) (b d : Buffers) : Type 0 where
+  pub same-start : x .start ≡ y .start
+  pub limits : SameLimits x y b d
 
 -- The two runs of demand 3: one with checks in force, one with checks passed over, and neither "turned back".
 pub record TwoRuns (s : List ℕ) (x y : Request) (b d : Buffers) : Type 0 where

@@ -27,7 +27,7 @@ runners-agree s x y b d c e fx fy = go (screen (runConditions s x (sizes b))) re
     go : (z : Screening) → screen (runConditions s x (sizes b)) ≡ z → SameRun (run s x b) (run s y d)
     go clear h =
         subst₂ SameRun (sym (run-course s x b _ (course-clear s x b h))) (sym (run-course s y d _ (course-clear s y d (sym same ∙ h))))
-        (same-whole (root s) x y b d c _ _ (same-evaluation s (well-formed s (clear-readable s x (sizes b) h)) x y b d c e))
+        (same-whole (root s) x y b d (c .limits) _ _ (same-evaluation s (well-formed s (clear-readable s x (sizes b) h)) x y b d c e))
     go (found k p) h =
         subst₂ SameRun (sym (run-course s x b _ (course-found s x b k p h))) (sym (run-course s y d _ (course-found s y d k p (sym same ∙ h))))
         (record { same-answer = refl; same-posts = refl })
@@ -45,6 +45,6 @@ demand-3 s n τ N x y b d e t g =
     let r = removed s (well-formed s (a .readable)) τ N (a .root-type) (a .needs .derivation) x y b d c (t .enforced) (t .skipped) g in
     let rx = run-course s x b _ (course-clear s x b (starts-screened s x b (t .first-starts))) in
     let ry = run-course s y d _ (course-clear s y d (starts-screened s y d (t .second-starts))) in (
-      subst₂ SameRun (sym rx) (sym ry) (same-whole (root s) x y b d c _ _ (r .same-result)),
+      subst₂ SameRun (sym rx) (sym ry) (same-whole (root s) x y b d (c .limits) _ _ (r .same-result)),
       subst (λ (z : After). Proper τ (z .answer)) (sym rx) (r .proper),
     )

@@ -4,6 +4,7 @@
 mod erasing;
 mod explaining;
 mod floor;
+mod naming;
 mod placement;
 mod timing;
 mod workload;
@@ -32,6 +33,7 @@ fn main() {
     }
     explaining::print();
     erasing::print();
+    naming::print();
     floor::print();
 }
 

@@ -22,10 +22,11 @@ pub struct RunArguments<'a> {
 }
 
 /// Each function returns 0 (readable, accepted, ended, a register read or
-/// written, a job added, a need explained, or a lean sheet written), 1
-/// (stopped), 2 (refused), 3 (`answer` is shorter than [`ANSWER_NUMBERS`] or [`SERVE_NUMBERS`], `block`
-/// isn't of 16 bytes, `lines` not of 102 numbers or `chain` is shorter than
-/// [`CHAIN_NUMBERS`]) or 4 (no line has a job).
+/// written, a job added, a need explained, a lean sheet written, or told whether
+/// a privilege is named), 1 (stopped), 2 (refused), 3 (`answer` is shorter than
+/// [`ANSWER_NUMBERS`] or [`SERVE_NUMBERS`], `block` isn't of 16 bytes, `lines`
+/// not of 102 numbers or `chain` is shorter than [`CHAIN_NUMBERS`]) or 4 (no
+/// line has a job).
 pub trait Implementation {
     const NAME: &'static str;
 
@@ -75,4 +76,6 @@ pub trait Implementation {
     fn explain(sheet: &[u8], privilege: u32, chain: &mut [u16], answer: &mut [u32]) -> u32;
 
     fn erase(sheet: &[u8], lean: &mut [u8], answer: &mut [u32]) -> u32;
+
+    fn names(sheet: &[u8], privilege: u32, answer: &mut [u32]) -> u32;
 }

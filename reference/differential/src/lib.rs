@@ -10,6 +10,7 @@ mod library;
 mod reference;
 pub mod settings;
 mod shipped;
+mod told;
 mod unit;
 mod why;
 
@@ -23,5 +24,6 @@ pub use implementation::{
 pub use library::Library;
 pub use reference::Reference;
 pub use shipped::Shipped;
+pub use told::{Told, Way};
 pub use unit::Unit;
 pub use why::Why;

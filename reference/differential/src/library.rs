@@ -121,6 +121,14 @@ mod c {
             answer: *mut u32,
             answer_len: usize,
         ) -> u32;
+
+        pub fn sovzedal_names(
+            sheet: *const u8,
+            sheet_len: usize,
+            privilege: u32,
+            answer: *mut u32,
+            answer_len: usize,
+        ) -> u32;
     }
 }
 
@@ -308,6 +316,18 @@ impl Implementation for Library {
                 sheet.len(),
                 lean.as_mut_ptr(),
                 lean.len(),
+                answer.as_mut_ptr(),
+                answer.len(),
+            )
+        }
+    }
+
+    fn names(sheet: &[u8], privilege: u32, answer: &mut [u32]) -> u32 {
+        unsafe {
+            c::sovzedal_names(
+                sheet.as_ptr(),
+                sheet.len(),
+                privilege,
                 answer.as_mut_ptr(),
                 answer.len(),
             )

@@ -4,7 +4,7 @@ use crate::implementation::{Implementation, RunArguments, ANSWER_NUMBERS, SERVE_
 use sheets::lines::Job;
 use sovzedal_reference::lines::{self, Lines, Served, State};
 use sovzedal_reference::registers::{Block, Loaded, BLOCK_BYTES};
-use sovzedal_reference::{decode, erase, explain, run_eager, run_lazy, typecheck};
+use sovzedal_reference::{decode, erase, explain, names, run_eager, run_lazy, typecheck};
 use sovzedal_reference::{Checks, Reply, Request, CHAIN_TERMS};
 
 /// What is returned where the answer or a chain has no room, or the block or
@@ -147,6 +147,10 @@ impl Implementation for Reference {
             erased.write_to(lean)?;
             Ok(Reply::from(&erased))
         })
+    }
+
+    fn names(sheet: &[u8], privilege: u32, answer: &mut [u32]) -> u32 {
+        reply_with(answer, || names(sheet, privilege))
     }
 }
 

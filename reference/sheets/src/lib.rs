@@ -2,13 +2,14 @@
 //!
 //! [`tree`] and [`records`] assemble sheets. [`cases`], [`yes_branch`],
 //! [`branches`], [`type_faults`], [`explained`], [`pages`], [`erased`],
-//! [`held`], [`smallest`], [`extremes`] and [`load`] hold the ones made by hand,
-//! [`generate`], [`needy`], [`erasable`] and [`sums`] draw others at random,
-//! [`request`] draws what to ask of their runs, [`session`] what a controller
-//! does with a register block and [`lines`] what is queued on four lines, from
-//! a [`seed`]. Nothing here knows how a sheet is judged or run, except [`grow`],
-//! [`needy`] and [`erasable`], which build sheets that the rules accept, and
-//! [`sums`], which builds some of known results.
+//! [`held`], [`named`], [`smallest`], [`extremes`] and [`load`] hold the ones
+//! made by hand, [`generate`], [`needy`], [`erasable`], [`sums`] and [`quiet`]
+//! draw others at random, [`request`] draws what to ask of their runs,
+//! [`session`] what a controller does with a register block and [`lines`] what
+//! is queued on four lines, from a [`seed`]. Nothing here knows how a sheet is
+//! judged or run, except [`grow`], [`needy`] and [`erasable`], which build
+//! sheets that the rules accept, and [`sums`], which builds some of known
+//! results.
 
 pub mod branches;
 pub mod cases;
@@ -22,8 +23,10 @@ pub mod grow;
 pub mod held;
 pub mod lines;
 pub mod load;
+pub mod named;
 pub mod needy;
 pub mod pages;
+pub mod quiet;
 pub mod records;
 pub mod request;
 pub mod rng;

@@ -3,6 +3,7 @@
 use crate::erase::Lean;
 use crate::explain::Explanation;
 use crate::judge::Verdict;
+use crate::names::Naming;
 use crate::refusal::Refusal;
 use crate::registers::Block;
 use crate::run::{Outcome, Plain, Run, Stop};
@@ -72,6 +73,20 @@ impl From<&Explanation> for Reply {
     fn from(explanation: &Explanation) -> Self {
         let mut answer = [0; 8];
         answer[3] = explanation.terms().len() as u32;
+        Reply {
+            status: DONE,
+            answer,
+        }
+    }
+}
+
+impl From<Naming> for Reply {
+    fn from(naming: Naming) -> Self {
+        let mut answer = [0; 8];
+        if let Naming::By(term) = naming {
+            answer[2] = 1;
+            answer[3] = u32::from(term);
+        }
         Reply {
             status: DONE,
             answer,

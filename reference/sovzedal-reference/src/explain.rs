@@ -28,8 +28,7 @@ impl Explanation {
 /// Why a sheet needs a privilege. The judge's own refusals come first.
 pub fn explain(bytes: &[u8], privilege: u32) -> Result<Explanation, Refusal> {
     let accepted = Accepted::new(bytes)?;
-    let privilege = u8::try_from(privilege).ok().and_then(Privilege::new);
-    let privilege = privilege.ok_or(Cause::NoPrivilege.anywhere())?;
+    let privilege = Privilege::of_number(privilege).ok_or(Cause::NoPrivilege.anywhere())?;
     let root = accepted.sheet.root();
     if !needs(&accepted, root, privilege) {
         return Ok(Explanation::NotNeeded);

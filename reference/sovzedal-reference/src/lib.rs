@@ -3,10 +3,10 @@
 //! This crate follows the contract's words and nothing else, so that it can be
 //! compared with the proved library. It reads a sheet into a tree
 //! ([`decode`]), judges it ([`typecheck`]), tells where a need comes from
-//! ([`explain`]), makes it lean ([`erase`]) and interprets it ([`run_eager`],
-//! [`run_lazy`]), and has it run by a block of [`registers`] or in turn with
-//! others that wait on four [`lines`]. Where the words leave a choice,
-//! `READINGS.md` names it.
+//! ([`explain`]) and which privileges it names ([`names`]), makes it lean
+//! ([`erase`]) and interprets it ([`run_eager`], [`run_lazy`]), and has it run
+//! by a block of [`registers`] or in turn with others that wait on four
+//! [`lines`]. Where the words leave a choice, `READINGS.md` names it.
 
 mod answer;
 mod decode;
@@ -15,6 +15,7 @@ mod erase;
 mod explain;
 mod judge;
 pub mod lines;
+mod names;
 mod refusal;
 pub mod registers;
 mod report;
@@ -28,6 +29,7 @@ pub use encode::encode;
 pub use erase::{erase, Lean};
 pub use explain::{explain, Explanation, CHAIN_TERMS};
 pub use judge::{typecheck, typecheck_by, Accepted, Judgement, Rules, Verdict};
+pub use names::{names, Naming};
 pub use refusal::{Cause, Refusal};
 pub use report::report;
 pub use run::{

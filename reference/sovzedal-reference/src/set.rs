@@ -10,6 +10,11 @@ impl Privilege {
         (k < 32).then_some(Self(k))
     }
 
+    /// The same of a number of which all 32 bits count.
+    pub fn of_number(k: u32) -> Option<Self> {
+        u8::try_from(k).ok().and_then(Self::new)
+    }
+
     pub fn number(self) -> u8 {
         self.0
     }

@@ -10,7 +10,8 @@ use sheets::smallest::{all, Smallest};
 use sheets::tree;
 use sovzedal_reference::lines::{Job, Lent, Lines, STATE_NUMBERS};
 use sovzedal_reference::registers::{at, status, Block, BLOCK_BYTES, RUN};
-use sovzedal_reference::{decode, erase, explain, report, run_eager, typecheck, typecheck_by};
+use sovzedal_reference::{decode, erase, explain, names, report, run_eager};
+use sovzedal_reference::{typecheck, typecheck_by, Naming};
 use sovzedal_reference::{Cause, Checks, Outcome, Plain, Refusal, Reply, Request, Rules};
 use sovzedal_reference::{Set, Stop, Term, TermId};
 use sovzedal_reference::{
@@ -260,6 +261,14 @@ fn the_refusal_of_a_privilege_is_that_of_the_call_shown() {
         let explanation = explain(&sheet, privilege).expect("an accepted sheet");
         assert!(explanation.terms().is_empty());
     }
+    // So it is with the call that is shown after it.
+    let (_, rest) = section.split_once(call).expect("what follows the call");
+    let asked = format!("sovzedal_names(sheet, {}, 32, answer, 8);\n", sheet.len());
+    assert_eq!(block(rest, "c"), Some(&*asked));
+    let (_, rest) = rest.split_once(&asked).expect("what follows that call");
+    let refusal = names(&sheet, 32).expect_err("a refusal");
+    assert_eq!(block(rest, "text"), Some(&*refused(refusal)));
+    assert_eq!(names(&sheet, 31), Ok(Naming::Unnamed));
 }
 
 /// 32 and 33 are told of accepted sheets, too. The buffer for 33 is a byte too
@@ -534,6 +543,47 @@ fn the_choice_has_the_lean_form_shown() {
     let lean = erase(&needs).expect("a lean form").bytes;
     assert!(report(&needs).contains("\nstop 17 at 2 "));
     assert!(report(&lean).contains("\nend num 7 "));
+}
+
+/// The readme's print tells which of its sheets name the release; and what it
+/// says of `leftover.hex` is so.
+#[test]
+fn the_release_is_withdrawn_from_the_sheets_shown() {
+    let directory = repository().join("examples");
+    if !directory.exists() {
+        return;
+    }
+    let sheet = |name: &str| bytes(&read(&directory.join(name)));
+    let shown = read(&directory.join("README.md"));
+    let section = section(&shown, "Withdrawing").expect("a section");
+    let print = block(section, "text").expect("a print");
+    let told = print.lines().filter(|line| !line.starts_with(' '));
+    for line in told {
+        let (path, told) = line.split_once(": ").expect("a file");
+        let name = path.strip_prefix("examples/").expect("an example");
+        let naming = names(&sheet(name), 0).expect("a readable sheet");
+        let expected = match naming {
+            Naming::Unnamed => "no term names it".to_string(),
+            Naming::By(term) => format!("term {term} names it"),
+        };
+        assert_eq!(told, expected, "{name}");
+    }
+    the_gate_asks_for_the_print_of("Withdrawing");
+
+    let leftover = sheet("leftover.hex");
+    assert_eq!(names(&leftover, 1), Ok(Naming::By(4)));
+    let ended_from = |start: &[u32]| {
+        let request = Request {
+            start,
+            ..Request::LARGEST
+        };
+        let (mut cells, mut posts) = (vec![0; MAX_CELL_BYTES], vec![0; MAX_POSTS]);
+        let run = run_eager(&leftover, &request, &mut cells, &mut posts).unwrap();
+        (run.outcome, run.posts)
+    };
+    let end = |value, posts| (Outcome::End(Plain::Number(value)), posts);
+    assert_eq!([&[0, 3], &[0, 2]].map(|it| ended_from(it)), [end(42, 2); 2]);
+    assert_eq!([ended_from(&[0, 1]), ended_from(&[])], [end(40, 1); 2]);
 }
 
 /// The bytes of a table in C, from `begin` on, without their comments.

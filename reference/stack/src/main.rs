@@ -1,8 +1,8 @@
 //! Prints how much native stack the deepest runs use: 100 open calls, each
 //! made from as deep as nesting allows, through terms of one kind; what such a
 //! run uses with fewer open calls, by a write to a register block, and as a
-//! job of the four lines; and what it takes to explain a need and to make a
-//! sheet lean.
+//! job of the four lines; and what it takes to explain a need, to make a sheet
+//! lean and to tell whether it names a privilege.
 
 mod paint;
 
@@ -11,7 +11,7 @@ use differential::{
     ANSWER_NUMBERS,
 };
 use sheets::extremes::{costly_need, deep_calls, deep_need, deepest, endless_through};
-use sheets::extremes::{many_checks, most_types, widest, NEEDED};
+use sheets::extremes::{longest, many_checks, most_types, widest, NEEDED};
 use sheets::lines::{Job, STATE_NUMBERS};
 use sheets::request::{Request, MAX_CALLS, MAX_OPEN_CALLS, MAX_POSTS};
 use sheets::rng::Rng;
@@ -86,6 +86,13 @@ fn main() {
             used_to_erase::<Reference>(&sheet)
         );
     }
+    println!("telling whether a sheet names a privilege");
+    println!(
+        "{:12}{:12}{:24}",
+        "longest",
+        used_to_name::<Library>(&longest()),
+        used_to_name::<Reference>(&longest())
+    );
 }
 
 /// Sheets that have a lean form, with as much of something as there can be.
@@ -179,6 +186,13 @@ fn used_to_erase<I: Implementation>(sheet: &[u8]) -> usize {
     })
 }
 
+fn used_to_name<I: Implementation>(sheet: &[u8]) -> usize {
+    let mut answer = [0; ANSWER_NUMBERS];
+    paint::stack_used(|| {
+        I::names(sheet, NEEDED.into(), &mut answer);
+    })
+}
+
 #[cfg(test)]
 mod tests {
     use super::*;
@@ -240,5 +254,13 @@ mod tests {
             let used = used_to_erase::<Library>(&sheet);
             assert!(used <= base, "{name}: {used}, {base} are allowed");
         }
+    }
+
+    /// And this.
+    #[test]
+    fn names_are_sought_within_what_a_run_without_calls_may_use() {
+        let base = header("SOVZEDAL_STACK_BASE ");
+        let used = used_to_name::<Library>(&longest());
+        assert!(used <= base, "{used}, {base} are allowed");
     }
 }

@@ -1,20 +1,20 @@
 -- The program of a lean sheet is the old program's erasure.
 use mathlib.Core.Bool.{Bool, true, false, not, _&&_, true≢false}
-use mathlib.Core.List.{List, [], _∷_}
+use mathlib.Core.List.{List}
 use mathlib.Core.Logic.{⊎-elim}
 use mathlib.Core.Option.{Option, none}
 use mathlib.Core.Path.{_≡_, refl, sym, ap, _∙_, subst, subst₂}
-use Prim.Native.Nat.{ℕ, zero, suc, _+_, _<_, _≤_}
+use Prim.Native.Nat.{ℕ, zero, suc, _<_}
 use native.Mathlib.Decide.{decLt}
 use native.Mathlib.Omega.{arith}
 use lib.Dec.{leb, eqb}
-use lib.ListN.{getD, List·getD-map}
 use borrow.Author.Tests.{eqb-false, not-true}
 use Rattle.privileges.specs.Booleans.{and-left, and-right}
 use Rattle.program.specs.Layout.{version, terms, guardOf, root, kindByte, small, first, second, third}
-use Rattle.program.specs.Formats.{Kind, Boolean, Number, Variable, Function, Letrec, Call, If, Check, Enable, Sign, Test, Sum, Difference, Less, Post, kinds, kindOf, format}
+use Rattle.program.specs.Formats.{Kind, Boolean, Number, Variable, Function, Letrec, Call, If, Check, Enable, Sign, Test, Sum, Difference, Less, Post, kindOf, format}
 use Rattle.program.specs.Terms.{Term, post, node, tree, program}
 use Rattle.program.specs.Decoding.{formatAt, Readable}
+use Rattle.program.specs.Laws.Kinds.{numbered, kind-number}
 use Rattle.program.specs.Laws.Readable.{WellFormed, well-formed}
 use Rattle.program.specs.Laws.Trees.{Below, below, parts, tree-node, root-lower}
 use Rattle.program.specs.Laws.Guards.{without-guards}
@@ -26,36 +26,6 @@ use Rattle.erasure.specs.Laws.Types.{types-renamed}
 use Rattle.erasure.specs.Laws.Terms.{idle-named, idle-kept, idle-child, term-kept, term-idle, term-in, new-root}
 use Rattle.erasure.specs.Laws.Readable.{lean-readable}
 use Rattle.erasure.specs.Laws.Sheets.{Leaner}
-
--- ---- each kind has one number
-abbrev numbered : Kind → ℕ
-numbered Boolean = 0
-numbered Number = 1
-numbered Variable = 2
-numbered Function = 3
-numbered Letrec = 4
-numbered Call = 5
-numbered If = 6
-numbered Check = 7
-numbered Enable = 8
-numbered Sign = 9
-numbered Test = 10
-numbered Sum = 11
-numbered Difference = 12
-numbered Less = 13
-numbered Post = 14
-
-abbrev from : (i count : ℕ) → List ℕ
-from i zero = []
-from i (suc k) = i ∷ from (suc i) k
-
-from-at : (i k n d : ℕ) → n < k → getD (from i k) n d ≡ i + n
-from-at i zero n d h = absurd (omega arith)
-from-at i (suc k) zero d h = omega arith
-from-at i (suc k) (suc n) d h = from-at (suc i) k n d (omega arith) ∙ omega arith
-
-kind-number : (n : ℕ) → n ≤ 14 → numbered (kindOf n) ≡ n
-kind-number n h = sym (List·getD-map numbered kinds n Post) ∙ from-at 0 15 n 14 (omega arith) ∙ omega arith
 
 -- ---- a sheet without tests
 untested-at : (s : List ℕ) (n t : ℕ) → untested s n ≡ true → t < n → kindByte s t ≡ 10 → ⊥

@@ -85,7 +85,8 @@ module _ (s s′ : List ℕ) (ρ ν : ℕ → ℕ) (L : Leaner s s′ ρ ν) whe
         (eval Y enforce (y .depth) (program s′) q empty (initial y (sizes d)))
     evaluated X Y enforce p q =
         subst (λ (z : Result). ErasesResult ρ ν (eval X false (x .depth) (program s) p empty (initial x (sizes b))) z)
-        (λ i. eval Y enforce (c .same-depth i) (program s′) q empty (budget (c .same-calls i) (c .same-cells i / 8) (c .same-posts i) emptyLog))
+        (λ i. eval Y enforce (c .limits .same-depth i) (program s′) q empty
+        (budget (c .limits .same-calls i) (c .limits .same-cells i / 8) (c .limits .same-posts i) emptyLog))
         (runs-erased ρ ν X Y enforce (x .depth) (L .erases) p q (initial x (sizes b)))
 
     skipped-like : (r r′ : Runner) → ErasesResult ρ ν (evaluation r s skipping (sizes b)) (evaluation r′ s′ y (sizes d))
@@ -102,7 +103,10 @@ module _ (s s′ : List ℕ) (ρ ν : ℕ → ℕ) (L : Leaner s s′ ρ ν) whe
         go : (k : Bool) → x .enforce ≡ k → evaluation (x .runner) s x (sizes b) ≡ evaluation (x .runner) s skipping (sizes b)
         go true h =
             let a = acceptance s n τ N e in
-            let same : Comparable x skipping b b = record { same-start = refl; same-calls = refl; same-depth = refl; same-cells = refl; same-posts = refl } in
+            let same : Comparable x skipping b b = record {
+              same-start = refl;
+              limits = record { same-calls = refl; same-depth = refl; same-cells = refl; same-posts = refl };
+            } in
             removed s (well-formed s (a .readable)) τ N (a .root-type) (a .needs .derivation) x skipping b b same h refl g .same-result
         go false h = λ i. evaluation (x .runner) s
             (record { runner = x .runner; enforce = h i; start = x .start; calls = x .calls; depth = x .depth }) (sizes b)
@@ -110,7 +114,7 @@ module _ (s s′ : List ℕ) (ρ ν : ℕ → ℕ) (L : Leaner s s′ ρ ν) whe
     -- results related by erasure are told alike
     same-counts : (u : Budget) → counts y (sizes d) u ≡ counts x (sizes b) u
     same-counts (budget k m r l) = λ i.
-        record { calls = sym (c .same-calls) i - k; cells = sym (c .same-cells) i / 8 - m; posts = length (l .posts); saturated = l .saturated }
+        record { calls = sym (c .limits .same-calls) i - k; cells = sym (c .limits .same-cells) i / 8 - m; posts = length (l .posts); saturated = l .saturated }
 
     told-like : {f g : Result} → ErasesResult ρ ν f g
         → LikeRun ν

@@ -6,12 +6,12 @@ use mathlib.Core.Path.{_≡_, refl, sym, ap, _∙_, subst}
 use Prim.Native.Nat.{ℕ, zero, suc, _<_, _≤_}
 use native.Mathlib.Omega.{arith}
 use lib.Dec.{leb, ltb, eqb}
-use borrow.Author.Tests.{ltb-true, leb-true, le-ltb, ne-eqb}
+use borrow.Author.Tests.{ltb-true, leb-true, eqb-true, le-ltb, ne-eqb}
 use Rattle.program.specs.Limits.{maxChannels, noGuard}
 use Rattle.program.specs.Bytes.{byte}
 use Rattle.program.specs.Layout.{version, hasGuards, terms, termAt, guardField, guardAt, sheetEnd, channels, guardByte, guardIn, guardOf, root, kindByte, small, first, second, third}
 use Rattle.program.specs.Formats.{Part, unused, channel, Kind, Boolean, Number, Variable, Function, Letrec, Call, If, Check, Enable, Sign, Test, Sum, Difference, Less, Post, kindOf, format}
-use Rattle.program.specs.Terms.{Term, node, treeTo, program, EveryPost, Plain, Unguarded}
+use Rattle.program.specs.Terms.{Term, node, treeTo, program, contains, EveryPost, Plain, Unguarded}
 use Rattle.program.specs.Screening.{lowest}
 use Rattle.program.specs.Decoding.{holds, field, partOk, formatAt, guardOk, guardConditions}
 use Rattle.program.specs.Laws.Readable.{WellFormed}
@@ -45,6 +45,14 @@ guard-low x h p e = go (leb x 31) refl (eqb x noGuard) refl h e
 
 pub guard-below : (s : List ℕ) → WellFormed s → (c : ℕ) → c < maxChannels → (p : ℕ) → guardOf s c ≡ some p → p < 32
 guard-below s w c l p e = guard-low (guardByte s c) (w .guard-ok c l) p e .1
+
+-- a privilege guards a channel exactly if it is the guard byte, since no privilege is the byte for none
+pub guard-contains : (p x : ℕ) → p < 32 → eqb x p ≡ contains p (guardIn x)
+guard-contains p x l = go (eqb x noGuard) refl
+  where
+    go : (z : Bool) → eqb x noGuard ≡ z → eqb x p ≡ contains p (cond z none (some x))
+    go true e = ne-eqb x p (λ q. omega (arith, q, eqb-true x noGuard e))
+    go false e = refl
 
 -- ---- version 1: "Version 1 posts on channel 0 without a guard."
 

@@ -112,7 +112,23 @@ every-here Q (test at p y n) h = h .0
 every-here Q (binary at op a b) h = h .0
 every-here Q (post at ch g c) h = h .0
 
--- and what the tree of each number has, every term of a tree has
+-- ---- what each term has, every term of a tree has
+pub every-any : {Q : Term → Type 0} → ((c : Term) → Q c) → (c : Term) → Every Q c
+every-any q (boolean at b) = q (boolean at b)
+every-any q (number at n) = q (number at n)
+every-any q (variable at i) = q (variable at i)
+every-any q (function at ty body) = (q (function at ty body), every-any q body)
+every-any q (letrec at ty body rest) = (q (letrec at ty body rest), every-any q body, every-any q rest)
+every-any q (call at f a) = (q (call at f a), every-any q f, every-any q a)
+every-any q (if at c y n) = (q (if at c y n), every-any q c, every-any q y, every-any q n)
+every-any q (check at p c) = (q (check at p c), every-any q c)
+every-any q (enable at p c) = (q (enable at p c), every-any q c)
+every-any q (sign at n c) = (q (sign at n c), every-any q c)
+every-any q (test at p y n) = (q (test at p y n), every-any q y, every-any q n)
+every-any q (binary at op a b) = (q (binary at op a b), every-any q a, every-any q b)
+every-any q (post at ch g c) = (q (post at ch g c), every-any q c)
+
+-- it is enough that the trees of the sheet's terms have it
 module _ (s : List ℕ) (w : WellFormed s) (Q : Term → Type 0) (each : (t : ℕ) → t < terms s → Q (tree s t)) where
   node-every : (G : ℕ → Option ℕ) (k : Kind) (t x a b c : ℕ) (f : ℕ → Term) → Below (format k) t a b c → ((y : ℕ) → y < t → Every Q (f y))
       → Q (node G k t x a b c f) → Every Q (node G k t x a b c f)

@@ -12,6 +12,7 @@ use Rattle.program.specs.Formats.{Kind, Boolean, Number, Variable, Function, Le
 use Rattle.program.specs.Terms.{Term, sum, difference, less, post, node, treeTo, program}
 use Rattle.program.specs.Records.{CountsOf, termAtByte, termRecord, authorityRecord, guardRecord}
 use Rattle.program.specs.Decoding.{partOk}
+use Rattle.program.specs.Laws.Kinds.{numbered, kind-number}
 use Rattle.program.specs.Laws.Readable.{WellFormed}
 use Rattle.program.specs.Laws.Guards.{channels-most}
 use Rattle.program.specs.Laws.Records.{term-is, authority-is, guard-is}
@@ -19,42 +20,6 @@ use Rattle.program.specs.Laws.Trees.{parts, Below, below, root-lower}
 use Rattle.program.specs.declared.records.Counts.{Counts}
 use Rattle.machine.specs.Table.{wordKind, wordSmall, wordFirst, wordSecond, wordThird, wordAuthority, wordGuard, Plain, Holds, Decoded}
 use Rattle.refinement.specs.Laws.Relation.{Fixed, wordAt, Stands, on-boolean, on-number, on-variable, on-function, on-letrec, on-call, on-if, on-check, on-enable, on-sign, on-test, on-binary, on-post}
-
--- the numbers of the kinds
-abbrev code : Kind → ℕ
-code Boolean = 0
-code Number = 1
-code Variable = 2
-code Function = 3
-code Letrec = 4
-code Call = 5
-code If = 6
-code Check = 7
-code Enable = 8
-code Sign = 9
-code Test = 10
-code Sum = 11
-code Difference = 12
-code Less = 13
-code Post = 14
-
-code-is : (n : ℕ) → n ≤ 14 → n ≡ code (kindOf n)
-code-is zero h = refl
-code-is (suc zero) h = refl
-code-is (suc (suc zero)) h = refl
-code-is (suc (suc (suc zero))) h = refl
-code-is (suc (suc (suc (suc zero)))) h = refl
-code-is (suc (suc (suc (suc (suc zero))))) h = refl
-code-is (suc (suc (suc (suc (suc (suc zero)))))) h = refl
-code-is (suc (suc (suc (suc (suc (suc (suc zero))))))) h = refl
-code-is (suc (suc (suc (suc (suc (suc (suc (suc zero)))))))) h = refl
-code-is (suc (suc (suc (suc (suc (suc (suc (suc (suc zero))))))))) h = refl
-code-is (suc (suc (suc (suc (suc (suc (suc (suc (suc (suc zero)))))))))) h = refl
-code-is (suc (suc (suc (suc (suc (suc (suc (suc (suc (suc (suc zero))))))))))) h = refl
-code-is (suc (suc (suc (suc (suc (suc (suc (suc (suc (suc (suc (suc zero)))))))))))) h = refl
-code-is (suc (suc (suc (suc (suc (suc (suc (suc (suc (suc (suc (suc (suc zero))))))))))))) h = refl
-code-is (suc (suc (suc (suc (suc (suc (suc (suc (suc (suc (suc (suc (suc (suc zero)))))))))))))) h = refl
-code-is (suc (suc (suc (suc (suc (suc (suc (suc (suc (suc (suc (suc (suc (suc (suc n))))))))))))))) h = absurd (omega arith)
 
 flag-is : (n : ℕ) → n ≤ 1 → ltb 0 n ≡ eqb n 1
 flag-is zero h = refl
@@ -99,7 +64,7 @@ module _ (s : List ℕ) (w : WellFormed s) (c : Counts) (counts-are : CountsOf s
         subst (λ g. Stands run t (post t (wordSmall x) (guardIn g) (sub (wordFirst x)))) (guard-same e (ltb-true (wordSmall x) (channels s) i))
         (on-post e (v .first-below refl) (h _ (v .first-below refl)))
 
-    node-stands : (k : Kind) → wordKind x ≡ code k → StandsBy k (wordSmall x) (wordFirst x) (wordSecond x) (wordThird x)
+    node-stands : (k : Kind) → wordKind x ≡ numbered k → StandsBy k (wordSmall x) (wordFirst x) (wordSecond x) (wordThird x)
     node-stands Boolean e v i = on-boolean e (flag-is (wordSmall x) (leb-true (wordSmall x) 1 i))
     node-stands Number e v i = on-number e
     node-stands Variable e v i = on-variable e
@@ -150,7 +115,7 @@ module _ (s : List ℕ) (w : WellFormed s) (c : Counts) (counts-are : CountsOf s
             let plain : Plain (termRecord s c t .kind) = record { no-sign = λ g. n (sym at ∙ g); no-post = λ g. m (sym at ∙ g) } in
             subst (λ n. StandsBy k (wordSmall x) (wordFirst x) n (third s t)) (hold .second-is plain ∙ (λ i. laid i .second))
             (subst (λ n. StandsBy k (wordSmall x) (wordFirst x) (wordSecond x) n) (hold .third-is plain ∙ (λ i. laid i .third))
-            (node-stands k (kind-same ∙ code-is (kindByte s t) (parts s w t l .kind-ok))))
+            (node-stands k (kind-same ∙ sym (kind-number (kindByte s t) (parts s w t l .kind-ok)))))
 
   tree-stands : (k t : ℕ) → t < terms s → t < k → Stands run t (treeTo s k t)
   tree-stands zero t l h = absurd (omega arith)

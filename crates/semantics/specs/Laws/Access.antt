@@ -8,11 +8,12 @@ use borrow.Author.Tests.{eqb-true}
 use Rattle.privileges.specs.Sets.{has, meet, union, insert}
 use Rattle.privileges.specs.Laws.{has-none, has-meet, has-union, has-insert}
 use Rattle.program.specs.Terms.{Term, sign}
-use Rattle.program.specs.Laws.Trees.{Signed, signed}
+use Rattle.program.specs.Laws.Trees.{every-any, Signed, signed}
 use Rattle.semantics.specs.Values.{Env, Budget}
 use Rattle.semantics.specs.Meaning.{evalWith, eval}
 use Rattle.semantics.specs.Access.{Frame, frame, chk, privs, enableFirst, lazyControl, Rights, rights, addAuthorised, eagerControl}
-use Rattle.semantics.specs.Laws.Agree.{Simulation, agree}
+use Rattle.semantics.specs.Laws.Bodies.{bodies-any}
+use Rattle.semantics.specs.Laws.Agree.{NamesOnly, Simulation, agree}
 
 -- the set that a stack grants has the privileges that it grants
 pub privs-chk : (A : ℕ → ℕ) (fs : List Frame) (p : ℕ) → has p (privs A fs) ≡ chk A fs p
@@ -77,12 +78,16 @@ stands-enable A p r fs h =
           ∙ λ i. chk A (enableFirst p (sym (h .is) i)) q;
     }
 
-pub eager-lazy-simulation : (A : ℕ → ℕ) → Simulation (eagerControl A) (lazyControl A)
+-- of every privilege
+abbrev All : ℕ → Type 0
+All p = Unit {0}
+
+pub eager-lazy-simulation : (A : ℕ → ℕ) → Simulation All (eagerControl A) (lazyControl A)
 eager-lazy-simulation A = record {
   related = λ r fs. Stands A r fs;
   on-sign = λ n r fs h. stands-sign A n r fs (h .same-grants);
   on-enable = λ p r fs h. stands-enable A p r fs h;
-  same-grants = λ r fs h p. h .same-grants p;
+  same-grants = λ r fs h p _. h .same-grants p;
 }
 
 -- At a sign only the granted set matters, so an empty stack is covered too.
@@ -90,5 +95,8 @@ pub eager-lazy : (A : ℕ → ℕ) (enforce : Bool) (depth : ℕ) (c : Term) →
     → (e : Env) (u : Budget) → eval (eagerControl A) enforce depth c r e u ≡ eval (lazyControl A) enforce depth c fs e u
 unfolding eval evalWith eager-lazy-simulation
 eager-lazy A enforce k (sign at n c) signed r fs h e u =
-    agree (eagerControl A) (lazyControl A) (eager-lazy-simulation A) enforce k c (rights n (meet (r .granted) (A n))) (frame n 0 ∷ fs)
-    (stands-sign A n r fs h) e u
+    agree All (eagerControl A) (lazyControl A) (eager-lazy-simulation A) enforce k c (every-any all-named c) (rights n (meet (r .granted) (A n)))
+    (frame n 0 ∷ fs) (stands-sign A n r fs h) e (bodies-any (NamesOnly All) all-named e) u
+  where
+    all-named : (c : Term) → NamesOnly All c
+    all-named c p q = tt

@@ -2,6 +2,7 @@
 use mathlib.Core.Bool.{Bool, true, false}
 use Prim.Native.Nat.{ℕ, zero, suc}
 use Rattle.program.specs.Terms.{Op, sum, difference, less, Term, boolean, number, variable, function, letrec, call, if, check, enable, sign, test, binary, post, Every}
+use Rattle.program.specs.Laws.Trees.{every-any}
 use Rattle.semantics.specs.Values.{Value, bool, num, closure, Env, empty, bind, lookup, entered, Budget, budget, Result, ends, stops}
 use Rattle.semantics.specs.Meaning.{Control, _then_, choose, found, branch, operate, compute, appendPost, postValue, takeCell, beginCall, tooDeep, enter, passes, guardPasses, Application, evalWith, apply, eval}
 
@@ -16,6 +17,17 @@ module _ (Q : Term → Type 0) where
     pub EveryBodyIn : Env → Type 0
     EveryBodyIn empty = Unit {0}
     EveryBodyIn (bind v e) = EveryBody v × EveryBodyIn e
+
+  -- what each term has, all of them have
+  mutual
+    body-any : ((c : Term) → Q c) → (v : Value) → EveryBody v
+    body-any q (bool b) = tt
+    body-any q (num n) = tt
+    body-any q (closure r ty body env) = (every-any q body, bodies-any q env)
+
+    pub bodies-any : ((c : Term) → Q c) → (e : Env) → EveryBodyIn e
+    bodies-any q empty = tt
+    bodies-any q (bind v e) = (body-any q v, bodies-any q e)
 
   -- of the value that a result has
   pub data Bodies : Result → Type 0 where

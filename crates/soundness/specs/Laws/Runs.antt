@@ -23,12 +23,23 @@ use Rattle.semantics.specs.Meaning.{eval}
 use Rattle.semantics.specs.Access.{privs, rights, eagerControl}
 use Rattle.semantics.specs.Runs.{Runner, eager, lazy, Request, Buffers, Sizes, sizes, stack, known, framesOk, runConditions, initial, evaluation, Course, rejected, started, ran, outcome, left, counts, answerOf, inOrder, postsMade, buffersAfter, After}
 use Rattle.semantics.specs.Laws.Access.{privs-chk, eager-lazy}
-use Rattle.soundness.specs.Claims.{GrantsSet, Comparable, postsOf, SameRun, Proper}
+use Rattle.soundness.specs.Claims.{GrantsSet, SameLimits, Comparable, postsOf, SameRun, Proper}
 use Rattle.soundness.specs.Laws.Safety.{Base, Safe, Alike, checks-removed}
 
--- the eager evaluation of a request, with checks in force or passed over
-abbrev eagerly : List ℕ → Request → Sizes → (enforce : Bool) → Result
-eagerly s q z enforce = eval (eagerControl (authority s)) enforce (q .depth) (program s) (rights 0 (privs (authority s) (stack (q .start)))) empty (initial q z)
+-- the eager evaluation of a request, with checks in force or passed over; and from another start
+abbrev pub eagerlyFrom : List ℕ → (start : List ℕ) → Request → Sizes → (enforce : Bool) → Result
+eagerlyFrom s start q z enforce =
+    eval (eagerControl (authority s)) enforce (q .depth) (program s) (rights 0 (privs (authority s) (stack start))) empty (initial q z)
+
+abbrev pub eagerly : List ℕ → Request → Sizes → (enforce : Bool) → Result
+eagerly s q z enforce = eagerlyFrom s (q .start) q z enforce
+
+-- requests with the same limits are evaluated alike from the same start
+pub same-limited : (s : List ℕ) (x y : Request) (b d : Buffers) → SameLimits x y b d → (start : List ℕ) (enforce : Bool)
+    → eagerlyFrom s start x (sizes b) enforce ≡ eagerlyFrom s start y (sizes d) enforce
+same-limited s x y b d c start enforce = λ i.
+    eval (eagerControl (authority s)) enforce (c .same-depth i) (program s) (rights 0 (privs (authority s) (stack start))) empty
+    (budget (c .same-calls i) (c .same-cells i / 8) (c .same-posts i) emptyLog)
 
 -- ---- comparable requests
 module _ (s : List ℕ) (x y : Request) (b d : Buffers) (c : Comparable x y b d) where
@@ -38,14 +49,13 @@ module _ (s : List ℕ) (x y : Request) (b d : Buffers) (c : Comparable x y b d)
   same-conditions f = λ i.
       decodingConditions s
       ++ unless 14 (leb (length (c .same-start i)) maxStart && eqb (length (c .same-start i) % 2) 0 && known (principals s) (stack (c .same-start i)))
-      ∷ unless 15 (leb (c .same-cells i) maxCells && leb (c .same-posts i) maxPosts && f i)
-      ∷ unless 16 (leb (c .same-calls i) maxCalls && leb (c .same-depth i) maxDepth) ∷ []
+      ∷ unless 15 (leb (c .limits .same-cells i) maxCells && leb (c .limits .same-posts i) maxPosts && f i)
+      ∷ unless 16 (leb (c .limits .same-calls i) maxCalls && leb (c .limits .same-depth i) maxDepth) ∷ []
 
   -- and the eager runner evaluates them alike
   pub same-eagerly : (enforce : Bool) → eagerly s x (sizes b) enforce ≡ eagerly s y (sizes d) enforce
-  same-eagerly enforce = λ i.
-      eval (eagerControl (authority s)) enforce (c .same-depth i) (program s) (rights 0 (privs (authority s) (stack (c .same-start i)))) empty
-      (budget (c .same-calls i) (c .same-cells i / 8) (c .same-posts i) emptyLog)
+  same-eagerly enforce =
+      same-limited s x y b d (c .limits) (x .start) enforce ∙ λ i. eagerlyFrom s (c .same-start i) y (sizes d) enforce
 
 -- ---- the same results are told alike
 abbrev whole : (root : ℕ) → Request → Buffers → Course → After
@@ -61,7 +71,7 @@ posts-listed r q b (started x) = go (left x)
         let ps = l .posts in
         ap (λ (n : ℕ). take n (reverse ps ++ drop (length (reverse ps)) (b .posts))) (sym (length-reverse ps)) ∙ take-append-seam (reverse ps) _
 
-pub same-whole : (r : ℕ) (x y : Request) (b d : Buffers) → Comparable x y b d → (f g : Result) → f ≡ g
+pub same-whole : (r : ℕ) (x y : Request) (b d : Buffers) → SameLimits x y b d → (f g : Result) → f ≡ g
     → SameRun (whole r x b (started f)) (whole r y d (started g))
 same-whole r x y b d c f g e = record {
   same-answer = λ i. ran (outcome r (e i)) (same-made (left (e i)) i);

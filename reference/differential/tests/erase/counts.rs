@@ -1,8 +1,7 @@
 //! What has been made lean and run, and what has to be.
 
-use crate::runs::{Told, Way};
 use crate::sentences::{first_alike, is_kept, kept};
-use differential::{Entry, Happened, ANSWER_NUMBERS};
+use differential::{Entry, Happened, Told, Way, ANSWER_NUMBERS};
 use sovzedal_reference::{Accepted, Set, Sheet, Term, TermId, Type, TypeId};
 use std::collections::BTreeSet;
 

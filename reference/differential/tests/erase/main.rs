@@ -10,8 +10,7 @@ mod sentences;
 
 use counts::{Counts, Question};
 use differential::{granting_stack, settings};
-use differential::{Implementation, Library, Reference, Shipped, ANSWER_NUMBERS};
-use runs::{run, Way};
+use differential::{Implementation, Library, Reference, Shipped, Told, Way, ANSWER_NUMBERS};
 use sentences::Pair;
 use sheets::erasable::erasable;
 use sheets::extremes::{deepest, many_checks, most_types, widest};
@@ -245,9 +244,9 @@ fn runs_agree(
         .ok_or("no principal may use what the root, a sign, needs")?;
     let request = Request::random_admissible(rng, start);
     let ways = [Way::random(rng), Way::random(rng)];
-    let told = run(rng, &sample.bytes, &request, ways[0])?;
-    let lean_told = run(rng, lean, &request, ways[1])?;
-    if told.made_lean(old).as_ref() != Some(&lean_told) {
+    let told = Told::of_run(rng, &sample.bytes, &request, ways[0])?;
+    let lean_told = Told::of_run(rng, lean, &request, ways[1])?;
+    if runs::made_lean(&told, old).as_ref() != Some(&lean_told) {
         return Err(format!(
             "runs differ\n{request:?}\n\
              {:?} {told:?}\n\

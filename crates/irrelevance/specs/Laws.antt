@@ -1,0 +1,3 @@
+-- The proofs behind the theorems. Nothing here has to be believed.
+pub mod Naming
+pub mod Runs

@@ -1,0 +1,34 @@
+-- Whether a sheet names a privilege, from any bytes, and with the lowest term that does. 02, W11: "no check, test or guard names p".
+use mathlib.Core.Bool.{not}
+use mathlib.Core.List.{List, [], _∷_, _++_}
+use mathlib.Core.Option.{Option, none, some}
+use Prim.Native.Nat.{ℕ}
+use lib.Dec.{leb}
+use Rattle.program.specs.Layout.{terms}
+use Rattle.program.specs.Screening.{Condition, Screening, clear, found, unless, lowest, screen}
+use Rattle.program.specs.Decoding.{decodingConditions}
+use Rattle.semantics.specs.Names.{names}
+
+pub data Naming : Type 0 where
+  refused : (cause place : ℕ) → Naming
+  unnamed : Naming
+  named : (term : ℕ) → Naming
+
+-- the lowest term that names p
+abbrev pub firstNaming : List ℕ → (p : ℕ) → Option ℕ
+firstNaming s p = lowest (λ t. not (names s p t)) 0 (terms s)
+
+abbrev pub toldOf : Option ℕ → Naming
+toldOf none = unnamed
+toldOf (some t) = named t
+
+-- the decoder's refusals, then 30, "a privilege above 31" (W7)
+abbrev pub namingConditions : List ℕ → (p : ℕ) → List Condition
+namingConditions s p = decodingConditions s ++ unless 30 (leb p 31) ∷ []
+
+abbrev pub unlessFound : Screening → (Unit {0} → Naming) → Naming
+unlessFound clear k = k tt
+unlessFound (found c at) k = refused c at
+
+unfoldable pub naming : List ℕ → (p : ℕ) → Naming
+naming s p = unlessFound (screen (namingConditions s p)) λ _. toldOf (firstNaming s p)

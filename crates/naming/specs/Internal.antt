@@ -1,0 +1,16 @@
+-- What the contracts of internal functions say. No reader of the public promise needs this file.
+use mathlib.Core.List.{List}
+use Prim.Native.Nat.{ℕ, _<_}
+use Rattle.program.specs.Layout.{terms}
+use Rattle.program.specs.declared.records.Counts.{Counts}
+use Rattle.rules.specs.Inference.{Sheet}
+
+-- a readable sheet with its counts, and a privilege
+pub record Asked (s : List ℕ) (c : Counts) (p : ℕ) : Type 0 where
+  pub sheet : Sheet s c
+  pub privilege : p < 32
+
+-- and a term
+pub record AskedTerm (s : List ℕ) (c : Counts) (p t : ℕ) : Type 0 where
+  pub asked : Asked s c p
+  pub inside : t < terms s

@@ -1,0 +1,68 @@
+// Whether a sheet names a privilege in a check, a test or the guard of a post, and where first.
+ghost use mathlib.Core.List.{[], _∷_};
+ghost use mathlib.Core.Path.{_≡_};
+ghost use lib.Dec.{leb};
+ghost use Rattle.program.specs.Screening.{screen, unless};
+ghost use Rattle.rules.specs.Inference.{Sheet};
+ghost use Rattle.semantics.specs.Names.{names as namesOf};
+ghost use Rattle.irrelevance.specs.Naming.{firstNaming, toldOf, unlessFound, naming};
+ghost use Rattle.irrelevance.specs.Answers.{namedModel};
+ghost use Rattle.naming.specs.Internal.{Asked, AskedTerm};
+use accessors::guard;
+use accessors::term;
+use irrelevance::answer::Named;
+use program::answer::Decoded;
+use program::records::Counts;
+
+// Whether the sheet names a privilege, on any bytes and any number: the decoder's refusals, then 30, then the lowest term that names it, or none.
+pub fn names(sheet: &[u8], privilege: u32) -> Named
+    ensures { λ r. ⌜ namedModel r ≡ naming (now (sheet .entry)) privilege ⌝ }
+{
+    let d = decoder::decode(sheet);
+    match d {
+        Decoded::Refused(f) => Named::Unreadable(f),
+        Decoded::Readable(c) => names_readable(sheet, c, privilege),
+    }
+}
+
+// The same of a readable sheet with its counts.
+fn names_readable(s: &[u8], c: Counts, privilege: u32) -> Named
+    requires { ⌜ Sheet (now s) c ⌝ }
+    ensures { λ r. ⌜ namedModel r ≡ unlessFound (screen (unless 30 (leb privilege 31) ∷ [])) (λ _. toldOf (firstNaming (now (s .entry)) privilege)) ⌝ }
+{
+    if 31 < privilege {
+        return Named::NoPrivilege;
+    }
+    first_naming(s, c, privilege as u8)
+}
+
+// The lowest term that names p.
+fn first_naming(s: &[u8], c: Counts, p: u8) -> Named
+    requires { ⌜ Asked (now s) c p ⌝ }
+    ensures { λ r. ⌜ namedModel r ≡ toldOf (firstNaming (now (s .entry)) p) ⌝ }
+{
+    let n = c.terms;
+    let mut t = 0;
+    while t < n {
+        if term_names(s, c, t, p) {
+            return Named::At(t);
+        }
+        t += 1;
+    }
+    Named::Nowhere
+}
+
+// Whether term t names p. An enable does not: it asks nothing.
+fn term_names(s: &[u8], c: Counts, t: u16, p: u8) -> bool
+    requires { ⌜ AskedTerm (now s) c p t ⌝ }
+    ensures { λ r. ⌜ r ≡ namesOf (now (s .entry)) p t ⌝ }
+{
+    let x = term(s, c, t);
+    let kind = x.kind;
+    match kind {
+        7 => x.small == p,
+        10 => x.small == p,
+        14 => guard(s, c, x.small) == p,
+        _ => false,
+    }
+}

@@ -1,0 +1,278 @@
+//! Random sheets with every privilege, and some that there aren't, asked of
+//! the library and of the reference whether the sheet names it: they return
+//! the same, and every number in and around the answer is the same. And W11 on
+//! the library's own answers: a sheet that doesn't name a privilege runs the
+//! same from two starts that differ in it alone.
+
+mod counts;
+mod sentences;
+mod starts;
+
+use counts::{Answered, Counts, Pairs};
+use differential::{settings, Told, Way};
+use differential::{Implementation, Lent, Library, Reference, ANSWER_NUMBERS};
+use sentences::Question;
+use sheets::extremes::{deepest, longest, widest};
+use sheets::generate::{sample, Sample};
+use sheets::quiet::quiet;
+use sheets::request::Request;
+use sheets::rng::Rng;
+use sheets::world::World;
+use sheets::{hex, named};
+use sovzedal_reference::{decode, typecheck, Privilege, Set, Sheet};
+use starts::Pair;
+use std::process::ExitCode;
+use std::time::Instant;
+
+const SHEETS: u64 = 40_000;
+
+const PRIVILEGES: u32 = 32;
+const DONE: u32 = 0;
+
+fn main() -> ExitCode {
+    let begun = Instant::now();
+    let mut counts = Counts::default();
+    if let Err(difference) = compare_made_by_hand(&mut counts) {
+        println!("{difference}");
+        return ExitCode::FAILURE;
+    }
+    let mut sheets = 0;
+    for batch in settings::batches(SHEETS) {
+        let items = batch.items.end - batch.items.start;
+        println!("seed {}, {items} sheets with every privilege", batch.seed);
+        sheets += items;
+        for index in batch.items {
+            // Not the sheets that the other tests have had from this seed.
+            let rng = &mut Rng::for_item(batch.seed.rotate_left(7), index);
+            let (sample, asked) = random_sheet(rng);
+            if let Err(difference) = compare(rng, &sample, asked, &mut counts) {
+                println!("{difference}");
+                println!("sheet {}", hex(&sample.bytes));
+                println!("again with {}", settings::again(batch.seed, index));
+                return ExitCode::FAILURE;
+            }
+        }
+    }
+    println!("{}", counts.happened);
+    let seconds = begun.elapsed().as_secs_f64();
+    println!("{sheets} sheets with every privilege in {seconds:.1} s");
+    print_pairs(&counts);
+    let missing = counts.missing();
+    if settings::are_whole() && !missing.is_empty() {
+        println!("missing: {missing:?}");
+        return ExitCode::FAILURE;
+    }
+    ExitCode::SUCCESS
+}
+
+fn print_pairs(counts: &Counts) {
+    let Pairs {
+        all,
+        differing,
+        enabled,
+        enabled_with_effect,
+    } = counts.pairs;
+    let [checks, tests, guards] = counts.playing_a_part;
+    println!(
+        "{all} pairs of runs, {differing} from starts that differ in the privilege; \
+         of these the sheet enables it in {enabled}, with an effect in {enabled_with_effect}"
+    );
+    println!(
+        "pairs that come out differently: {checks} where checks alone name it, \
+         {tests} where tests alone do, {guards} where guards alone do"
+    );
+}
+
+fn compare_made_by_hand(counts: &mut Counts) -> Result<(), String> {
+    let cases = named::all().into_iter().map(|case| case.sheet);
+    for bytes in cases.chain([deepest(), longest(), widest()]) {
+        let rng = &mut Rng::new(0);
+        let world = World::random(rng);
+        let sample = Sample { bytes, world };
+        compare(rng, &sample, named::ASKED, counts)
+            .map_err(|difference| format!("{difference}\nsheet {}", hex(&sample.bytes)))?;
+    }
+    Ok(())
+}
+
+/// Mostly one that has to do with a privilege and doesn't name it; and which
+/// privilege to try first.
+fn random_sheet(rng: &mut Rng) -> (Sample, u8) {
+    match rng.below(100) {
+        0..65 => quiet(rng),
+        _ => {
+            let sample = sample(rng);
+            let asked = sample.world.random_privilege(rng);
+            (sample, asked)
+        }
+    }
+}
+
+/// Puts all questions about one sheet to both implementations, and runs it
+/// with and without some of the privileges.
+fn compare(rng: &mut Rng, sample: &Sample, asked: u8, counts: &mut Counts) -> Result<(), String> {
+    let bytes = &sample.bytes;
+    let sheet = decode(bytes).ok();
+    let is_accepted = typecheck(bytes).is_ok();
+    let named = (0..PRIVILEGES)
+        .map(|privilege| u32::from(is_named_by_library(bytes, privilege)) << privilege)
+        .sum();
+    let above = random_above(rng, named);
+    for privilege in (0..PRIVILEGES).chain(above) {
+        let length = random_answer_length(rng);
+        let (returned, told) = ask_both(bytes, privilege, Lent::random(rng, length))?;
+        counts.count(&Answered {
+            is_readable: sheet.is_some(),
+            named,
+            privilege,
+            answer: length,
+            returned,
+            cause: told.contents().first().copied().unwrap_or(0),
+        });
+        if let (DONE, Some(sheet)) = (returned, &sheet) {
+            let question = question(sheet, privilege);
+            is_as_said(&question, told.contents())?;
+            counts.count_naming(&question, is_accepted);
+        }
+    }
+    let Some(sheet) = &sheet else {
+        return Ok(());
+    };
+    let runs = Runs {
+        bytes,
+        world: World {
+            principals: sheet.principals.iter().map(|set| set.bits()).collect(),
+            ..sample.world.clone()
+        },
+        is_accepted,
+        named,
+    };
+    let any = rng.below(PRIVILEGES as usize) as u8;
+    for privilege in [asked, asked, sample.world.random_privilege(rng), any] {
+        runs.compare(rng, &question(sheet, privilege.into()), counts)?;
+    }
+    Ok(())
+}
+
+fn question(sheet: &Sheet, privilege: u32) -> Question<'_> {
+    Question {
+        sheet,
+        privilege: Privilege::of_number(privilege).expect("one of those there are"),
+    }
+}
+
+/// Whether the library says so, with an answer that has room.
+fn is_named_by_library(sheet: &[u8], privilege: u32) -> bool {
+    let mut answer = [0; ANSWER_NUMBERS];
+    Library::names(sheet, privilege, &mut answer) == DONE && answer[2] == 1
+}
+
+/// Numbers that no privilege has. Some have a privilege's lowest bits.
+fn random_above(rng: &mut Rng, named: u32) -> [u32; 3] {
+    let one = named.trailing_zeros() % PRIVILEGES;
+    let beyond = rng.pick(&[1 << 5, 1 << 6, 1 << 8, 1 << 16, 1 << 31]);
+    let any = rng.bits().max(PRIVILEGES);
+    [
+        one + beyond,
+        rng.pick(&[32, 33, 63, 64, 255, 256, u32::MAX]),
+        any,
+    ]
+}
+
+/// Mostly just enough; sometimes too short, sometimes with a rest to keep.
+fn random_answer_length(rng: &mut Rng) -> usize {
+    match rng.below(60) {
+        0 => rng.below(ANSWER_NUMBERS),
+        1 => ANSWER_NUMBERS - 1,
+        2..=5 => rng.between(ANSWER_NUMBERS + 1, 2 * ANSWER_NUMBERS),
+        _ => ANSWER_NUMBERS,
+    }
+}
+
+/// Gives what both returned and wrote, or tells how they differ.
+fn ask_both(sheet: &[u8], privilege: u32, lent: Lent<u32>) -> Result<(u32, Lent<u32>), String> {
+    let (mut library, mut reference) = (lent.clone(), lent);
+    let returned = [
+        Library::names(sheet, privilege, library.lent()),
+        Reference::names(sheet, privilege, reference.lent()),
+    ];
+    if returned[0] == returned[1] && library == reference {
+        return Ok((returned[0], library));
+    }
+    Err(format!(
+        "the implementations differ\n\
+         privilege {privilege}\n\
+         library   returns {}, answer {:?}\n\
+         reference returns {}, answer {:?}\n\
+         first difference: {:?}",
+        returned[0],
+        library.contents(),
+        returned[1],
+        reference.contents(),
+        library.first_difference(&reference),
+    ))
+}
+
+/// Whether the library's answer is as W11's words say: yes with the lowest term
+/// that names the privilege, or no.
+fn is_as_said(question: &Question, answer: &[u32]) -> Result<(), String> {
+    let naming = question.naming();
+    let lowest = naming.first().map_or(0, |&(term, _)| u32::from(term));
+    let is_named = u32::from(!naming.is_empty());
+    if answer[..ANSWER_NUMBERS] == [0, 0, is_named, lowest, 0, 0, 0, 0] {
+        return Ok(());
+    }
+    Err(format!(
+        "{:?} is named by {naming:?}, answer {answer:?}",
+        question.privilege
+    ))
+}
+
+/// What is run from two starts.
+struct Runs<'a> {
+    bytes: &'a [u8],
+    world: World,
+    is_accepted: bool,
+    /// The privileges that the library says are named.
+    named: u32,
+}
+
+impl Runs<'_> {
+    /// "two starts whose granted sets differ at most in p, neither of them
+    /// turned back, give the same end or stop, posts and counts under the same
+    /// allowances and buffers, with checks in force", of either runner.
+    fn compare(
+        &self,
+        rng: &mut Rng,
+        question: &Question,
+        counts: &mut Counts,
+    ) -> Result<(), String> {
+        let pair = Pair::random(rng, &self.world, question.privilege);
+        let ways = [Way::in_force(rng), Way::in_force(rng)];
+        let [start, other] = pair.starts.clone();
+        let request = Request::random_admissible(rng, start);
+        let told = Told::of_run(rng, self.bytes, &request, ways[0])?;
+        let request = Request {
+            start: other,
+            ..request
+        };
+        let told_too = Told::of_run(rng, self.bytes, &request, ways[1])?;
+        let is_same = told == told_too;
+        if Set::from_bits(self.named).contains(question.privilege) {
+            if let Some(by) = question.named_alone_by() {
+                counts.count_named_pair(by, is_same);
+            }
+            return Ok(());
+        }
+        if !is_same {
+            return Err(format!(
+                "{:?} isn't named and plays a part\n{pair:?}\n{request:?}\n\
+                 {:?} {told:?}\n\
+                 {:?} {told_too:?}",
+                question.privilege, ways[0], ways[1],
+            ));
+        }
+        counts.count_pair(question, self.is_accepted, &pair, ways, &told);
+        Ok(())
+    }
+}
