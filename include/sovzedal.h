@@ -1,5 +1,6 @@
 /* Sovzedal: rule sheets decoded, type-checked and run, with or without their checks; why a sheet needs a privilege, and whether it names one; the lean
- * form of a sheet; a block of registers for a controller that has sheets run; and four lines on which jobs wait to be run in turn.
+ * form of a sheet; a block of registers for a controller that has sheets run; four lines on which jobs wait to be run in turn; and records of what runs
+ * decide, a unit's held against the office's.
  *
  * For x86-64. Link libsovzedal.a (README.md, "Embed it", has the command that writes it). Of the C library it needs memcpy and memset alone: no heap,
  * no system call, no global state, so that calls on buffers of their own may be made from several threads. A run recurses: SOVZEDAL_STACK bytes of
@@ -8,21 +9,22 @@
  * What the proof assumes of a C caller, for every function here:
  *   - each pointer is valid for as many elements as the length after it says, and is aligned for its type; with a length of 0 nothing is read or
  *     written through it, and it may be null;
- *   - no buffer that a function writes (`answer`, `cells`, `posts`, `frames`, `block`, `lines`, `chain`, `lean`) overlaps another argument, and
- *     nobody else writes to any of them or to `sheet`, `start` and `store` until the call returns;
+ *   - no buffer that a function writes (`answer`, `cells`, `posts`, `frames`, `block`, `lines`, `chain`, `lean`, `record`) overlaps another
+ *     argument, and nobody else writes to any of them or to `sheet`, `start`, `store`, `unit` and `office` until the call returns;
  *   - no length exceeds PTRDIFF_MAX bytes.
  * Under these each function does exactly what is said here, on any contents.
  *
  * Every function returns
  *   SOVZEDAL_OK       0  the sheet is readable, or accepted, or the run ended; or the register was read or written; or the job was added; or the
  *                        privilege is explained, or not needed; or the lean sheet is written; or it is told whether the sheet names the privilege;
+ *                        or two records were compared;
  *   SOVZEDAL_STOPPED  1  the run was stopped, for one of the causes 17 to 22;
- *   SOVZEDAL_REFUSED  2  refused, for one of the causes 1 to 16 and 24 to 33, or 23 for an address: every buffer but `answer` is as it was (but
+ *   SOVZEDAL_REFUSED  2  refused, for one of the causes 1 to 16 and 24 to 34, or 23 for an address: every buffer but `answer` is as it was (but
  *                        `lines` has given up a job that was served);
- *   SOVZEDAL_SHORT    3  `answer` or `chain` has fewer entries than are written, `block` is not of 16 bytes or `lines` not of 102 numbers: nothing was
- *                        done and nothing written anywhere;
+ *   SOVZEDAL_SHORT    3  `answer` or `chain` has fewer entries than are written, `block` is not of 16 bytes or `lines` not of 102 numbers, or `unit`
+ *                        or `office` is longer than SOVZEDAL_MAX_RECORD bytes: nothing was done and nothing written anywhere;
  *   SOVZEDAL_IDLE     4  no line has a job: nothing was done, and every buffer but `answer` is as it was;
- * and writes exactly the first 8 entries of `answer`, sovzedal_lines_serve the first 9:
+ * and writes exactly the first 8 entries of `answer`, sovzedal_lines_serve, sovzedal_record_eager and sovzedal_record_lazy the first 9:
  *
  *   entry   decode, readable   typecheck, accepted   explain, erase   run, ended or stopped    block, accessed     refused   name, SOVZEDAL_AT_..
  *   0       0                  0                     0                0, or the stop's cause   0                   cause     CAUSE
@@ -32,13 +34,15 @@
  *   4       principals         0                     0                calls made               0                   0         CALLS, PRINCIPALS
  *   5       types              0                     0                cells made               0                   0         CELLS, TYPES
  *   6       0                  0                     0                posts made               0                   0         POSTS
- *   7       0                  needs                 0                held results made        0                   0         NEEDS, HELD
+ *   7       0                  needs                 0                results held             0                   0         NEEDS, HELD
  *   8                                                                 the line served ***                          line ***  LINE
  *
  *   *   with 23, as in the column before: whether the interrupt is raised after the access, 0 or 1.
  *   **  of the chain, in terms, or of the lean sheet, in bytes.
  *   *** written by sovzedal_lines_serve alone, also of a job that is refused. All entries are zero of a job added, and all nine with SOVZEDAL_IDLE.
  *   **** by sovzedal_names 1 if the sheet names the privilege, and then entry 3 is the lowest term that does; else 0 in both.
+ *   Entry 8 of a run that records is how many entries were recorded (RECORDED), 0 of a refused one; the first 8 are those of the run without a record.
+ *   Of two records that were compared entry 2 tells whether they fit, 1 or 0, and entry 3 a number of entries (FITS, ENTRIES); the others are zero.
  *
  * Types: 0 is the boolean, 1 the number. Needs are a set of privileges: bit k, worth 2^k, stands for privilege k. docs/REFUSALS.md explains the causes.
  * An entry of a list of posts is channel * 65,536 + number: the lowest 16 bits are the number, and the others the channel, 0 to 15. A sheet of format 1
@@ -61,7 +65,7 @@ extern "C" {
 /* The version of this interface, and the latest format that it reads: sheets of format 1 are read, too. Before version 2 of the interface, lists of posts
  * had entries of 16 bits; before 2.2, entry 7 of a run's answer was zero. */
 #define SOVZEDAL_VERSION_MAJOR 2
-#define SOVZEDAL_VERSION_MINOR 3
+#define SOVZEDAL_VERSION_MINOR 4
 #define SOVZEDAL_FORMAT 2
 
 /* What a function returns. */
@@ -80,10 +84,12 @@ enum {
     SOVZEDAL_AT_TYPE = 2,        /* of the root, or of an end's value: SOVZEDAL_BOOLEAN or SOVZEDAL_NUMBER */
     SOVZEDAL_AT_INTERRUPT = 2,   /* of a block: 1 if its interrupt is raised after the access, else 0 */
     SOVZEDAL_AT_NAMED = 2,       /* 1 if a privilege is named, else 0 */
+    SOVZEDAL_AT_FITS = 2,        /* of two records: 1 if the unit's entries occur in the office's, else 0 */
     SOVZEDAL_AT_VALUE = 3,       /* of a run that ended, or of a register that was read */
     SOVZEDAL_AT_TERMS = 3,       /* of a readable or accepted sheet */
     SOVZEDAL_AT_LENGTH = 3,      /* of a chain, in terms, 0 if the privilege is not needed; of a lean sheet, in bytes */
     SOVZEDAL_AT_TERM = 3,        /* the lowest term that names a privilege, 0 if none does */
+    SOVZEDAL_AT_ENTRIES = 3,     /* of two records: how many are missing, or the first entry up to which they do not occur */
     SOVZEDAL_AT_CALLS = 4,       /* of a run */
     SOVZEDAL_AT_PRINCIPALS = 4,  /* of a readable sheet */
     SOVZEDAL_AT_CELLS = 5,       /* of a run */
@@ -91,7 +97,8 @@ enum {
     SOVZEDAL_AT_POSTS = 6,       /* of a run */
     SOVZEDAL_AT_NEEDS = 7,       /* of an accepted sheet */
     SOVZEDAL_AT_HELD = 7,        /* of a run: its sums and differences that were held at a limit */
-    SOVZEDAL_AT_LINE = 8         /* of a job that was served */
+    SOVZEDAL_AT_LINE = 8,        /* of a job that was served */
+    SOVZEDAL_AT_RECORDED = 8     /* of a run that records: how many entries */
 };
 
 enum {
@@ -102,7 +109,7 @@ enum {
 /* The causes, by the headings of docs/REFUSALS.md. 1 to 8 and 31 are told of a sheet that is not readable, 9 to 13 and 24 to 26 of one that the rules
  * refuse, 14 to 16 of a request to run one; 17 to 22 are stops; 23 is told of an address that a block does not have, 27 to 29 of a job that no line
  * takes, and 28 also of one whose turn comes when its part is no longer in the store; 30 is told of a privilege above 31; 32 is told of a sheet that has
- * no lean form, and 33 of a buffer that is too short for it. */
+ * no lean form, and 33 of a buffer that is too short for it; 34 is told of a record that is none. */
 enum {
     SOVZEDAL_CUT_SHORT = 1,
     SOVZEDAL_WRONG_TAG = 2,
@@ -136,12 +143,14 @@ enum {
     SOVZEDAL_PRIVILEGE = 30,
     SOVZEDAL_GUARD = 31,
     SOVZEDAL_NO_LEAN_FORM = 32,
-    SOVZEDAL_NO_ROOM = 33
+    SOVZEDAL_NO_ROOM = 33,
+    SOVZEDAL_RECORD = 34
 };
 
 enum {
-    SOVZEDAL_ANSWER = 8,         /* entries that are written of `answer`, but by sovzedal_lines_serve */
+    SOVZEDAL_ANSWER = 8,         /* entries that are written of `answer`, but by the functions of the next two */
     SOVZEDAL_LINES_ANSWER = 9,   /* entries that sovzedal_lines_serve writes of `answer` */
+    SOVZEDAL_RECORD_ANSWER = 9,  /* entries that sovzedal_record_eager and sovzedal_record_lazy write of `answer` */
     SOVZEDAL_MAX_SHEET = 10913,  /* bytes of the longest readable sheet */
     SOVZEDAL_MAX_START = 32,     /* numbers of the largest start stack: 16 frames */
     SOVZEDAL_MAX_CALLS = 4096,   /* the largest allowance of calls */
@@ -152,8 +161,13 @@ enum {
     SOVZEDAL_FRAMES = 6496,      /* numbers of a lazy run's frame store, exactly */
     SOVZEDAL_BLOCK = 16,         /* bytes of a register block, exactly */
     SOVZEDAL_LINES = 102,        /* numbers of the lines' state, exactly */
-    SOVZEDAL_CHAIN = 32          /* entries that are written of `chain` */
+    SOVZEDAL_CHAIN = 32,         /* entries that are written of `chain` */
+    SOVZEDAL_ENTRY = 4,          /* bytes of an entry of a record */
+    SOVZEDAL_MAX_DECISIONS = 4195328  /* no run decides more: 4,097 * 1,024 */
 };
+
+/* Bytes of the longest record that is compared. */
+#define SOVZEDAL_MAX_RECORD 4294967295u
 
 /* The registers of a block, by their addresses. CALLS, VALUE, CALLS_MADE and PLACE are pairs: here stands the highest byte, and the lowest follows.
  * Addresses 12 to 15 have no register and read as zero. */
@@ -184,8 +198,8 @@ enum {
  * with a small stack picks `depth` by it; SOVZEDAL_STACK is enough for any call. reference/stack measures what runs use and is held to these. */
 enum {
     SOVZEDAL_STACK_BASE = 45056,
-    SOVZEDAL_STACK_PER_CALL = 4352,
-    SOVZEDAL_STACK = 480256
+    SOVZEDAL_STACK_PER_CALL = 5120,
+    SOVZEDAL_STACK = 557056
 };
 
 /* The heading of a cause in docs/REFUSALS.md; "none" for 0 and "unknown" for a number that is no cause. */
@@ -204,7 +218,8 @@ static inline const char *sovzedal_cause_text(uint32_t cause)
         "no such line", "outside the store", "queue full",
         "no such privilege",
         "guard",
-        "no lean form", "no room"
+        "no lean form", "no room",
+        "record"
     };
     return cause < sizeof texts / sizeof texts[0] ? texts[cause] : "unknown";
 }
@@ -318,6 +333,48 @@ uint32_t sovzedal_run_lazy(const uint8_t *sheet, size_t sheet_len,
                            uint32_t *posts, size_t posts_len,
                            uint32_t *frames, size_t frames_len,
                            uint32_t *answer, size_t answer_len);
+
+/* A run of sovzedal_run_eager that also records each check, test and guard that it decides, in the order met. An entry has SOVZEDAL_ENTRY bytes: the
+ * term, its highest byte first, the privilege, and 1 for yes or 0 for no. A check is decided before its inner term and a guard when the post's number is
+ * worked out; one that is refused is recorded as no, and then the run is stopped by 17. With checks skipped, checks and guards decide nothing and are not
+ * recorded; tests are. The arguments are those of sovzedal_run_eager, and
+ *   record, record_len  the record and its length in bytes, any. Its first bytes are the entries, as many as the answer tells; the others are as they
+ *                       were, a part of an entry at its end among them. A full record takes no more, and the run goes on
+ *   answer, answer_len  the list for the answer and its length in entries, at least 9. The first 8 are those of sovzedal_run_eager, and entry
+ *                       SOVZEDAL_AT_RECORDED tells how many entries the record has
+ * For one sheet, start stack, allowances and lengths of `cells` and `posts`, with checks enforced in both or skipped in both, two runs of either runner
+ * that are not refused decide the same: with equal lengths of `record` the entries are equal, and else those of the shorter are a beginning of the
+ * others. A record that has room for another entry has all of them, and SOVZEDAL_MAX_DECISIONS entries are room for any run.
+ * Refusals: as of sovzedal_run_eager. `record` is as it was, and no entry is told. */
+uint32_t sovzedal_record_eager(const uint8_t *sheet, size_t sheet_len,
+                               const uint32_t *start, size_t start_len,
+                               uint32_t calls, uint32_t depth, uint32_t enforce,
+                               uint8_t *cells, size_t cells_len,
+                               uint32_t *posts, size_t posts_len,
+                               uint8_t *record, size_t record_len,
+                               uint32_t *answer, size_t answer_len);
+
+/* A run of sovzedal_run_lazy with a record, as sovzedal_record_eager is one of sovzedal_run_eager. */
+uint32_t sovzedal_record_lazy(const uint8_t *sheet, size_t sheet_len,
+                              const uint32_t *start, size_t start_len,
+                              uint32_t calls, uint32_t depth, uint32_t enforce,
+                              uint8_t *cells, size_t cells_len,
+                              uint32_t *posts, size_t posts_len,
+                              uint32_t *frames, size_t frames_len,
+                              uint8_t *record, size_t record_len,
+                              uint32_t *answer, size_t answer_len);
+
+/* Holds a unit's record of what its run decided against the office's complete record of the same run: whether the unit's entries occur in the office's in
+ * that order. Others may stand between them, since a unit may drop entries. The entries are those of sovzedal_record_eager.
+ *   unit, unit_len      the unit's record and its length in bytes, at most 4,294,967,295; only read
+ *   office, office_len  the office's record and its length in bytes, at most 4,294,967,295; only read
+ *   answer, answer_len  the list for the answer and its length in entries. Entry SOVZEDAL_AT_FITS is 1 if they occur, and entry SOVZEDAL_AT_ENTRIES then
+ *                       tells how many of the office's entries the unit lacks; else it is 0, and that entry tells the number, counted from 0, of the
+ *                       unit's first entry up to which its entries do not occur
+ * Refusal: 34, of either record with a part of an entry or with a byte above 1 for yes or no; the place is 0. */
+uint32_t sovzedal_compare(const uint8_t *unit, size_t unit_len,
+                          const uint8_t *office, size_t office_len,
+                          uint32_t *answer, size_t answer_len);
 
 /* Reads a register of a block. A new block is SOVZEDAL_BLOCK bytes, all zero; only sovzedal_block_write is to change it, but both functions take any
  * bytes. Reading changes nothing.

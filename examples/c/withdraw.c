@@ -76,9 +76,9 @@ static void print_told(const char *start, const struct told *told)
     } else {
         printf("ended in %" PRIu32, told->answer[SOVZEDAL_AT_VALUE]);
     }
-    printf(", calls %" PRIu32 ", cells %" PRIu32 ", posts %" PRIu32 "\n",
+    printf(", calls %" PRIu32 ", cells %" PRIu32 ", posts %" PRIu32 ", held %" PRIu32 "\n",
            told->answer[SOVZEDAL_AT_CALLS], told->answer[SOVZEDAL_AT_CELLS],
-           told->answer[SOVZEDAL_AT_POSTS]);
+           told->answer[SOVZEDAL_AT_POSTS], told->answer[SOVZEDAL_AT_HELD]);
 }
 
 /* Says how the sheet runs where all that its author may use is granted, and where

@@ -2,6 +2,7 @@
 ghost use mathlib.Core.List.{[]};
 ghost use mathlib.Core.Path.{_≡_};
 ghost use Rattle.semantics.specs.Runs.{eager as eagerRunner, lazy as lazyRunner, run};
+ghost use Rattle.semantics.specs.Recording.{recording};
 ghost use Rattle.interp.specs.Answers.{requestOf, buffersOf};
 ghost use Rattle.replies.specs.Replies.{decodeReply, typecheckReply, replied, called, enforces, left, leftAll};
 ghost use Rattle.lines.specs.Answers.{jobOf};
@@ -10,6 +11,8 @@ ghost use Rattle.capi_explain.specs.Entries.{explainCall, leftExplain};
 ghost use Rattle.capi_lean.specs.Entries.{eraseCall, leftErase};
 ghost use Rattle.irrelevance.specs.Naming.{naming};
 ghost use Rattle.capi_names.specs.Entries.{namesReply};
+ghost use Rattle.capi_compare.specs.Entries.{compareCall};
+ghost use Rattle.capi_record.specs.Entries.{recordCall, leftRecord};
 ghost use Rattle.capi.specs.Blocks.{blockRead, leftBlock, blockWrite};
 
 mod block;
@@ -101,6 +104,70 @@ pub extern "C" fn sovzedal_run_lazy(
         frames,
     );
     put(of_run(r), answer)
+}
+
+// A run that holds the granted set, with a record of what it decides.
+#[no_mangle]
+pub extern "C" fn sovzedal_record_eager(
+    sheet: &[u8],
+    start: &[u32],
+    calls: u32,
+    depth: u32,
+    enforce: u32,
+    cells: &mut [u8],
+    posts: &mut [u32],
+    noted: &mut [u8],
+    answer: &mut [u32],
+) -> u32
+    ensures { λ r. ⌜ leftRecord r (now (answer .exit)) (buffersOf (now (cells .exit)) (now (posts .exit)) []) (now (noted .exit))
+        ≡ recordCall (now (answer .entry)) (buffersOf (now (cells .entry)) (now (posts .entry)) []) (now (noted .entry))
+        (recording (now (sheet .entry)) (requestOf eagerRunner (enforces enforce) (now (start .entry)) calls depth)
+        (buffersOf (now (cells .entry)) (now (posts .entry)) []) (now (noted .entry))) ⌝ }
+{
+    capi_record::eager(
+        sheet,
+        start,
+        calls,
+        depth,
+        enforce,
+        cells,
+        posts,
+        noted,
+        answer,
+    )
+}
+
+// A run that walks the frames of a store of 6,496 numbers, with a record of what it decides.
+#[no_mangle]
+pub extern "C" fn sovzedal_record_lazy(
+    sheet: &[u8],
+    start: &[u32],
+    calls: u32,
+    depth: u32,
+    enforce: u32,
+    cells: &mut [u8],
+    posts: &mut [u32],
+    frames: &mut [u32],
+    noted: &mut [u8],
+    answer: &mut [u32],
+) -> u32
+    ensures { λ r. ⌜ leftRecord r (now (answer .exit)) (buffersOf (now (cells .exit)) (now (posts .exit)) (now (frames .exit))) (now (noted .exit))
+        ≡ recordCall (now (answer .entry)) (buffersOf (now (cells .entry)) (now (posts .entry)) (now (frames .entry))) (now (noted .entry))
+        (recording (now (sheet .entry)) (requestOf lazyRunner (enforces enforce) (now (start .entry)) calls depth)
+        (buffersOf (now (cells .entry)) (now (posts .entry)) (now (frames .entry))) (now (noted .entry))) ⌝ }
+{
+    capi_record::lazy(
+        sheet,
+        start,
+        calls,
+        depth,
+        enforce,
+        cells,
+        posts,
+        frames,
+        noted,
+        answer,
+    )
 }
 
 // A register's byte. The block is a list of 16 bytes.
@@ -209,4 +276,12 @@ pub extern "C" fn sovzedal_names(sheet: &[u8], privilege: u32, answer: &mut [u32
     ensures { λ r. ⌜ left r (now (answer .exit)) ≡ replied (now (answer .entry)) (namesReply (naming (now (sheet .entry)) privilege)) ⌝ }
 {
     capi_names::names(sheet, privilege, answer)
+}
+
+// The unit's record held against the office's.
+#[no_mangle]
+pub extern "C" fn sovzedal_compare(unit: &[u8], office: &[u8], answer: &mut [u32]) -> u32
+    ensures { λ r. ⌜ left r (now (answer .exit)) ≡ compareCall (now (unit .entry)) (now (office .entry)) (now (answer .entry)) ⌝ }
+{
+    capi_compare::compare(unit, office, answer)
 }

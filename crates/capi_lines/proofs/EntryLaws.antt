@@ -3,16 +3,14 @@ use mathlib.Core.Bool.{true, false, cond}
 use mathlib.Core.List.{List, [], _∷_, _++_}
 use mathlib.Core.Path.{_≡_, refl, sym, ap, _∙_}
 use Prim.Native.Nat.{ℕ, _<_, _≤_}
-use native.Mathlib.Omega.{arith}
-use lib.ListN.{length, getD, set, drop}
-use lib.Seq.{drop-cons, set-at}
-use Rattle.semantics.specs.Runs.{Buffers, ground-bool, ground-num, ended, stopped, Answer, refused, ran}
+use lib.ListN.{length, set, drop}
+use Rattle.semantics.specs.Runs.{Buffers}
 use Rattle.interp.specs.Answers.{buffersOf, outcomeModel, countsModel}
 use Rattle.interp.specs.declared.answer.Run.the-variants.{Refused, Ran}
 use Rattle.replies.specs.Replies as replies
-use Rattle.replies.specs.Replies.{unfit, written, left}
+use Rattle.replies.specs.Replies.{unfit, writtenNine, left}
 use Rattle.replies.specs.Internal.{replyOf}
-use Rattle.replies.specs.Laws.{fit, in-place}
+use Rattle.replies.specs.Laws.{fit, in-place, run-eight, in-nine}
 use Rattle.replies.specs.declared.Reply.{Reply}
 use Rattle.lines.specs.Queues as queues
 use Rattle.lines.specs.Queues.{Job, State, addOf, Told, idle, told, serveOf}
@@ -25,7 +23,7 @@ use Rattle.lines.specs.declared.state.Answer as answers
 use Rattle.lines.specs.declared.state.Answer.the-variants.{Idle, Outside, Run}
 use Rattle.lines.specs.declared.state.Served.{Served}
 use Rattle.capi_lines.specs.States.{stateNumbers, stateRead, stateWritten}
-use Rattle.capi_lines.specs.Entries.{addReply, leftAdd, stateAfter, addLeft, linesAdd, serveReply, writtenNine, leftServe, servedState, serveLeft, linesServe}
+use Rattle.capi_lines.specs.Entries.{addReply, leftAdd, stateAfter, addLeft, linesAdd, serveReply, leftServe, servedState, serveLeft, linesServe}
 use Rattle.capi_lines.specs.Internal.{SmallAnswer}
 
 -- ---- the state afterwards, by the case that a match found
@@ -60,15 +58,7 @@ module _ (state answer store : List ℕ) (size : length state ≡ stateNumbers) 
 -- ---- a job is served
 reply-eight : (t : Told) → length (serveReply t .numbers) ≡ 8
 reply-eight idle = refl
-reply-eight (told (refused c p)) = refl
-reply-eight (told (ran (ended (ground-bool b)) k)) = refl
-reply-eight (told (ran (ended (ground-num n)) k)) = refl
-reply-eight (told (ran (stopped c t) k)) = refl
-
--- the ninth number follows the eight
-nine : (numbers answer : List ℕ) (l : ℕ) → length numbers ≡ 8 → 9 ≤ length answer → set (numbers ++ drop 8 answer) 8 l ≡ numbers ++ (l ∷ drop 9 answer)
-nine numbers answer l e h =
-    ap (λ (r : List ℕ). set (numbers ++ r) 8 l) (drop-cons answer 8 0 (omega arith)) ∙ set-at numbers (getD answer 8 0) (drop 9 answer) l 8 e
+reply-eight (told a) = run-eight a
 
 module _ (state answer store : List ℕ) (size : length state ≡ stateNumbers) (room : 9 ≤ length answer) (b : Buffers) (old : Lines)
     (load : linesModel old ≡ stateRead state) (r : Served) {cells posts : List ℕ} (e : servedModel r cells posts ≡ serveOf (linesModel old) store b) where
@@ -83,14 +73,8 @@ module _ (state answer store : List ℕ) (size : length state ≡ stateNumbers) 
       fits : unfit stateNumbers 9 state answer ≡ false
       fits = fit stateNumbers 9 state answer size room
 
-      eight : left status after ≡ written (serveReply (answerModel (r .answer))) answer
-      eight = in-place answer (omega arith) g put
-
       whole : left status (set after 8 (r .line)) ≡ writtenNine (serveReply (answerModel (r .answer))) (r .line) answer
-      whole =
-          (λ i. left (eight i .status) (set (eight i .numbers) 8 (r .line)))
-          ∙ ap (left (serveReply (answerModel (r .answer)) .status))
-          (nine (serveReply (answerModel (r .answer)) .numbers) answer (r .line) (reply-eight (answerModel (r .answer))) room)
+      whole = in-nine answer room (serveReply (answerModel (r .answer))) (reply-eight (answerModel (r .answer))) (r .line) g put
 
 -- the counts of a job's run are those of a run
 module _ (s : State) (store : List ℕ) (b : Buffers) where

@@ -1,11 +1,10 @@
 -- What the entries for the four lines return and write: a status, the numbers of the answer, the state, and for a serve the buffers. 02, W6.
 use mathlib.Core.Bool.{cond}
-use mathlib.Core.List.{List, [], _∷_, _++_}
+use mathlib.Core.List.{List, [], _∷_}
 use Prim.Native.Nat.{ℕ}
-use lib.ListN.{drop}
 use Rattle.program.specs.Screening.{Screening, clear, found}
 use Rattle.semantics.specs.Runs.{Buffers}
-use Rattle.replies.specs.Replies.{Reply, refusal, runReply, unfit, written, notDone, left}
+use Rattle.replies.specs.Replies.{Reply, refusal, runReply, unfit, written, writtenNine, notDone, left}
 use Rattle.lines.specs.Queues.{Job, State, Added, addOf, Told, idle, told, Served, serveOf}
 use Rattle.capi_lines.specs.States.{stateNumbers, stateRead, stateWritten}
 
@@ -44,10 +43,6 @@ abbrev pub serveReply : Told → Reply
 serveReply idle = record { status = 4; numbers = 0 ∷ 0 ∷ 0 ∷ 0 ∷ 0 ∷ 0 ∷ 0 ∷ 0 ∷ [] }
 serveReply (told a) = runReply a
 
--- the ninth number is the line that was served
-abbrev pub writtenNine : Reply → (line : ℕ) (answer : List ℕ) → Reply
-writtenNine r l answer = record { status = r .status; numbers = r .numbers ++ (l ∷ drop 9 answer) }
-
 pub record ServeLeft : Type 0 where
   pub reply : Reply
   pub state : List ℕ
@@ -61,6 +56,7 @@ abbrev pub servedState : Told → (before : List ℕ) → State → List ℕ
 servedState idle before s = before
 servedState (told a) before s = stateWritten s
 
+-- the ninth number is the line that was served
 abbrev pub serveLeft : (state answer : List ℕ) → Served → ServeLeft
 serveLeft state answer r = record {
   reply = writtenNine (serveReply (r .answer)) (r .line) answer;

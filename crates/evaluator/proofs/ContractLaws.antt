@@ -12,38 +12,38 @@ use Rattle.machine.specs.Steps.{callsLeft}
 use Rattle.machine.specs.Store.{Store, Done, storeOf, doneOf, andThen}
 use Rattle.evaluator.specs.Contracts.{namesOf, stateOf, Evaluated}
 
-module _ {run : Store → Done} {n : List ℕ} {c p f : RefT (List ℕ)} where
+module _ {run : Store → Done} {n : List ℕ} {c p f o : RefT (List ℕ)} where
   -- the run ends where it stands
-  pub ends : {w : ℕ} → run (stateOf n c p f) ≡ doneOf w (stateOf n c p f) → Evaluated run n c p f w n c p f
+  pub ends : {w : ℕ} → run (stateOf n c p f o) ≡ doneOf w (stateOf n c p f o) → Evaluated run n c p f o w n c p f o
   ends e = record { done = sym e; calls = le-refl _; names = refl }
 
   -- it ends there, and what was lent meanwhile is as it was
-  pub ends-same : {w : ℕ} {n′ : List ℕ} {c′ p′ f′ : RefT (List ℕ)} → stateOf n′ c′ p′ f′ ≡ stateOf n c p f → namesOf c′ p′ f′ ≡ namesOf c p f
-      → run (stateOf n c p f) ≡ doneOf w (stateOf n c p f) → Evaluated run n c p f w n′ c′ p′ f′
+  pub ends-same : {w : ℕ} {n′ : List ℕ} {c′ p′ f′ o′ : RefT (List ℕ)} → stateOf n′ c′ p′ f′ o′ ≡ stateOf n c p f o → namesOf c′ p′ f′ o′ ≡ namesOf c p f o
+      → run (stateOf n c p f o) ≡ doneOf w (stateOf n c p f o) → Evaluated run n c p f o w n′ c′ p′ f′ o′
   ends-same {w} s k e = record {
     done = ap (λ (st : Store). doneOf w st) s ∙ sym e;
     calls = omega (arith, ap (λ (st : Store). callsLeft (st .n)) s);
     names = k;
   }
 
-  module _ {run₂ : Store → Done} {r : ℕ} {n₁ : List ℕ} {c₁ p₁ f₁ : RefT (List ℕ)} where
+  module _ {run₂ : Store → Done} {r : ℕ} {n₁ : List ℕ} {c₁ p₁ f₁ o₁ : RefT (List ℕ)} where
     -- the run goes on as another one, from a later state
-    pub goes-on : {n₂ : List ℕ} {c₂ p₂ f₂ : RefT (List ℕ)} → run (stateOf n c p f) ≡ run₂ (stateOf n₂ c₂ p₂ f₂) → callsLeft n₂ ≤ callsLeft n → namesOf c₂ p₂ f₂
-        ≡ namesOf c p f
-        → Evaluated run₂ n₂ c₂ p₂ f₂ r n₁ c₁ p₁ f₁ → Evaluated run n c p f r n₁ c₁ p₁ f₁
+    pub goes-on : {n₂ : List ℕ} {c₂ p₂ f₂ o₂ : RefT (List ℕ)} → run (stateOf n c p f o) ≡ run₂ (stateOf n₂ c₂ p₂ f₂ o₂) → callsLeft n₂ ≤ callsLeft n
+        → namesOf c₂ p₂ f₂ o₂ ≡ namesOf c p f o
+        → Evaluated run₂ n₂ c₂ p₂ f₂ o₂ r n₁ c₁ p₁ f₁ o₁ → Evaluated run n c p f o r n₁ c₁ p₁ f₁ o₁
     goes-on e l s h = record { done = h .done ∙ sym e; calls = omega (arith, l, h .calls); names = h .names ∙ s }
 
-    pub goes-on-same : {n₂ : List ℕ} {c₂ p₂ f₂ : RefT (List ℕ)} → stateOf n₂ c₂ p₂ f₂ ≡ stateOf n c p f → namesOf c₂ p₂ f₂ ≡ namesOf c p f
-        → run (stateOf n c p f) ≡ run₂ (stateOf n c p f) → Evaluated run₂ n₂ c₂ p₂ f₂ r n₁ c₁ p₁ f₁ → Evaluated run n c p f r n₁ c₁ p₁ f₁
+    pub goes-on-same : {n₂ : List ℕ} {c₂ p₂ f₂ o₂ : RefT (List ℕ)} → stateOf n₂ c₂ p₂ f₂ o₂ ≡ stateOf n c p f o → namesOf c₂ p₂ f₂ o₂ ≡ namesOf c p f o
+        → run (stateOf n c p f o) ≡ run₂ (stateOf n c p f o) → Evaluated run₂ n₂ c₂ p₂ f₂ o₂ r n₁ c₁ p₁ f₁ o₁ → Evaluated run n c p f o r n₁ c₁ p₁ f₁ o₁
     goes-on-same s k e h = goes-on (e ∙ ap run₂ (sym s)) (omega (arith, ap (λ (st : Store). callsLeft (st .n)) s)) k h
 
-    module _ (k : ℕ → Store → Done) (is : (st : Store) → run st ≡ andThen (run₂ st) k) (h : Evaluated run₂ n c p f r n₁ c₁ p₁ f₁) where
-      pub stays : isStop r ≡ true → Evaluated run n c p f r n₁ c₁ p₁ f₁
+    module _ (k : ℕ → Store → Done) (is : (st : Store) → run st ≡ andThen (run₂ st) k) (h : Evaluated run₂ n c p f o r n₁ c₁ p₁ f₁ o₁) where
+      pub stays : isStop r ≡ true → Evaluated run n c p f o r n₁ c₁ p₁ f₁ o₁
       unfolding andThen
       stays e = record { done = sym (is _ ∙ ap (λ (d : Done). andThen d k) (sym (h .done)) ∙ rw e refl); calls = h .calls; names = h .names }
 
-      pub follows : {r₂ : ℕ} {n₂ : List ℕ} {c₂ p₂ f₂ : RefT (List ℕ)} → isStop r ≡ false → Evaluated (k r) n₁ c₁ p₁ f₁ r₂ n₂ c₂ p₂ f₂
-          → Evaluated run n c p f r₂ n₂ c₂ p₂ f₂
+      pub follows : {r₂ : ℕ} {n₂ : List ℕ} {c₂ p₂ f₂ o₂ : RefT (List ℕ)} → isStop r ≡ false → Evaluated (k r) n₁ c₁ p₁ f₁ o₁ r₂ n₂ c₂ p₂ f₂ o₂
+          → Evaluated run n c p f o r₂ n₂ c₂ p₂ f₂ o₂
       unfolding andThen
       follows e g = record {
         done = g .done ∙ sym (is _ ∙ ap (λ (d : Done). andThen d k) (sym (h .done)) ∙ rw e refl);
@@ -52,21 +52,22 @@ module _ {run : Store → Done} {n : List ℕ} {c p f : RefT (List ℕ)} where
       }
 
 -- the same run on slices that were lent on under other names: they came with the same lists and are back with the same lists
-pub renamed : {run : Store → Done} {r : ℕ} {n n′ : List ℕ} {c p f c′ p′ f′ c₀ p₀ f₀ c₁ p₁ f₁ : RefT (List ℕ)} → stateOf n c₀ p₀ f₀ ≡ stateOf n c p f
-    → stateOf n′ c₁ p₁ f₁ ≡ stateOf n′ c′ p′ f′ → namesOf c₁ p₁ f₁ ≡ namesOf c₀ p₀ f₀ → Evaluated run n c p f r n′ c′ p′ f′
-    → Evaluated run n c₀ p₀ f₀ r n′ c₁ p₁ f₁
+pub renamed : {run : Store → Done} {r : ℕ} {n n′ : List ℕ} {c p f o c′ p′ f′ o′ c₀ p₀ f₀ o₀ c₁ p₁ f₁ o₁ : RefT (List ℕ)}
+    → stateOf n c₀ p₀ f₀ o₀ ≡ stateOf n c p f o
+    → stateOf n′ c₁ p₁ f₁ o₁ ≡ stateOf n′ c′ p′ f′ o′ → namesOf c₁ p₁ f₁ o₁ ≡ namesOf c₀ p₀ f₀ o₀ → Evaluated run n c p f o r n′ c′ p′ f′ o′
+    → Evaluated run n c₀ p₀ f₀ o₀ r n′ c₁ p₁ f₁ o₁
 renamed {run} {r} a b k e = record { done = ap (λ (st : Store). doneOf r st) b ∙ e .done ∙ ap run (sym a); calls = e .calls; names = k }
 
 -- a word that another one is
-pub ends-in : {g w : ℕ} {n : List ℕ} {c p f : RefT (List ℕ)} → w ≡ g → Evaluated (λ st. doneOf g st) n c p f w n c p f
-ends-in {n = n} {c = c} {p = p} {f = f} e = ends (ap (λ (w : ℕ). doneOf w (stateOf n c p f)) (sym e))
+pub ends-in : {g w : ℕ} {n : List ℕ} {c p f o : RefT (List ℕ)} → w ≡ g → Evaluated (λ st. doneOf g st) n c p f o w n c p f o
+ends-in {n = n} {c = c} {p = p} {f = f} {o = o} e = ends (ap (λ (w : ℕ). doneOf w (stateOf n c p f o)) (sym e))
 
 -- a state with one list as it was
-pub same-cells : (n p f : List ℕ) {l l′ : List ℕ} → l′ ≡ l → storeOf n l′ p f ≡ storeOf n l p f
-same-cells n p f e = ap (λ (l : List ℕ). storeOf n l p f) e
+pub same-cells : (n p f o : List ℕ) {l l′ : List ℕ} → l′ ≡ l → storeOf n l′ p f o ≡ storeOf n l p f o
+same-cells n p f o e = ap (λ (l : List ℕ). storeOf n l p f o) e
 
-pub same-frames : (n c p : List ℕ) {l l′ : List ℕ} → l′ ≡ l → storeOf n c p l′ ≡ storeOf n c p l
-same-frames n c p e = ap (λ (l : List ℕ). storeOf n c p l) e
+pub same-posts : (n c f o : List ℕ) {l l′ : List ℕ} → l′ ≡ l → storeOf n c l′ f o ≡ storeOf n c l f o
+same-posts n c f o e = ap (λ (l : List ℕ). storeOf n c l f o) e
 
-pub same-posts : (n c f : List ℕ) {l l′ : List ℕ} → l′ ≡ l → storeOf n c l′ f ≡ storeOf n c l f
-same-posts n c f e = ap (λ (l : List ℕ). storeOf n c l f) e
+pub same-noted : (n c p f : List ℕ) {l l′ : List ℕ} → l′ ≡ l → storeOf n c p f l′ ≡ storeOf n c p f l
+same-noted n c p f e = ap (λ (l : List ℕ). storeOf n c p f l) e

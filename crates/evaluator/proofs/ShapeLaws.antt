@@ -16,12 +16,13 @@ use Rattle.stores.specs.Words.{pick, booleanWord, numberWord, functionWord, sto
 use Rattle.machine.specs.Table.{wordKind, wordSmall, wordFirst, wordSecond, wordThird, wordAuthority, wordGuard}
 use Rattle.stores.specs.Cells.{lookOf, cellSet, madeWith, storeWith, Bound}
 use Rattle.stores.specs.Access.{grantedOf, allowedOf, signAccess, signFrames, enableAccess, enableFrames, enabledNow, restoreFrames}
-use Rattle.machine.specs.Steps.{callsLeft, cellsMade, postsMade, modeOf, saturatedMade, operateSaturates, wrapped, countSaturated, operateCounters, Operated, Guard, postCause, postCounters, Appended}
+use Rattle.machine.specs.Steps.{callsLeft, cellsMade, postsMade, modeOf, saturatedMade, operateSaturates, wrapped, countSaturated, operateCounters, Operated, noteCounters, Guard, guardDecides, postCause, postCounters, Appended}
 use Rattle.machine.specs.Store.{Store, Done, storeOf, doneOf, withFrames, andThen, Runs, Applier, Shape, childless, letrec, call, if, check, enable, sign, test, binary, post, shapeOf, leafOf, hasRoom, ownCell, bound, called, letrecS, callS, branchS, ifS, checkS, testS, signS, restored, enableS, operateDone, binaryS, postDone, postS, byShape, begin, step, below, applyAt, evalAt}
 use Rattle.machine.specs.Lower.{evaluatesFirst, evaluatesSecond, evaluatesThird, readsPrivilege, readsGuard, Lower}
 use Rattle.machine.specs.Enter.{Enterable, goesTo, Enters}
 use Rattle.machine.specs.declared.enter.Entered.{Entered}
 use Rattle.stores.proofs.CellLaws.{bound-room}
+use Rattle.machine.proofs.NoteLaws.{note-others}
 use Rattle.evaluator.specs.Contracts.{Table, Node, Tail, Pair}
 
 module _ (terms : List ℕ) where
@@ -193,23 +194,23 @@ module _ {terms : List ℕ} {t x : ℕ} (k env acc : ℕ) where
         ∙ sym (top N k env acc st ∙ ap (λ (f : Runs). enableS f (wordSmall x) env acc st) (child N k p (first-below N refl p)))
 
 -- ---- a letrec, check, sign or test
-module _ {terms : List ℕ} {t x : ℕ} (T : Tail terms t x) (k env acc : ℕ) {n cells frames n′ cells′ frames′ : List ℕ} {e : Entered}
-    (E : Enters t x env acc n cells frames e n′ cells′ frames′) where
-  tail-is : (posts : List ℕ) → evalAt terms k t env acc (storeOf n cells posts frames)
-      ≡ goesTo e (below terms (applyAt terms k) t) (storeOf n′ cells′ posts frames′)
-  tail-is posts = top (T .node) k env acc (storeOf n cells posts frames) ∙ E .goes (below terms (applyAt terms k) t) (applyAt terms k) posts
+module _ {terms : List ℕ} {t x : ℕ} (T : Tail terms t x) (k env acc : ℕ) {n cells frames noted n′ cells′ frames′ noted′ : List ℕ}
+    {e : Entered} (E : Enters t x env acc n cells frames noted e n′ cells′ frames′ noted′) where
+  tail-is : (posts : List ℕ) → evalAt terms k t env acc (storeOf n cells posts frames noted)
+      ≡ goesTo e (below terms (applyAt terms k) t) (storeOf n′ cells′ posts frames′ noted′)
+  tail-is posts = top (T .node) k env acc (storeOf n cells posts frames noted) ∙ E .goes (below terms (applyAt terms k) t) (applyAt terms k) posts
 
-  pub tail-stops : (posts : List ℕ) → isStop (e .stop) ≡ true → evalAt terms k t env acc (storeOf n cells posts frames)
-      ≡ doneOf (e .stop) (storeOf n′ cells′ posts frames′)
+  pub tail-stops : (posts : List ℕ) → isStop (e .stop) ≡ true → evalAt terms k t env acc (storeOf n cells posts frames noted)
+      ≡ doneOf (e .stop) (storeOf n′ cells′ posts frames′ noted′)
   tail-stops posts h = tail-is posts ∙ rw h refl
 
   pub next-below : e .next < t
   next-below = E .lower t (lower (T .node))
 
   pub tail-goes : (posts : List ℕ) → isStop (e .stop) ≡ false
-      → evalAt terms k t env acc (storeOf n cells posts frames) ≡ evalAt terms k (e .next) (e .env) (e .acc) (storeOf n′ cells′ posts frames′)
+      → evalAt terms k t env acc (storeOf n cells posts frames noted) ≡ evalAt terms k (e .next) (e .env) (e .acc) (storeOf n′ cells′ posts frames′ noted′)
   tail-goes posts h =
-      tail-is posts ∙ rw h refl ∙ (λ i. child (T .node) k {u = e .next} refl next-below i (e .env) (e .acc) (storeOf n′ cells′ posts frames′))
+      tail-is posts ∙ rw h refl ∙ (λ i. child (T .node) k {u = e .next} refl next-below i (e .env) (e .acc) (storeOf n′ cells′ posts frames′ noted′))
 
 -- ---- a call or an operation
 module _ {terms : List ℕ} {t x : ℕ} (P : Pair terms t x) where
@@ -259,11 +260,11 @@ module _ {terms : List ℕ} {t x : ℕ} (P : Pair terms t x) where
   unfolding pairEnd
   pair-applies k acc a b st e z = rw (eq-eqb (wordKind x) 5 (sym e ∙ z)) refl
 
-  pub pair-operates : (k acc a b : ℕ) (cells posts frames : List ℕ) {o w : ℕ} {n n′ : List ℕ} → o ≡ wordKind x → (o ≡ 5 → ⊥) → Operated o t a b n w n′
-      → doneOf w (storeOf n′ cells posts frames) ≡ pairEnd k acc a b (storeOf n cells posts frames)
+  pub pair-operates : (k acc a b : ℕ) (cells posts frames noted : List ℕ) {o w : ℕ} {n n′ : List ℕ} → o ≡ wordKind x → (o ≡ 5 → ⊥) → Operated o t a b n w n′
+      → doneOf w (storeOf n′ cells posts frames noted) ≡ pairEnd k acc a b (storeOf n cells posts frames noted)
   unfolding pairEnd operateDone
-  pair-operates k acc a b c p f e n d =
-      (λ i. doneOf (d .word-is i) (storeOf (d .counters-are i) c p f)) ∙ rw (ne-eqb (wordKind x) 5 (λ z. n (e ∙ z)), ← e) refl
+  pair-operates k acc a b c p f l e n d =
+      (λ i. doneOf (d .word-is i) (storeOf (d .counters-are i) c p f l)) ∙ rw (ne-eqb (wordKind x) 5 (λ z. n (e ∙ z)), ← e) refl
 
 -- ---- a branch, by the condition's word
 pub branch-stuck : (t w : ℕ) (p q : Done) (st : Store) {s r : ℕ} → s ≡ sortOf w → (s ≡ 0 → ⊥) → r ≡ stopWord 18 t → branchS t w p q st ≡ doneOf r st
@@ -313,7 +314,8 @@ module _ (terms : List ℕ) (k t f v acc : ℕ) (st : Store) where
 
         pub apply-runs : {b e o m : ℕ} {l : List ℕ} → Bound (cellsMade (st .n)) v e (st .cells) m l → (m ≡ 0 → ⊥) → b ≡ payloadOf f → e ≡ envOf f → o
             ≡ ownCell st
-            → applyAt terms k t f v acc st ≡ evalAt terms (k - 1) b o acc (storeOf (set (set (st .n) 0 (callsLeft (st .n) - 1)) 1 m) l (st .posts) (st .frames))
+            → applyAt terms k t f v acc st
+            ≡ evalAt terms (k - 1) b o acc (storeOf (set (set (st .n) 0 (callsLeft (st .n) - 1)) 1 m) l (st .posts) (st .frames) (st .noted))
         unfolding begin hasRoom
         apply-runs c n b e o =
             let h = bound-room _ _ _ _ c n in
@@ -340,15 +342,24 @@ operate-calls {k} {a = a} {b = b} {n = n} d = omega (arith, ap (λ (m : List ℕ
     go false = refl
 
 -- ---- a post that is appended, or not
-module _ {t x acc w : ℕ} {n l f n′ l′ f′ : List ℕ} {r : ℕ} (a : Appended t x acc w n l f r n′ l′ f′) where
-  pub post-done : (c : List ℕ) → doneOf r (storeOf n′ c l′ f′) ≡ postDone t x acc w (storeOf n c l f)
+module _ {t x acc w : ℕ} {n l f o n′ l′ f′ o′ : List ℕ} {r : ℕ} (a : Appended t x acc w n l f o r n′ l′ f′ o′) where
+  pub post-done : (c : List ℕ) → doneOf r (storeOf n′ c l′ f′ o′) ≡ postDone t x acc w (storeOf n c l f o)
   unfolding postDone
-  post-done c = λ i. doneOf (a .word-is i) (storeOf (a .counters-are i) c (a .posts-are i) (a .frames-are i))
+  post-done c = λ i. doneOf (a .word-is i) (storeOf (a .counters-are i) c (a .posts-are i) (a .frames-are i) (a .noted-are i))
 
   pub post-calls : callsLeft n′ ≤ callsLeft n
   unfolding postCounters
-  post-calls = omega (arith, ap (λ (m : List ℕ). callsLeft m) (a .counters-are), go (eqb (postCause x acc w n l f) 0))
+  post-calls =
+      omega (
+        arith,
+        ap (λ (m : List ℕ). callsLeft m) (a .counters-are),
+        go (eqb (postCause x acc w n l f) 0),
+        note-others (guardDecides (modeOf n) x w) n o 0 (λ e. omega (arith, e)),
+      )
     where
-      go : (b : Bool) → callsLeft (pick b (set n 2 (postsMade n + 1)) n) ≡ callsLeft n
-      go true = getD-set-other n 2 0 (postsMade n + 1) 0 (λ e. omega (arith, e))
+      noted : List ℕ
+      noted = noteCounters (guardDecides (modeOf n) x w) n o
+
+      go : (b : Bool) → callsLeft (pick b (set noted 2 (postsMade noted + 1)) noted) ≡ callsLeft noted
+      go true = getD-set-other noted 2 0 (postsMade noted + 1) 0 (λ e. omega (arith, e))
       go false = refl

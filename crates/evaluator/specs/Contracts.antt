@@ -40,19 +40,20 @@ pub record Names : Type 0 where
   pub cells : ℕ
   pub posts : ℕ
   pub frames : ℕ
+  pub noted : ℕ
 
-abbrev pub namesOf : (cells posts frames : RefT (List ℕ)) → Names
-namesOf c p f = record { cells = c .name; posts = p .name; frames = f .name }
+abbrev pub namesOf : (cells posts frames noted : RefT (List ℕ)) → Names
+namesOf c p f o = record { cells = c .name; posts = p .name; frames = f .name; noted = o .name }
 
-abbrev pub stateOf : (n : List ℕ) (cells posts frames : RefT (List ℕ)) → Store
-stateOf n c p f = storeOf n (c .now) (p .now) (f .now)
+abbrev pub stateOf : (n : List ℕ) (cells posts frames noted : RefT (List ℕ)) → Store
+stateOf n c p f o = storeOf n (c .now) (p .now) (f .now) (o .now)
 
 -- result, counters and stores are as the interpreter's run gives them, and the calls left did not rise
-pub record Evaluated (run : Store → Done) (n : List ℕ) (cells posts frames : RefT (List ℕ)) (r : ℕ) (n′ : List ℕ)
-    (cells′ posts′ frames′ : RefT (List ℕ)) : Type 0 where
-  pub done : doneOf r (stateOf n′ cells′ posts′ frames′) ≡ run (stateOf n cells posts frames)
+pub record Evaluated (run : Store → Done) (n : List ℕ) (cells posts frames noted : RefT (List ℕ)) (r : ℕ) (n′ : List ℕ)
+    (cells′ posts′ frames′ noted′ : RefT (List ℕ)) : Type 0 where
+  pub done : doneOf r (stateOf n′ cells′ posts′ frames′ noted′) ≡ run (stateOf n cells posts frames noted)
   pub calls : callsLeft n′ ≤ callsLeft n
-  pub names : namesOf cells′ posts′ frames′ ≡ namesOf cells posts frames
+  pub names : namesOf cells′ posts′ frames′ noted′ ≡ namesOf cells posts frames noted
 
 -- What falls at each call of the cycle: a call left is worth more than any term's number, which has 16 bits, and a term's number twice as much as the
 -- step from `eval` to the function of its shape.

@@ -1,4 +1,4 @@
-// The evaluator on lent slices. Each function here keeps one of the three in a local and lends that on, so that the evaluator gets references to
+// The evaluator on lent slices. Each function here keeps one of the four in a local and lends that on, so that the evaluator gets references to
 // slices. A slice that is lent so is spent, and comes back as the result.
 ghost use Rattle.machine.specs.Store.{evalAt};
 ghost use Rattle.evaluator.specs.Contracts.{Table, Evaluated};
@@ -10,7 +10,8 @@ fn lend_cells<'a>(
     cells: &'a mut [u8],
     posts: &mut &mut [u32],
     frames: &mut &mut [u32],
-    n: &mut [usize; 5],
+    noted: &mut &mut [u8],
+    n: &mut [usize; 6],
     t: u16,
     acc: u64,
     depth: usize,
@@ -18,10 +19,10 @@ fn lend_cells<'a>(
 ) -> &'a mut [u8]
     requires { ⌜ Table (now terms) ⌝ }
     ensures { λ r. ⌜ Evaluated (evalAt (now (terms .entry)) depth t 0 acc) (now (n .entry)) (cells .entry) (now (posts .entry)) (now (frames .entry))
-        (now (word .exit)) (now (n .exit)) r (now (posts .exit)) (now (frames .exit)) ⌝ }
+        (now (noted .entry)) (now (word .exit)) (now (n .exit)) r (now (posts .exit)) (now (frames .exit)) (now (noted .exit)) ⌝ }
 {
     let mut slice = cells;
-    *word = eval(terms, &mut slice, posts, frames, n, t, 0, acc, depth);
+    *word = eval(terms, &mut slice, n, t, 0, acc, depth, frames, posts, noted);
     let back = slice;
     back
 }
@@ -31,7 +32,8 @@ fn lend_posts<'a>(
     cells: &mut [u8],
     posts: &'a mut [u32],
     frames: &mut &mut [u32],
-    n: &mut [usize; 5],
+    noted: &mut &mut [u8],
+    n: &mut [usize; 6],
     t: u16,
     acc: u64,
     depth: usize,
@@ -39,10 +41,54 @@ fn lend_posts<'a>(
 ) -> &'a mut [u32]
     requires { ⌜ Table (now terms) ⌝ }
     ensures { λ r. ⌜ Evaluated (evalAt (now (terms .entry)) depth t 0 acc) (now (n .entry)) (cells .entry) (posts .entry) (now (frames .entry))
-        (now (word .exit)) (now (n .exit)) (cells .exit) r (now (frames .exit)) ⌝ }
+        (now (noted .entry)) (now (word .exit)) (now (n .exit)) (cells .exit) r (now (frames .exit)) (now (noted .exit)) ⌝ }
 {
     let mut slice = posts;
-    lend_cells(terms, cells, &mut slice, frames, n, t, acc, depth, word);
+    lend_cells(
+        terms,
+        cells,
+        &mut slice,
+        frames,
+        noted,
+        n,
+        t,
+        acc,
+        depth,
+        word,
+    );
+    let back = slice;
+    back
+}
+
+fn lend_noted<'a>(
+    terms: &[u64; TERM_PLACES],
+    cells: &mut [u8],
+    posts: &mut [u32],
+    frames: &mut &mut [u32],
+    noted: &'a mut [u8],
+    n: &mut [usize; 6],
+    t: u16,
+    acc: u64,
+    depth: usize,
+    word: &mut u64,
+) -> &'a mut [u8]
+    requires { ⌜ Table (now terms) ⌝ }
+    ensures { λ r. ⌜ Evaluated (evalAt (now (terms .entry)) depth t 0 acc) (now (n .entry)) (cells .entry) (posts .entry) (now (frames .entry))
+        (noted .entry) (now (word .exit)) (now (n .exit)) (cells .exit) (posts .exit) (now (frames .exit)) r ⌝ }
+{
+    let mut slice = noted;
+    lend_posts(
+        terms,
+        cells,
+        posts,
+        frames,
+        &mut slice,
+        n,
+        t,
+        acc,
+        depth,
+        word,
+    );
     let back = slice;
     back
 }
@@ -53,18 +99,30 @@ pub fn run<'a>(
     cells: &mut [u8],
     posts: &mut [u32],
     frames: &'a mut [u32],
-    n: &mut [usize; 5],
+    noted: &mut [u8],
+    n: &mut [usize; 6],
     t: u16,
     acc: u64,
     depth: usize,
     word: &mut u64,
 ) -> &'a mut [u32]
     requires { ⌜ Table (now terms) ⌝ }
-    ensures { λ r. ⌜ Evaluated (evalAt (now (terms .entry)) depth t 0 acc) (now (n .entry)) (cells .entry) (posts .entry) (frames .entry) (now (word .exit))
-        (now (n .exit)) (cells .exit) (posts .exit) r ⌝ }
+    ensures { λ r. ⌜ Evaluated (evalAt (now (terms .entry)) depth t 0 acc) (now (n .entry)) (cells .entry) (posts .entry) (frames .entry) (noted .entry)
+        (now (word .exit)) (now (n .exit)) (cells .exit) (posts .exit) r (noted .exit) ⌝ }
 {
     let mut slice = frames;
-    lend_posts(terms, cells, posts, &mut slice, n, t, acc, depth, word);
+    lend_noted(
+        terms,
+        cells,
+        posts,
+        &mut slice,
+        noted,
+        n,
+        t,
+        acc,
+        depth,
+        word,
+    );
     let back = slice;
     back
 }

@@ -1,7 +1,7 @@
 // The evaluator of both runners over the words of a readable sheet's terms: evaluating a term and applying a function call each other. Its contracts
 // speak of the store-level interpreter in machine/specs/Store.antt; the crate `refinement` takes that to the meaning. `n` holds the calls left, the
-// cells made, the posts made, the run's mode and the saturated results. The lent stores are handed on as references to the slices, so that no call copies
-// one.
+// cells made, the posts made, the run's mode, the saturated results and the entries of the record, whose bytes are `noted`. The lent stores are handed on
+// as references to the slices, so that no call copies one. What few terms look at comes last among the parameters: the first six are in registers.
 ghost use Rattle.machine.specs.Store.{if, enable, post, evalAt, applyAt};
 ghost use Rattle.evaluator.specs.Contracts.{Table, Node, Tail, Pair, Evaluated};
 
@@ -28,17 +28,18 @@ use stores::words;
 pub fn eval(
     terms: &[u64; TERM_PLACES],
     cells: &mut &mut [u8],
-    posts: &mut &mut [u32],
-    frames: &mut &mut [u32],
-    n: &mut [usize; 5],
+    n: &mut [usize; 6],
     t: u16,
     env: u16,
     acc: u64,
     depth: usize,
+    frames: &mut &mut [u32],
+    posts: &mut &mut [u32],
+    noted: &mut &mut [u8],
 ) -> u64
     requires { ⌜ Table (now terms) ⌝ }
-    ensures { λ r. ⌜ Evaluated (evalAt (now (terms .entry)) depth t env acc) (now (n .entry)) (now (cells .entry)) (now (posts .entry)) (now (frames .entry)) r
-        (now (n .exit)) (now (cells .exit)) (now (posts .exit)) (now (frames .exit)) ⌝ }
+    ensures { λ r. ⌜ Evaluated (evalAt (now (terms .entry)) depth t env acc) (now (n .entry)) (now (cells .entry)) (now (posts .entry)) (now (frames .entry))
+        (now (noted .entry)) r (now (n .exit)) (now (cells .exit)) (now (posts .exit)) (now (frames .exit)) (now (noted .exit)) ⌝ }
 {
     let x = word_at(terms, t);
     let kind = kind_of(x);
@@ -47,11 +48,11 @@ pub fn eval(
         1 => words::number(first_of(x)),
         2 => look(*cells, t, env, first_of(x)),
         3 => words::function(second_of(x), env),
-        4 | 7 | 9 | 10 => eval_tail(terms, cells, posts, frames, n, t, x, env, acc, depth),
-        5 | 11..=13 => eval_pair(terms, cells, posts, frames, n, t, x, env, acc, depth),
-        6 => eval_if(terms, cells, posts, frames, n, t, x, env, acc, depth),
-        8 => eval_enable(terms, cells, posts, frames, n, t, x, env, acc, depth),
-        _ => eval_post(terms, cells, posts, frames, n, t, x, env, acc, depth),
+        4 | 7 | 9 | 10 => eval_tail(terms, cells, n, t, env, acc, x, depth, frames, posts, noted),
+        5 | 11..=13 => eval_pair(terms, cells, n, t, env, acc, x, depth, frames, posts, noted),
+        6 => eval_if(terms, cells, n, t, env, acc, x, depth, frames, posts, noted),
+        8 => eval_enable(terms, cells, n, t, env, acc, x, depth, frames, posts, noted),
+        _ => eval_post(terms, cells, n, t, env, acc, x, depth, frames, posts, noted),
     }
 }
 
@@ -59,64 +60,89 @@ pub fn eval(
 fn eval_tail(
     terms: &[u64; TERM_PLACES],
     cells: &mut &mut [u8],
-    posts: &mut &mut [u32],
-    frames: &mut &mut [u32],
-    n: &mut [usize; 5],
+    n: &mut [usize; 6],
     t: u16,
-    x: u64,
     env: u16,
     acc: u64,
+    x: u64,
     depth: usize,
+    frames: &mut &mut [u32],
+    posts: &mut &mut [u32],
+    noted: &mut &mut [u8],
 ) -> u64
     requires { ⌜ Tail (now terms) t x ⌝ }
-    ensures { λ r. ⌜ Evaluated (evalAt (now (terms .entry)) depth t env acc) (now (n .entry)) (now (cells .entry)) (now (posts .entry)) (now (frames .entry)) r
-        (now (n .exit)) (now (cells .exit)) (now (posts .exit)) (now (frames .exit)) ⌝ }
+    ensures { λ r. ⌜ Evaluated (evalAt (now (terms .entry)) depth t env acc) (now (n .entry)) (now (cells .entry)) (now (posts .entry)) (now (frames .entry))
+        (now (noted .entry)) r (now (n .exit)) (now (cells .exit)) (now (posts .exit)) (now (frames .exit)) (now (noted .exit)) ⌝ }
 {
-    let e = enter(*cells, *frames, n, t, x, env, acc);
+    let e = enter(*cells, *frames, *noted, n, t, x, env, acc);
     if words::is_stop(e.stop) {
         return e.stop;
     }
-    eval(terms, cells, posts, frames, n, e.next, e.env, e.acc, depth)
+    eval(
+        terms,
+        cells,
+        n,
+        e.next,
+        e.env,
+        e.acc,
+        depth,
+        frames,
+        posts,
+        noted,
+    )
 }
 
 // Two operands, from left to right: function and argument of a call, or two numbers.
 fn eval_pair(
     terms: &[u64; TERM_PLACES],
     cells: &mut &mut [u8],
-    posts: &mut &mut [u32],
-    frames: &mut &mut [u32],
-    n: &mut [usize; 5],
+    n: &mut [usize; 6],
     t: u16,
-    x: u64,
     env: u16,
     acc: u64,
+    x: u64,
     depth: usize,
+    frames: &mut &mut [u32],
+    posts: &mut &mut [u32],
+    noted: &mut &mut [u8],
 ) -> u64
     requires { ⌜ Pair (now terms) t x ⌝ }
-    ensures { λ r. ⌜ Evaluated (evalAt (now (terms .entry)) depth t env acc) (now (n .entry)) (now (cells .entry)) (now (posts .entry)) (now (frames .entry)) r
-        (now (n .exit)) (now (cells .exit)) (now (posts .exit)) (now (frames .exit)) ⌝ }
+    ensures { λ r. ⌜ Evaluated (evalAt (now (terms .entry)) depth t env acc) (now (n .entry)) (now (cells .entry)) (now (posts .entry)) (now (frames .entry))
+        (now (noted .entry)) r (now (n .exit)) (now (cells .exit)) (now (posts .exit)) (now (frames .exit)) (now (noted .exit)) ⌝ }
 {
-    let a = eval(terms, cells, posts, frames, n, first_of(x), env, acc, depth);
+    let a = eval(
+        terms,
+        cells,
+        n,
+        first_of(x),
+        env,
+        acc,
+        depth,
+        frames,
+        posts,
+        noted,
+    );
     if words::is_stop(a) {
         return a;
     }
     let b = eval(
         terms,
         cells,
-        posts,
-        frames,
         n,
         second_of(x),
         env,
         acc,
         depth,
+        frames,
+        posts,
+        noted,
     );
     if words::is_stop(b) {
         return b;
     }
     let kind = kind_of(x);
     if kind == 5 {
-        return apply(terms, cells, posts, frames, n, t, a, b, acc, depth);
+        return apply(terms, cells, n, t, acc, a, b, depth, frames, posts, noted);
     }
     operate(n, kind, t, a, b)
 }
@@ -125,20 +151,32 @@ fn eval_pair(
 fn eval_if(
     terms: &[u64; TERM_PLACES],
     cells: &mut &mut [u8],
-    posts: &mut &mut [u32],
-    frames: &mut &mut [u32],
-    n: &mut [usize; 5],
+    n: &mut [usize; 6],
     t: u16,
-    x: u64,
     env: u16,
     acc: u64,
+    x: u64,
     depth: usize,
+    frames: &mut &mut [u32],
+    posts: &mut &mut [u32],
+    noted: &mut &mut [u8],
 ) -> u64
     requires { ⌜ Node (now terms) t x if ⌝ }
-    ensures { λ r. ⌜ Evaluated (evalAt (now (terms .entry)) depth t env acc) (now (n .entry)) (now (cells .entry)) (now (posts .entry)) (now (frames .entry)) r
-        (now (n .exit)) (now (cells .exit)) (now (posts .exit)) (now (frames .exit)) ⌝ }
+    ensures { λ r. ⌜ Evaluated (evalAt (now (terms .entry)) depth t env acc) (now (n .entry)) (now (cells .entry)) (now (posts .entry)) (now (frames .entry))
+        (now (noted .entry)) r (now (n .exit)) (now (cells .exit)) (now (posts .exit)) (now (frames .exit)) (now (noted .exit)) ⌝ }
 {
-    let b = eval(terms, cells, posts, frames, n, first_of(x), env, acc, depth);
+    let b = eval(
+        terms,
+        cells,
+        n,
+        first_of(x),
+        env,
+        acc,
+        depth,
+        frames,
+        posts,
+        noted,
+    );
     if words::is_stop(b) {
         return b;
     }
@@ -146,25 +184,37 @@ fn eval_if(
         return words::stop(18, t);
     }
     let branch = choose(0 < words::payload(b), second_of(x), third_of(x));
-    eval(terms, cells, posts, frames, n, branch, env, acc, depth)
+    eval(
+        terms,
+        cells,
+        n,
+        branch,
+        env,
+        acc,
+        depth,
+        frames,
+        posts,
+        noted,
+    )
 }
 
 // Enables a privilege while the inner term runs.
 fn eval_enable(
     terms: &[u64; TERM_PLACES],
     cells: &mut &mut [u8],
-    posts: &mut &mut [u32],
-    frames: &mut &mut [u32],
-    n: &mut [usize; 5],
+    n: &mut [usize; 6],
     t: u16,
-    x: u64,
     env: u16,
     acc: u64,
+    x: u64,
     depth: usize,
+    frames: &mut &mut [u32],
+    posts: &mut &mut [u32],
+    noted: &mut &mut [u8],
 ) -> u64
     requires { ⌜ Node (now terms) t x enable ⌝ }
-    ensures { λ r. ⌜ Evaluated (evalAt (now (terms .entry)) depth t env acc) (now (n .entry)) (now (cells .entry)) (now (posts .entry)) (now (frames .entry)) r
-        (now (n .exit)) (now (cells .exit)) (now (posts .exit)) (now (frames .exit)) ⌝ }
+    ensures { λ r. ⌜ Evaluated (evalAt (now (terms .entry)) depth t env acc) (now (n .entry)) (now (cells .entry)) (now (posts .entry)) (now (frames .entry))
+        (now (noted .entry)) r (now (n .exit)) (now (cells .exit)) (now (posts .exit)) (now (frames .exit)) (now (noted .exit)) ⌝ }
 {
     let mode = n[3];
     let old = access::enabled_now(*frames, mode, acc);
@@ -172,13 +222,14 @@ fn eval_enable(
     let w = eval(
         terms,
         cells,
-        posts,
-        frames,
         n,
         first_of(x),
         env,
         inner,
         depth,
+        frames,
+        posts,
+        noted,
     );
     access::restore(*frames, mode, acc, old);
     w
@@ -188,42 +239,56 @@ fn eval_enable(
 fn eval_post(
     terms: &[u64; TERM_PLACES],
     cells: &mut &mut [u8],
-    posts: &mut &mut [u32],
-    frames: &mut &mut [u32],
-    n: &mut [usize; 5],
+    n: &mut [usize; 6],
     t: u16,
-    x: u64,
     env: u16,
     acc: u64,
+    x: u64,
     depth: usize,
+    frames: &mut &mut [u32],
+    posts: &mut &mut [u32],
+    noted: &mut &mut [u8],
 ) -> u64
     requires { ⌜ Node (now terms) t x post ⌝ }
-    ensures { λ r. ⌜ Evaluated (evalAt (now (terms .entry)) depth t env acc) (now (n .entry)) (now (cells .entry)) (now (posts .entry)) (now (frames .entry)) r
-        (now (n .exit)) (now (cells .exit)) (now (posts .exit)) (now (frames .exit)) ⌝ }
+    ensures { λ r. ⌜ Evaluated (evalAt (now (terms .entry)) depth t env acc) (now (n .entry)) (now (cells .entry)) (now (posts .entry)) (now (frames .entry))
+        (now (noted .entry)) r (now (n .exit)) (now (cells .exit)) (now (posts .exit)) (now (frames .exit)) (now (noted .exit)) ⌝ }
 {
-    let w = eval(terms, cells, posts, frames, n, first_of(x), env, acc, depth);
+    let w = eval(
+        terms,
+        cells,
+        n,
+        first_of(x),
+        env,
+        acc,
+        depth,
+        frames,
+        posts,
+        noted,
+    );
     if words::is_stop(w) {
         return w;
     }
-    append(*posts, *frames, n, t, x, acc, w)
+    append(*posts, *frames, *noted, n, t, x, acc, w)
 }
 
 // Applies f to v at the call t: 18, 19, 20, 21, or its body runs in the caller's access, with its argument in a new cell.
 fn apply(
     terms: &[u64; TERM_PLACES],
     cells: &mut &mut [u8],
-    posts: &mut &mut [u32],
-    frames: &mut &mut [u32],
-    n: &mut [usize; 5],
+    n: &mut [usize; 6],
     t: u16,
+    acc: u64,
     f: u64,
     v: u64,
-    acc: u64,
     depth: usize,
+    frames: &mut &mut [u32],
+    posts: &mut &mut [u32],
+    noted: &mut &mut [u8],
 ) -> u64
     requires { ⌜ Table (now terms) ⌝ }
     ensures { λ r. ⌜ Evaluated (applyAt (now (terms .entry)) depth t f v acc) (now (n .entry)) (now (cells .entry)) (now (posts .entry))
-        (now (frames .entry)) r (now (n .exit)) (now (cells .exit)) (now (posts .exit)) (now (frames .exit)) ⌝ }
+        (now (frames .entry)) (now (noted .entry)) r (now (n .exit)) (now (cells .exit)) (now (posts .exit)) (now (frames .exit))
+        (now (noted .exit)) ⌝ }
 {
     if words::sort(f) != 2 {
         return words::stop(18, t);
@@ -244,5 +309,16 @@ fn apply(
     n[1] = made;
     let body = words::payload(f);
     let own = next_cell(k);
-    eval(terms, cells, posts, frames, n, body, own, acc, depth - 1)
+    eval(
+        terms,
+        cells,
+        n,
+        body,
+        own,
+        acc,
+        depth - 1,
+        frames,
+        posts,
+        noted,
+    )
 }

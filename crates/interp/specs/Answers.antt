@@ -5,6 +5,7 @@ use Prim.Native.Nat.{ℕ}
 use Rattle.program.specs.Answers.{decodingCause, decodingPlace}
 use Rattle.semantics.specs.Runs as runs
 use Rattle.semantics.specs.Runs.{Runner, Request, Buffers, Ground, ground-bool, ground-num, ended, stopped, Counts, Answer, refused, ran, After}
+use Rattle.semantics.specs.Recording.{Recorded}
 use Rattle.stores.specs.Stops.{stopCause, stopPlace}
 use Rattle.interp.specs.declared.answer.Refusal.{Refusal}
 use Rattle.interp.specs.declared.answer.Refusal.the-variants.{Unreadable, Start, Buffers as BadBuffers, Allowance}
@@ -15,6 +16,7 @@ use Rattle.interp.specs.declared.answer.Outcome.the-variants.{End, Stop}
 use Rattle.interp.specs.declared.answer.Made.{Made}
 use Rattle.interp.specs.declared.answer.Run.{Run}
 use Rattle.interp.specs.declared.answer.Run.the-variants.{Refused, Ran}
+use Rattle.interp.specs.declared.answer.RecordedRun.{RecordedRun}
 
 -- "14 start stack", "15 buffers", "16 allowance", after the reader's 1 to 8 and 31
 abbrev pub refusalCause : Refusal → ℕ
@@ -56,3 +58,7 @@ buffersOf cells posts frames = record { cells = cells; posts = posts; frames = f
 -- its answer and what the buffers then hold
 abbrev pub after : Run → (cells posts frames : List ℕ) → After
 after r cells posts frames = record { answer = runModel r; buffers = buffersOf cells posts frames }
+
+-- 02, W12: "Its answer is as without a record, with the number of entries beside it"; and what the record then holds
+abbrev pub afterRecording : RecordedRun → (cells posts frames noted : List ℕ) → Recorded
+afterRecording r cells posts frames noted = record { after = after (r .run) cells posts frames; entries = r .entries; trace = noted }

@@ -16,12 +16,15 @@ use Rattle.semantics.specs.Runs.{stack, known, ran, Buffers}
 use Rattle.stores.specs.Words.{outOf}
 use Rattle.machine.specs.Table.{Decoded}
 use Rattle.stores.specs.Cells.{zerosLike}
+use Rattle.machine.specs.Steps.{entriesMade}
 use Rattle.machine.specs.Store.{Done, storeOf, evalAt}
 use Rattle.refinement.specs.Claims.{outcomeOf, countsOf}
 use Rattle.interp.specs.Answers.{refusalCause, refusalPlace, runModel}
 use Rattle.interp.specs.declared.answer.Admission.{Admission}
 use Rattle.interp.specs.declared.answer.Admission.the-variants.{Admitted, Refused}
-use Rattle.interp.specs.declared.answer.Run.{Run}
+use Rattle.interp.specs.declared.answer.Refusal.{Refusal}
+use Rattle.interp.specs.declared.answer.Run.the-variants.{Refused as Rejected}
+use Rattle.interp.specs.declared.answer.RecordedRun.{RecordedRun}
 
 -- ---- the start stack
 -- at most 16 frames, none of them half
@@ -59,18 +62,26 @@ Admits s start cells posts frames calls depth (Admitted c) = Cleared s start cel
 Admits s start cells posts frames calls depth (Refused f) = screen (conditions s start cells posts frames calls depth) ≡ found (refusalCause f) (refusalPlace f)
 
 -- ---- evaluation
--- what the interpreter comes to at the root, with the terms' words in `terms`
-abbrev pub rootDone : (terms : List ℕ) → Counts → (mode acc calls depth : ℕ) → Buffers → Done
-rootDone terms c mode acc calls depth b = evalAt terms depth (c .terms - 1) 0 acc (storeOf (calls ∷ 0 ∷ 0 ∷ mode ∷ 0 ∷ []) (b .cells) (b .posts) (b .frames))
+-- a run that is turned back has no entry
+abbrev pub turnedBack : Refusal → RecordedRun
+turnedBack f = record { run = Rejected f; entries = 0 }
 
--- the answer from what it comes to, and the stores: cells cleared, posts and frames as it leaves them
-pub record Answered (root calls : ℕ) (d : Done) (r : Run) (b : Buffers) : Type 0 where
-  pub answer-is : runModel r ≡ ran (outcomeOf root (outOf (d .out))) (countsOf calls (d .store .n))
+-- what the interpreter comes to at the root, with the terms' words in `terms` and a record lent
+abbrev pub rootDone : (terms : List ℕ) → Counts → (mode acc calls depth : ℕ) → Buffers → (trace : List ℕ) → Done
+rootDone terms c mode acc calls depth b t =
+    evalAt terms depth (c .terms - 1) 0 acc (storeOf (calls ∷ 0 ∷ 0 ∷ mode ∷ 0 ∷ 0 ∷ []) (b .cells) (b .posts) (b .frames) t)
+
+-- the answer from what it comes to, and the stores: cells cleared, posts, frames and record as it leaves them
+pub record Answered (root calls : ℕ) (d : Done) (r : RecordedRun) (b : Buffers) (trace : List ℕ) : Type 0 where
+  pub answer-is : runModel (r .run) ≡ ran (outcomeOf root (outOf (d .out))) (countsOf calls (d .store .n))
+  pub entries-are : r .entries ≡ entriesMade (d .store .n)
   pub cells-are : b .cells ≡ zerosLike (d .store .cells)
   pub posts-are : b .posts ≡ d .store .posts
   pub frames-are : b .frames ≡ d .store .frames
+  pub trace-is : trace ≡ d .store .noted
 
-pub record Evaluated (s : List ℕ) (c : Counts) (mode acc calls depth : ℕ) (b : Buffers) (r : Run) (b′ : Buffers) : Type 0 where
+pub record Evaluated (s : List ℕ) (c : Counts) (mode acc calls depth : ℕ) (b : Buffers) (t : List ℕ) (r : RecordedRun) (b′ : Buffers) (t′ : List ℕ)
+    : Type 0 where
   pub terms : List ℕ
   pub table : Decoded s c terms
-  pub answered : Answered (c .terms - 1) calls (rootDone terms c mode acc calls depth b) r b′
+  pub answered : Answered (c .terms - 1) calls (rootDone terms c mode acc calls depth b t) r b′ t′

@@ -38,3 +38,9 @@ pub enum Run {
     Refused(Refusal),
     Ran { outcome: Outcome, made: Made },
 }
+
+// A run with a record: what it tells without one, and the number of entries.
+pub struct RecordedRun {
+    pub run: Run,
+    pub entries: usize,
+}

@@ -1,16 +1,17 @@
-// The two runners on any bytes, start stack, limits and buffers.
+// The two runners on any bytes, start stack, limits and buffers, each with a record of what it decides or without one.
 ghost use mathlib.Core.Bool.{true};
 ghost use mathlib.Core.List.{[]};
 ghost use mathlib.Core.Path.{_≡_};
 ghost use lib.Dec.{eqb};
 ghost use lib.ListN.{length};
 ghost use Rattle.semantics.specs.Runs.{eager as eagerRunner, lazy as lazyRunner, run};
+ghost use Rattle.semantics.specs.Recording.{recording};
 ghost use Rattle.program.specs.Limits.{frameNumbers};
 ghost use Rattle.program.specs.Records.{CountsOf};
 ghost use Rattle.program.specs.Laws.Readable.{WellFormed};
 ghost use Rattle.refinement.specs.Claims.{outcomeOf};
-ghost use Rattle.interp.specs.Answers.{outcomeModel, requestOf, buffersOf, after};
-ghost use Rattle.interp.specs.Internal.{Cleared, Evaluated};
+ghost use Rattle.interp.specs.Answers.{outcomeModel, requestOf, buffersOf, after, afterRecording};
+ghost use Rattle.interp.specs.Internal.{Cleared, turnedBack, Evaluated};
 
 pub mod admission;
 pub mod answer;
@@ -20,6 +21,8 @@ use admission::admit;
 use answer::Admission;
 use answer::Made;
 use answer::Outcome;
+use answer::RecordedRun;
+use answer::Refusal;
 use answer::Run;
 use machine::table::decode_terms;
 use program::limits::FRAME_NUMBERS;
@@ -48,6 +51,15 @@ fn outcome_of(root: u16, out: Out) -> Outcome
     }
 }
 
+fn turned_back(f: Refusal) -> RecordedRun
+    ensures { λ r. ⌜ r ≡ turnedBack f ⌝ }
+{
+    RecordedRun {
+        run: Run::Refused(f),
+        entries: 0,
+    }
+}
+
 // Decodes the terms, evaluates the root, clears the cells and tells the outcome.
 fn evaluate(
     s: &[u8],
@@ -55,27 +67,29 @@ fn evaluate(
     cells: &mut [u8],
     posts: &mut [u32],
     frames: &mut [u32],
+    noted: &mut [u8],
     mode: usize,
     acc: u64,
     calls: u32,
     depth: u32,
-) -> Run
+) -> RecordedRun
     requires { ⌜ WellFormed (now s) ⌝ }
     requires { ⌜ CountsOf (now s) c ⌝ }
-    ensures { λ r. ⌜ Evaluated (now (s .entry)) c mode acc calls depth (buffersOf (now (cells .entry)) (now (posts .entry)) (now (frames .entry))) r
-        (buffersOf (now (cells .exit)) (now (posts .exit)) (now (frames .exit))) ⌝ }
+    ensures { λ r. ⌜ Evaluated (now (s .entry)) c mode acc calls depth (buffersOf (now (cells .entry)) (now (posts .entry)) (now (frames .entry)))
+        (now (noted .entry)) r (buffersOf (now (cells .exit)) (now (posts .exit)) (now (frames .exit))) (now (noted .exit)) ⌝ }
 {
     let root = c.terms - 1;
     let mut terms = [0; TERM_PLACES];
     decode_terms(s, c, &mut terms);
     let allowed = calls as usize;
-    let mut n = [allowed, 0, 0, mode, 0];
+    let mut n = [allowed, 0, 0, mode, 0, 0];
     let mut word = 0;
     evaluator::entry::run(
         &terms,
         cells,
         posts,
         frames,
+        noted,
         &mut n,
         root,
         acc,
@@ -90,9 +104,13 @@ fn evaluate(
         saturated: n[4],
     };
     let outcome = outcome_of(root, out_of(word));
-    Run::Ran {
+    let run = Run::Ran {
         outcome: outcome,
         made: made,
+    };
+    RecordedRun {
+        run: run,
+        entries: n[5],
     }
 }
 
@@ -106,10 +124,12 @@ fn eager(
     enforce: bool,
     cells: &mut [u8],
     posts: &mut [u32],
-) -> Run
+    noted: &mut [u8],
+) -> RecordedRun
     requires { ⌜ Cleared (now s) (now start) (length (now cells)) (length (now posts)) true calls depth c ⌝ }
-    ensures { λ r. ⌜ after r (now (cells .exit)) (now (posts .exit)) []
-        ≡ run (now (s .entry)) (requestOf eagerRunner enforce (now (start .entry)) calls depth) (buffersOf (now (cells .entry)) (now (posts .entry)) []) ⌝ }
+    ensures { λ r. ⌜ afterRecording r (now (cells .exit)) (now (posts .exit)) [] (now (noted .exit))
+        ≡ recording (now (s .entry)) (requestOf eagerRunner enforce (now (start .entry)) calls depth)
+        (buffersOf (now (cells .entry)) (now (posts .entry)) []) (now (noted .entry)) ⌝ }
 {
     let acc = pair(accessors::authority(s, 0), start_grants(s, start));
     let mut frames = [0; 1];
@@ -119,6 +139,7 @@ fn eager(
         cells,
         posts,
         &mut frames,
+        noted,
         mode_of(false, enforce),
         acc,
         calls,
@@ -137,11 +158,12 @@ fn lazy(
     cells: &mut [u8],
     posts: &mut [u32],
     frames: &mut [u32],
-) -> Run
+    noted: &mut [u8],
+) -> RecordedRun
     requires { ⌜ Cleared (now s) (now start) (length (now cells)) (length (now posts)) (eqb (length (now frames)) frameNumbers) calls depth c ⌝ }
-    ensures { λ r. ⌜ after r (now (cells .exit)) (now (posts .exit)) (now (frames .exit))
-        ≡ run (now (s .entry)) (requestOf lazyRunner enforce (now (start .entry)) calls depth)
-        (buffersOf (now (cells .entry)) (now (posts .entry)) (now (frames .entry))) ⌝ }
+    ensures { λ r. ⌜ afterRecording r (now (cells .exit)) (now (posts .exit)) (now (frames .exit)) (now (noted .exit))
+        ≡ recording (now (s .entry)) (requestOf lazyRunner enforce (now (start .entry)) calls depth)
+        (buffersOf (now (cells .entry)) (now (posts .entry)) (now (frames .entry))) (now (noted .entry)) ⌝ }
 {
     lay_frames(s, start, frames);
     let r = evaluate(
@@ -150,6 +172,7 @@ fn lazy(
         cells,
         posts,
         frames,
+        noted,
         mode_of(true, enforce),
         start.len() as u64,
         calls,
@@ -159,7 +182,81 @@ fn lazy(
     r
 }
 
-// A run that holds the granted set.
+// A run that holds the granted set, and notes what it decides in a record of four bytes an entry.
+pub fn record_eager(
+    sheet: &[u8],
+    start: &[u32],
+    calls: u32,
+    depth: u32,
+    enforce: bool,
+    cells: &mut [u8],
+    posts: &mut [u32],
+    noted: &mut [u8],
+) -> RecordedRun
+    ensures { λ r. ⌜ afterRecording r (now (cells .exit)) (now (posts .exit)) [] (now (noted .exit))
+        ≡ recording (now (sheet .entry)) (requestOf eagerRunner enforce (now (start .entry)) calls depth)
+        (buffersOf (now (cells .entry)) (now (posts .entry)) []) (now (noted .entry)) ⌝ }
+{
+    let a = admit(sheet, start, cells.len(), posts.len(), true, calls, depth);
+    match a {
+        Admission::Refused(f) => turned_back(f),
+        Admission::Admitted(c) => eager(
+            sheet,
+            c,
+            start,
+            calls,
+            depth,
+            enforce,
+            cells,
+            posts,
+            noted,
+        ),
+    }
+}
+
+// A run that walks the frames of a store of 6,496 numbers, and notes what it decides.
+pub fn record_lazy(
+    sheet: &[u8],
+    start: &[u32],
+    calls: u32,
+    depth: u32,
+    enforce: bool,
+    cells: &mut [u8],
+    posts: &mut [u32],
+    frames: &mut [u32],
+    noted: &mut [u8],
+) -> RecordedRun
+    ensures { λ r. ⌜ afterRecording r (now (cells .exit)) (now (posts .exit)) (now (frames .exit)) (now (noted .exit))
+        ≡ recording (now (sheet .entry)) (requestOf lazyRunner enforce (now (start .entry)) calls depth)
+        (buffersOf (now (cells .entry)) (now (posts .entry)) (now (frames .entry))) (now (noted .entry)) ⌝ }
+{
+    let a = admit(
+        sheet,
+        start,
+        cells.len(),
+        posts.len(),
+        frames.len() == FRAME_NUMBERS,
+        calls,
+        depth,
+    );
+    match a {
+        Admission::Refused(f) => turned_back(f),
+        Admission::Admitted(c) => lazy(
+            sheet,
+            c,
+            start,
+            calls,
+            depth,
+            enforce,
+            cells,
+            posts,
+            frames,
+            noted,
+        ),
+    }
+}
+
+// A run that holds the granted set, without a record.
 pub fn run_eager(
     sheet: &[u8],
     start: &[u32],
@@ -172,14 +269,12 @@ pub fn run_eager(
     ensures { λ r. ⌜ after r (now (cells .exit)) (now (posts .exit)) []
         ≡ run (now (sheet .entry)) (requestOf eagerRunner enforce (now (start .entry)) calls depth) (buffersOf (now (cells .entry)) (now (posts .entry)) []) ⌝ }
 {
-    let a = admit(sheet, start, cells.len(), posts.len(), true, calls, depth);
-    match a {
-        Admission::Refused(f) => Run::Refused(f),
-        Admission::Admitted(c) => eager(sheet, c, start, calls, depth, enforce, cells, posts),
-    }
+    let mut none = [0; 0];
+    let r = record_eager(sheet, start, calls, depth, enforce, cells, posts, &mut none);
+    r.run
 }
 
-// A run that walks the frames of a store of 6,496 numbers.
+// A run that walks the frames of a store of 6,496 numbers, without a record.
 pub fn run_lazy(
     sheet: &[u8],
     start: &[u32],
@@ -194,27 +289,17 @@ pub fn run_lazy(
         ≡ run (now (sheet .entry)) (requestOf lazyRunner enforce (now (start .entry)) calls depth)
         (buffersOf (now (cells .entry)) (now (posts .entry)) (now (frames .entry))) ⌝ }
 {
-    let a = admit(
+    let mut none = [0; 0];
+    let r = record_lazy(
         sheet,
         start,
-        cells.len(),
-        posts.len(),
-        frames.len() == FRAME_NUMBERS,
         calls,
         depth,
+        enforce,
+        cells,
+        posts,
+        frames,
+        &mut none,
     );
-    match a {
-        Admission::Refused(f) => Run::Refused(f),
-        Admission::Admitted(c) => lazy(
-            sheet,
-            c,
-            start,
-            calls,
-            depth,
-            enforce,
-            cells,
-            posts,
-            frames,
-        ),
-    }
+    r.run
 }

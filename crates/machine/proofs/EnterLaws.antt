@@ -10,30 +10,35 @@ use lib.ListN.{length, set}
 use lib.Seq.{getD-set-other}
 use borrow.Author.Tests.{lt-ltb, le-ltb}
 use Rattle.machine.specs.declared.enter.Entered.{Entered}
+use Rattle.traces.specs.Traces.{Event}
 use Rattle.stores.specs.Words.{pick, functionWord, stopWord, isStop}
 use Rattle.machine.specs.Table.{wordKind, wordSmall, wordFirst, wordSecond, wordThird, wordAuthority}
 use Rattle.stores.specs.Cells.{cellSet, nextCell, Bound}
-use Rattle.stores.specs.Access.{grantedOf, allowedOf, signAccess, signFrames}
-use Rattle.machine.specs.Steps.{callsLeft, cellsMade, modeOf}
+use Rattle.stores.specs.Access.{enforced, grantedOf, allowedOf, signAccess, signFrames}
+use Rattle.machine.specs.Steps.{callsLeft, cellsMade, modeOf, decisionOf, noteCounters, noteBytes, Noted}
 use Rattle.machine.specs.Store.{Store, Done, storeOf, doneOf, Runs, Applier, Shape, letrec, check, sign, test, shapeOf, hasRoom, letrecS, checkS, testS, signS, byShape}
 use Rattle.machine.specs.Lower.{Lower, readsPrivilege}
 use Rattle.machine.specs.Enter.{Enterable, going, halting, goesTo, Enters}
 use Rattle.stores.proofs.CellLaws.{bound-full, bound-room}
+use Rattle.machine.proofs.NoteLaws.{note-others}
 
 stop-is : (c t : ℕ) → 2 < c → c < 65536 → isStop (stopWord c t) ≡ true
 stop-is c t h l = lt-ltb 2 ((c + 65536 * t) % 65536) (omega arith)
 
-module _ (t x env acc : ℕ) (n cells frames : List ℕ) where
+module _ (t x env acc : ℕ) (n cells frames noted : List ℕ) where
   -- at the shape h, what is entered is what the shape's clause gives
-  entered : {h : Shape} {e : Entered} {n′ cells′ frames′ : List ℕ} → shapeOf (wordKind x) ≡ h
-      → ((ev : ℕ → Runs) (ap : Applier) (posts : List ℕ) → byShape h ev ap t x env acc (storeOf n cells posts frames)
-      ≡ goesTo e ev (storeOf n′ cells′ posts frames′))
-      → callsLeft n′ ≡ callsLeft n → ((b : ℕ) → Lower h b x → e .next < b) → Enters t x env acc n cells frames e n′ cells′ frames′
+  entered : {h : Shape} {e : Entered} {n′ cells′ frames′ noted′ : List ℕ} → shapeOf (wordKind x) ≡ h
+      → ((ev : ℕ → Runs) (ap : Applier) (posts : List ℕ) → byShape h ev ap t x env acc (storeOf n cells posts frames noted)
+      ≡ goesTo e ev (storeOf n′ cells′ posts frames′ noted′))
+      → callsLeft n′ ≡ callsLeft n → ((b : ℕ) → Lower h b x → e .next < b) → Enters t x env acc n cells frames noted e n′ cells′ frames′ noted′
   entered {e = e} s g c l = record {
-    goes = λ ev ap posts. (λ i. byShape (s i) ev ap t x env acc (storeOf n cells posts frames)) ∙ g ev ap posts;
+    goes = λ ev ap posts. (λ i. byShape (s i) ev ap t x env acc (storeOf n cells posts frames noted)) ∙ g ev ap posts;
     calls = c;
     lower = λ b k. l b (subst (λ (h : Shape). Lower h b x) s k);
   }
+
+  calls-stay : {e : Event} {n′ noted′ : List ℕ} → Noted e n noted n′ noted′ → callsLeft n′ ≡ callsLeft n
+  calls-stay d = ap callsLeft (d .counters-are) ∙ note-others true n noted 0 (λ e. omega (arith, e))
 
   module _ {k : ℕ} (kind : k ≡ wordKind x) where
     shape-letrec : k ≡ 4 → shapeOf (wordKind x) ≡ letrec
@@ -41,7 +46,7 @@ module _ (t x env acc : ℕ) (n cells frames : List ℕ) where
     shape-letrec is = ap shapeOf (sym kind ∙ is)
 
     module _ (is : k ≡ 4) {u f m : ℕ} {l : List ℕ} {e : Entered} (third : u ≡ wordThird x) (c : Bound (cellsMade n) f env cells m l) where
-      pub enter-full : {w : ℕ} → m ≡ 0 → w ≡ stopWord 21 t → e ≡ halting w u → Enters t x env acc n cells frames e n l frames
+      pub enter-full : {w : ℕ} → m ≡ 0 → w ≡ stopWord 21 t → e ≡ halting w u → Enters t x env acc n cells frames noted e n l frames noted
       unfolding letrecS hasRoom
       enter-full {w} z q p =
           let h = bound-full _ _ _ _ c z in
@@ -50,7 +55,7 @@ module _ (t x env acc : ℕ) (n cells frames : List ℕ) where
           (λ b k. rw p (omega (arith, third, k .third-lower refl)))
 
       pub enter-cell : {o b : ℕ} → (m ≡ 0 → ⊥) → o ≡ nextCell (cellsMade n) → b ≡ wordSecond x → f ≡ functionWord b o → e ≡ going u o acc
-          → Enters t x env acc n cells frames e (set n 1 m) l frames
+          → Enters t x env acc n cells frames noted e (set n 1 m) l frames noted
       unfolding letrecS hasRoom
       enter-cell z o b f p =
           let h = bound-room _ _ _ _ c z in
@@ -61,33 +66,45 @@ module _ (t x env acc : ℕ) (n cells frames : List ℕ) where
 
     pub enter-sign : {u m a : ℕ} {l : List ℕ} {e : Entered} → k ≡ 9 → u ≡ wordFirst x → m ≡ wordAuthority x → a ≡ signAccess (modeOf n) acc m → l
         ≡ signFrames (modeOf n) acc frames m
-        → e ≡ going u env a → Enters t x env acc n cells frames e n cells l
+        → e ≡ going u env a → Enters t x env acc n cells frames noted e n cells l noted
     unfolding shapeOf signS
     enter-sign is u m a l p =
         entered {h = sign} (ap shapeOf (sym kind ∙ is)) (λ ev ap posts. rw (p, l, a, m, u) refl) refl (λ b k. rw p (omega (arith, u, k .first-lower refl)))
 
-    module _ (is : k ≡ 7) {s u : ℕ} {b : Bool} {l : List ℕ} {e : Entered} (small : s ≡ wordSmall x) (q : b ≡ allowedOf (modeOf n) acc frames s)
-        (same : l ≡ frames) (first : u ≡ wordFirst x) where
-      pub enter-allowed : b ≡ true → e ≡ going u env acc → Enters t x env acc n cells frames e n cells l
-      unfolding shapeOf checkS
-      enter-allowed y p =
-          entered {h = check} (ap shapeOf (sym kind ∙ is)) (λ ev ap posts. rw (p, same, first, ← small, ← q, y) refl) refl
+    -- a check that is passed over, and one that is decided
+    module _ (is : k ≡ 7) {u : ℕ} {b : Bool} {e : Entered} (first : u ≡ wordFirst x) (m : b ≡ enforced (modeOf n)) where
+      pub enter-passed : b ≡ false → e ≡ going u env acc → Enters t x env acc n cells frames noted e n cells frames noted
+      unfolding shapeOf checkS allowedOf noteCounters noteBytes
+      enter-passed y p =
+          entered {h = check} (ap shapeOf (sym kind ∙ is)) (λ ev ap posts. rw (p, first, ← m, y) refl) refl
           (λ b k. rw p (omega (arith, first, k .first-lower refl)))
 
-      pub enter-refused : {w : ℕ} → b ≡ false → w ≡ stopWord 17 t → e ≡ halting w u → Enters t x env acc n cells frames e n cells l
-      unfolding shapeOf checkS
-      enter-refused y w p =
-          entered {h = check} (ap shapeOf (sym kind ∙ is))
-          (λ ev ap posts. rw (p, same, ← small, ← q, y, w, stop-is 17 t (omega arith) (omega arith)) refl) refl
-          (λ b k. rw p (omega (arith, first, k .first-lower refl)))
+      module _ (on : b ≡ true) {s : ℕ} {a : Bool} {n′ l noted′ : List ℕ} (small : s ≡ wordSmall x) (q : a ≡ grantedOf (modeOf n) acc frames s)
+          (same : l ≡ frames) (d : Noted (decisionOf t s a) n noted n′ noted′) where
+        pub enter-allowed : a ≡ true → e ≡ going u env acc → Enters t x env acc n cells frames noted e n′ cells l noted′
+        unfolding shapeOf checkS allowedOf
+        enter-allowed y p =
+            entered {h = check} (ap shapeOf (sym kind ∙ is))
+            (λ ev ap posts. rw (p, same, first, d .counters-are, d .bytes-are, ← small, ← m, on, ← q, y) refl) (calls-stay d)
+            (λ b k. rw p (omega (arith, first, k .first-lower refl)))
 
-    pub enter-test : {s u v o : ℕ} {b : Bool} {l : List ℕ} {e : Entered} → k ≡ 10 → s ≡ wordSmall x → b ≡ grantedOf (modeOf n) acc frames s → l ≡ frames → u
-        ≡ wordFirst x → v ≡ wordSecond x
-        → o ≡ pick b u v → e ≡ going o env acc → Enters t x env acc n cells frames e n cells l
+        pub enter-refused : {w : ℕ} → a ≡ false → w ≡ stopWord 17 t → e ≡ halting w u → Enters t x env acc n cells frames noted e n′ cells l noted′
+        unfolding shapeOf checkS allowedOf
+        enter-refused y w p =
+            entered {h = check} (ap shapeOf (sym kind ∙ is))
+            (λ ev ap posts. rw (p, same, d .counters-are, d .bytes-are, ← small, ← m, on, ← q, y, w, stop-is 17 t (omega arith) (omega arith)) refl)
+            (calls-stay d)
+            (λ b k. rw p (omega (arith, first, k .first-lower refl)))
+
+    pub enter-test : {s u v o : ℕ} {b : Bool} {n′ l noted′ : List ℕ} {e : Entered} → k ≡ 10 → s ≡ wordSmall x → b ≡ grantedOf (modeOf n) acc frames s
+        → l ≡ frames → Noted (decisionOf t s b) n noted n′ noted′ → u ≡ wordFirst x → v ≡ wordSecond x → o ≡ pick b u v → e ≡ going o env acc
+        → Enters t x env acc n cells frames noted e n′ cells l noted′
     unfolding shapeOf testS
-    enter-test {u = u} {v = v} {b = b} is small q same first second o p =
+    enter-test {s = s} {u = u} {v = v} {b = b} {n′ = n′} {noted′ = noted′} is small q same d first second o p =
         entered {h = test} (ap shapeOf (sym kind ∙ is))
-        (λ ev ap posts. rw (p, same, o, ← small, ← q, ← first, ← second) (by b (λ (u : ℕ). ev u env acc (storeOf n cells posts frames)))) refl
+        (λ ev ap posts. rw (p, same, o, d .counters-are, d .bytes-are, ← small, ← q, ← first, ← second)
+        (by b (λ (u : ℕ). ev u env acc (storeOf (noteCounters true n noted) cells posts frames (noteBytes true (decisionOf t s b) n noted)))))
+        (calls-stay d)
         (λ c k. rw (p, o) (least b c (omega (arith, first, k .first-lower refl)) (omega (arith, second, k .second-lower refl))))
       where
         by : (b : Bool) (to : ℕ → Done) → pick b (to u) (to v) ≡ to (pick b u v)

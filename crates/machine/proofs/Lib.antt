@@ -1,3 +1,4 @@
 pub mod EnterLaws
+pub mod NoteLaws
 pub mod StepLaws
 pub mod TableLaws

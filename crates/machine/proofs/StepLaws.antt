@@ -10,9 +10,10 @@ use lib.ListN.{length, set}
 use borrow.Author.Tests.{eq-eqb, ne-eqb, lt-ltb, le-ltb, ltb-true}
 use Rattle.program.specs.Limits.{noGuard}
 use Rattle.stores.specs.Words.{pick, booleanWord, numberWord, stopWord, sortOf, payloadOf}
-use Rattle.stores.specs.Access.{allowedOf}
+use Rattle.stores.specs.Access.{enforced, grantedOf, allowedOf}
 use Rattle.machine.specs.Table.{wordSmall, wordGuard}
-use Rattle.machine.specs.Steps.{postsMade, modeOf, resultOf, operateOf, saturatesOf, operateSaturates, countSaturated, operateCounters, Operated, Guard, guardPassed, causeOf, entryOf, postCause, postWord, postCounters, postList, Appended}
+use Rattle.machine.specs.Steps.{postsMade, modeOf, resultOf, operateOf, saturatesOf, operateSaturates, countSaturated, operateCounters, Operated, decisionOf, noteCounters, noteBytes, Noted, Guard, guardPassed, numberDecides, Guarded, causeOf, entryOf, postCause, postWord, postCounters, postList, Appended}
+use Rattle.machine.proofs.NoteLaws.{note-others}
 
 -- ---- what two numbers give, by the kind
 sum-is : {k : ℕ} (x y : ℕ) → k ≡ 11 → resultOf k x y ≡ numberWord (min (x + y) 65535)
@@ -88,58 +89,103 @@ module _ (k t a b : ℕ) (n : List ℕ) {r : ℕ} where
 pub guard-low : {g y : ℕ} → g ≡ y → (g ≡ noGuard → ⊥) → Guard y → g < 32
 guard-low e n h = omega (arith, e, h (λ z. n (e ∙ z)))
 
-module _ (mode acc : ℕ) (f : List ℕ) {g y : ℕ} (e : g ≡ y) where
-  pub guard-none : g ≡ noGuard → true ≡ guardPassed mode acc f y
-  unfolding guardPassed
-  guard-none n = sym (simp (eq-eqb y noGuard (sym e ∙ n)))
+-- the three ways of a guard: there is none, checks are passed over, or it is decided
+module _ (t x acc : ℕ) (n f noted : List ℕ) {g : ℕ} (e : g ≡ wordGuard x) where
+  pub guard-none : g ≡ noGuard → Guarded t x acc n f noted true n f noted
+  unfolding guardPassed noteCounters noteBytes
+  guard-none h = record {
+    answer-is = sym (simp (eq-eqb (wordGuard x) noGuard (sym e ∙ h)));
+    counters-are = sym (simp (eq-eqb (wordGuard x) noGuard (sym e ∙ h)));
+    frames-are = refl;
+    noted-are = sym (simp (eq-eqb (wordGuard x) noGuard (sym e ∙ h)));
+  }
 
-  pub guard-some : {b : Bool} → (g ≡ noGuard → ⊥) → b ≡ allowedOf mode acc f g → b ≡ guardPassed mode acc f y
-  unfolding guardPassed
-  guard-some n q = q ∙ ap (allowedOf mode acc f) e ∙ sym (simp (ne-eqb y noGuard (λ z. n (e ∙ z))))
+  module _ (some : g ≡ noGuard → ⊥) {b : Bool} (m : b ≡ enforced (modeOf n)) where
+    there-is : eqb (wordGuard x) noGuard ≡ false
+    there-is = ne-eqb (wordGuard x) noGuard (λ z. some (e ∙ z))
 
-cause-low : (a b c : Bool) → causeOf a b c < 256
+    pub guard-passed : b ≡ false → Guarded t x acc n f noted true n f noted
+    unfolding guardPassed allowedOf noteCounters noteBytes
+    guard-passed off = record {
+      answer-is = sym (rw (there-is, ← m, off) refl);
+      counters-are = sym (rw (there-is, ← m, off) refl);
+      frames-are = refl;
+      noted-are = sym (rw (there-is, ← m, off) refl);
+    }
+
+    pub guard-decided : {a : Bool} {n′ f′ noted′ : List ℕ} → b ≡ true → a ≡ grantedOf (modeOf n) acc f g → f′ ≡ f → Noted (decisionOf t g a) n noted n′ noted′
+        → Guarded t x acc n f noted a n′ f′ noted′
+    unfolding guardPassed allowedOf
+    guard-decided on q same d = record {
+      answer-is = q ∙ sym (rw (there-is, ← m, on, e) refl);
+      counters-are = d .counters-are ∙ sym (rw (there-is, ← m, on) refl);
+      frames-are = same;
+      noted-are = d .bytes-are ∙ sym (rw (there-is, ← m, on, ← e, ← q) refl);
+    }
+
+cause-low : (a b : Bool) → causeOf true a b < 256
 unfolding causeOf
-cause-low true true true = omega arith
-cause-low true true false = omega arith
-cause-low true false c = omega arith
-cause-low false b c = omega arith
+cause-low true true = omega arith
+cause-low true false = omega arith
+cause-low false b = omega arith
 
-room-known : (a b c : Bool) → causeOf a b c ≡ 0 → c ≡ true
+room-known : (a b : Bool) → causeOf true a b ≡ 0 → b ≡ true
 unfolding causeOf
-room-known true true true e = refl
-room-known true true false e = absurd (omega (arith, e))
-room-known true false c e = absurd (omega (arith, e))
-room-known false b c e = absurd (omega (arith, e))
+room-known true true e = refl
+room-known true false e = absurd (omega (arith, e))
+room-known false b e = absurd (omega (arith, e))
 
-module _ (a b : Bool) {c : ℕ} where
-  pub cause-byte : (r : Bool) → c ≡ causeOf a b r → c < 256
-  cause-byte r q = omega (arith, q, cause-low a b r)
+module _ (a : Bool) {c : ℕ} where
+  pub cause-byte : (r : Bool) → c ≡ causeOf true a r → c < 256
+  cause-byte r q = omega (arith, q, cause-low a r)
 
-  pub cause-room : (m k : ℕ) → c ≡ causeOf a b (ltb m k) → c ≡ 0 → m < k
-  cause-room m k q e = ltb-true m k (room-known a b (ltb m k) (sym q ∙ e))
+  pub cause-room : (m k : ℕ) → c ≡ causeOf true a (ltb m k) → c ≡ 0 → m < k
+  cause-room m k q e = ltb-true m k (room-known a (ltb m k) (sym q ∙ e))
 
-module _ (t x acc w : ℕ) (n l f : List ℕ) {c s : ℕ} {p : Bool} (e : s ≡ sortOf w) (g : p ≡ guardPassed (modeOf n) acc f (wordGuard x))
-    (q : c ≡ causeOf (eqb s 1) p (ltb (postsMade n) (length l))) where
-  cause-is : c ≡ postCause x acc w n l f
-  unfolding postCause
-  cause-is = q ∙ (λ i. causeOf (eqb (e i) 1) (g i) (ltb (postsMade n) (length l)))
+module _ (t x acc w : ℕ) (n l f noted : List ℕ) {s : ℕ} (e : s ≡ sortOf w) where
+  -- what is no number is stuck, before its guard is looked at
+  pub post-stuck : {r : ℕ} → (s ≡ 1 → ⊥) → r ≡ stopWord 18 t → Appended t x acc w n l f noted r n l f noted
+  unfolding postCause causeOf postWord postCounters postList noteCounters noteBytes
+  post-stuck h r = let q = ne-eqb (sortOf w) 1 (λ z. h (e ∙ z)) in record {
+    word-is = r ∙ sym (rw q refl);
+    counters-are = sym (rw q refl);
+    posts-are = sym (rw q refl);
+    frames-are = refl;
+    noted-are = sym (rw q refl);
+  }
 
-  module _ {f′ : List ℕ} (same : f′ ≡ f) where
-    pub post-stopped : {r : ℕ} → (c ≡ 0 → ⊥) → r ≡ stopWord c t → Appended t x acc w n l f r n l f′
+  module _ (number : s ≡ 1) {b : Bool} {n′ f′ noted′ : List ℕ} (g : Guarded t x acc n f noted b n′ f′ noted′) {c : ℕ}
+      (q : c ≡ causeOf true b (ltb (postsMade n) (length l))) where
+    is-number : eqb (sortOf w) 1 ≡ true
+    is-number = eq-eqb (sortOf w) 1 (sym e ∙ number)
+
+    cause-is : c ≡ postCause x acc w n l f
+    unfolding postCause
+    cause-is = q ∙ (λ i. causeOf (sym is-number i) (g .answer-is i) (ltb (postsMade n) (length l)))
+
+    pub post-stopped : {r : ℕ} → (c ≡ 0 → ⊥) → r ≡ stopWord c t → Appended t x acc w n l f noted r n′ l f′ noted′
     unfolding postWord postCounters postList
     post-stopped h r = record {
       word-is = rw (← cause-is) (r ∙ sym (simp (ne-eqb c 0 h)));
-      counters-are = rw (← cause-is) (simp (ne-eqb c 0 h));
+      counters-are = rw (← cause-is, is-number) (g .counters-are ∙ sym (simp (ne-eqb c 0 h)));
       posts-are = rw (← cause-is) (simp (ne-eqb c 0 h));
-      frames-are = same;
+      frames-are = g .frames-are;
+      noted-are = rw is-number (g .noted-are);
     }
 
     pub post-done : {y : ℕ} → c ≡ 0 → y ≡ entryOf (wordSmall x) (payloadOf w)
-        → Appended t x acc w n l f w (set n 2 (postsMade n + 1)) (set l (postsMade n) y) f′
+        → Appended t x acc w n l f noted w (set n′ 2 (postsMade n + 1)) (set l (postsMade n) y) f′ noted′
     unfolding postWord postCounters postList
     post-done h y = record {
       word-is = rw (← cause-is) (simp (eq-eqb c 0 h));
-      counters-are = rw (← cause-is) (simp (eq-eqb c 0 h));
+      counters-are = rw (← cause-is, is-number) (counted ∙ sym (simp (eq-eqb c 0 h)));
       posts-are = rw (← cause-is) (simp (eq-eqb c 0 h, y));
-      frames-are = same;
+      frames-are = g .frames-are;
+      noted-are = rw is-number (g .noted-are);
     }
+      where
+        after : List ℕ
+        after = noteCounters (numberDecides (modeOf n) x) n noted
+
+        counted : set n′ 2 (postsMade n + 1) ≡ set after 2 (postsMade after + 1)
+        counted = λ i. set (g .counters-are i) 2 (sym (note-others (numberDecides (modeOf n) x) n noted 2 (λ e. omega (arith, e))) i + 1)

@@ -30,8 +30,8 @@ halting w u = record { stop = w; next = u; env = 0; acc = 0 }
 abbrev pub goesTo : Entered → (ℕ → Runs) → Store → Done
 goesTo e ev st = pick (isStop (e .stop)) (doneOf (e .stop) st) (ev (e .next) (e .env) (e .acc) st)
 
-pub record Enters (t x env acc : ℕ) (n cells frames : List ℕ) (e : Entered) (n′ cells′ frames′ : List ℕ) : Type 0 where
+pub record Enters (t x env acc : ℕ) (n cells frames noted : List ℕ) (e : Entered) (n′ cells′ frames′ noted′ : List ℕ) : Type 0 where
   pub goes : (ev : ℕ → Runs) (ap : Applier) (posts : List ℕ)
-      → byShape (shapeOf (wordKind x)) ev ap t x env acc (storeOf n cells posts frames) ≡ goesTo e ev (storeOf n′ cells′ posts frames′)
+      → byShape (shapeOf (wordKind x)) ev ap t x env acc (storeOf n cells posts frames noted) ≡ goesTo e ev (storeOf n′ cells′ posts frames′ noted′)
   pub calls : callsLeft n′ ≡ callsLeft n
   pub lower : (b : ℕ) → Lower (shapeOf (wordKind x)) b x → e .next < b

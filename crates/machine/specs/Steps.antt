@@ -1,13 +1,15 @@
--- What the steps that evaluate no other term give, and the counters of a run: calls left, cells made, posts made, its mode, and the saturated results.
+-- What the steps that evaluate no other term give, and the counters of a run: calls left, cells made, posts made, its mode, the saturated results, and
+-- the entries in its record.
 use mathlib.Core.Bool.{Bool, true, false}
-use mathlib.Core.List.{List}
+use mathlib.Core.List.{List, _++_}
 use mathlib.Core.Path.{_≡_}
-use Prim.Native.Nat.{ℕ, _+_, _-_, _*_, _%_, _<_, min}
+use Prim.Native.Nat.{ℕ, _+_, _-_, _*_, _/_, _%_, _<_, min}
 use lib.Dec.{ltb, eqb}
-use lib.ListN.{length, getD, set}
+use lib.ListN.{length, getD, set, take, drop}
 use Rattle.program.specs.Limits.{noGuard}
+use Rattle.traces.specs.Traces.{Event, eventBytes}
 use Rattle.stores.specs.Words.{pick, booleanWord, numberWord, stopWord, sortOf, payloadOf}
-use Rattle.stores.specs.Access.{allowedOf}
+use Rattle.stores.specs.Access.{enforced, grantedOf, allowedOf}
 use Rattle.machine.specs.Table.{wordSmall, wordGuard}
 
 abbrev pub callsLeft : (counters : List ℕ) → ℕ
@@ -24,6 +26,9 @@ modeOf n = getD n 3 0
 
 abbrev pub saturatedMade : (counters : List ℕ) → ℕ
 saturatedMade n = getD n 4 0
+
+abbrev pub entriesMade : (counters : List ℕ) → ℕ
+entriesMade n = getD n 5 0
 
 -- sum, difference, less
 unfoldable pub resultOf : (kind a b : ℕ) → ℕ
@@ -54,6 +59,31 @@ pub record Operated (kind t a b : ℕ) (n : List ℕ) (r : ℕ) (n′ : List ℕ
   pub word-is : r ≡ operateOf kind t a b
   pub counters-are : n′ ≡ operateCounters kind a b n
 
+-- ---- the record of a run, 02, W12: "each check, test and guard they decide as term, privilege and yes or no"
+
+abbrev pub decisionOf : (t p : ℕ) (answer : Bool) → Event
+decisionOf t p b = record { term = t; privilege = p; decided = b }
+
+-- the bytes at a place and behind it are these
+abbrev pub overwrite : (at : ℕ) (bytes l : List ℕ) → List ℕ
+overwrite i b l = take i l ++ b ++ drop (i + length b) l
+
+-- whether an entry is made: something is decided, and "a full record takes no more"
+abbrev pub makesEntry : (decides : Bool) (counters noted : List ℕ) → Bool
+makesEntry d n l = pick d (ltb (entriesMade n) (length l / 4)) false
+
+unfoldable pub noteCounters : (decides : Bool) (counters noted : List ℕ) → List ℕ
+noteCounters d n l = pick (makesEntry d n l) (set n 5 (entriesMade n + 1)) n
+
+unfoldable pub noteBytes : (decides : Bool) → Event → (counters noted : List ℕ) → List ℕ
+noteBytes d e n l = pick (makesEntry d n l) (overwrite (4 * entriesMade n) (eventBytes e) l) l
+
+pub record Noted (e : Event) (n l n′ l′ : List ℕ) : Type 0 where
+  pub counters-are : n′ ≡ noteCounters true n l
+  pub bytes-are : l′ ≡ noteBytes true e n l
+
+-- ---- a post
+
 -- 02, W8: "a privilege 0 to 31, or 255 for none"
 abbrev pub Guard : (guard : ℕ) → Type 0
 Guard g = (g ≡ noGuard → ⊥) → g < 32
@@ -61,6 +91,24 @@ Guard g = (g ≡ noGuard → ⊥) → g < 32
 -- whether a post's guard passes: there is none, or a check of it goes on
 unfoldable pub guardPassed : (mode acc : ℕ) (frames : List ℕ) (guard : ℕ) → Bool
 guardPassed mode acc f g = pick (eqb g noGuard) true (allowedOf mode acc f g)
+
+-- whether the guard is decided where a number is posted: there is one, and checks are in force
+abbrev pub numberDecides : (mode x : ℕ) → Bool
+numberDecides mode x = pick (eqb (wordGuard x) noGuard) false (enforced mode)
+
+-- and where any word is: 18 comes first
+abbrev pub guardDecides : (mode x w : ℕ) → Bool
+guardDecides mode x w = pick (eqb (sortOf w) 1) (numberDecides mode x) false
+
+-- the event of that decision
+abbrev pub guardEvent : (t x mode acc : ℕ) (frames : List ℕ) → Event
+guardEvent t x mode acc f = decisionOf t (wordGuard x) (grantedOf mode acc f (wordGuard x))
+
+pub record Guarded (t x acc : ℕ) (n frames noted : List ℕ) (r : Bool) (n′ frames′ noted′ : List ℕ) : Type 0 where
+  pub answer-is : r ≡ guardPassed (modeOf n) acc frames (wordGuard x)
+  pub counters-are : n′ ≡ noteCounters (numberDecides (modeOf n) x) n noted
+  pub frames-are : frames′ ≡ frames
+  pub noted-are : noted′ ≡ noteBytes (numberDecides (modeOf n) x) (guardEvent t x (modeOf n) acc frames) n noted
 
 -- why a value is not posted: "after 18 and before 22"; 0 if it is
 unfoldable pub causeOf : (number passes room : Bool) → ℕ
@@ -83,8 +131,9 @@ postCounters c n = pick (eqb c 0) (set n 2 (postsMade n + 1)) n
 unfoldable pub postList : (x w cause : ℕ) (counters posts : List ℕ) → List ℕ
 postList x w c n l = pick (eqb c 0) (set l (postsMade n) (entryOf (wordSmall x) (payloadOf w))) l
 
-pub record Appended (t x acc w : ℕ) (n l f : List ℕ) (r : ℕ) (n′ l′ f′ : List ℕ) : Type 0 where
-  pub word-is : r ≡ postWord t w (postCause x acc w n l f)
-  pub counters-are : n′ ≡ postCounters (postCause x acc w n l f) n
-  pub posts-are : l′ ≡ postList x w (postCause x acc w n l f) n l
-  pub frames-are : f′ ≡ f
+pub record Appended (t x acc w : ℕ) (n posts frames noted : List ℕ) (r : ℕ) (n′ posts′ frames′ noted′ : List ℕ) : Type 0 where
+  pub word-is : r ≡ postWord t w (postCause x acc w n posts frames)
+  pub counters-are : n′ ≡ postCounters (postCause x acc w n posts frames) (noteCounters (guardDecides (modeOf n) x w) n noted)
+  pub posts-are : posts′ ≡ postList x w (postCause x acc w n posts frames) n posts
+  pub frames-are : frames′ ≡ frames
+  pub noted-are : noted′ ≡ noteBytes (guardDecides (modeOf n) x w) (guardEvent t x (modeOf n) acc frames) n noted

@@ -1,35 +1,42 @@
 -- The store-level interpreter: terms as words by their numbers, cells as bytes, frames as numbers. It mirrors the code, and no reader of a public
 -- promise needs it: the crate `refinement` proves that it is the meaning.
-use mathlib.Core.Bool.{Bool}
+use mathlib.Core.Bool.{Bool, true}
 use mathlib.Core.List.{List}
 use Prim.Native.Nat.{ℕ, zero, suc, _+_, _-_, _/_}
 use lib.Dec.{leb, ltb, eqb}
 use lib.ListN.{length, getD, set}
 use Rattle.stores.specs.Words.{pick, booleanWord, numberWord, functionWord, stopWord, sortOf, payloadOf, envOf, isStop}
-use Rattle.machine.specs.Table.{wordKind, wordSmall, wordFirst, wordSecond, wordThird, wordAuthority}
+use Rattle.machine.specs.Table.{wordKind, wordSmall, wordFirst, wordSecond, wordThird, wordAuthority, wordGuard}
 use Rattle.stores.specs.Cells.{lookOf, cellSet, nextCell}
-use Rattle.stores.specs.Access.{grantedOf, allowedOf, signAccess, signFrames, enableAccess, enableFrames, enabledNow, restoreFrames}
-use Rattle.machine.specs.Steps.{callsLeft, cellsMade, modeOf, operateOf, operateCounters, postCause, postWord, postCounters, postList}
+use Rattle.stores.specs.Access.{enforced, grantedOf, allowedOf, signAccess, signFrames, enableAccess, enableFrames, enabledNow, restoreFrames}
+use Rattle.machine.specs.Steps.{callsLeft, cellsMade, modeOf, operateOf, operateCounters, decisionOf, noteCounters, noteBytes, guardDecides, postCause, postWord, postCounters, postList}
 
--- ---- the state of a run between two steps: its counters and the lent stores
+-- ---- the state of a run between two steps: its counters, the lent stores and the bytes of its record
 pub record Store : Type 0 where
   pub n : List ℕ
   pub cells : List ℕ
   pub posts : List ℕ
   pub frames : List ℕ
+  pub noted : List ℕ
 
 pub record Done : Type 0 where
   pub out : ℕ
   pub store : Store
 
-abbrev pub storeOf : (n cells posts frames : List ℕ) → Store
-storeOf n c p f = record { n = n; cells = c; posts = p; frames = f }
+abbrev pub storeOf : (n cells posts frames noted : List ℕ) → Store
+storeOf n c p f l = record { n = n; cells = c; posts = p; frames = f; noted = l }
 
 abbrev pub doneOf : (word : ℕ) → Store → Done
 doneOf w st = record { out = w; store = st }
 
 abbrev pub withFrames : List ℕ → Store → Store
-withFrames f st = storeOf (st .n) (st .cells) (st .posts) f
+withFrames f st = storeOf (st .n) (st .cells) (st .posts) f (st .noted)
+
+-- what term t decides on privilege p in the access acc is noted; a full record takes no more, and where nothing is decided nothing is noted
+abbrev pub withEntry : (decides : Bool) (t p acc : ℕ) → Store → Store
+withEntry d t p acc st =
+    storeOf (noteCounters d (st .n) (st .noted)) (st .cells) (st .posts) (st .frames)
+    (noteBytes d (decisionOf t p (grantedOf (modeOf (st .n)) acc (st .frames) p)) (st .n) (st .noted))
 
 -- what follows a value; a stop stays
 unfoldable pub andThen : Done → (ℕ → Store → Done) → Done
@@ -64,12 +71,13 @@ abbrev pub ownCell : Store → ℕ
 ownCell st = nextCell (cellsMade (st .n))
 
 abbrev pub bound : (word behind : ℕ) → Store → Store
-bound w behind st = storeOf (set (st .n) 1 (cellsMade (st .n) + 1)) (cellSet (st .cells) (cellsMade (st .n)) w behind) (st .posts) (st .frames)
+bound w behind st = storeOf (set (st .n) 1 (cellsMade (st .n) + 1)) (cellSet (st .cells) (cellsMade (st .n)) w behind) (st .posts) (st .frames) (st .noted)
 
 -- the same at a call, with one call less
 abbrev pub called : (word behind : ℕ) → Store → Store
 called w behind st =
-    storeOf (set (set (st .n) 0 (callsLeft (st .n) - 1)) 1 (cellsMade (st .n) + 1)) (cellSet (st .cells) (cellsMade (st .n)) w behind) (st .posts) (st .frames)
+    storeOf (set (set (st .n) 0 (callsLeft (st .n) - 1)) 1 (cellsMade (st .n) + 1)) (cellSet (st .cells) (cellsMade (st .n)) w behind) (st .posts)
+    (st .frames) (st .noted)
 
 -- ---- the kinds of terms
 unfoldable pub letrecS : Runs → (body t : ℕ) → Runs
@@ -84,11 +92,16 @@ branchS t w p q st = pick (eqb (sortOf w) 0) (pick (ltb 0 (payloadOf w)) p q) (d
 unfoldable pub ifS : Runs → Runs → Runs → (t : ℕ) → Runs
 ifS p q r t env acc st = andThen (p env acc st) (λ w st₁. branchS t w (q env acc st₁) (r env acc st₁) st₁)
 
-unfoldable pub checkS : Runs → (p t : ℕ) → Runs
-checkS r p t env acc st = pick (allowedOf (modeOf (st .n)) acc (st .frames) p) (r env acc st) (doneOf (stopWord 17 t) st)
+-- a check that is passed over decides nothing
+abbrev pub checked : (t p acc : ℕ) → Store → Store
+checked t p acc st = withEntry (enforced (modeOf (st .n))) t p acc st
 
-unfoldable pub testS : Runs → Runs → (p : ℕ) → Runs
-testS r q p env acc st = pick (grantedOf (modeOf (st .n)) acc (st .frames) p) (r env acc st) (q env acc st)
+unfoldable pub checkS : Runs → (p t : ℕ) → Runs
+checkS r p t env acc st = pick (allowedOf (modeOf (st .n)) acc (st .frames) p) (r env acc (checked t p acc st)) (doneOf (stopWord 17 t) (checked t p acc st))
+
+unfoldable pub testS : Runs → Runs → (p t : ℕ) → Runs
+testS r q p t env acc st =
+    pick (grantedOf (modeOf (st .n)) acc (st .frames) p) (r env acc (withEntry true t p acc st)) (q env acc (withEntry true t p acc st))
 
 unfoldable pub signS : Runs → (may : ℕ) → Runs
 signS r may env acc st = r env (signAccess (modeOf (st .n)) acc may) (withFrames (signFrames (modeOf (st .n)) acc (st .frames) may) st)
@@ -103,16 +116,20 @@ enableS r p env acc st =
     (r env (enableAccess (modeOf (st .n)) acc p) (withFrames (enableFrames (modeOf (st .n)) acc (st .frames) p) st))
 
 unfoldable pub operateDone : (kind t a b : ℕ) → Store → Done
-operateDone kind t a b st = doneOf (operateOf kind t a b) (storeOf (operateCounters kind a b (st .n)) (st .cells) (st .posts) (st .frames))
+operateDone kind t a b st = doneOf (operateOf kind t a b) (storeOf (operateCounters kind a b (st .n)) (st .cells) (st .posts) (st .frames) (st .noted))
 
 unfoldable pub binaryS : Runs → Runs → (kind t : ℕ) → Runs
 binaryS p q kind t env acc st = andThen (p env acc st) (λ a st₁. andThen (q env acc st₁) (λ b st₂. operateDone kind t a b st₂))
 
 -- the word of the post's term says its channel and its guard, which is decided in the access of the post
+abbrev pub guarded : (t x acc word : ℕ) → Store → Store
+guarded t x acc w st = withEntry (guardDecides (modeOf (st .n)) x w) t (wordGuard x) acc st
+
 unfoldable pub postDone : (t x acc word : ℕ) → Store → Done
 postDone t x acc w st =
     let c = postCause x acc w (st .n) (st .posts) (st .frames) in
-    doneOf (postWord t w c) (storeOf (postCounters c (st .n)) (st .cells) (postList x w c (st .n) (st .posts)) (st .frames))
+    doneOf (postWord t w c)
+    (storeOf (postCounters c (guarded t x acc w st .n)) (st .cells) (postList x w c (st .n) (st .posts)) (st .frames) (guarded t x acc w st .noted))
 
 unfoldable pub postS : Runs → (t x : ℕ) → Runs
 postS p t x env acc st = andThen (p env acc st) (λ w st₁. postDone t x acc w st₁)
@@ -125,7 +142,7 @@ byShape if ev ap t x env acc st = ifS (ev (wordFirst x)) (ev (wordSecond x)) (ev
 byShape check ev ap t x env acc st = checkS (ev (wordFirst x)) (wordSmall x) t env acc st
 byShape enable ev ap t x env acc st = enableS (ev (wordFirst x)) (wordSmall x) env acc st
 byShape sign ev ap t x env acc st = signS (ev (wordFirst x)) (wordAuthority x) env acc st
-byShape test ev ap t x env acc st = testS (ev (wordFirst x)) (ev (wordSecond x)) (wordSmall x) env acc st
+byShape test ev ap t x env acc st = testS (ev (wordFirst x)) (ev (wordSecond x)) (wordSmall x) t env acc st
 byShape binary ev ap t x env acc st = binaryS (ev (wordFirst x)) (ev (wordSecond x)) (wordKind x) t env acc st
 byShape post ev ap t x env acc st = postS (ev (wordFirst x)) t x env acc st
 

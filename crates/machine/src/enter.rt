@@ -1,6 +1,7 @@
 // What a letrec, a check, a sign and a test do before the one child that they end as.
 ghost use mathlib.Core.Path.{_≡_};
 ghost use Rattle.machine.specs.Enter.{EntersWord, going, halting, Enters};
+use crate::notes::note;
 use crate::steps::choose;
 use crate::table::authority_of;
 use crate::table::first_of;
@@ -8,7 +9,7 @@ use crate::table::kind_of;
 use crate::table::second_of;
 use crate::table::small_of;
 use crate::table::third_of;
-use stores::access::allowed;
+use stores::access::enforces;
 use stores::access::granted;
 use stores::access::sign;
 use stores::cells::bind;
@@ -48,15 +49,16 @@ fn halts(stop: u64, next: u16) -> Entered
 pub fn enter(
     cells: &mut [u8],
     frames: &mut [u32],
-    n: &mut [usize; 5],
+    noted: &mut [u8],
+    n: &mut [usize; 6],
     t: u16,
     x: u64,
     env: u16,
     acc: u64,
 ) -> Entered
     requires { ⌜ EntersWord x ⌝ }
-    ensures { λ r. ⌜ Enters t x env acc (now (n .entry)) (now (cells .entry)) (now (frames .entry)) r (now (n .exit)) (now (cells .exit))
-        (now (frames .exit)) ⌝ }
+    ensures { λ r. ⌜ Enters t x env acc (now (n .entry)) (now (cells .entry)) (now (frames .entry)) (now (noted .entry)) r (now (n .exit))
+        (now (cells .exit)) (now (frames .exit)) (now (noted .exit)) ⌝ }
 {
     let kind = kind_of(x);
     if kind == 4 {
@@ -73,12 +75,19 @@ pub fn enter(
     if kind == 9 {
         return goes(first_of(x), env, sign(frames, mode, acc, authority_of(x)));
     }
+    let p = small_of(x);
     if kind == 7 {
-        if allowed(frames, mode, acc, small_of(x)) {
+        if !enforces(mode) {
+            return goes(first_of(x), env, acc);
+        }
+        let allowed = granted(frames, mode, acc, p);
+        note(noted, n, t, p, allowed);
+        if allowed {
             return goes(first_of(x), env, acc);
         }
         return halts(words::stop(17, t), first_of(x));
     }
-    let yes = granted(frames, mode, acc, small_of(x));
+    let yes = granted(frames, mode, acc, p);
+    note(noted, n, t, p, yes);
     goes(choose(yes, first_of(x), second_of(x)), env, acc)
 }

@@ -1,13 +1,16 @@
 // The steps of a run that evaluate no other term.
+ghost use mathlib.Core.Bool.{true};
 ghost use mathlib.Core.Path.{_≡_};
 ghost use Rattle.stores.specs.Words.{pick, numberWord};
-ghost use Rattle.machine.specs.Steps.{countSaturated, Operated, Guard, guardPassed, causeOf, entryOf, Appended};
+ghost use Rattle.machine.specs.Steps.{countSaturated, Operated, Guard, Guarded, causeOf, entryOf, Appended};
 ghost use Rattle.machine.specs.Table.{wordGuard};
+use crate::notes::note;
 use crate::table::guard_of;
 use crate::table::small_of;
 use program::limits::NO_GUARD;
 use std::num::wrapping_add_usize;
-use stores::access::allowed;
+use stores::access::enforces;
+use stores::access::granted;
 use stores::words;
 
 // One of two numbers.
@@ -18,7 +21,7 @@ pub fn choose(yes: bool, a: u16, b: u16) -> u16
 }
 
 // A limit in the place of a result past it, which is counted.
-fn saturate(n: &mut [usize; 5], limit: u16) -> u64
+fn saturate(n: &mut [usize; 6], limit: u16) -> u64
     ensures { λ r. ⌜ (r ≡ numberWord limit) × (now (n .exit) ≡ countSaturated (now (n .entry))) ⌝ }
 {
     n[4] = wrapping_add_usize(n[4], 1);
@@ -26,7 +29,7 @@ fn saturate(n: &mut [usize; 5], limit: u16) -> u64
 }
 
 // Sum, difference or less of two words.
-pub fn operate(n: &mut [usize; 5], kind: u8, t: u16, a: u64, b: u64) -> u64
+pub fn operate(n: &mut [usize; 6], kind: u8, t: u16, a: u64, b: u64) -> u64
     ensures { λ r. ⌜ Operated kind t a b (now (n .entry)) r (now (n .exit)) ⌝ }
 {
     if words::sort(a) != 1 {
@@ -52,23 +55,37 @@ pub fn operate(n: &mut [usize; 5], kind: u8, t: u16, a: u64, b: u64) -> u64
     words::boolean(x < y)
 }
 
-// Whether the guard in the word x passes: there is none, or a check of it goes on.
-fn guard_passes(frames: &mut [u32], mode: usize, acc: u64, x: u64) -> bool
+// Whether the guard in the word x passes, for a number: there is none, or a check of it goes on. A decision is noted.
+fn guard_passes(
+    frames: &mut [u32],
+    noted: &mut [u8],
+    n: &mut [usize; 6],
+    t: u16,
+    x: u64,
+    acc: u64,
+) -> bool
     requires { ⌜ Guard (wordGuard x) ⌝ }
-    ensures { λ r. ⌜ (r ≡ guardPassed mode acc (now (frames .entry)) (wordGuard x)) × (now (frames .exit) ≡ now (frames .entry)) ⌝ }
+    ensures { λ r. ⌜ Guarded t x acc (now (n .entry)) (now (frames .entry)) (now (noted .entry)) r (now (n .exit)) (now (frames .exit))
+        (now (noted .exit)) ⌝ }
 {
     let guard = guard_of(x);
     if guard == NO_GUARD {
         return true;
     }
-    allowed(frames, mode, acc, guard)
+    let mode = n[3];
+    if !enforces(mode) {
+        return true;
+    }
+    let yes = granted(frames, mode, acc, guard);
+    note(noted, n, t, guard, yes);
+    yes
 }
 
-// Why a value is not posted: 18, then the guard, then 22. It is 0 if the value is posted.
-fn cause_of(number: bool, passes: bool, room: bool) -> u16
-    ensures { λ r. ⌜ r ≡ causeOf number passes room ⌝ }
+// Why a number is not posted: the guard, then 22. It is 0 if the number is posted.
+fn cause_of(passes: bool, room: bool) -> u16
+    ensures { λ r. ⌜ r ≡ causeOf true passes room ⌝ }
 {
-    choose(number, choose(passes, choose(room, 0, 22), 17), 18)
+    choose(passes, choose(room, 0, 22), 17)
 }
 
 // A post as the list has it.
@@ -82,19 +99,23 @@ fn entry(channel: u8, number: u16) -> u32
 pub fn append(
     posts: &mut [u32],
     frames: &mut [u32],
-    n: &mut [usize; 5],
+    noted: &mut [u8],
+    n: &mut [usize; 6],
     t: u16,
     x: u64,
     acc: u64,
     w: u64,
 ) -> u64
     requires { ⌜ Guard (wordGuard x) ⌝ }
-    ensures { λ r. ⌜ Appended t x acc w (now (n .entry)) (now (posts .entry)) (now (frames .entry)) r (now (n .exit)) (now (posts .exit))
-        (now (frames .exit)) ⌝ }
+    ensures { λ r. ⌜ Appended t x acc w (now (n .entry)) (now (posts .entry)) (now (frames .entry)) (now (noted .entry)) r (now (n .exit))
+        (now (posts .exit)) (now (frames .exit)) (now (noted .exit)) ⌝ }
 {
+    if words::sort(w) != 1 {
+        return words::stop(18, t);
+    }
     let at = n[2];
-    let passes = guard_passes(frames, n[3], acc, x);
-    let cause = cause_of(words::sort(w) == 1, passes, at < posts.len());
+    let passes = guard_passes(frames, noted, n, t, x, acc);
+    let cause = cause_of(passes, at < posts.len());
     if cause != 0 {
         return words::stop(cause as u8, t);
     }

@@ -3,14 +3,16 @@ use mathlib.Core.List.{List, [], _∷_, _++_}
 use mathlib.Core.Path.{_≡_}
 use Prim.Native.Nat.{ℕ, _-_}
 use lib.ListN.{length, drop}
+use Rattle.traces.specs.Traces.{Event, recorded}
 use Rattle.semantics.specs.Values.{Result}
 use Rattle.semantics.specs.Access.{Frame}
 use Rattle.semantics.specs.Runs.{Request, Buffers, Sizes, sizes, ground-bool, ground-num, Outcome, ended, stopped, Counts, outcome, left, counts, inOrder}
+use Rattle.semantics.specs.Recording.{withEntries}
 use Rattle.stores.specs.declared.state.Value.the-variants.{Bool as VBool, Num, Fun}
 use Rattle.stores.specs.declared.state.Out.{Out}
 use Rattle.stores.specs.declared.state.Out.the-variants.{Val, Stop as Stopped}
 use Rattle.stores.specs.Words.{outOf}
-use Rattle.machine.specs.Steps.{callsLeft, cellsMade, postsMade, saturatedMade, wrapped}
+use Rattle.machine.specs.Steps.{callsLeft, cellsMade, postsMade, saturatedMade, entriesMade, wrapped}
 use Rattle.machine.specs.Store.{Store, Done, storeOf}
 use Rattle.stores.specs.Stops.{stopCause, stopPlace}
 
@@ -37,13 +39,15 @@ abbrev pub laidOut : (A : ℕ → ℕ) → List Frame → List ℕ
 laidOut A [] = []
 laidOut A (f ∷ fs) = laidOut A fs ++ (A (f .principal) ∷ f .enabled ∷ [])
 
--- where a run starts
-abbrev pub startOf : (mode : ℕ) → Request → Buffers → Store
-startOf mode q b = storeOf (q .calls ∷ 0 ∷ 0 ∷ mode ∷ 0 ∷ []) (b .cells) (b .posts) (b .frames)
+-- where a run starts, with a record lent
+abbrev pub startOf : (mode : ℕ) → Request → Buffers → (trace : List ℕ) → Store
+startOf mode q b t = storeOf (q .calls ∷ 0 ∷ 0 ∷ mode ∷ 0 ∷ 0 ∷ []) (b .cells) (b .posts) (b .frames) t
 
--- evaluating the root of a sheet gives and leaves what the meaning's result says
-pub record Refined (root : ℕ) (q : Request) (b : Buffers) (d : Done) (x : Result) : Type 0 where
+-- evaluating the root of a sheet gives and leaves what the meaning's result says, and of the decisions what the record takes
+pub record Refined (root : ℕ) (q : Request) (b : Buffers) (trace : List ℕ) (d : Done) (x : Result) (decided : List Event) : Type 0 where
   pub same-outcome : outcomeOf root (outOf (d .out)) ≡ outcome root x
   pub same-counts : countsOf (q .calls) (d .store .n) ≡ wrappedCounts (counts q (sizes b) (left x))
   pub same-posts : d .store .posts ≡ inOrder (left x) ++ drop (length (inOrder (left x))) (b .posts)
   pub same-sizes : sizesOf (d .store) ≡ sizes b
+  pub same-entries : entriesMade (d .store .n) ≡ length (recorded (length trace) decided)
+  pub same-trace : d .store .noted ≡ withEntries (recorded (length trace) decided) trace

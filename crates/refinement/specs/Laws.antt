@@ -1,5 +1,6 @@
 -- What the theorems are proved from. Nothing here has to be believed.
 pub mod Cells
+pub mod Records
 pub mod Relation
 pub mod Steps
 pub mod Controls

@@ -6,6 +6,7 @@ use mathlib.Core.Path.{_≡_, refl, sym, ap, _∙_}
 use Prim.Native.Nat.{ℕ, zero, suc, _+_, _<_, _≤_}
 use native.Mathlib.Omega.{arith}
 use lib.ListN.{length, getD, set, take, drop, length-append, length-take, length-drop, drop-of-length-le}
+use lib.Seq.{drop-cons, set-at}
 use lib.Dec.{ltb}
 use borrow.Author.Tests.{lt-ltb, le-ltb, eq-eqb, ne-eqb}
 use Rattle.program.specs.Decoding.{decoding}
@@ -13,7 +14,7 @@ use Rattle.program.specs.Answers.{decodedModel, Counted}
 use Rattle.program.specs.Laws.Lists.{copy-more}
 use Rattle.program.specs.declared.answer.Decoded.{Decoded}
 use Rattle.program.specs.declared.answer.Decoded.the-variants.{Readable, Refused as Unreadable}
-use Rattle.semantics.specs.Runs.{Request, Buffers, After, run}
+use Rattle.semantics.specs.Runs.{Request, Buffers, ground-bool, ground-num, ended, stopped, Answer, refused, ran, After, run}
 use Rattle.semantics.specs.Theorems.{counts-few}
 use Rattle.interp.specs.Answers.{runModel, outcomeModel, countsModel}
 use Rattle.numbers.specs.Codes.{CodeIs}
@@ -21,7 +22,7 @@ use Rattle.numbers.specs.declared.Code.{Code}
 use Rattle.interp.specs.declared.answer.Run.{Run}
 use Rattle.interp.specs.declared.answer.Run.the-variants.{Refused, Ran}
 use Rattle.replies.specs.Replies as replies
-use Rattle.replies.specs.Replies.{refusal, screened, decodeReply, unfit, runReply, written, notDone, replied, Called, called, left, leftAll}
+use Rattle.replies.specs.Replies.{refusal, screened, decodeReply, unfit, runReply, written, writtenNine, notDone, replied, Called, called, left, leftAll}
 use Rattle.replies.specs.Internal.{replyOf, ofDecoded, Small}
 use Rattle.replies.specs.declared.Reply.{Reply}
 
@@ -97,6 +98,24 @@ module _ (answer : List ℕ) (h : 8 ≤ length answer) (b b′ : Buffers) (a : A
   run-given p =
       (λ i. record { reply = in-place answer h e put i; buffers = b′ }) ∙ ap whole p
       ∙ (λ i. cond (sym (le-ltb (length answer) 8 h) i) (leftAll 3 answer b) (whole a))
+
+-- ---- a ninth number follows the eight
+pub run-eight : (a : Answer) → length (runReply a .numbers) ≡ 8
+run-eight (refused c p) = refl
+run-eight (ran (ended (ground-bool b)) k) = refl
+run-eight (ran (ended (ground-num n)) k) = refl
+run-eight (ran (stopped c t) k) = refl
+
+module _ (answer : List ℕ) (room : 9 ≤ length answer) (R : replies.Reply) (eight : length (R .numbers) ≡ 8) (n : ℕ) where
+  nine : set (R .numbers ++ drop 8 answer) 8 n ≡ R .numbers ++ (n ∷ drop 9 answer)
+  nine =
+      ap (λ (r : List ℕ). set (R .numbers ++ r) 8 n) (drop-cons answer 8 0 (omega arith)) ∙ set-at (R .numbers) (getD answer 8 0) (drop 9 answer) n 8 eight
+
+  pub in-nine : {x : Reply} → replyOf x ≡ R → {status : ℕ} {after : List ℕ} → (status ≡ x .status) × (after ≡ x .numbers ++ drop 8 answer)
+      → left status (set after 8 n) ≡ writtenNine R n answer
+  in-nine e {status = status} {after = after} put =
+      let first : left status after ≡ written R answer = in-place answer (omega arith) e put in
+      (λ i. left (first i .status) (set (first i .numbers) 8 n)) ∙ ap (left (R .status)) nine
 
 -- ---- the reader's answer
 pub decoded-as : (s : List ℕ) (d : Decoded) → decodedModel d ≡ decoding s → Counted s d → ofDecoded d ≡ decodeReply s

@@ -61,6 +61,10 @@ unfit size least list answer = not (eqb (length list) size) || ltb (length answe
 abbrev pub written : Reply → List ℕ → Reply
 written r answer = record { status = r .status; numbers = r .numbers ++ drop 8 answer }
 
+-- with a ninth number behind the eight
+abbrev pub writtenNine : Reply → (ninth : ℕ) (answer : List ℕ) → Reply
+writtenNine r n answer = record { status = r .status; numbers = r .numbers ++ (n ∷ drop 9 answer) }
+
 abbrev pub notDone : List ℕ → Reply
 notDone answer = record { status = 3; numbers = answer }
 

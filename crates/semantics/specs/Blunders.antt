@@ -8,7 +8,7 @@ use Prim.Native.Nat.{ℕ, zero, suc}
 use Rattle.privileges.specs.Sets.{has, meet, union, insert}
 use Rattle.program.specs.Terms.{Op, sum, difference, less, Term, boolean, number, variable, function, letrec, call, check, enable, sign, binary, post}
 use Rattle.semantics.specs.Values.{bool, num, empty, emptyLog, Budget, budget, Result, ends, stops}
-use Rattle.semantics.specs.Meaning.{evalWith, apply, eval}
+use Rattle.semantics.specs.Meaning.{plain, evalWith, apply, eval}
 use Rattle.semantics.specs.Access.{frame, privs, lazyControl, rights, addAuthorised, eagerControl}
 
 -- principal 0 may use privilege 1, principal 1 nothing
@@ -27,7 +27,7 @@ pub record Example : Type 0 where
 
 -- what is left, and the posts made, where nothing was saturated
 abbrev left : (calls cells room : ℕ) (posts : List ℕ) → Budget
-left c d r ps = budget c d r (record { posts = ps; saturated = 0 })
+left c d r ps = budget c d r (record { posts = ps; saturated = 0; decisions = [] })
 
 abbrev example : Term → List (ℕ × ℕ) → (calls depth : ℕ) → Result → Example
 example c fs k d r = record { term = c; enforce = true; start = fs; calls = k; depth = d; room = 9; result = r }
@@ -38,7 +38,7 @@ posting c enforce room r = record { term = c; enforce = enforce; start = []; cal
 
 -- an operation of principal 0 on two terms, which gives a value or is stuck, with so many saturated results
 abbrev operating : (op : Op) (a b : Term) → (Budget → Result) → (saturated : ℕ) → Example
-operating op a b r n = example (sign 9 0 (binary 8 op a b)) [] 9 9 (r (budget 9 9 9 (record { posts = []; saturated = n })))
+operating op a b r n = example (sign 9 0 (binary 8 op a b)) [] 9 9 (r (budget 9 9 9 (record { posts = []; saturated = n; decisions = [] })))
 
 abbrev calculated : (op : Op) (m n : ℕ) → (Budget → Result) → (saturated : ℕ) → Example
 calculated op m n r k = operating op (number 0 m) (number 1 n) r k
@@ -94,12 +94,13 @@ examples =
 
 pub eagerly : Example → Result
 eagerly x =
-    eval (eagerControl authority) (x .enforce) (x .depth) (x .term) (rights 0 (privs authority (map (λ f. frame (f .0) (f .1)) (x .start)))) empty
+    eval (eagerControl authority) (plain (x .enforce)) (x .depth) (x .term) (rights 0 (privs authority (map (λ f. frame (f .0) (f .1)) (x .start)))) empty
     (budget (x .calls) 9 (x .room) emptyLog)
 
 pub lazily : Example → Result
 lazily x =
-    eval (lazyControl authority) (x .enforce) (x .depth) (x .term) (map (λ f. frame (f .0) (f .1)) (x .start)) empty (budget (x .calls) 9 (x .room) emptyLog)
+    eval (lazyControl authority) (plain (x .enforce)) (x .depth) (x .term) (map (λ f. frame (f .0) (f .1)) (x .start)) empty
+    (budget (x .calls) 9 (x .room) emptyLog)
 
 pub record Refuted : Type 0 where
   pub by-eager : map eagerly examples ≡ map (λ x. x .result) examples

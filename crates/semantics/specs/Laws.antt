@@ -5,3 +5,4 @@ pub mod Access
 pub mod Budgets
 pub mod Saturation
 pub mod Posts
+pub mod Tracing

@@ -3,6 +3,9 @@ pub mod Meaning
 pub mod Names
 pub mod Access
 pub mod Runs
+pub mod Recording
 pub mod Blunders
+pub mod Decisions
 pub mod Laws
 pub mod Theorems
+pub mod RecordTheorems

@@ -1,11 +1,12 @@
 -- The meaning of a term: a definitional interpreter, for any access control. 003's Figures 2 and 4 are its two instances in Access.antt, so
 -- that each clause below is one clause of both figures. Numbers 17 to 22 are 01's stops.
-use mathlib.Core.Bool.{Bool, true, false}
+use mathlib.Core.Bool.{Bool, true, false, _&&_}
 use mathlib.Core.Option.{Option, none, some}
 use Prim.Native.Nat.{ℕ, zero, suc, _+_, _*_, _-_, min}
 use lib.Dec.{ltb}
 use Rattle.program.specs.Terms.{Op, sum, difference, less, Term, boolean, number, variable, function, letrec, call, if, check, enable, sign, test, binary, post}
-use Rattle.semantics.specs.Values.{Value, bool, num, closure, Env, bind, lookup, entered, logPost, logSaturated, Budget, budget, Result, ends, stops}
+use Rattle.traces.specs.Traces.{Event}
+use Rattle.semantics.specs.Values.{Value, bool, num, closure, Env, bind, lookup, entered, logPost, logSaturated, logDecision, Budget, budget, Result, ends, stops}
 
 -- what access control keeps, how a sign and an enable change it, and what it grants
 pub record Control : Type 1 where
@@ -13,6 +14,17 @@ pub record Control : Type 1 where
   pub signs : (n : ℕ) → State → State
   pub enables : (p : ℕ) → State → State
   pub grants : State → (p : ℕ) → Bool
+
+-- how a run goes: whether its checks and guards are in force, and whether it lists what it decides (02, W12)
+pub record Mode : Type 0 where
+  pub enforce : Bool
+  pub tracing : Bool
+
+abbrev pub plain : (enforce : Bool) → Mode
+plain b = record { enforce = b; tracing = false }
+
+abbrev pub traced : (enforce : Bool) → Mode
+traced b = record { enforce = b; tracing = true }
 
 -- 003's let: a stop is the result of the whole
 infixl 20 _then_
@@ -67,11 +79,17 @@ abbrev pub appendPost : (at channel number : ℕ) → Budget → Result
 appendPost at ch n (budget c d zero l) = stops 22 at (budget c d zero l)
 appendPost at ch n (budget c d (suc r) l) = ends (num n) (budget c d r (logPost (postEntry ch n) l))
 
--- A post of a value, whose guard passes or not. 02, W8: "it is refused by 17 after its number is worked out, after 18 and before 22".
-abbrev pub postValue : (at channel : ℕ) (allowed : Bool) → Value → Budget → Result
-postValue at ch allowed (num n) u = choose allowed (λ u₁. appendPost at ch n u₁) (λ u₁. stops 17 at u₁) u
-postValue at ch allowed (bool b) u = stops 18 at u
-postValue at ch allowed (closure r ty body env) u = stops 18 at u
+-- 02, W12: "each check, test and guard they decide as term, privilege and yes or no, in the order met"; a decision that is not listed is none
+abbrev pub note : Option Event → Budget → Budget
+note none u = u
+note (some e) (budget c d r l) = budget c d r (logDecision e l)
+
+-- A post of a value, whose guard passes or not. 02, W8: "it is refused by 17 after its number is worked out, after 18 and before 22". The guard is decided
+-- when there is a number, and listed before 17.
+abbrev pub postValue : (at channel : ℕ) (allowed : Bool) (decision : Option Event) → Value → Budget → Result
+postValue at ch allowed e (num n) u = choose allowed (λ u₁. appendPost at ch n u₁) (λ u₁. stops 17 at u₁) (note e u)
+postValue at ch allowed e (bool b) u = stops 18 at u
+postValue at ch allowed e (closure r ty body env) u = stops 18 at u
 
 -- "a recursive binder one" cell; "21 no cell … also at a recursive binder"
 abbrev pub takeCell : (at : ℕ) → (Budget → Result) → Budget → Result
@@ -106,6 +124,16 @@ abbrev pub guardPasses : (enforce : Bool) (grants : ℕ → Bool) (guard : Optio
 guardPasses enforce grants none = true
 guardPasses enforce grants (some p) = passes enforce (grants p)
 
+-- What is listed of a decision at a term, about a privilege if there is one. A test is decided always; a check or guard where it is in force, since one that
+-- is passed over decides nothing.
+abbrev pub eventIf : (listed : Bool) (at : ℕ) (grants : ℕ → Bool) (privilege : Option ℕ) → Option Event
+eventIf true at grants (some p) = some record { term = at; privilege = p; decided = grants p }
+eventIf true at grants none = none
+eventIf false at grants p = none
+
+abbrev pub listsChecks : Mode → Bool
+listsChecks M = M .tracing && M .enforce
+
 module _ (X : Control) where
   abbrev pub Evaluation : Type 0
   Evaluation = X .State → Env → Budget → Result
@@ -114,8 +142,7 @@ module _ (X : Control) where
   abbrev pub Application : Type 0
   Application = (at : ℕ) (fun arg : Value) → X .State → Budget → Result
 
-  -- `enforce` says whether the checks and guards are in force
-  module _ (enforce : Bool) where
+  module _ (M : Mode) where
     -- "Evaluation goes left to right."
     unfoldable pub evalWith : Application → Term → Evaluation
     -- Figures 2 and 4: true, x
@@ -135,18 +162,20 @@ module _ (X : Control) where
         evalWith app c st env u then λ v u₁. branch at v (λ u₂. evalWith app y st env u₂) (λ u₂. evalWith app n st env u₂) u₁
     -- check p for e: "Check refuses, before its inner term, if p isn't granted", by 17
     evalWith app (check at p c) st env u =
-        choose (passes enforce (X .grants st p)) (λ u₁. evalWith app c st env u₁) (λ u₁. stops 17 at u₁) u
+        choose (passes (M .enforce) (X .grants st p)) (λ u₁. evalWith app c st env u₁) (λ u₁. stops 17 at u₁)
+        (note (eventIf (listsChecks M) at (X .grants st) (some p)) u)
     -- dopriv p in e, and signs n e: "both are undone when their term ends", since what follows has the old state
     evalWith app (enable at p c) st env u = evalWith app c (X .enables p st) env u
     evalWith app (sign at n c) st env u = evalWith app c (X .signs n st) env u
     -- test p then e1 else e2: "test chooses by it", also where checks are passed over
     evalWith app (test at p y n) st env u =
-        choose (X .grants st p) (λ u₁. evalWith app y st env u₁) (λ u₁. evalWith app n st env u₁) u
+        choose (X .grants st p) (λ u₁. evalWith app y st env u₁) (λ u₁. evalWith app n st env u₁) (note (eventIf (M .tracing) at (X .grants st) (some p)) u)
     evalWith app (binary at op a b) st env u =
         evalWith app a st env u then λ v u₁. evalWith app b st env u₁ then λ w u₂. compute at op v w u₂
     -- the guard is decided in the state of the post, when its number is worked out
     evalWith app (post at ch g c) st env u =
-        evalWith app c st env u then λ v u₁. postValue at ch (guardPasses enforce (X .grants st) g) v u₁
+        evalWith app c st env u
+        then λ v u₁. postValue at ch (guardPasses (M .enforce) (X .grants st) g) (eventIf (listsChecks M) at (X .grants st) g) v u₁
 
     -- A call where so many more calls may be open. "A call is open while its body runs."
     unfoldable pub apply : (depth : ℕ) → Application

@@ -10,7 +10,7 @@ use Rattle.program.specs.Terms.{program}
 use Rattle.program.specs.Screening.{Condition, Screening, clear, found, screen, unless}
 use Rattle.program.specs.Decoding.{decodingConditions}
 use Rattle.semantics.specs.Values.{bool, num, closure, empty, emptyLog, Budget, budget, Result, ends, stops}
-use Rattle.semantics.specs.Meaning.{eval}
+use Rattle.semantics.specs.Meaning.{Mode, plain, eval}
 use Rattle.semantics.specs.Access.{Frame, frame, privs, lazyControl, rights, eagerControl}
 
 pub data Runner : Type 0 where
@@ -79,10 +79,12 @@ initial q z = budget (q .calls) (z .cells / 8) (z .posts) emptyLog
 
 -- The eager runner starts with the set that the start stack grants, the lazy one with the stack. The program is a sign, so that the signer named
 -- here is never looked at.
+abbrev pub evaluationIn : Mode → Runner → List ℕ → Request → Sizes → Result
+evaluationIn M eager s q z = eval (eagerControl (authority s)) M (q .depth) (program s) (rights 0 (privs (authority s) (stack (q .start)))) empty (initial q z)
+evaluationIn M lazy s q z = eval (lazyControl (authority s)) M (q .depth) (program s) (stack (q .start)) empty (initial q z)
+
 abbrev pub evaluation : Runner → List ℕ → Request → Sizes → Result
-evaluation eager s q z = eval (eagerControl (authority s)) (q .enforce) (q .depth) (program s) (rights 0 (privs (authority s) (stack (q .start)))) empty
-    (initial q z)
-evaluation lazy s q z = eval (lazyControl (authority s)) (q .enforce) (q .depth) (program s) (stack (q .start)) empty (initial q z)
+evaluation r s q z = evaluationIn (plain (q .enforce)) r s q z
 
 -- a run is turned back, or it comes to a result
 pub data Course : Type 0 where

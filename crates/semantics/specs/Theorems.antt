@@ -1,7 +1,7 @@
 -- The theorems about whole runs: what a stack grants as a set is what 01's sentence grants; a run is refused exactly on 01's conditions; every buffer
 -- keeps its length; the counts stay within the largest allowances and buffers, and the count of held sums below 2^32; 17 is told at checks and guarded posts
 -- alone, and posts are of the sheet's channels; version 1 has neither guards nor channels.
-use mathlib.Core.Bool.{Bool, true, _&&_}
+use mathlib.Core.Bool.{Bool, true, false, _&&_}
 use mathlib.Core.List.{List, _++_, reverse}
 use mathlib.Core.Logic.{_↔_}
 use mathlib.Core.Option.{none, Option·none-ne-some}
@@ -24,12 +24,12 @@ use Rattle.program.specs.Laws.Screening.{found-first, first-found, clear-none, 
 use Rattle.program.specs.Laws.Readable.{WellFormed, well-formed}
 use Rattle.program.specs.Laws.Guards.{without-guards}
 use Rattle.semantics.specs.Values.{num, Env, empty, Log, logPost, Budget, budget, ends}
-use Rattle.semantics.specs.Meaning.{Control, _then_, postEntry, postValue, evalWith, eval}
+use Rattle.semantics.specs.Meaning.{Control, Mode, plain, _then_, postEntry, postValue, eventIf, listsChecks, evalWith, eval}
 use Rattle.semantics.specs.Access.{Frame, chk, privs, lazyControl, rights, eagerControl}
 use Rattle.semantics.specs.Runs.{Runner, eager, lazy, Request, Buffers, Sizes, sizes, stack, framesOk, runConditions, initial, evaluation, Course, rejected, started, settled, course, Outcome, stopped, Counts, Answer, refused, ran, left, counts, answerOf, inOrder, postsMade, clearedFrames, buffersAfter, After, run}
 use Rattle.semantics.specs.Laws.Access.{privs-chk}
 use Rattle.semantics.specs.Laws.Budgets.{places, Spent, spends}
-use Rattle.semantics.specs.Laws.Saturation.{saturatedIn, evaluation-saturated}
+use Rattle.semantics.specs.Laws.Saturation.{saturatedIn, evaluation-load}
 use Rattle.semantics.specs.Laws.Posts.{Each, each-all, MayRefuse, at-check, at-guard, OnChannel, evaluation-refused, evaluation-posts}
 
 -- ---- What a stack grants
@@ -93,9 +93,18 @@ module _ (s : List ℕ) (q : Request) (b : Buffers) where
   pub starts-exactly : Starts ↔ None (runConditions s q (sizes b))
   starts-exactly = (λ st. clear-none (runConditions s q (sizes b)) (starts-screened st), λ n. (_, _, answer-course _ (course-clear (none-clear n))))
 
-  started-well : Starts → WellFormed s
+  pub clear-well : conditions ≡ clear → WellFormed s
   unfolding decoding
-  started-well st = well-formed s (none-clear (none-append (decodingConditions s) _ (clear-none (runConditions s q (sizes b)) (starts-screened st)) .0))
+  clear-well e = well-formed s (none-clear (none-append (decodingConditions s) _ (clear-none (runConditions s q (sizes b)) e) .0))
+
+  started-well : Starts → WellFormed s
+  started-well st = clear-well (starts-screened st)
+
+  pub clear-calls : conditions ≡ clear → q .calls ≤ maxCalls
+  clear-calls e =
+      let callers = none-append (decodingConditions s) _ (clear-none (runConditions s q (sizes b)) e) .1 in
+      let within : (leb (q .calls) maxCalls && leb (q .depth) maxDepth) ≡ true = unless-none 16 _ (none-cons (none-cons (none-cons callers .1) .1) .0) in
+      leb-true (q .calls) maxCalls (search (within, and-left))
 
 -- ---- Where a run is refused by 17, and what it posts
 module _ (s : List ℕ) (bytes : Bytes s) (q : Request) (b : Buffers) where
@@ -104,13 +113,13 @@ module _ (s : List ℕ) (bytes : Bytes s) (q : Request) (b : Buffers) where
   refused-by-17 t k e =
       let st : Starts s q b = (_, _, e) in
       let same : ran _ _ ≡ ran (stopped 17 t) k = sym (answer-course s q b _ (course-clear s q b (starts-screened s q b st))) ∙ e in
-      evaluation-refused s bytes (started-well s q b st) (q .runner) q (sizes b) t cc
+      evaluation-refused s bytes (started-well s q b st) (plain (q .enforce)) (q .runner) q (sizes b) t cc
 
   -- Every post is a channel of the sheet's version and a 16-bit number: "channel × 65,536 + number".
   pub posts-on-channels : Starts s q b → Each (OnChannel s) (postsMade (course s q (sizes b)))
   posts-on-channels st =
       subst (λ (x : Course). Each (OnChannel s) (postsMade x)) (sym (course-clear s q b (starts-screened s q b st)))
-      (evaluation-posts s bytes (started-well s q b st) (q .runner) q (sizes b))
+      (evaluation-posts s bytes (started-well s q b st) (plain (q .enforce)) (q .runner) q (sizes b))
 
   -- "Version 1 posts on channel 0 without a guard": it is refused at checks alone, and its list holds 16-bit numbers.
   pub version-1-refused : version s ≡ 1 → (t : ℕ) (k : Counts) → run s q b .answer ≡ ran (stopped 17 t) k → kindOf (kindByte s t) ≡ Check
@@ -124,21 +133,26 @@ module _ (s : List ℕ) (bytes : Bytes s) (q : Request) (b : Buffers) where
   version-1-posts one st =
       each-all (λ x. x < 65536) (λ x h. omega (arith, h .below, without-guards s one .one-channel)) (postsMade (course s q (sizes b))) (posts-on-channels st)
 
+no-event : (listed : Bool) (at : ℕ) (grants : ℕ → Bool) → eventIf listed at grants none ≡ none
+no-event true at grants = refl
+no-event false at grants = refl
+
 -- They are the numbers posted: on channel 0 and without a guard "A post appends its number and yields it", whatever is granted.
-pub plain-post : (X : Control) (enforce : Bool) (depth at : ℕ) (c : Term) (st : X .State) (e : Env) (u : Budget) (n k d r : ℕ) (l : Log)
-    → eval X enforce depth c st e u ≡ ends (num n) (budget k d (suc r) l)
-    → eval X enforce depth (post at 0 none c) st e u ≡ ends (num n) (budget k d r (logPost n l))
+pub plain-post : (X : Control) (M : Mode) (depth at : ℕ) (c : Term) (st : X .State) (e : Env) (u : Budget) (n k d r : ℕ) (l : Log)
+    → eval X M depth c st e u ≡ ends (num n) (budget k d (suc r) l)
+    → eval X M depth (post at 0 none c) st e u ≡ ends (num n) (budget k d r (logPost n l))
 unfolding eval evalWith
-plain-post X enforce depth at c st e u n k d r l h =
+plain-post X M depth at c st e u n k d r l h =
     let z : postEntry 0 n ≡ n = omega arith in
-    (λ i. h i then λ v u₁. postValue at 0 true v u₁) ∙ ap (λ (x : ℕ). ends (num n) (budget k d r (logPost x l))) z
+    (λ i. h i then λ v u₁. postValue at 0 true (no-event (listsChecks M) at (X .grants st) i) v u₁)
+    ∙ ap (λ (x : ℕ). ends (num n) (budget k d r (logPost x l))) z
 
 -- ---- What a run leaves
 -- Every buffer keeps its length, whatever becomes of the run: the posts made find their places in the lent list.
 evaluation-spends : (r : Runner) (s : List ℕ) (q : Request) (z : Sizes) → Spent (initial q z) (left (evaluation r s q z))
 evaluation-spends eager s q z =
-    spends (eagerControl (authority s)) (q .enforce) (q .depth) (program s) (rights 0 (privs (authority s) (stack (q .start)))) empty (initial q z)
-evaluation-spends lazy s q z = spends (lazyControl (authority s)) (q .enforce) (q .depth) (program s) (stack (q .start)) empty (initial q z)
+    spends (eagerControl (authority s)) (plain (q .enforce)) (q .depth) (program s) (rights 0 (privs (authority s) (stack (q .start)))) empty (initial q z)
+evaluation-spends lazy s q z = spends (lazyControl (authority s)) (plain (q .enforce)) (q .depth) (program s) (stack (q .start)) empty (initial q z)
 
 frames-length : (r : Runner) (fs : List ℕ) → length (clearedFrames r fs) ≡ length fs
 frames-length eager fs = refl
@@ -187,14 +201,13 @@ pub counts-few : (s : List ℕ) (q : Request) (b : Buffers) (o : Outcome) (k : C
 counts-few s q b o k e =
     let clear-of = starts-screened s q b (o, k, e) in
     let callers = none-append (decodingConditions s) _ (clear-none (runConditions s q (sizes b)) clear-of) .1 in
-    let buffers = none-cons callers .1 in
     let fits : (leb (length (b .cells)) maxCells && leb (length (b .posts)) maxPosts && framesOk (q .runner) (length (b .frames)))
-    ≡ true = unless-none 15 _ (none-cons buffers .0) in
-    let within : (leb (q .calls) maxCalls && leb (q .depth) maxDepth) ≡ true = unless-none 16 _ (none-cons (none-cons buffers .1) .0) in
+    ≡ true = unless-none 15 _ (none-cons (none-cons callers .1) .0) in
     subst Few
     (ap (countsIn k) (sym (answer-course s q b _ (course-clear s q b clear-of)) ∙ e))
     (few q (sizes b) (left (evaluation (q .runner) s q (sizes b)))
-    (leb-true (q .calls) maxCalls (search (within, and-left)))
+    (clear-calls s q b clear-of)
     (leb-true (length (b .cells)) maxCells (search (fits, and-left, and-right)))
     (leb-true (length (b .posts)) maxPosts (search (fits, and-left, and-right)))
-    (evaluation-spends (q .runner) s q (sizes b)) (evaluation-saturated s (started-well s q b (o, k, e)) (q .runner) q (sizes b)))
+    (evaluation-spends (q .runner) s q (sizes b))
+    (omega (arith, evaluation-load s (started-well s q b (o, k, e)) (plain (q .enforce)) (q .runner) q (sizes b))))

@@ -4,6 +4,7 @@ use mathlib.Core.List.{List, [], _∷_}
 use mathlib.Core.Option.{Option, none, some}
 use Prim.Native.Nat.{ℕ, zero, suc}
 use Rattle.program.specs.Terms.{Term}
+use Rattle.traces.specs.Traces.{Event}
 
 -- A closure is a function type's number, a body and the environment where it was made. It is recursive if a letrec made it: then its body also
 -- sees the function itself.
@@ -27,19 +28,24 @@ abbrev pub entered : (recursive : Bool) (ty : ℕ) (body : Term) (env : Env) (ar
 entered true ty body env w = bind w (bind (closure true ty body env) env)
 entered false ty body env w = bind w env
 
--- what was made so far: the posts, the latest first; and 02, W10: "Both runners count the held ones", the sums and differences that were saturated
+-- What was made so far: the posts, the latest first; 02, W10: "Both runners count the held ones", the sums and differences that were saturated; and 02, W12:
+-- the checks, tests and guards that were decided, the latest first, where a run lists them.
 pub record Log : Type 0 where
   pub posts : List ℕ
   pub saturated : ℕ
+  pub decisions : List Event
 
 abbrev pub emptyLog : Log
-emptyLog = record { posts = []; saturated = 0 }
+emptyLog = record { posts = []; saturated = 0; decisions = [] }
 
 abbrev pub logPost : (entry : ℕ) → Log → Log
-logPost x l = record { posts = x ∷ l .posts; saturated = l .saturated }
+logPost x l = record { posts = x ∷ l .posts; saturated = l .saturated; decisions = l .decisions }
 
 abbrev pub logSaturated : Bool → Log → Log
-logSaturated b l = record { posts = l .posts; saturated = cond b (suc (l .saturated)) (l .saturated) }
+logSaturated b l = record { posts = l .posts; saturated = cond b (suc (l .saturated)) (l .saturated); decisions = l .decisions }
+
+abbrev pub logDecision : Event → Log → Log
+logDecision e l = record { posts = l .posts; saturated = l .saturated; decisions = e ∷ l .decisions }
 
 -- what is left: calls, cells and places for posts; and what was made
 pub data Budget : Type 0 where

@@ -2,12 +2,13 @@
 use mathlib.Core.Bool.{true, false}
 use mathlib.Core.List.{List}
 use mathlib.Core.Path.{_≡_}
-use Prim.Native.Nat.{ℕ, _≤_}
+use Prim.Native.Nat.{ℕ, _*_, _≤_}
 use lib.ListN.{length, take}
 use Rattle.privileges.specs.Sets.{has}
 use Rattle.program.specs.Layout.{authority}
 use Rattle.semantics.specs.Access.{chk}
 use Rattle.semantics.specs.Runs.{Request, Buffers, stack, ground-bool, ground-num, ended, stopped, Answer, refused, ran, After}
+use Rattle.semantics.specs.Recording.{Recorded}
 use Rattle.semantics.specs.Theorems.{Starts}
 
 -- "A stack grants a set if it grants each privilege in it."
@@ -58,3 +59,26 @@ Proper τ (refused c p) = ⊥
 Proper τ (ran (ended (ground-bool b)) k) = τ ≡ 0
 Proper τ (ran (ended (ground-num n)) k) = τ ≡ 1
 Proper τ (ran (stopped cause at) k) = Limit cause
+
+-- ---- 02, W12: records
+
+-- Two runs with checks in force in both or passed over in both, of one start, allowances and lengths, and neither "turned back".
+pub record LikeRuns (s : List ℕ) (x y : Request) (b d : Buffers) : Type 0 where
+  pub comparable : Comparable x y b d
+  pub same-checks : x .enforce ≡ y .enforce
+  pub first-starts : Starts s x b
+  pub second-starts : Starts s y d
+
+-- the entries in a record, four bytes each
+abbrev pub entriesIn : Recorded → List ℕ
+entriesIn r = take (4 * r .entries) (r .trace)
+
+-- equal entries
+pub record SameRecord (a b : Recorded) : Type 0 where
+  pub same-number : a .entries ≡ b .entries
+  pub same-bytes : entriesIn a ≡ entriesIn b
+
+-- the first one's entries are the beginning of the second one's
+pub record Begins (a b : Recorded) : Type 0 where
+  pub no-more : a .entries ≤ b .entries
+  pub beginning : entriesIn a ≡ take (4 * a .entries) (entriesIn b)

@@ -6,10 +6,11 @@ use Prim.Native.Nat.{ℕ}
 use lib.ListN.{length}
 use Rattle.program.specs.Layout.{root}
 use Rattle.program.specs.Screening.{Screening, clear, found, screen}
-use Rattle.program.specs.Laws.Readable.{well-formed}
+use Rattle.program.specs.Laws.Readable.{WellFormed, well-formed}
 use Rattle.typing.specs.Verdicts.{accepted, verdict}
 use Rattle.typing.specs.Theorems.{acceptance}
-use Rattle.semantics.specs.Runs.{Request, Buffers, sizes, framesOk, runConditions, After, run}
+use Rattle.semantics.specs.Meaning.{plain}
+use Rattle.semantics.specs.Runs.{Request, Buffers, sizes, framesOk, runConditions, evaluationIn, evaluation, After, run}
 use Rattle.semantics.specs.Theorems.{course-clear, course-found, run-course, starts-screened}
 use Rattle.soundness.specs.Claims.{GrantsSet, Comparable, TwoRuns, SameRun, Proper}
 use Rattle.soundness.specs.Laws.Runs.{same-conditions, same-evaluation, same-whole, clear-readable, removed}
@@ -24,10 +25,13 @@ runners-agree s x y b d c e fx fy = go (screen (runConditions s x (sizes b))) re
     same : screen (runConditions s x (sizes b)) ≡ screen (runConditions s y (sizes d))
     same = ap screen (same-conditions s x y b d c (fx ∙ sym fy))
 
+    same-plain : WellFormed s → evaluation (x .runner) s x (sizes b) ≡ evaluation (y .runner) s y (sizes d)
+    same-plain w = same-evaluation s w (plain (x .enforce)) x y b d c ∙ λ i. evaluationIn (plain (e i)) (y .runner) s y (sizes d)
+
     go : (z : Screening) → screen (runConditions s x (sizes b)) ≡ z → SameRun (run s x b) (run s y d)
     go clear h =
         subst₂ SameRun (sym (run-course s x b _ (course-clear s x b h))) (sym (run-course s y d _ (course-clear s y d (sym same ∙ h))))
-        (same-whole (root s) x y b d (c .limits) _ _ (same-evaluation s (well-formed s (clear-readable s x (sizes b) h)) x y b d c e))
+        (same-whole (root s) x y b d (c .limits) _ _ (same-plain (well-formed s (clear-readable s x (sizes b) h))))
     go (found k p) h =
         subst₂ SameRun (sym (run-course s x b _ (course-found s x b k p h))) (sym (run-course s y d _ (course-found s y d k p (sym same ∙ h))))
         (record { same-answer = refl; same-posts = refl })

@@ -8,7 +8,7 @@ use lib.ListN.{getD, length, set}
 use borrow.Author.Tests.{le-leb, lt-leb}
 use Rattle.privileges.specs.Sets.{has, meet, insert}
 use Rattle.stores.specs.Words.{pick}
-use Rattle.stores.specs.Access.{pairOf, lowOf, highOf, enforced, lazyMode, walkGrants, framesGrant, grantedOf, allowedOf, signAccess, signFrames, lastOf, firstEnabled, enableAccess, enableFrames, enabledNow, restoreFrames}
+use Rattle.stores.specs.Access.{pairOf, lowOf, highOf, lazyMode, walkGrants, framesGrant, grantedOf, signAccess, signFrames, lastOf, firstEnabled, enableAccess, enableFrames, enabledNow, restoreFrames}
 
 -- ---- the walk
 module _ (f : List ℕ) (d p : ℕ) (h : 1 < d) where
@@ -117,13 +117,3 @@ module _ (mode acc : ℕ) (f : List ℕ) {b : Bool} (q : b ≡ lazyMode mode) wh
     pub restore-eager : (old : ℕ) → f ≡ restoreFrames mode acc f old
     unfolding restoreFrames
     restore-eager old = sym (rw mode-eager refl)
-
--- ---- a check, by whether it is enforced
-module _ (mode acc : ℕ) (f : List ℕ) (p : ℕ) {b : Bool} (q : b ≡ enforced mode) where
-  pub allowed-on : {r : Bool} → b ≡ true → r ≡ grantedOf mode acc f p → r ≡ allowedOf mode acc f p
-  unfolding allowedOf
-  allowed-on h e = e ∙ sym (rw (← q, h) refl)
-
-  pub allowed-off : b ≡ false → true ≡ allowedOf mode acc f p
-  unfolding allowedOf
-  allowed-off h = sym (rw (← q, h) refl)

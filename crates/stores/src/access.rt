@@ -4,7 +4,7 @@
 ghost use mathlib.Core.Path.{_≡_};
 ghost use Prim.Native.Nat.{_<_};
 ghost use lib.ListN.{getD, set};
-ghost use Rattle.stores.specs.Access.{pairOf, lowOf, highOf, enforced, lazyMode, framesGrant, grantedOf, allowedOf, signAccess, signFrames, firstEnabled, enableAccess, enableFrames, enabledNow, restoreFrames};
+ghost use Rattle.stores.specs.Access.{pairOf, lowOf, highOf, enforced, lazyMode, framesGrant, grantedOf, signAccess, signFrames, firstEnabled, enableAccess, enableFrames, enabledNow, restoreFrames};
 ghost use Rattle.stores.specs.Cells.{zerosLike};
 
 fn number_at(f: &[u32], i: usize) -> u32
@@ -54,7 +54,7 @@ pub fn mode_of(lazy: bool, enforce: bool) -> usize
     0
 }
 
-fn enforces(mode: usize) -> bool
+pub fn enforces(mode: usize) -> bool
     ensures { λ r. ⌜ r ≡ enforced mode ⌝ }
 {
     mode % 2 == 1
@@ -96,17 +96,6 @@ pub fn granted(frames: &mut [u32], mode: usize, acc: u64, p: u8) -> bool
         return frames_grant(frames, low(acc), p);
     }
     privileges::contains(p, high(acc))
-}
-
-// Whether a check of p goes on: always, where checks are skipped.
-pub fn allowed(frames: &mut [u32], mode: usize, acc: u64, p: u8) -> bool
-    requires { ⌜ p < 32 ⌝ }
-    ensures { λ r. ⌜ (r ≡ allowedOf mode acc (now (frames .entry)) p) × (now (frames .exit) ≡ now (frames .entry)) ⌝ }
-{
-    if enforces(mode) {
-        return granted(frames, mode, acc, p);
-    }
-    true
 }
 
 // Where the first frame has its enabled set. With no frame it wraps to the largest index, which is past every store: 0 is read there and nothing

@@ -57,6 +57,13 @@ pub fn fill_numbers(a: &mut [u32], first: u32, step: u32) {
     }
 }
 
+// All that a lazy run is lent.
+pub fn fill_all(cells: &mut [u8], posts: &mut [u32], frames: &mut [u32]) {
+    fill_cells(cells);
+    fill_numbers(posts, 2, 3);
+    fill_numbers(frames, 5, 1);
+}
+
 // 31 times the sum, and x.
 fn mixed(h: u32, x: u32) -> u32 {
     wrapping_add_u32(wrapping_sub_u32(h << 5, h), x)
@@ -84,4 +91,8 @@ pub fn mix_numbers(h: u32, a: &[u32]) -> u32 {
         i += 1;
     }
     sum
+}
+
+pub fn mix_all(cells: &[u8], posts: &[u32], frames: &[u32]) -> u32 {
+    mix_numbers(mix_numbers(mix_cells(0, cells), posts), frames)
 }

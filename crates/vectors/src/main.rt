@@ -4,6 +4,7 @@ mod buffers;
 mod input;
 mod output;
 
+use buffers::fill_all;
 use buffers::fill_cells;
 use buffers::fill_numbers;
 use buffers::max_cells;
@@ -11,6 +12,7 @@ use buffers::max_frames;
 use buffers::max_posts;
 use buffers::max_sheet;
 use buffers::max_start;
+use buffers::mix_all;
 use buffers::mix_cells;
 use buffers::mix_numbers;
 use input::Vector;
@@ -68,9 +70,7 @@ fn lazy(
     posts: &mut [u32],
     frames: &mut [u32],
 ) {
-    fill_cells(cells);
-    fill_numbers(posts, 2, 3);
-    fill_numbers(frames, 5, 1);
+    fill_all(cells, posts, frames);
     let mut answer = [0u32; 8];
     let r = capi::sovzedal_run_lazy(
         sheet,
@@ -83,7 +83,67 @@ fn lazy(
         frames,
         &mut answer,
     );
-    let h = mix_numbers(mix_numbers(mix_cells(0, cells), posts), frames);
+    let h = mix_all(cells, posts, frames);
+    run_line(name, r, &answer, h);
+}
+
+// The same runs with a record of ten entries and a half.
+fn record_eager(
+    name: &[u8],
+    sheet: &[u8],
+    start: &[u32],
+    calls: u32,
+    depth: u32,
+    enforce: u32,
+    cells: &mut [u8],
+    posts: &mut [u32],
+) {
+    fill_cells(cells);
+    fill_numbers(posts, 2, 3);
+    let mut noted = [6u8; 42];
+    let mut answer = [0u32; 9];
+    let r = capi::sovzedal_record_eager(
+        sheet,
+        start,
+        calls,
+        depth,
+        enforce,
+        cells,
+        posts,
+        &mut noted,
+        &mut answer,
+    );
+    let h = mix_cells(mix_numbers(mix_cells(0, cells), posts), &noted);
+    run_line(name, r, &answer, h);
+}
+
+fn record_lazy(
+    name: &[u8],
+    sheet: &[u8],
+    start: &[u32],
+    calls: u32,
+    depth: u32,
+    enforce: u32,
+    cells: &mut [u8],
+    posts: &mut [u32],
+    frames: &mut [u32],
+) {
+    fill_all(cells, posts, frames);
+    let mut noted = [6u8; 42];
+    let mut answer = [0u32; 9];
+    let r = capi::sovzedal_record_lazy(
+        sheet,
+        start,
+        calls,
+        depth,
+        enforce,
+        cells,
+        posts,
+        frames,
+        &mut noted,
+        &mut answer,
+    );
+    let h = mix_cells(mix_all(cells, posts, frames), &noted);
     run_line(name, r, &answer, h);
 }
 
@@ -98,6 +158,50 @@ fn eagers(
 ) {
     eager(b"eager", sheet, start, calls, depth, 1, cells, posts);
     eager(b"eager-skip", sheet, start, calls, depth, 0, cells, posts);
+    record_eager(b"eager-record", sheet, start, calls, depth, 1, cells, posts);
+    record_eager(
+        b"eager-record-skip",
+        sheet,
+        start,
+        calls,
+        depth,
+        0,
+        cells,
+        posts,
+    );
+}
+
+fn recorded_lazies(
+    sheet: &[u8],
+    start: &[u32],
+    calls: u32,
+    depth: u32,
+    cells: &mut [u8],
+    posts: &mut [u32],
+    frames: &mut [u32],
+) {
+    record_lazy(
+        b"lazy-record",
+        sheet,
+        start,
+        calls,
+        depth,
+        1,
+        cells,
+        posts,
+        frames,
+    );
+    record_lazy(
+        b"lazy-record-skip",
+        sheet,
+        start,
+        calls,
+        depth,
+        0,
+        cells,
+        posts,
+        frames,
+    );
 }
 
 fn lazies(
@@ -121,6 +225,7 @@ fn lazies(
         posts,
         frames,
     );
+    recorded_lazies(sheet, start, calls, depth, cells, posts, frames);
 }
 
 // One vector, on buffers of the lengths that it asks for.

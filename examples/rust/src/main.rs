@@ -16,7 +16,7 @@ use std::process::ExitCode;
 use std::{env, fs};
 
 /// The headings of docs/REFUSALS.md, by their numbers.
-const CAUSES: [&str; 34] = [
+const CAUSES: [&str; 35] = [
     "none",
     "cut short",
     "wrong tag",
@@ -51,6 +51,7 @@ const CAUSES: [&str; 34] = [
     "guard",
     "no lean form",
     "no room",
+    "record",
 ];
 
 fn main() -> ExitCode {

@@ -6,6 +6,7 @@ mod explaining;
 mod floor;
 mod naming;
 mod placement;
+mod recording;
 mod timing;
 mod workload;
 
@@ -34,6 +35,7 @@ fn main() {
     explaining::print();
     erasing::print();
     naming::print();
+    recording::print();
     floor::print();
 }
 

@@ -1,7 +1,9 @@
 //! Entries as text that the checker reads.
 
-use crate::row::{Asked, Buffers, Entry, Row, Runner};
-use sovzedal_reference::{Checks, Outcome, Plain, Refusal, Run, Stop, Verdict, FRAME_NUMBERS};
+use crate::row::{Asked, Buffers, Compared, Entry, Row, Runner, Running};
+use sovzedal_reference::{
+    Checks, Comparison, Outcome, Plain, Recorded, Refusal, Run, Stop, Verdict, FRAME_NUMBERS,
+};
 use std::fmt::Display;
 
 /// What the rows are, and what the definitions have to do with them.
@@ -9,6 +11,9 @@ pub const TABLE: &str = include_str!("../templates/Table.template");
 
 /// Some rows, with the theorem that the definitions give them.
 const ROWS: &str = include_str!("../templates/Rows.template");
+
+/// Some comparisons, with theirs.
+const COMPARISONS: &str = include_str!("../templates/Comparisons.template");
 
 /// A file of rows and their theorem.
 pub fn theorem(entries: &[Entry]) -> String {
@@ -23,20 +28,48 @@ pub fn theorem(entries: &[Entry]) -> String {
     }
     ROWS.replace("{sheets}\n", &sheets)
         .replace("{names}", &names.join(" "))
-        .replace("{rows}", &rows.join("\n    ∷ "))
+        .replace("{rows}", &rows.join(NEXT))
+}
+
+/// A file of comparisons and their theorem.
+pub fn comparisons(compared: &[Compared]) -> String {
+    let rows: Vec<String> = compared.iter().map(comparison).collect();
+    COMPARISONS.replace("{rows}", &rows.join(NEXT))
+}
+
+/// Between two rows.
+const NEXT: &str = "\n    ∷ ";
+
+fn comparison(compared: &Compared) -> String {
+    let answer = match compared.answer {
+        Ok(Comparison::Fits { missing }) => format!("(fits {missing})"),
+        Ok(Comparison::Diverges { entry }) => format!("(diverges {entry})"),
+        Err(refusal) => refused(refusal),
+    };
+    let [unit, office] = [&compared.unit, &compared.office].map(|record| list(record));
+    format!("holding {unit} {office} {answer}")
 }
 
 fn row(sheet: &str, row: &Row) -> String {
     match row {
         Row::Deciding(due) => format!("deciding {sheet} {}", verdict(*due)),
-        Row::Running(run) => format!(
-            "running {sheet} {} {} (after {} {})",
-            request(&run.asked),
-            buffers(&run.before),
-            answer(run.answer),
-            buffers(&run.after)
-        ),
+        Row::Running(run) => running(sheet, run),
     }
+}
+
+fn running(sheet: &str, run: &Running) -> String {
+    let (told, entries) = match run.answer {
+        Ok(Recorded { run, entries }) => (ran(run), entries),
+        Err(refusal) => (refused(refusal), 0),
+    };
+    format!(
+        "running {sheet} {} {} {} (recordedAs (after {told} {}) {entries} {})",
+        request(&run.asked),
+        buffers(&run.before),
+        list(&run.before.record),
+        buffers(&run.after),
+        list(&run.after.record)
+    )
 }
 
 fn verdict(verdict: Result<Verdict, Refusal>) -> String {
@@ -85,18 +118,19 @@ fn frames(numbers: &[u32]) -> String {
     }
 }
 
-fn answer(answer: Result<Run, Refusal>) -> String {
-    match answer {
-        Ok(run) => format!(
-            "(ran {} (counted {} {} {} {}))",
-            outcome(run.outcome),
-            run.calls,
-            run.cells,
-            run.posts,
-            run.held
-        ),
-        Err(refusal) => format!("(refused {})", cause_and_place(refusal)),
-    }
+fn ran(run: Run) -> String {
+    format!(
+        "(ran {} (counted {} {} {} {}))",
+        outcome(run.outcome),
+        run.calls,
+        run.cells,
+        run.posts,
+        run.held
+    )
+}
+
+fn refused(refusal: Refusal) -> String {
+    format!("(refused {})", cause_and_place(refusal))
 }
 
 fn outcome(outcome: Outcome) -> String {
@@ -129,6 +163,7 @@ fn list<T: Copy + Display + PartialEq>(numbers: &[T]) -> String {
 mod tests {
     use super::*;
     use sheets::cases;
+    use sheets::pairs::{Made, Pair};
     use sheets::request::Request;
 
     #[test]
@@ -142,6 +177,7 @@ mod tests {
             runner: Runner::Eager,
             checks: Checks::InForce,
             request,
+            record: 6,
         };
         let entry = Entry::answered(cases::posting(2), [asked]);
         let rows: Vec<String> = entry.rows.iter().map(|asked| row("s", asked)).collect();
@@ -151,10 +187,30 @@ mod tests {
                 "deciding s (accepted 5 1 0)",
                 "running s (requestOf eager true [] 4096 100) \
                  (buffersOf (replicate 20 7) (8 ∷ 8 ∷ []) (9 ∷ [])) \
-                 (after (ran (ended (ground-num 7)) (counted 0 0 1 0)) \
-                 (buffersOf (replicate 20 0) (7 ∷ 8 ∷ []) (9 ∷ [])))",
+                 (6 ∷ 6 ∷ 6 ∷ 6 ∷ 6 ∷ 6 ∷ []) \
+                 (recordedAs (after (ran (ended (ground-num 7)) (counted 0 0 1 0)) \
+                 (buffersOf (replicate 20 0) (7 ∷ 8 ∷ []) (9 ∷ []))) \
+                 1 (0 ∷ 2 ∷ 1 ∷ 1 ∷ 6 ∷ 6 ∷ []))",
             ]
         );
+    }
+
+    #[test]
+    fn records_are_compared() {
+        let row = |unit: &[u8], office: &[u8]| {
+            comparison(&Compared::answered(Pair {
+                unit: unit.to_vec(),
+                office: office.to_vec(),
+                made: Made::Otherwise,
+            }))
+        };
+        let entry = [0, 2, 1, 1];
+        assert_eq!(row(&[], &entry), "holding [] (0 ∷ 2 ∷ 1 ∷ 1 ∷ []) (fits 1)");
+        assert_eq!(
+            row(&entry, &[]),
+            "holding (0 ∷ 2 ∷ 1 ∷ 1 ∷ []) [] (diverges 0)"
+        );
+        assert_eq!(row(&[], &[0]), "holding [] (0 ∷ []) (refused 34 0)");
     }
 
     #[test]

@@ -1,14 +1,15 @@
 //! Which sheets and runs are asked about: small sheets and short runs, since
 //! the checker computes with lists.
 
-use crate::row::{Asked, Entry, Runner, Running};
+use crate::row::{Asked, Compared, Entry, Runner, Running};
 use sheets::generate::{sample, Sample};
+use sheets::pairs::Pair;
 use sheets::request::{
     Request, FRAME_NUMBERS, MAX_CALLS, MAX_CELL_BYTES, MAX_OPEN_CALLS, MAX_POSTS,
 };
 use sheets::rng::Rng;
-use sheets::{branches, cases, held, pages, smallest, type_faults, yes_branch};
-use sovzedal_reference::{decode, Checks};
+use sheets::{branches, cases, held, pages, recorded, smallest, type_faults, yes_branch};
+use sovzedal_reference::{decode, Checks, ENTRY_BYTES};
 
 const MAX_TYPES: usize = 12;
 /// Some twenty terms, beside a few types and principals.
@@ -25,9 +26,13 @@ const WAYS: [(Runner, Checks); 4] = [
     (Runner::Lazy, Checks::PassedOver),
 ];
 
+/// Of a record that is neither empty nor long: room for three entries, and a
+/// part of one.
+const SHORT_RECORD: usize = 3 * ENTRY_BYTES + 2;
+
 /// The smallest sheet for each cause, the contract's cases and those of W1, W4,
-/// W5, W8 and W10, each with its own request or a shorter one, and the limits
-/// of a request.
+/// W5, W8, W10 and W12, each with its own request or a shorter one, and the
+/// limits of a request.
 pub fn named() -> Vec<Entry> {
     let smallest = smallest::all()
         .into_iter()
@@ -43,6 +48,7 @@ pub fn named() -> Vec<Entry> {
     smallest
         .chain(cases)
         .map(|(sheet, request)| asked_in_all_ways(sheet, &shortened(request)))
+        .chain(recorded::all().into_iter().map(asked_with_records))
         .chain([limits_of_requests()])
         .collect()
 }
@@ -55,13 +61,37 @@ pub fn random(seed: u64, count: usize) -> Vec<Entry> {
         .collect()
 }
 
+/// `count` pairs of records.
+pub fn compared(seed: u64, count: usize) -> Vec<Compared> {
+    // Not the numbers that the sheets were drawn from.
+    let rng = &mut Rng::new(!seed);
+    let pairs = (0..count).map(|_| Pair::random(rng));
+    pairs.map(Compared::answered).collect()
+}
+
 fn asked_in_all_ways(sheet: Vec<u8>, request: &Request) -> Entry {
-    let asked = WAYS.map(|(runner, checks)| Asked {
+    let asked = in_all_ways(request, SHORT_RECORD);
+    Entry::answered(sheet, asked)
+}
+
+/// With a record that is too short for the last entry of a run with checks in
+/// force, and with one that has room to spare.
+fn asked_with_records(case: recorded::Recorded) -> Entry {
+    let request = shortened(case.request);
+    let entries = case.in_force.len().min(MAX_SHORT_CALLS as usize);
+    let bytes = entries * ENTRY_BYTES;
+    let records = [bytes.saturating_sub(1), bytes + ENTRY_BYTES + 1];
+    let asked = records.map(|record| in_all_ways(&request, record));
+    Entry::answered(case.sheet, asked.into_iter().flatten())
+}
+
+fn in_all_ways(request: &Request, record: usize) -> [Asked; 4] {
+    WAYS.map(|(runner, checks)| Asked {
         runner,
         checks,
         request: request.clone(),
-    });
-    Entry::answered(sheet, asked)
+        record,
+    })
 }
 
 /// Allows fewer calls and cells, unless it is turned back for its calls.
@@ -114,6 +144,7 @@ fn limits_of_requests() -> Entry {
             runner,
             checks: Checks::InForce,
             request: request.clone(),
+            record: SHORT_RECORD,
         })
     });
     Entry::answered(cases::endless(), asked)
@@ -149,10 +180,20 @@ fn random_short(rng: &mut Rng, sample: &Sample, runner: Runner, checks: Checks) 
             runner,
             checks,
             request: Request::random_small(rng, &sample.world),
+            record: random_record(rng),
         };
         let answer = Running::answered(&sample.bytes, asked.clone()).answer;
-        if answer.map_or(0, |run| run.calls) <= MAX_SHORT_CALLS {
+        if answer.map_or(0, |recorded| recorded.run.calls) <= MAX_SHORT_CALLS {
             return asked;
         }
+    }
+}
+
+/// The length of a record: for no entry, for some, or for some and a part.
+fn random_record(rng: &mut Rng) -> usize {
+    match rng.below(4) {
+        0 => rng.below(ENTRY_BYTES),
+        1 => ENTRY_BYTES * rng.between(1, 3),
+        _ => rng.between(ENTRY_BYTES, 8 * ENTRY_BYTES),
     }
 }

@@ -1,16 +1,16 @@
-//! Writes a crate of rows: sheets, most of them random, and the reference's
-//! answers. Its theorems say that the definitions give the same; the checker
-//! proves them by computing, or refuses them.
+//! Writes a crate of rows: sheets and pairs of records, most of them random,
+//! and the reference's answers. Its theorems say that the definitions give the
+//! same; the checker proves them by computing, or refuses them.
 
 mod antt;
 mod choice;
 mod row;
 mod written;
 
-use row::{Entry, Row};
+use row::{Compared, Entry, Row};
 use sheets::seed::{given_or_fresh, SEED};
 use sheets::tally::Tally;
-use sovzedal_reference::Reply;
+use sovzedal_reference::{Comparison, Reply, ENTRY_BYTES};
 use std::env;
 use std::path::PathBuf;
 use std::process::ExitCode;
@@ -18,6 +18,8 @@ use written::row_count;
 
 /// How many random sheets there are, beside those with a name.
 const SHEETS: usize = 200;
+/// How many pairs of records are compared.
+const PAIRS: usize = 300;
 
 fn main() -> ExitCode {
     let mut arguments = env::args().skip(1);
@@ -33,8 +35,11 @@ fn main() -> ExitCode {
     entries.extend(choice::random(seed, sheets));
     let tally = count(&entries);
     print!("{tally}");
-    println!("{} sheets, {} rows", entries.len(), row_count(&entries));
-    if let Err(error) = written::write(&directory, entries) {
+    let compared = choice::compared(seed, PAIRS);
+    print_records(&entries, &compared);
+    let rows = row_count(&entries) + compared.len();
+    println!("{} sheets, {rows} rows", entries.len());
+    if let Err(error) = written::write(&directory, entries, &compared) {
         eprintln!("definitions: {error}");
         return ExitCode::FAILURE;
     }
@@ -49,11 +54,33 @@ fn count(entries: &[Entry]) -> Tally {
                 Row::Deciding(verdict) => {
                     tally.count_judged(&entry.sheet, &Reply::from(*verdict).answer)
                 }
-                Row::Running(run) => tally.count_run(&Reply::from(run.answer).answer),
+                Row::Running(run) => {
+                    let answer = run.answer.map(|recorded| recorded.run);
+                    tally.count_run(&Reply::from(answer).answer)
+                }
             }
         }
     }
     tally
+}
+
+/// How many runs have recorded something and in how many the record was full
+/// then, and what the comparisons told.
+fn print_records(entries: &[Entry], compared: &[Compared]) {
+    let (mut some, mut full) = (0, 0);
+    for row in entries.iter().flat_map(|entry| &entry.rows) {
+        if let Row::Running(run) = row {
+            let taken = run.answer.map_or(0, |recorded| recorded.entries);
+            some += usize::from(taken > 0);
+            full += usize::from(taken > 0 && taken == run.asked.record / ENTRY_BYTES);
+        }
+    }
+    let times = |told: fn(&Compared) -> bool| compared.iter().filter(|it| told(it)).count();
+    let fit = times(|it| matches!(it.answer, Ok(Comparison::Fits { .. })));
+    let diverge = times(|it| matches!(it.answer, Ok(Comparison::Diverges { .. })));
+    let refused = times(|it| it.answer.is_err());
+    println!("runs with entries {some}, that fill the record {full}");
+    println!("pairs of records that fit {fit}, that diverge {diverge}, refused {refused}");
 }
 
 fn reached_every_cause(tally: &Tally) -> ExitCode {

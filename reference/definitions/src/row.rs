@@ -1,8 +1,10 @@
-//! Questions about a sheet, and the reference's answers.
+//! Questions about a sheet or two records, and the reference's answers.
 
+use sheets::pairs::Pair;
 use sheets::request::Request;
 use sovzedal_reference::{
-    run_eager, run_lazy, typecheck, Checks, Refusal, Request as Allowed, Run, Verdict,
+    compare, record_eager, record_lazy, typecheck, Checks, Comparison, Recorded, Refusal,
+    Request as Allowed, Verdict,
 };
 
 /// A sheet and what is asked about it.
@@ -16,12 +18,19 @@ pub enum Row {
     Running(Box<Running>),
 }
 
-/// A run, with the contents of the buffers before and after it.
+/// A run with a record, and the contents of the buffers before and after it.
 pub struct Running {
     pub asked: Asked,
     pub before: Buffers,
-    pub answer: Result<Run, Refusal>,
+    pub answer: Result<Recorded, Refusal>,
     pub after: Buffers,
+}
+
+/// The unit's record held against the office's.
+pub struct Compared {
+    pub unit: Vec<u8>,
+    pub office: Vec<u8>,
+    pub answer: Result<Comparison, Refusal>,
 }
 
 #[derive(Clone, Copy, Debug, PartialEq, Eq)]
@@ -36,6 +45,8 @@ pub struct Asked {
     pub runner: Runner,
     pub checks: Checks,
     pub request: Request,
+    /// Bytes of the record.
+    pub record: usize,
 }
 
 #[derive(Clone, Debug)]
@@ -43,6 +54,7 @@ pub struct Buffers {
     pub cells: Vec<u8>,
     pub posts: Vec<u32>,
     pub frames: Vec<u32>,
+    pub record: Vec<u8>,
 }
 
 impl Entry {
@@ -80,8 +92,18 @@ impl Running {
     }
 }
 
+impl Compared {
+    pub fn answered(pair: Pair) -> Self {
+        Self {
+            answer: compare(&pair.unit, &pair.office),
+            unit: pair.unit,
+            office: pair.office,
+        }
+    }
+}
+
 impl Asked {
-    fn run(&self, sheet: &[u8], buffers: &mut Buffers) -> Result<Run, Refusal> {
+    fn run(&self, sheet: &[u8], buffers: &mut Buffers) -> Result<Recorded, Refusal> {
         let allowed = Allowed {
             start: &self.request.start,
             calls: self.request.calls,
@@ -92,10 +114,11 @@ impl Asked {
             cells,
             posts,
             frames,
+            record,
         } = buffers;
         match self.runner {
-            Runner::Eager => run_eager(sheet, &allowed, cells, posts),
-            Runner::Lazy => run_lazy(sheet, &allowed, cells, posts, frames),
+            Runner::Eager => record_eager(sheet, &allowed, cells, posts, record),
+            Runner::Lazy => record_lazy(sheet, &allowed, cells, posts, frames, record),
         }
     }
 }
@@ -113,6 +136,7 @@ impl Buffers {
             cells: vec![7; asked.request.cell_bytes],
             posts: vec![8; asked.request.posts],
             frames: vec![9; frame_numbers],
+            record: vec![6; asked.record],
         }
     }
 }

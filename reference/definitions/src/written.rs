@@ -1,13 +1,13 @@
 //! The files of the crate `definition_rows`, and its line in `crates.txt`.
 
 use crate::antt;
-use crate::row::Entry;
+use crate::row::{Compared, Entry};
 use sheets::seed::number_from;
 use std::fs::{self, OpenOptions};
 use std::io::{self, Write};
 use std::path::Path;
 
-const LINE: &str = "definition_rows: typing semantics program privileges";
+const LINE: &str = "definition_rows: typing semantics traces program privileges";
 const CRATE: &str = "crates/definition_rows";
 
 /// How many rows a theorem has, or a few more.
@@ -15,7 +15,7 @@ const ROWS: &str = "SOVZEDAL_ROWS";
 const DEFAULT_ROWS: u64 = 20;
 
 /// Writes the crate anew.
-pub fn write(directory: &Path, entries: Vec<Entry>) -> io::Result<()> {
+pub fn write(directory: &Path, entries: Vec<Entry>, compared: &[Compared]) -> io::Result<()> {
     let folder = directory.join(CRATE);
     if folder.exists() {
         fs::remove_dir_all(&folder)?;
@@ -26,9 +26,13 @@ pub fn write(directory: &Path, entries: Vec<Entry>) -> io::Result<()> {
     fs::write(src.join("lib.rt"), "// Rows only, in specs/.\n")?;
     fs::write(specs.join("Table.antt"), antt::TABLE)?;
     let mut modules = "pub mod Table\n".to_string();
-    for (number, entries) in theorems(entries).iter().enumerate() {
+    let rows = number_from(ROWS).unwrap_or(DEFAULT_ROWS) as usize;
+    let about_sheets = theorems(entries, rows);
+    let about_sheets = about_sheets.iter().map(|entries| antt::theorem(entries));
+    let about_records = compared.chunks(rows).map(antt::comparisons);
+    for (number, theorem) in about_sheets.chain(about_records).enumerate() {
         let name = format!("Rows{number}");
-        fs::write(specs.join(format!("{name}.antt")), antt::theorem(entries))?;
+        fs::write(specs.join(format!("{name}.antt")), theorem)?;
         modules += &format!("pub mod {name}\n");
     }
     fs::write(specs.join("Lib.antt"), modules)?;
@@ -38,8 +42,7 @@ pub fn write(directory: &Path, entries: Vec<Entry>) -> io::Result<()> {
 /// Splits the entries into theorems. The rows of an entry stay together, so
 /// that the checker reads the sheet once for all of them; but if a theorem is
 /// to have one row, it has one.
-fn theorems(entries: Vec<Entry>) -> Vec<Vec<Entry>> {
-    let rows = number_from(ROWS).unwrap_or(DEFAULT_ROWS) as usize;
+fn theorems(entries: Vec<Entry>, rows: usize) -> Vec<Vec<Entry>> {
     if rows == 1 {
         let alone = entries.into_iter().flat_map(Entry::split);
         return alone.map(|entry| vec![entry]).collect();

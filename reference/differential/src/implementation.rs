@@ -8,6 +8,9 @@ pub const ANSWER_NUMBERS: usize = 8;
 /// How many it has where a job of the four lines is served: the line, too.
 pub const SERVE_NUMBERS: usize = 9;
 
+/// How many it has where a run is recorded: the number of entries, too.
+pub const RECORD_NUMBERS: usize = 9;
+
 /// How many terms of a chain are written.
 pub const CHAIN_NUMBERS: usize = 32;
 
@@ -22,11 +25,12 @@ pub struct RunArguments<'a> {
 }
 
 /// Each function returns 0 (readable, accepted, ended, a register read or
-/// written, a job added, a need explained, a lean sheet written, or told whether
-/// a privilege is named), 1 (stopped), 2 (refused), 3 (`answer` is shorter than
-/// [`ANSWER_NUMBERS`] or [`SERVE_NUMBERS`], `block` isn't of 16 bytes, `lines`
-/// not of 102 numbers or `chain` is shorter than [`CHAIN_NUMBERS`]) or 4 (no
-/// line has a job).
+/// written, a job added, a need explained, a lean sheet written, told whether a
+/// privilege is named, or two records compared), 1 (stopped), 2 (refused), 3
+/// (`answer` is shorter than [`ANSWER_NUMBERS`], [`SERVE_NUMBERS`] or
+/// [`RECORD_NUMBERS`], `block` isn't of 16 bytes, `lines` not of 102 numbers or
+/// `chain` is shorter than [`CHAIN_NUMBERS`]; a record longer than a `u32` can
+/// tell is not made here) or 4 (no line has a job).
 pub trait Implementation {
     const NAME: &'static str;
 
@@ -78,4 +82,25 @@ pub trait Implementation {
     fn erase(sheet: &[u8], lean: &mut [u8], answer: &mut [u32]) -> u32;
 
     fn names(sheet: &[u8], privilege: u32, answer: &mut [u32]) -> u32;
+
+    fn compare(unit: &[u8], office: &[u8], answer: &mut [u32]) -> u32;
+
+    fn record_eager(
+        sheet: &[u8],
+        arguments: RunArguments,
+        cells: &mut [u8],
+        posts: &mut [u32],
+        record: &mut [u8],
+        answer: &mut [u32],
+    ) -> u32;
+
+    fn record_lazy(
+        sheet: &[u8],
+        arguments: RunArguments,
+        cells: &mut [u8],
+        posts: &mut [u32],
+        frames: &mut [u32],
+        record: &mut [u8],
+        answer: &mut [u32],
+    ) -> u32;
 }

@@ -7,6 +7,7 @@ mod granting;
 mod happened;
 mod implementation;
 mod library;
+mod recording;
 mod reference;
 pub mod settings;
 mod shipped;
@@ -19,9 +20,10 @@ pub use board::Board;
 pub use granting::granting_stack;
 pub use happened::Happened;
 pub use implementation::{
-    Implementation, RunArguments, ANSWER_NUMBERS, CHAIN_NUMBERS, SERVE_NUMBERS,
+    Implementation, RunArguments, ANSWER_NUMBERS, CHAIN_NUMBERS, RECORD_NUMBERS, SERVE_NUMBERS,
 };
 pub use library::Library;
+pub use recording::Recording;
 pub use reference::Reference;
 pub use shipped::Shipped;
 pub use told::{Told, Way};

@@ -129,6 +129,53 @@ mod c {
             answer: *mut u32,
             answer_len: usize,
         ) -> u32;
+
+        pub fn sovzedal_compare(
+            unit: *const u8,
+            unit_len: usize,
+            office: *const u8,
+            office_len: usize,
+            answer: *mut u32,
+            answer_len: usize,
+        ) -> u32;
+
+        pub fn sovzedal_record_eager(
+            sheet: *const u8,
+            sheet_len: usize,
+            start: *const u32,
+            start_len: usize,
+            calls: u32,
+            depth: u32,
+            enforce: u32,
+            cells: *mut u8,
+            cells_len: usize,
+            posts: *mut u32,
+            posts_len: usize,
+            record: *mut u8,
+            record_len: usize,
+            answer: *mut u32,
+            answer_len: usize,
+        ) -> u32;
+
+        pub fn sovzedal_record_lazy(
+            sheet: *const u8,
+            sheet_len: usize,
+            start: *const u32,
+            start_len: usize,
+            calls: u32,
+            depth: u32,
+            enforce: u32,
+            cells: *mut u8,
+            cells_len: usize,
+            posts: *mut u32,
+            posts_len: usize,
+            frames: *mut u32,
+            frames_len: usize,
+            record: *mut u8,
+            record_len: usize,
+            answer: *mut u32,
+            answer_len: usize,
+        ) -> u32;
     }
 }
 
@@ -328,6 +375,80 @@ impl Implementation for Library {
                 sheet.as_ptr(),
                 sheet.len(),
                 privilege,
+                answer.as_mut_ptr(),
+                answer.len(),
+            )
+        }
+    }
+
+    fn compare(unit: &[u8], office: &[u8], answer: &mut [u32]) -> u32 {
+        unsafe {
+            c::sovzedal_compare(
+                unit.as_ptr(),
+                unit.len(),
+                office.as_ptr(),
+                office.len(),
+                answer.as_mut_ptr(),
+                answer.len(),
+            )
+        }
+    }
+
+    fn record_eager(
+        sheet: &[u8],
+        arguments: RunArguments,
+        cells: &mut [u8],
+        posts: &mut [u32],
+        record: &mut [u8],
+        answer: &mut [u32],
+    ) -> u32 {
+        unsafe {
+            c::sovzedal_record_eager(
+                sheet.as_ptr(),
+                sheet.len(),
+                arguments.start.as_ptr(),
+                arguments.start.len(),
+                arguments.calls,
+                arguments.open_calls,
+                arguments.enforce,
+                cells.as_mut_ptr(),
+                cells.len(),
+                posts.as_mut_ptr(),
+                posts.len(),
+                record.as_mut_ptr(),
+                record.len(),
+                answer.as_mut_ptr(),
+                answer.len(),
+            )
+        }
+    }
+
+    fn record_lazy(
+        sheet: &[u8],
+        arguments: RunArguments,
+        cells: &mut [u8],
+        posts: &mut [u32],
+        frames: &mut [u32],
+        record: &mut [u8],
+        answer: &mut [u32],
+    ) -> u32 {
+        unsafe {
+            c::sovzedal_record_lazy(
+                sheet.as_ptr(),
+                sheet.len(),
+                arguments.start.as_ptr(),
+                arguments.start.len(),
+                arguments.calls,
+                arguments.open_calls,
+                arguments.enforce,
+                cells.as_mut_ptr(),
+                cells.len(),
+                posts.as_mut_ptr(),
+                posts.len(),
+                frames.as_mut_ptr(),
+                frames.len(),
+                record.as_mut_ptr(),
+                record.len(),
                 answer.as_mut_ptr(),
                 answer.len(),
             )

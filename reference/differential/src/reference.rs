@@ -1,11 +1,13 @@
 //! The reference, behind the library's interface.
 
-use crate::implementation::{Implementation, RunArguments, ANSWER_NUMBERS, SERVE_NUMBERS};
+use crate::implementation::{Implementation, RunArguments};
+use crate::implementation::{ANSWER_NUMBERS, RECORD_NUMBERS, SERVE_NUMBERS};
 use sheets::lines::Job;
 use sovzedal_reference::lines::{self, Lines, Served, State};
 use sovzedal_reference::registers::{Block, Loaded, BLOCK_BYTES};
-use sovzedal_reference::{decode, erase, explain, names, run_eager, run_lazy, typecheck};
-use sovzedal_reference::{Checks, Reply, Request, CHAIN_TERMS};
+use sovzedal_reference::{compare, decode, erase, explain, names, typecheck};
+use sovzedal_reference::{record_eager, record_lazy, run_eager, run_lazy};
+use sovzedal_reference::{Checks, Recorded, Refusal, Reply, Request, CHAIN_TERMS};
 
 /// What is returned where the answer or a chain has no room, or the block or
 /// the lines aren't ones.
@@ -152,6 +154,37 @@ impl Implementation for Reference {
     fn names(sheet: &[u8], privilege: u32, answer: &mut [u32]) -> u32 {
         reply_with(answer, || names(sheet, privilege))
     }
+
+    fn compare(unit: &[u8], office: &[u8], answer: &mut [u32]) -> u32 {
+        reply_with(answer, || compare(unit, office))
+    }
+
+    fn record_eager(
+        sheet: &[u8],
+        arguments: RunArguments,
+        cells: &mut [u8],
+        posts: &mut [u32],
+        record: &mut [u8],
+        answer: &mut [u32],
+    ) -> u32 {
+        reply_recorded(answer, || {
+            record_eager(sheet, &arguments.into(), cells, posts, record)
+        })
+    }
+
+    fn record_lazy(
+        sheet: &[u8],
+        arguments: RunArguments,
+        cells: &mut [u8],
+        posts: &mut [u32],
+        frames: &mut [u32],
+        record: &mut [u8],
+        answer: &mut [u32],
+    ) -> u32 {
+        reply_recorded(answer, || {
+            record_lazy(sheet, &arguments.into(), cells, posts, frames, record)
+        })
+    }
 }
 
 impl<'a> From<RunArguments<'a>> for Request<'a> {
@@ -176,4 +209,14 @@ fn reply_with<T: Into<Reply>>(answer: &mut [u32], ask: impl FnOnce() -> T) -> u3
     let Reply { status, answer } = ask().into();
     *room = answer;
     status
+}
+
+/// The same with the number of entries behind, of which a refused run has none.
+fn reply_recorded(answer: &mut [u32], ask: impl FnOnce() -> Result<Recorded, Refusal>) -> u32 {
+    let Some(room) = answer.first_chunk_mut::<RECORD_NUMBERS>() else {
+        return UNFIT;
+    };
+    let recorded = ask();
+    room[ANSWER_NUMBERS] = recorded.map_or(0, |recorded| recorded.entries as u32);
+    reply_with(room, || recorded.map(|recorded| recorded.run))
 }

@@ -9,7 +9,7 @@ use sheets::request::{
     Request, FRAME_NUMBERS, MAX_CALLS, MAX_CELL_BYTES, MAX_OPEN_CALLS, MAX_POSTS,
 };
 use sheets::rng::Rng;
-use sheets::{branches, cases, held, pages, smallest, type_faults, yes_branch};
+use sheets::{branches, cases, held, pages, recorded, smallest, type_faults, yes_branch};
 
 const SEED: u64 = 20;
 const GENERATED: usize = 220;
@@ -28,6 +28,7 @@ pub fn vectors() -> Vec<Vector> {
     vectors.extend(as_asked(type_faults::all()));
     vectors.extend(as_asked(pages::all()));
     vectors.extend(as_asked(held::all()));
+    vectors.extend(with_decisions());
     vectors
 }
 
@@ -46,6 +47,13 @@ fn yes_branches() -> impl Iterator<Item = Vector> {
             sheet: case.sheet.clone(),
             request,
         })
+    })
+}
+
+fn with_decisions() -> impl Iterator<Item = Vector> {
+    recorded::all().into_iter().map(|case| Vector {
+        sheet: case.sheet,
+        request: case.request,
     })
 }
 

@@ -1,26 +1,44 @@
-//! The six lines that are printed for a record.
+//! The ten lines that are printed for a vector.
 
 use crate::vector::Vector;
-use sovzedal_reference::{decode, run_eager, run_lazy, typecheck, Checks, Reply, Request};
+use sovzedal_reference::{
+    decode, record_eager, record_lazy, run_eager, run_lazy, typecheck, Checks, Recorded, Refusal,
+    Reply, Request, ENTRY_BYTES,
+};
+
+/// Of every run with a record: ten entries and a half.
+const RECORD_BYTES: usize = 10 * ENTRY_BYTES + 2;
 
 pub fn lines(vector: &Vector) -> String {
     let sheet = &vector.sheet;
     [
-        line("decode", decode(sheet).into(), None),
-        line("typecheck", typecheck(sheet).into(), None),
+        line("decode", decode(sheet).into(), &[]),
+        line("typecheck", typecheck(sheet).into(), &[]),
         eager("eager", vector, Checks::InForce),
         eager("eager-skip", vector, Checks::PassedOver),
+        recorded_eager("eager-record", vector, Checks::InForce),
+        recorded_eager("eager-record-skip", vector, Checks::PassedOver),
         lazy("lazy", vector, Checks::InForce),
         lazy("lazy-skip", vector, Checks::PassedOver),
+        recorded_lazy("lazy-record", vector, Checks::InForce),
+        recorded_lazy("lazy-record-skip", vector, Checks::PassedOver),
     ]
     .concat()
 }
 
-fn line(name: &str, reply: Reply, checksum: Option<Checksum>) -> String {
-    let mut words = vec![name.to_string(), reply.status.to_string()];
-    words.extend(reply.answer.map(|number| number.to_string()));
-    words.extend(checksum.map(|Checksum(sum)| sum.to_string()));
-    words.join(" ") + "\n"
+/// What is told, and what more stands on the line.
+fn line(name: &str, reply: Reply, more: &[u32]) -> String {
+    let numbers = [reply.status].into_iter().chain(reply.answer);
+    let numbers = numbers.chain(more.iter().copied());
+    let words: String = numbers.map(|number| format!(" {number}")).collect();
+    format!("{name}{words}\n")
+}
+
+/// The number of entries is the ninth of the answer.
+fn recorded_line(name: &str, told: Result<Recorded, Refusal>, Checksum(sum): Checksum) -> String {
+    let entries = told.map_or(0, |recorded| recorded.entries as u32);
+    let reply = told.map(|recorded| recorded.run).into();
+    line(name, reply, &[entries, sum])
 }
 
 fn eager(name: &str, vector: &Vector, checks: Checks) -> String {
@@ -31,8 +49,21 @@ fn eager(name: &str, vector: &Vector, checks: Checks) -> String {
         &mut buffers.cells,
         &mut buffers.posts,
     );
+    let Checksum(sum) = Checksum::default().cells_and_posts(&buffers);
+    line(name, run.into(), &[sum])
+}
+
+fn recorded_eager(name: &str, vector: &Vector, checks: Checks) -> String {
+    let mut buffers = Buffers::filled(vector);
+    let told = record_eager(
+        &vector.sheet,
+        &request(vector, checks),
+        &mut buffers.cells,
+        &mut buffers.posts,
+        &mut buffers.record,
+    );
     let checksum = Checksum::default().cells_and_posts(&buffers);
-    line(name, run.into(), Some(checksum))
+    recorded_line(name, told, checksum.add(buffers.record))
 }
 
 fn lazy(name: &str, vector: &Vector, checks: Checks) -> String {
@@ -45,7 +76,23 @@ fn lazy(name: &str, vector: &Vector, checks: Checks) -> String {
         &mut buffers.frames,
     );
     let checksum = Checksum::default().cells_and_posts(&buffers);
-    line(name, run.into(), Some(checksum.add(buffers.frames)))
+    let Checksum(sum) = checksum.add(buffers.frames);
+    line(name, run.into(), &[sum])
+}
+
+fn recorded_lazy(name: &str, vector: &Vector, checks: Checks) -> String {
+    let mut buffers = Buffers::filled(vector);
+    let told = record_lazy(
+        &vector.sheet,
+        &request(vector, checks),
+        &mut buffers.cells,
+        &mut buffers.posts,
+        &mut buffers.frames,
+        &mut buffers.record,
+    );
+    let checksum = Checksum::default().cells_and_posts(&buffers);
+    let checksum = checksum.add(buffers.frames).add(buffers.record);
+    recorded_line(name, told, checksum)
 }
 
 fn request(vector: &Vector, checks: Checks) -> Request<'_> {
@@ -61,6 +108,7 @@ struct Buffers {
     cells: Vec<u8>,
     posts: Vec<u32>,
     frames: Vec<u32>,
+    record: Vec<u8>,
 }
 
 impl Buffers {
@@ -71,6 +119,7 @@ impl Buffers {
             cells: (0..request.cell_bytes).map(|i| (i * 7 + 1) as u8).collect(),
             posts: (0..request.posts).map(|i| (i * 3 + 2) as u32).collect(),
             frames: (0..request.frame_numbers).map(|i| i as u32 + 5).collect(),
+            record: vec![6; RECORD_BYTES],
         }
     }
 }

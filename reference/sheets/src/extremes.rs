@@ -309,20 +309,8 @@ pub fn most_types() -> Vec<u8> {
 
 /// As many terms as a sheet can have, half of them sums that are all held, and
 /// about as many calls as there can be. No sheet is known to hold more.
-///
-/// f(n) = held + (if n less 1 then 1 else f(n - 1) + f(n - 1)), called with 11.
 pub fn most_held() -> Vec<u8> {
-    const ROUNDS: u16 = 11;
-    let around = |held| {
-        let again = || call(variable(1), difference(variable(0), number(1)));
-        let calls = when(
-            less(variable(0), number(1)),
-            number(1),
-            sum(again(), again()),
-        );
-        let rest = call(variable(0), number(ROUNDS));
-        sign(0, letrec(FIRST_FUNCTION, sign(0, sum(held, calls)), rest))
-    };
+    let around = |held| sign(0, doubling(held));
     let others = around(number(0)).size() - 1;
     let numbers = (MAX_TERMS - others).div_ceil(2);
     let held = balanced_sum(vec![number(65_535); numbers]);
@@ -331,6 +319,40 @@ pub fn most_held() -> Vec<u8> {
         &[TypeRecord::function(NUMBER, NUMBER, 0)],
         around(held),
     )
+}
+
+/// As many terms as a sheet can have, most of them checks that all pass, and
+/// about as many calls as there can be. No sheet is known to decide more.
+pub fn most_decisions() -> Vec<u8> {
+    // Between so many rows of checks stand sums. With fewer, the rows would be
+    // nested too deep.
+    const ROWS: usize = 46;
+    let around = |checks| sign(0, enable(PRIVILEGE, doubling(checks)));
+    let others = around(number(0)).size() - 1;
+    let checks = MAX_TERMS - others - (2 * ROWS - 1);
+    let row = |place| {
+        let length = (checks + place) / ROWS;
+        (0..length).fold(number(0), |inner, _| check(PRIVILEGE, inner))
+    };
+    with_functions(
+        &[ONE],
+        &[TypeRecord::function(NUMBER, NUMBER, ONE)],
+        around(balanced_sum((0..ROWS).map(row).collect())),
+    )
+}
+
+/// f(n) = work + (if n less 1 then 1 else f(n - 1) + f(n - 1)), called with 11,
+/// which are about as many calls as there can be.
+fn doubling(work: Tree) -> Tree {
+    const ROUNDS: u16 = 11;
+    let again = || call(variable(1), difference(variable(0), number(1)));
+    let calls = when(
+        less(variable(0), number(1)),
+        number(1),
+        sum(again(), again()),
+    );
+    let rest = call(variable(0), number(ROUNDS));
+    letrec(FIRST_FUNCTION, sign(0, sum(work, calls)), rest)
 }
 
 /// The tree below so many signs.

@@ -1,5 +1,6 @@
 //! Results in the numbers of the C interface.
 
+use crate::compare::Comparison;
 use crate::erase::Lean;
 use crate::explain::Explanation;
 use crate::judge::Verdict;
@@ -102,6 +103,19 @@ impl From<&Lean> for Reply {
         Reply {
             status: DONE,
             answer,
+        }
+    }
+}
+
+impl From<Comparison> for Reply {
+    fn from(comparison: Comparison) -> Self {
+        let (fits, entries) = match comparison {
+            Comparison::Fits { missing } => (1, missing),
+            Comparison::Diverges { entry } => (0, entry),
+        };
+        Reply {
+            status: DONE,
+            answer: [0, 0, fits, entries as u32, 0, 0, 0, 0],
         }
     }
 }

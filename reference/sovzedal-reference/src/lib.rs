@@ -6,9 +6,12 @@
 //! ([`explain`]) and which privileges it names ([`names`]), makes it lean
 //! ([`erase`]) and interprets it ([`run_eager`], [`run_lazy`]), and has it run
 //! by a block of [`registers`] or in turn with others that wait on four
-//! [`lines`]. Where the words leave a choice, `READINGS.md` names it.
+//! [`lines`]. A run may record what it decides ([`record_eager`],
+//! [`record_lazy`]), and a unit's record is held against the office's
+//! ([`compare`]). Where the words leave a choice, `READINGS.md` names it.
 
 mod answer;
+mod compare;
 mod decode;
 mod encode;
 mod erase;
@@ -16,6 +19,7 @@ mod explain;
 mod judge;
 pub mod lines;
 mod names;
+mod record;
 mod refusal;
 pub mod registers;
 mod report;
@@ -24,17 +28,20 @@ mod set;
 mod sheet;
 
 pub use answer::Reply;
+pub use compare::{compare, Comparison};
 pub use decode::decode;
 pub use encode::encode;
 pub use erase::{erase, Lean};
 pub use explain::{explain, Explanation, CHAIN_TERMS};
 pub use judge::{typecheck, typecheck_by, Accepted, Judgement, Rules, Verdict};
 pub use names::{names, Naming};
+pub use record::{Entry, ENTRY_BYTES};
 pub use refusal::{Cause, Refusal};
 pub use report::report;
 pub use run::{
-    granted_by, run_eager, run_lazy, start_frames, Checks, Frame, Outcome, Plain, Request, Run,
-    Stop, FRAME_NUMBERS, MAX_CALLS, MAX_CELL_BYTES, MAX_OPEN_CALLS, MAX_POSTS,
+    granted_by, record_eager, record_lazy, run_eager, run_lazy, start_frames, Checks, Frame,
+    Outcome, Plain, Recorded, Request, Run, Stop, FRAME_NUMBERS, MAX_CALLS, MAX_CELL_BYTES,
+    MAX_OPEN_CALLS, MAX_POSTS,
 };
 pub use set::{Privilege, Set};
 pub use sheet::{

@@ -2,8 +2,8 @@
 
 /// Every cause of a refusal (1 to 16, 23 for an address of the register block,
 /// 24 to 26, 27 to 29 for a job of the four lines, 30 for a privilege that is
-/// asked about, 31, 32 and 33 for a sheet that is to be made lean) or a stop
-/// (17 to 22).
+/// asked about, 31, 32 and 33 for a sheet that is to be made lean, 34 for a
+/// record that is compared) or a stop (17 to 22).
 #[derive(Clone, Copy, Debug, PartialEq, Eq)]
 #[repr(u32)]
 pub enum Cause {
@@ -41,6 +41,7 @@ pub enum Cause {
     Guard = 31,
     NoLeanForm = 32,
     NoRoom = 33,
+    Record = 34,
 }
 
 impl Cause {
@@ -62,8 +63,8 @@ impl Cause {
     }
 }
 
-/// A sheet, a request, an address, a job, a privilege or a buffer was turned
-/// back.
+/// A sheet, a request, an address, a job, a privilege, a buffer or a record was
+/// turned back.
 #[derive(Clone, Copy, Debug, PartialEq, Eq)]
 pub struct Refusal {
     pub cause: Cause,

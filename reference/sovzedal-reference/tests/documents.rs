@@ -10,12 +10,13 @@ use sheets::smallest::{all, Smallest};
 use sheets::tree;
 use sovzedal_reference::lines::{Job, Lent, Lines, STATE_NUMBERS};
 use sovzedal_reference::registers::{at, status, Block, BLOCK_BYTES, RUN};
-use sovzedal_reference::{decode, erase, explain, names, report, run_eager};
-use sovzedal_reference::{typecheck, typecheck_by, Naming};
+use sovzedal_reference::{compare, decode, erase, explain, names, report, run_eager};
+use sovzedal_reference::{record_lazy, typecheck, typecheck_by, Naming};
 use sovzedal_reference::{Cause, Checks, Outcome, Plain, Refusal, Reply, Request, Rules};
-use sovzedal_reference::{Set, Stop, Term, TermId};
+use sovzedal_reference::{Comparison, Entry, Set, Stop, Term, TermId};
 use sovzedal_reference::{
-    CHAIN_TERMS, CHANNELS, FRAME_NUMBERS, MAX_CALLS, MAX_CELL_BYTES, MAX_OPEN_CALLS, MAX_POSTS,
+    CHAIN_TERMS, CHANNELS, ENTRY_BYTES, FRAME_NUMBERS, MAX_CALLS, MAX_CELL_BYTES, MAX_OPEN_CALLS,
+    MAX_POSTS,
 };
 use std::path::{Path, PathBuf};
 use std::{env, fs};
@@ -390,6 +391,7 @@ fn the_header_has_the_same_numbers() {
         ("GUARD", Cause::Guard),
         ("NO_LEAN_FORM", Cause::NoLeanForm),
         ("NO_ROOM", Cause::NoRoom),
+        ("RECORD", Cause::Record),
     ];
     for (name, cause) in causes {
         assert_eq!(number(name), u64::from(cause.number()), "{name}");
@@ -405,6 +407,7 @@ fn the_header_has_the_same_numbers() {
         ("BLOCK", BLOCK_BYTES),
         ("LINES", STATE_NUMBERS),
         ("CHAIN", CHAIN_TERMS),
+        ("ENTRY", ENTRY_BYTES),
         ("REG_COMMAND", at::COMMAND),
         ("REG_STATUS", at::STATUS),
         ("REG_CAUSE", at::CAUSE),
@@ -584,6 +587,145 @@ fn the_release_is_withdrawn_from_the_sheets_shown() {
     let end = |value, posts| (Outcome::End(Plain::Number(value)), posts);
     assert_eq!([&[0, 3], &[0, 2]].map(|it| ended_from(it)), [end(42, 2); 2]);
     assert_eq!([ended_from(&[0, 1]), ended_from(&[])], [end(40, 1); 2]);
+}
+
+/// 34 is told of no sheet. The record in the call is the example's, a byte short.
+#[test]
+fn the_refusal_of_a_record_is_that_of_the_call_shown() {
+    let directory = repository();
+    if !directory.join("docs").exists() || !directory.join("examples").exists() {
+        return;
+    }
+    let shown = read(&directory.join("docs/REFUSALS.md"));
+    let section = section(&shown, "34").expect("a section");
+    let example = read(&directory.join("examples/c/compare.c"));
+    let [office, dropped] = ["office", "dropped"].map(|name| record_in(&example, name));
+    let short = dropped.len() - 1;
+    let refusal = compare(&dropped[..short], &office).expect_err("a refusal");
+    let office = office.len();
+    let call = format!("sovzedal_compare(dropped, {short}, office, {office}, answer, 8);\n");
+    assert_eq!(block(section, "c"), Some(&*call));
+    assert_eq!(block(section, "text"), Some(&*refused(refusal)));
+}
+
+/// A run of the frame decides what the readme prints, by either runner, and so
+/// is it held against itself; `needs.hex` is stopped at its last entry.
+#[test]
+fn the_frame_is_recorded_as_shown() {
+    let directory = repository().join("examples");
+    if !directory.exists() {
+        return;
+    }
+    let recorded = |name| {
+        let sheet = bytes(&read(&directory.join(name)));
+        let (mut cells, mut posts) = (vec![0; MAX_CELL_BYTES], [0; MAX_POSTS]);
+        let (mut frames, mut record) = (vec![0; FRAME_NUMBERS], vec![0; 4_000]);
+        let told = record_lazy(
+            &sheet,
+            &Request::LARGEST,
+            &mut cells,
+            &mut posts,
+            &mut frames,
+            &mut record,
+        );
+        let told = told.expect("a run that starts");
+        record.truncate(told.entries * ENTRY_BYTES);
+        (told.run.outcome, record)
+    };
+    let (outcome, office) = recorded("frame.hex");
+    let Outcome::End(Plain::Number(value)) = outcome else {
+        panic!("{outcome:?}");
+    };
+    let mut print = format!("ended in {value}\n");
+    let entries = office.chunks(ENTRY_BYTES);
+    for (number, entry) in entries.clone().enumerate() {
+        let term = u16::from_be_bytes([entry[0], entry[1]]);
+        let yes = if entry[3] == 1 { "yes" } else { "no" };
+        print += &format!(
+            "entry {number}: term {term}, privilege {}, {yes}\n",
+            entry[2]
+        );
+    }
+    let mut unit = entries.step_by(2).collect::<Vec<_>>().concat();
+    for name in ["every second entry dropped", "the last one turned"] {
+        print += &match compare(&unit, &office) {
+            Ok(Comparison::Fits { missing }) => format!("{name}: fits, {missing} missing\n"),
+            Ok(Comparison::Diverges { entry }) => {
+                format!("{name}: does not fit from entry {entry} on\n")
+            }
+            Err(refusal) => panic!("{refusal:?}"),
+        };
+        *unit.last_mut().expect("an entry") ^= 1;
+    }
+    let shown = read(&directory.join("README.md"));
+    let section = section(&shown, "Recorded").expect("a section");
+    assert_eq!(block(section, "text"), Some(&*print));
+    the_gate_asks_for_the_print_of("Recorded");
+
+    let (outcome, record) = recorded("needs.hex");
+    let stop = Stop {
+        cause: Cause::RefusedCheck,
+        term: 2,
+    };
+    assert_eq!(outcome, Outcome::Stop(stop));
+    assert_eq!(record, [0, 2, 1, 0]);
+}
+
+/// The records of the example in C are compared as the readme shows.
+#[test]
+fn the_records_are_compared_as_shown() {
+    let directory = repository().join("examples");
+    if !directory.exists() {
+        return;
+    }
+    let example = read(&directory.join("c/compare.c"));
+    let names = ["office", "dropped", "otherwise", "swapped"];
+    let mut records = names.map(|name| record_in(&example, name)).to_vec();
+    let office = records[0].clone();
+    let mut cut = records[1].clone();
+    cut.pop();
+    records.push(cut);
+    let told = records.iter().map(|unit| match compare(unit, &office) {
+        Ok(Comparison::Fits { missing }) => format!("fits, {missing} missing"),
+        Ok(Comparison::Diverges { entry }) => format!("does not fit from entry {entry} on"),
+        Err(refusal) => format!("refused, {}", refusal.cause.number()),
+    });
+    let told = told.zip(&records);
+    let told = told.map(|(told, unit)| format!("{} bytes: {told}", unit.len()));
+    let shown = read(&directory.join("README.md"));
+    let print = block(section(&shown, "Records").expect("a section"), "text").expect("a print");
+    let printed = print.lines().map(|line| {
+        let (_, rest) = line.split_once(", ").expect("a name");
+        rest.to_string()
+    });
+    assert_eq!(
+        told.collect::<Vec<String>>(),
+        printed.collect::<Vec<String>>()
+    );
+    the_gate_asks_for_the_print_of("Records");
+}
+
+/// A record of the example in C.
+fn record_in(example: &str, name: &str) -> Vec<u8> {
+    let begin = format!("{name}[] = {{\n");
+    let (_, table) = example.split_once(&*begin).expect("a record");
+    let (table, _) = table.split_once("};").expect("its end");
+    let entries = table.split("ENTRY(").skip(1);
+    entries.flat_map(|text| entry(text).to_bytes()).collect()
+}
+
+/// From the three numbers at the beginning of `text`, with a parenthesis behind.
+fn entry(text: &str) -> Entry {
+    let (numbers, _) = text.split_once(')').expect("a parenthesis");
+    let numbers = numbers
+        .split(", ")
+        .map(|number| number.parse().expect("a number"));
+    let numbers: Vec<u16> = numbers.collect();
+    Entry {
+        term: numbers[0],
+        privilege: numbers[1] as u8,
+        yes: numbers[2] == 1,
+    }
 }
 
 /// The bytes of a table in C, from `begin` on, without their comments.

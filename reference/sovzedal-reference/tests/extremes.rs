@@ -2,11 +2,12 @@
 
 use sheets::extremes::{
     costly_branches, costly_need, deep_calls, deep_need, deepest, endless_through, longest,
-    many_checks, most_types, widest, MAX_CHAIN, NEEDED,
+    many_checks, most_decisions, most_types, widest, MAX_CHAIN, NEEDED,
 };
 use sheets::load::{frame_sheet, guarded_frame_sheet};
 use sheets::tree::Kind;
-use sovzedal_reference::{decode, erase, explain, report, run_eager, typecheck, typecheck_by};
+use sovzedal_reference::{decode, erase, explain, report, typecheck, typecheck_by};
+use sovzedal_reference::{record_eager, run_eager};
 use sovzedal_reference::{Cause, Outcome, Request, Rules, Stop, Term};
 
 #[test]
@@ -117,4 +118,23 @@ fn endless_calls_go_through_any_kind() {
             "{kind:?}"
         );
     }
+}
+
+/// An ample record tells how many there are.
+#[test]
+fn the_most_decisions_are_some_four_million() {
+    let sheet = most_decisions();
+    assert_eq!(decode(&sheet).unwrap().terms.len(), 1_024);
+    let mut record = vec![0; 1 << 24];
+    let (mut cells, mut posts) = (vec![0; 1 << 16], []);
+    let told = record_eager(
+        &sheet,
+        &Request::LARGEST,
+        &mut cells,
+        &mut posts,
+        &mut record,
+    );
+    let told = told.unwrap();
+    assert_eq!(told.run.calls, 4_095);
+    assert_eq!(told.entries, 909 * 4_095);
 }

@@ -1,14 +1,14 @@
 //! Prints how much native stack the deepest runs use: 100 open calls, each
 //! made from as deep as nesting allows, through terms of one kind; what such a
-//! run uses with fewer open calls, by a write to a register block, and as a
+//! run uses with fewer open calls, with a record, by a write to a register block, and as a
 //! job of the four lines; and what it takes to explain a need, to make a sheet
 //! lean and to tell whether it names a privilege.
 
 mod paint;
 
 use differential::{
-    Asked, Board, Buffers, Entry, Implementation, Library, Reference, Shipped, Unit, Why,
-    ANSWER_NUMBERS,
+    Asked, Board, Buffers, Entry, Implementation, Library, Recording, Reference, Shipped, Unit,
+    Why, ANSWER_NUMBERS, RECORD_NUMBERS,
 };
 use sheets::extremes::{costly_need, deep_calls, deep_need, deepest, endless_through};
 use sheets::extremes::{longest, many_checks, most_types, widest, NEEDED};
@@ -70,6 +70,15 @@ fn main() {
         used_by_job::<Library>(&sheet),
         used_by_job::<Reference>(&sheet)
     );
+    println!("through calls, with a record");
+    for entry in [Entry::RunEager, Entry::RunLazy] {
+        println!(
+            "{:12}{:12}{:24}",
+            format!("{entry:?}"),
+            used_to_record::<Library>(&sheet, entry, MAX_OPEN_CALLS),
+            used_to_record::<Reference>(&sheet, entry, MAX_OPEN_CALLS)
+        );
+    }
     println!("explaining a need");
     for (name, sheet) in needing() {
         println!(
@@ -146,6 +155,24 @@ fn used_by<I: Implementation>(sheet: &[u8], entry: Entry, open_calls: u32) -> us
     })
 }
 
+/// The same run with a record that has room for all that is decided.
+fn used_to_record<I: Implementation>(sheet: &[u8], entry: Entry, open_calls: u32) -> usize {
+    let request = Request {
+        open_calls,
+        ..Request::largest().with_start(&[0, u32::MAX])
+    };
+    let asked = Asked {
+        entry,
+        sheet,
+        request: &request,
+        enforce: 1,
+    };
+    let mut recording = Recording::random(&mut Rng::new(0), &asked, 1 << 16, RECORD_NUMBERS);
+    paint::stack_used(|| {
+        recording.ask::<I>(&asked);
+    })
+}
+
 /// A write to a register block that runs the sheet, on the empty stack, with
 /// 4,096 calls allowed.
 fn used_by_block<I: Implementation>(sheet: &[u8]) -> usize {
@@ -219,11 +246,15 @@ mod tests {
         for kind in KINDS {
             let sheet = endless_through(kind);
             for open_calls in [0, 1, 10, MAX_OPEN_CALLS] {
+                let allowed = base + open_calls as usize * per_call;
                 for entry in [Entry::RunEager, Entry::RunLazy] {
                     let used = used_by::<Library>(&sheet, entry, open_calls);
+                    assert!(used <= allowed, "{kind:?} {entry:?} {open_calls}: {used}");
+                    let used = used_to_record::<Library>(&sheet, entry, open_calls);
+                    let what = "with a record";
                     assert!(
-                        used <= base + open_calls as usize * per_call,
-                        "{kind:?} {entry:?} {open_calls}: {used}"
+                        used <= allowed,
+                        "{kind:?} {entry:?} {open_calls} {what}: {used}"
                     );
                 }
             }

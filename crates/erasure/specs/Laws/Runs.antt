@@ -1,10 +1,11 @@
 -- Terms related by erasure run alike: from whatever states of whatever access controls, with checks passed over in the old term and in force or passed over
 -- in the new one, they end in values related by erasure or stop by the same cause at the old term and its new number, with the same left of the budget.
 use mathlib.Core.Bool.{Bool, true, false}
+use mathlib.Core.Option.{none}
 use Prim.Native.Nat.{ℕ, zero, suc}
 use Rattle.program.specs.Terms.{Op, sum, difference, less, Term}
 use Rattle.semantics.specs.Values.{Value, bool, num, closure, Env, empty, bind, lookup, entered, Budget, budget, Result, ends, stops}
-use Rattle.semantics.specs.Meaning.{Control, _then_, choose, found, branch, operate, compute, appendPost, postValue, takeCell, beginCall, tooDeep, enter, Application, evalWith, apply, eval}
+use Rattle.semantics.specs.Meaning.{Control, plain, _then_, choose, found, branch, operate, compute, appendPost, postValue, takeCell, beginCall, tooDeep, enter, Application, evalWith, apply, eval}
 use Rattle.erasure.specs.Laws.Erases.{Erases, e-boolean, e-number, e-variable, e-function, e-letrec, e-call, e-if, e-check, e-enable, e-sign, e-binary, e-post}
 
 mutual
@@ -61,7 +62,8 @@ module _ (ρ ν : ℕ → ℕ) where
   erased-append at ch n (budget c d zero log) = r-stops
   erased-append at ch n (budget c d (suc r) log) = r-ends v-num
 
-  erased-post : (at ch : ℕ) {v w : Value} → ErasesValue ρ ν v w → (u : Budget) → ErasesResult ρ ν (postValue at ch true v u) (postValue (ν at) ch true w u)
+  erased-post : (at ch : ℕ) {v w : Value} → ErasesValue ρ ν v w → (u : Budget)
+      → ErasesResult ρ ν (postValue at ch true none v u) (postValue (ν at) ch true none w u)
   erased-post at ch (v-num {n}) u = erased-append at ch n u
   erased-post at ch v-bool u = r-stops
   erased-post at ch (v-closure c e) u = r-stops
@@ -100,7 +102,7 @@ module _ (ρ ν : ℕ → ℕ) where
         → ErasesResult ρ ν (f at v w s u) (g (ν at) v′ w′ t u)
 
     eval-erased : (f : Application X) (g : Application Y) → ErasesApplication f g → {c c′ : Term} → Erases ρ ν c c′ → (s : X .State) (t : Y .State)
-        → {e e′ : Env} → ErasesEnv ρ ν e e′ → (u : Budget) → ErasesResult ρ ν (evalWith X false f c s e u) (evalWith Y enforce g c′ t e′ u)
+        → {e e′ : Env} → ErasesEnv ρ ν e e′ → (u : Budget) → ErasesResult ρ ν (evalWith X (plain false) f c s e u) (evalWith Y (plain enforce) g c′ t e′ u)
     unfolding evalWith
     eval-erased f g h e-boolean s t e u = r-ends v-bool
     eval-erased f g h e-number s t e u = r-ends v-num
@@ -119,13 +121,13 @@ module _ (ρ ν : ℕ → ℕ) where
         erased-then _ _ (eval-erased f g h a s t e u) (λ _ _ v u₁. erased-then _ _ (eval-erased f g h b s t e u₁) (λ _ _ w u₂. erased-compute at op v w u₂))
     eval-erased f g h (e-post {at} {ch} c) s t e u = erased-then _ _ (eval-erased f g h c s t e u) (λ _ _ v u₁. erased-post at ch v u₁)
 
-    apply-erased : (k : ℕ) → ErasesApplication (apply X false k) (apply Y enforce k)
+    apply-erased : (k : ℕ) → ErasesApplication (apply X (plain false) k) (apply Y (plain enforce) k)
     unfolding apply
     apply-erased zero at _ _ _ _ v w s t u = erased-deep at v u
     apply-erased (suc k) at _ _ _ _ v w s t u =
-        erased-enter at v w _ _ (λ _ _ _ _ c e u₁. eval-erased (apply X false k) (apply Y enforce k) (apply-erased k) c s t e u₁) u
+        erased-enter at v w _ _ (λ _ _ _ _ c e u₁. eval-erased (apply X (plain false) k) (apply Y (plain enforce) k) (apply-erased k) c s t e u₁) u
 
     pub runs-erased : (depth : ℕ) {c c′ : Term} → Erases ρ ν c c′ → (s : X .State) (t : Y .State) → (u : Budget)
-        → ErasesResult ρ ν (eval X false depth c s empty u) (eval Y enforce depth c′ t empty u)
+        → ErasesResult ρ ν (eval X (plain false) depth c s empty u) (eval Y (plain enforce) depth c′ t empty u)
     unfolding eval
-    runs-erased k c s t u = eval-erased (apply X false k) (apply Y enforce k) (apply-erased k) c s t env-empty u
+    runs-erased k c s t u = eval-erased (apply X (plain false) k) (apply Y (plain enforce) k) (apply-erased k) c s t env-empty u

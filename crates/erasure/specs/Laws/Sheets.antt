@@ -18,7 +18,7 @@ use Rattle.program.specs.Laws.Readable.{well-formed}
 use Rattle.typing.specs.Verdicts.{accepted, verdict, SheetDerives}
 use Rattle.typing.specs.Theorems.{acceptance, accepted-exactly}
 use Rattle.semantics.specs.Values.{empty, emptyLog, Budget, budget, Result}
-use Rattle.semantics.specs.Meaning.{Control, eval}
+use Rattle.semantics.specs.Meaning.{Control, plain, eval}
 use Rattle.semantics.specs.Access.{eagerControl, lazyControl}
 use Rattle.semantics.specs.Runs.{Runner, eager, lazy, Request, Buffers, sizes, stack, known, buffersOk, limitsOk, initial, evaluation, started, ran, outcome, left, counts, answerOf, stopped, inOrder, buffersAfter, run}
 use Rattle.semantics.specs.Theorems.{Starts, starts-exactly, course-clear, run-course, starts-screened}
@@ -81,11 +81,11 @@ module _ (s s′ : List ℕ) (ρ ν : ℕ → ℕ) (L : Leaner s s′ ρ ν) whe
     skipping = record { runner = x .runner; enforce = false; start = x .start; calls = x .calls; depth = x .depth }
 
     evaluated : (X Y : Control) (enforce : Bool) (p : X .State) (q : Y .State)
-        → ErasesResult ρ ν (eval X false (x .depth) (program s) p empty (initial x (sizes b)))
-        (eval Y enforce (y .depth) (program s′) q empty (initial y (sizes d)))
+        → ErasesResult ρ ν (eval X (plain false) (x .depth) (program s) p empty (initial x (sizes b)))
+        (eval Y (plain enforce) (y .depth) (program s′) q empty (initial y (sizes d)))
     evaluated X Y enforce p q =
-        subst (λ (z : Result). ErasesResult ρ ν (eval X false (x .depth) (program s) p empty (initial x (sizes b))) z)
-        (λ i. eval Y enforce (c .limits .same-depth i) (program s′) q empty
+        subst (λ (z : Result). ErasesResult ρ ν (eval X (plain false) (x .depth) (program s) p empty (initial x (sizes b))) z)
+        (λ i. eval Y (plain enforce) (c .limits .same-depth i) (program s′) q empty
         (budget (c .limits .same-calls i) (c .limits .same-cells i / 8) (c .limits .same-posts i) emptyLog))
         (runs-erased ρ ν X Y enforce (x .depth) (L .erases) p q (initial x (sizes b)))
 
@@ -114,7 +114,12 @@ module _ (s s′ : List ℕ) (ρ ν : ℕ → ℕ) (L : Leaner s s′ ρ ν) whe
     -- results related by erasure are told alike
     same-counts : (u : Budget) → counts y (sizes d) u ≡ counts x (sizes b) u
     same-counts (budget k m r l) = λ i.
-        record { calls = sym (c .limits .same-calls) i - k; cells = sym (c .limits .same-cells) i / 8 - m; posts = length (l .posts); saturated = l .saturated }
+        record {
+          calls = sym (c .limits .same-calls) i - k;
+          cells = sym (c .limits .same-cells) i / 8 - m;
+          posts = length (l .posts);
+          saturated = l .saturated;
+        }
 
     told-like : {f g : Result} → ErasesResult ρ ν f g
         → LikeRun ν

@@ -38,12 +38,6 @@ use Rattle.evaluator.proofs.+apply+eval+eval_enable+eval_if+eval_pair+e
 use Rattle.evaluator.proofs.eval_tail.Reads as eval-tail
 use Rattle.evaluator.proofs.eval_tail.Kinds as eval-tail-kinds
 use Rattle.evaluator.proofs.+apply+eval+eval_enable+eval_if+eval_pair+eval_post+eval_tail.Lts-eval_tail as eval-tail-lts
-use Rattle.stores.proofs.access.enable.Reads as enable-reads
-use Rattle.stores.proofs.access.enabled_now.Reads as enabled-now-reads
-use Rattle.stores.proofs.access.restore.Reads as restore-reads
-use Rattle.stores.proofs.cells.bind.Reads as bind-reads
-use Rattle.stores.proofs.cells.look.Reads as look-reads
-use Rattle.stores.proofs.cells.next_cell.Reads as next-cell-reads
 use Rattle.machine.proofs.enter.enter.Reads as enter-reads
 use Rattle.machine.proofs.steps.append.Reads as append-reads
 use Rattle.machine.proofs.steps.choose.Reads as choose-reads
@@ -54,6 +48,12 @@ use Rattle.machine.proofs.table.second_of.Reads as second-of-reads
 use Rattle.machine.proofs.table.small_of.Reads as small-of-reads
 use Rattle.machine.proofs.table.third_of.Reads as third-of-reads
 use Rattle.machine.proofs.table.word_at.Reads as word-at-reads
+use Rattle.stores.proofs.access.enable.Reads as enable-reads
+use Rattle.stores.proofs.access.enabled_now.Reads as enabled-now-reads
+use Rattle.stores.proofs.access.restore.Reads as restore-reads
+use Rattle.stores.proofs.cells.bind.Reads as bind-reads
+use Rattle.stores.proofs.cells.look.Reads as look-reads
+use Rattle.stores.proofs.cells.next_cell.Reads as next-cell-reads
 use Rattle.stores.proofs.words.boolean.Reads as boolean-reads
 use Rattle.stores.proofs.words.env.Reads as env-reads
 use Rattle.stores.proofs.words.function.Reads as function-reads
@@ -69,73 +69,73 @@ use Rattle.evaluator.proofs.+apply+eval+eval_enable+eval_if+eval_pair+e
   close,
 }
 
-abbrev μ-apply : Measures 8 apply-kinds.ps ℕ
-μ-apply κs a = workLeft (a .1 .1 .1 .1 .0 .now) 0 0
+abbrev μ-apply : Measures 10 apply-kinds.ps ℕ
+μ-apply κs a = workLeft (a .1 .1 .0 .now) 0 0
 
-abbrev μ-eval : Measures 8 eval-kinds.ps ℕ
-μ-eval κs a = workLeft (a .1 .1 .1 .1 .0 .now) (a .1 .1 .1 .1 .1 .0) 3
+abbrev μ-eval : Measures 10 eval-kinds.ps ℕ
+μ-eval κs a = workLeft (a .1 .1 .0 .now) (a .1 .1 .1 .0) 3
 
-abbrev μ-eval-enable : Measures 8 eval-enable-kinds.ps ℕ
-μ-eval-enable κs a = workLeft (a .1 .1 .1 .1 .0 .now) (a .1 .1 .1 .1 .1 .0) 2
+abbrev μ-eval-enable : Measures 10 eval-enable-kinds.ps ℕ
+μ-eval-enable κs a = workLeft (a .1 .1 .0 .now) (a .1 .1 .1 .0) 2
 
-abbrev μ-eval-if : Measures 8 eval-if-kinds.ps ℕ
-μ-eval-if κs a = workLeft (a .1 .1 .1 .1 .0 .now) (a .1 .1 .1 .1 .1 .0) 2
+abbrev μ-eval-if : Measures 10 eval-if-kinds.ps ℕ
+μ-eval-if κs a = workLeft (a .1 .1 .0 .now) (a .1 .1 .1 .0) 2
 
-abbrev μ-eval-pair : Measures 8 eval-pair-kinds.ps ℕ
-μ-eval-pair κs a = workLeft (a .1 .1 .1 .1 .0 .now) (a .1 .1 .1 .1 .1 .0) 2
+abbrev μ-eval-pair : Measures 10 eval-pair-kinds.ps ℕ
+μ-eval-pair κs a = workLeft (a .1 .1 .0 .now) (a .1 .1 .1 .0) 2
 
-abbrev μ-eval-post : Measures 8 eval-post-kinds.ps ℕ
-μ-eval-post κs a = workLeft (a .1 .1 .1 .1 .0 .now) (a .1 .1 .1 .1 .1 .0) 2
+abbrev μ-eval-post : Measures 10 eval-post-kinds.ps ℕ
+μ-eval-post κs a = workLeft (a .1 .1 .0 .now) (a .1 .1 .1 .0) 2
 
-abbrev μ-eval-tail : Measures 8 eval-tail-kinds.ps ℕ
-μ-eval-tail κs a = workLeft (a .1 .1 .1 .1 .0 .now) (a .1 .1 .1 .1 .1 .0) 2
+abbrev μ-eval-tail : Measures 10 eval-tail-kinds.ps ℕ
+μ-eval-tail κs a = workLeft (a .1 .1 .0 .now) (a .1 .1 .1 .0) 2
 
-abbrev apply-at : ℕ → In 8 apply-kinds.ps
-apply-at t = and 8 apply-kinds.ps (is 8 apply-kinds.ps μ-apply t) apply.Pre
+abbrev apply-at : ℕ → In 10 apply-kinds.ps
+apply-at t = and 10 apply-kinds.ps (is 10 apply-kinds.ps μ-apply t) apply.Pre
 
-abbrev apply-below : ℕ → In 8 apply-kinds.ps
-apply-below t = and 8 apply-kinds.ps (falls 8 apply-kinds.ps _<_ μ-apply t) apply.Pre
+abbrev apply-below : ℕ → In 10 apply-kinds.ps
+apply-below t = and 10 apply-kinds.ps (falls 10 apply-kinds.ps _<_ μ-apply t) apply.Pre
 
-abbrev eval-at : ℕ → In 8 eval-kinds.ps
-eval-at t = and 8 eval-kinds.ps (is 8 eval-kinds.ps μ-eval t) eval.Pre
+abbrev eval-at : ℕ → In 10 eval-kinds.ps
+eval-at t = and 10 eval-kinds.ps (is 10 eval-kinds.ps μ-eval t) eval.Pre
 
-abbrev eval-below : ℕ → In 8 eval-kinds.ps
-eval-below t = and 8 eval-kinds.ps (falls 8 eval-kinds.ps _<_ μ-eval t) eval.Pre
+abbrev eval-below : ℕ → In 10 eval-kinds.ps
+eval-below t = and 10 eval-kinds.ps (falls 10 eval-kinds.ps _<_ μ-eval t) eval.Pre
 
-abbrev eval-enable-at : ℕ → In 8 eval-enable-kinds.ps
+abbrev eval-enable-at : ℕ → In 10 eval-enable-kinds.ps
 eval-enable-at t =
-    and 8 eval-enable-kinds.ps (is 8 eval-enable-kinds.ps μ-eval-enable t) eval-enable.Pre
+    and 10 eval-enable-kinds.ps (is 10 eval-enable-kinds.ps μ-eval-enable t) eval-enable.Pre
 
-abbrev eval-enable-below : ℕ → In 8 eval-enable-kinds.ps
+abbrev eval-enable-below : ℕ → In 10 eval-enable-kinds.ps
 eval-enable-below t =
-    and 8 eval-enable-kinds.ps (falls 8 eval-enable-kinds.ps _<_ μ-eval-enable t) eval-enable.Pre
+    and 10 eval-enable-kinds.ps (falls 10 eval-enable-kinds.ps _<_ μ-eval-enable t) eval-enable.Pre
 
-abbrev eval-if-at : ℕ → In 8 eval-if-kinds.ps
-eval-if-at t = and 8 eval-if-kinds.ps (is 8 eval-if-kinds.ps μ-eval-if t) eval-if.Pre
+abbrev eval-if-at : ℕ → In 10 eval-if-kinds.ps
+eval-if-at t = and 10 eval-if-kinds.ps (is 10 eval-if-kinds.ps μ-eval-if t) eval-if.Pre
 
-abbrev eval-if-below : ℕ → In 8 eval-if-kinds.ps
-eval-if-below t = and 8 eval-if-kinds.ps (falls 8 eval-if-kinds.ps _<_ μ-eval-if t) eval-if.Pre
+abbrev eval-if-below : ℕ → In 10 eval-if-kinds.ps
+eval-if-below t = and 10 eval-if-kinds.ps (falls 10 eval-if-kinds.ps _<_ μ-eval-if t) eval-if.Pre
 
-abbrev eval-pair-at : ℕ → In 8 eval-pair-kinds.ps
-eval-pair-at t = and 8 eval-pair-kinds.ps (is 8 eval-pair-kinds.ps μ-eval-pair t) eval-pair.Pre
+abbrev eval-pair-at : ℕ → In 10 eval-pair-kinds.ps
+eval-pair-at t = and 10 eval-pair-kinds.ps (is 10 eval-pair-kinds.ps μ-eval-pair t) eval-pair.Pre
 
-abbrev eval-pair-below : ℕ → In 8 eval-pair-kinds.ps
+abbrev eval-pair-below : ℕ → In 10 eval-pair-kinds.ps
 eval-pair-below t =
-    and 8 eval-pair-kinds.ps (falls 8 eval-pair-kinds.ps _<_ μ-eval-pair t) eval-pair.Pre
+    and 10 eval-pair-kinds.ps (falls 10 eval-pair-kinds.ps _<_ μ-eval-pair t) eval-pair.Pre
 
-abbrev eval-post-at : ℕ → In 8 eval-post-kinds.ps
-eval-post-at t = and 8 eval-post-kinds.ps (is 8 eval-post-kinds.ps μ-eval-post t) eval-post.Pre
+abbrev eval-post-at : ℕ → In 10 eval-post-kinds.ps
+eval-post-at t = and 10 eval-post-kinds.ps (is 10 eval-post-kinds.ps μ-eval-post t) eval-post.Pre
 
-abbrev eval-post-below : ℕ → In 8 eval-post-kinds.ps
+abbrev eval-post-below : ℕ → In 10 eval-post-kinds.ps
 eval-post-below t =
-    and 8 eval-post-kinds.ps (falls 8 eval-post-kinds.ps _<_ μ-eval-post t) eval-post.Pre
+    and 10 eval-post-kinds.ps (falls 10 eval-post-kinds.ps _<_ μ-eval-post t) eval-post.Pre
 
-abbrev eval-tail-at : ℕ → In 8 eval-tail-kinds.ps
-eval-tail-at t = and 8 eval-tail-kinds.ps (is 8 eval-tail-kinds.ps μ-eval-tail t) eval-tail.Pre
+abbrev eval-tail-at : ℕ → In 10 eval-tail-kinds.ps
+eval-tail-at t = and 10 eval-tail-kinds.ps (is 10 eval-tail-kinds.ps μ-eval-tail t) eval-tail.Pre
 
-abbrev eval-tail-below : ℕ → In 8 eval-tail-kinds.ps
+abbrev eval-tail-below : ℕ → In 10 eval-tail-kinds.ps
 eval-tail-below t =
-    and 8 eval-tail-kinds.ps (falls 8 eval-tail-kinds.ps _<_ μ-eval-tail t) eval-tail.Pre
+    and 10 eval-tail-kinds.ps (falls 10 eval-tail-kinds.ps _<_ μ-eval-tail t) eval-tail.Pre
 
 abbrev apply-claims : ℕ → apply-lts.Claims
 apply-claims t = (
@@ -207,7 +207,7 @@ apply-returns-4 t c =
     let at-if2 = at-if3 .before .before in
     let at-if1 = at-if2 .before in
     let at-sort = at-if1 .before in
-    ends-same (same-cells _ _ _ (bound-full _ _ _ _ (at-bind .bind .ensures) (at-if4 .if4 .taken) .1)) refl
+    ends-same (same-cells _ _ _ _ (bound-full _ _ _ _ (at-bind .bind .ensures) (at-if4 .if4 .taken) .1)) refl
     (apply-full _ _ _ _ _ _ _ (at-sort .sort .ensures) (at-if1 .if1 .left) (at-if2 .if2 .left) (at-if3 .if3 .left)
     (bound-full _ _ _ _ (at-bind .bind .ensures) (at-if4 .if4 .taken) .0) (c .stop4 .ensures))
 
@@ -231,14 +231,15 @@ apply-sub-eval t c = search needs
 
 apply-eval-requires : (t : ℕ) → apply-lts.Need-eval-requires (apply-claims t) (apply-at t) apply.Post
 apply-eval-requires t c κs =
-    let at-bind = c .before .before .before .before .before .before .before in
+    let at-payload = c .before .before .before .before .before .before in
+    let at-bind = at-payload .before .before in
     let at-if3 = at-bind .before .before .before .before in
     let start = at-if3 .before .before .before .before .before in
-    (omega (arith, start .pre .0, one-call-less (start .args .n .now) (at-bind .bind .result) (at-if3 .if3 .left)), start .pre .1)
+    (omega (arith, start .pre .0, at-payload .payload .ensures, one-call-less (start .args .n .now) (at-bind .bind .result) (at-if3 .if3 .left)), start .pre .1)
 
 apply-returns-5 : (t : ℕ) → apply-lts.Need-returns-5 (apply-claims t) (apply-at t) apply.Post
 apply-returns-5 t c =
-    let at-next-cell = c .before .before .before .before .before in
+    let at-next-cell = c .before .before .before .before .before .before in
     let at-payload = at-next-cell .before in
     let at-if4 = at-payload .before in
     let at-bind = at-if4 .before in
@@ -320,7 +321,7 @@ eval-function-requires t c κs = search needs
 eval-eval-if-requires : (t : ℕ) → eval-lts.Need-eval-if-requires (eval-claims t) (eval-at t) eval.Post
 unfolding shapeOf
 eval-eval-if-requires t c κs =
-    let at-match = c .before .before .before .before in
+    let at-match = c .before .before .before .before .before in
     let at-kind-of = at-match .before in
     let at-word-at = at-kind-of .before in
     let start = at-word-at .before in (
@@ -332,7 +333,7 @@ eval-eval-if-requires t c κs =
 eval-eval-enable-requires : (t : ℕ) → eval-lts.Need-eval-enable-requires (eval-claims t) (eval-at t) eval.Post
 unfolding shapeOf
 eval-eval-enable-requires t c κs =
-    let at-match = c .before .before .before .before in
+    let at-match = c .before .before .before .before .before in
     let at-kind-of = at-match .before in
     let at-word-at = at-kind-of .before in
     let start = at-word-at .before in (
@@ -343,7 +344,7 @@ eval-eval-enable-requires t c κs =
 
 eval-eval-post-requires : (t : ℕ) → eval-lts.Need-eval-post-requires (eval-claims t) (eval-at t) eval.Post
 eval-eval-post-requires t c κs =
-    let at-if2 = c .before .before .before .before in
+    let at-if2 = c .before .before .before .before .before in
     let at-kind-of = at-if2 .before .before .before in
     let at-word-at = at-kind-of .before in
     let start = at-word-at .before in (
@@ -354,7 +355,7 @@ eval-eval-post-requires t c κs =
 
 eval-eval-pair-requires : (t : ℕ) → eval-lts.Need-eval-pair-requires (eval-claims t) (eval-at t) eval.Post
 eval-eval-pair-requires t c κs =
-    let at-match = c .before .before .before .before in
+    let at-match = c .before .before .before .before .before in
     let at-kind-of = at-match .before in
     let at-word-at = at-kind-of .before in
     let start = at-word-at .before in (
@@ -365,7 +366,7 @@ eval-eval-pair-requires t c κs =
 
 eval-eval-tail-requires : (t : ℕ) → eval-lts.Need-eval-tail-requires (eval-claims t) (eval-at t) eval.Post
 eval-eval-tail-requires t c κs =
-    let at-match = c .before .before .before .before in
+    let at-match = c .before .before .before .before .before in
     let at-kind-of = at-match .before in
     let at-word-at = at-kind-of .before in
     let start = at-word-at .before in (
@@ -400,9 +401,9 @@ eval-returns-3 t c =
     let at-kind-of = at-match .before in
     let at-word-at = at-kind-of .before in
     let start = at-word-at .before in
-    ends-same (same-cells _ _ _ (c .look .ensures .1)) refl (variable-is _ _ _
-    (node-leaf (start .pre .1) (start .fits .t .fits) (at-word-at .word-at .ensures) (at-kind-of .kind-of .ensures) (omega (arith, at-match .match .keys3))) _
-    (at-kind-of .kind-of .ensures) (at-match .match .keys3) (c .before .first-of2 .ensures) (c .look .ensures .0))
+    ends-same (same-cells _ _ _ _ (c .look .ensures .1)) refl
+    (variable-is _ _ _ (node-leaf (start .pre .1) (start .fits .t .fits) (at-word-at .word-at .ensures) (at-kind-of .kind-of .ensures)
+    (omega (arith, at-match .match .keys3))) _ (at-kind-of .kind-of .ensures) (at-match .match .keys3) (c .before .first-of2 .ensures) (c .look .ensures .0))
 
 eval-returns-4 : (t : ℕ) → eval-lts.Need-returns-4 (eval-claims t) (eval-at t) eval.Post
 eval-returns-4 t c =
@@ -470,8 +471,8 @@ eval-enable-first-of-requires t c κs = search needs
 
 eval-enable-eval-requires : (t : ℕ) → eval-enable-lts.Need-eval-requires (eval-enable-claims t) (eval-enable-at t) eval-enable.Post
 eval-enable-eval-requires t c κs =
-    let start = c .before .before .before .before .before .before .before .before .before .before .before in
-    (omega (arith, start .pre .0, first-below (start .pre .1) refl (c .first-of .ensures)), start .pre .1 .ready)
+    let start = c .before .before .before .before .before .before .before .before .before .before .before .before in
+    (omega (arith, start .pre .0, first-below (start .pre .1) refl (c .before .before .before .first-of .ensures)), start .pre .1 .ready)
 
 eval-enable-slice-aggregate-restore : (t : ℕ) → eval-enable-lts.Need-slice-aggregate-restore (eval-enable-claims t) (eval-enable-at t) eval-enable.Post
 eval-enable-slice-aggregate-restore t c = search needs
@@ -482,12 +483,13 @@ eval-enable-restore-requires t c κs = search needs
 eval-enable-returns : (t : ℕ) → eval-enable-lts.Need-returns (eval-enable-claims t) (eval-enable-at t) eval-enable.Post
 eval-enable-returns t c =
     let at-eval = c .before .before in
-    let at-enable = at-eval .before .before .before .before .before .before in
+    let at-first-of = at-eval .before .before .before .before in
+    let at-enable = at-first-of .before .before .before in
     let at-small-of = at-enable .before in
     let at-enabled-now = at-small-of .before .before in
     let start = at-enabled-now .before .before .before in
     record {
-      done = enable-is _ _ _ (start .pre .1) _ (c .before .before .before .first-of .ensures) (at-small-of .small-of .ensures)
+      done = enable-is _ _ _ (start .pre .1) _ (at-first-of .first-of .ensures) (at-small-of .small-of .ensures)
           (at-enabled-now .enabled-now .ensures .0) (at-enabled-now .enabled-now .ensures .1) (at-enable .enable .ensures .0) (at-enable .enable .ensures .1)
           (at-eval .eval .ensures .done) (c .restore .ensures);
       calls = at-eval .eval .ensures .calls;
@@ -521,16 +523,17 @@ eval-if-first-of-requires t c κs = search needs
 
 eval-if-eval-requires : (t : ℕ) → eval-if-lts.Need-eval-requires (eval-if-claims t) (eval-if-at t) eval-if.Post
 eval-if-eval-requires t c κs =
-    let start = c .before .before .before .before .before in
-    (omega (arith, start .pre .0, first-below (start .pre .1) refl (c .first-of .ensures)), start .pre .1 .ready)
+    let start = c .before .before .before .before .before .before in
+    (omega (arith, start .pre .0, first-below (start .pre .1) refl (c .before .before .before .first-of .ensures)), start .pre .1 .ready)
 
 eval-if-is-stop-requires : (t : ℕ) → eval-if-lts.Need-is-stop-requires (eval-if-claims t) (eval-if-at t) eval-if.Post
 eval-if-is-stop-requires t c κs = search needs
 
 eval-if-returns : (t : ℕ) → eval-if-lts.Need-returns (eval-if-claims t) (eval-if-at t) eval-if.Post
 eval-if-returns t c =
-    let start = c .before .before .before .before .before .before .before .before in
-    stays _ (if-is _ _ _ (start .pre .1) (c .before .before .before .first-of .ensures) refl refl) (c .before .before .eval .ensures)
+    let at-first-of = c .before .before .before .before .before .before in
+    let start = at-first-of .before .before .before in
+    stays _ (if-is _ _ _ (start .pre .1) (at-first-of .first-of .ensures) refl refl) (c .before .before .eval .ensures)
     (sym (c .before .is-stop .ensures) ∙ c .if1 .taken)
 
 eval-if-sort-requires : (t : ℕ) → eval-if-lts.Need-sort-requires (eval-if-claims t) (eval-if-at t) eval-if.Post
@@ -543,8 +546,8 @@ eval-if-returns-2 : (t : ℕ) → eval-if-lts.Need-returns-2 (eval-if-claims t) 
 eval-if-returns-2 t c =
     let at-is-stop = c .before .before .before .before in
     let at-eval = at-is-stop .before in
-    let at-first-of = at-eval .before in
-    let start = at-first-of .before .before .before .before .before in
+    let at-first-of = at-eval .before .before .before .before in
+    let start = at-first-of .before .before .before in
     follows _ (if-is _ _ _ (start .pre .1) (at-first-of .first-of .ensures) refl refl) (at-eval .eval .ensures)
     (sym (at-is-stop .is-stop .ensures) ∙ c .before .before .before .if1 .left)
     (ends (branch-stuck _ _ _ _ _ (c .before .before .sort .ensures) (c .before .if2 .taken) (c .stop .ensures)))
@@ -563,12 +566,12 @@ eval-if-choose-requires t c κs = search needs
 
 eval-if-eval-requires-2 : (t : ℕ) → eval-if-lts.Need-eval-requires-2 (eval-if-claims t) (eval-if-at t) eval-if.Post
 eval-if-eval-requires-2 t c κs =
-    let at-choose = c .before .before .before .before in
+    let at-choose = c .before .before .before .before .before in
     let at-third-of = at-choose .before in
     let at-second-of = at-third-of .before in
     let at-payload = at-second-of .before in
     let at-eval = at-payload .before .before .before .before .before in
-    let start = at-eval .before .before .before .before .before .before in (
+    let start = at-eval .before .before .before .before .before .before .before in (
       omega (
         arith,
         start .pre .0,
@@ -581,7 +584,7 @@ eval-if-eval-requires-2 t c κs =
 
 eval-if-returns-3 : (t : ℕ) → eval-if-lts.Need-returns-3 (eval-if-claims t) (eval-if-at t) eval-if.Post
 eval-if-returns-3 t c =
-    let at-choose = c .before .before .before .before .before in
+    let at-choose = c .before .before .before .before .before .before in
     let at-third-of = at-choose .before in
     let at-second-of = at-third-of .before in
     let at-payload = at-second-of .before in
@@ -590,8 +593,8 @@ eval-if-returns-3 t c =
     let at-if1 = at-sort .before in
     let at-is-stop = at-if1 .before in
     let at-eval = at-is-stop .before in
-    let at-first-of = at-eval .before in
-    let start = at-first-of .before .before .before .before .before in
+    let at-first-of = at-eval .before .before .before .before in
+    let start = at-first-of .before .before .before in
     follows _ (if-is _ _ _ (start .pre .1) (at-first-of .first-of .ensures) (at-second-of .second-of .ensures) (at-third-of .third-of .ensures))
     (at-eval .eval .ensures) (sym (at-is-stop .is-stop .ensures) ∙ at-if1 .if1 .left)
     (goes-on (branch-to _ _ _ _ _ _ _ _ _ (at-sort .sort .ensures) (at-if2 .if2 .left) (at-payload .payload .ensures) (at-choose .choose .ensures))
@@ -620,16 +623,17 @@ eval-pair-first-of-requires t c κs = search needs
 
 eval-pair-eval-requires : (t : ℕ) → eval-pair-lts.Need-eval-requires (eval-pair-claims t) (eval-pair-at t) eval-pair.Post
 eval-pair-eval-requires t c κs =
-    let start = c .before .before .before .before .before in
-    (omega (arith, start .pre .0, operand-below (start .pre .1) (c .first-of .ensures) refl .0), start .pre .1 .ready)
+    let start = c .before .before .before .before .before .before in
+    (omega (arith, start .pre .0, operand-below (start .pre .1) (c .before .before .before .first-of .ensures) refl .0), start .pre .1 .ready)
 
 eval-pair-is-stop-requires : (t : ℕ) → eval-pair-lts.Need-is-stop-requires (eval-pair-claims t) (eval-pair-at t) eval-pair.Post
 eval-pair-is-stop-requires t c κs = search needs
 
 eval-pair-returns : (t : ℕ) → eval-pair-lts.Need-returns (eval-pair-claims t) (eval-pair-at t) eval-pair.Post
 eval-pair-returns t c =
-    let start = c .before .before .before .before .before .before .before .before in
-    stays _ (pair-is (start .pre .1) _ _ _ (c .before .before .before .first-of .ensures) refl) (c .before .before .eval .ensures)
+    let at-first-of = c .before .before .before .before .before .before in
+    let start = at-first-of .before .before .before in
+    stays _ (pair-is (start .pre .1) _ _ _ (at-first-of .first-of .ensures) refl) (c .before .before .eval .ensures)
     (sym (c .before .is-stop .ensures) ∙ c .if1 .taken)
 
 eval-pair-second-of-requires : (t : ℕ) → eval-pair-lts.Need-second-of-requires (eval-pair-claims t) (eval-pair-at t) eval-pair.Post
@@ -637,21 +641,24 @@ eval-pair-second-of-requires t c κs = search needs
 
 eval-pair-eval-requires-2 : (t : ℕ) → eval-pair-lts.Need-eval-requires-2 (eval-pair-claims t) (eval-pair-at t) eval-pair.Post
 eval-pair-eval-requires-2 t c κs =
-    let at-eval = c .before .before .before .before .before .before .before in
-    let start = at-eval .before .before .before .before .before .before in
-    (omega (arith, start .pre .0, at-eval .eval .ensures .calls, operand-below (start .pre .1) refl (c .second-of .ensures) .1), start .pre .1 .ready)
+    let at-eval = c .before .before .before .before .before .before .before .before in
+    let start = at-eval .before .before .before .before .before .before .before in (
+      omega (arith, start .pre .0, at-eval .eval .ensures .calls, operand-below (start .pre .1) refl (c .before .before .before .second-of .ensures) .1),
+      start .pre .1 .ready,
+    )
 
 eval-pair-is-stop-requires-2 : (t : ℕ) → eval-pair-lts.Need-is-stop-requires-2 (eval-pair-claims t) (eval-pair-at t) eval-pair.Post
 eval-pair-is-stop-requires-2 t c κs = search needs
 
 eval-pair-returns-2 : (t : ℕ) → eval-pair-lts.Need-returns-2 (eval-pair-claims t) (eval-pair-at t) eval-pair.Post
 eval-pair-returns-2 t c =
-    let at-if1 = c .before .before .before .before .before .before .before .before in
+    let at-second-of = c .before .before .before .before .before .before in
+    let at-if1 = at-second-of .before .before .before in
     let at-is-stop = at-if1 .before in
     let at-eval = at-is-stop .before in
-    let at-first-of = at-eval .before in
-    let start = at-first-of .before .before .before .before .before in
-    follows _ (pair-is (start .pre .1) _ _ _ (at-first-of .first-of .ensures) (c .before .before .before .second-of .ensures)) (at-eval .eval .ensures)
+    let at-first-of = at-eval .before .before .before .before in
+    let start = at-first-of .before .before .before in
+    follows _ (pair-is (start .pre .1) _ _ _ (at-first-of .first-of .ensures) (at-second-of .second-of .ensures)) (at-eval .eval .ensures)
     (sym (at-is-stop .is-stop .ensures) ∙ at-if1 .if1 .left) (stays _ (λ st. refl) (c .before .before .eval2 .ensures)
     (sym (c .before .is-stop2 .ensures) ∙ c .if2 .taken))
 
@@ -660,24 +667,24 @@ eval-pair-kind-of-requires t c κs = search needs
 
 eval-pair-apply-requires : (t : ℕ) → eval-pair-lts.Need-apply-requires (eval-pair-claims t) (eval-pair-at t) eval-pair.Post
 eval-pair-apply-requires t c κs =
-    let at-eval2 = c .before .before .before .before .before .before .before .before in
-    let at-eval = at-eval2 .before .before .before .before .before .before .before .before in
-    let start = at-eval .before .before .before .before .before .before in
+    let at-eval2 = c .before .before .before .before .before .before .before .before .before in
+    let at-eval = at-eval2 .before .before .before .before .before .before .before .before .before in
+    let start = at-eval .before .before .before .before .before .before .before in
     (omega (arith, start .pre .0, at-eval .eval .ensures .calls, at-eval2 .eval2 .ensures .calls), start .pre .1 .ready)
 
 eval-pair-returns-3 : (t : ℕ) → eval-pair-lts.Need-returns-3 (eval-pair-claims t) (eval-pair-at t) eval-pair.Post
 eval-pair-returns-3 t c =
-    let at-if3 = c .before .before .before .before .before in
+    let at-if3 = c .before .before .before .before .before .before in
     let at-kind-of = at-if3 .before in
     let at-if2 = at-kind-of .before in
     let at-is-stop2 = at-if2 .before in
     let at-eval2 = at-is-stop2 .before in
-    let at-second-of = at-eval2 .before in
-    let at-if1 = at-second-of .before .before .before .before .before in
+    let at-second-of = at-eval2 .before .before .before .before in
+    let at-if1 = at-second-of .before .before .before in
     let at-is-stop = at-if1 .before in
     let at-eval = at-is-stop .before in
-    let at-first-of = at-eval .before in
-    let start = at-first-of .before .before .before .before .before in
+    let at-first-of = at-eval .before .before .before .before in
+    let start = at-first-of .before .before .before in
     follows _ (pair-is (start .pre .1) _ _ _ (at-first-of .first-of .ensures) (at-second-of .second-of .ensures)) (at-eval .eval .ensures)
     (sym (at-is-stop .is-stop .ensures) ∙ at-if1 .if1 .left) (follows _ (λ st. refl) (at-eval2 .eval2 .ensures)
     (sym (at-is-stop2 .is-stop2 .ensures) ∙ at-if2 .if2 .left)
@@ -688,19 +695,21 @@ eval-pair-operate-requires t c κs = search needs
 
 eval-pair-returns-4 : (t : ℕ) → eval-pair-lts.Need-returns-4 (eval-pair-claims t) (eval-pair-at t) eval-pair.Post
 eval-pair-returns-4 t c =
-    let at-is-stop2 = c .before .before .before .before .before in
+    let at-if2 = c .before .before .before .before in
+    let at-is-stop2 = at-if2 .before in
     let at-eval2 = at-is-stop2 .before in
-    let at-second-of = at-eval2 .before in
-    let at-if1 = at-second-of .before .before .before .before .before in
+    let at-second-of = at-eval2 .before .before .before .before in
+    let at-if1 = at-second-of .before .before .before in
     let at-is-stop = at-if1 .before in
     let at-eval = at-is-stop .before in
-    let at-first-of = at-eval .before in
-    let start = at-first-of .before .before .before .before .before in
+    let at-first-of = at-eval .before .before .before .before in
+    let start = at-first-of .before .before .before in
     follows _ (pair-is (start .pre .1) _ _ _ (at-first-of .first-of .ensures) (at-second-of .second-of .ensures)) (at-eval .eval .ensures)
     (sym (at-is-stop .is-stop .ensures) ∙ at-if1 .if1 .left) (follows _ (λ st. refl) (at-eval2 .eval2 .ensures)
-    (sym (at-is-stop2 .is-stop2 .ensures) ∙ c .before .before .before .before .if2 .left)
+    (sym (at-is-stop2 .is-stop2 .ensures) ∙ at-if2 .if2 .left)
     (record {
-      done = pair-operates (start .pre .1) _ _ _ _ _ _ _ (c .before .before .before .kind-of .ensures) (c .before .before .if3 .left) (c .operate .ensures);
+      done = pair-operates (start .pre .1) _ _ _ _ _ _ _ _ (c .before .before .before .kind-of .ensures) (c .before .before .if3 .left)
+          (c .operate .ensures);
       calls = operate-calls (c .operate .ensures);
       names = refl;
     }))
@@ -722,16 +731,17 @@ eval-post-first-of-requires t c κs = search needs
 
 eval-post-eval-requires : (t : ℕ) → eval-post-lts.Need-eval-requires (eval-post-claims t) (eval-post-at t) eval-post.Post
 eval-post-eval-requires t c κs =
-    let start = c .before .before .before .before .before in
-    (omega (arith, start .pre .0, first-below (start .pre .1) refl (c .first-of .ensures)), start .pre .1 .ready)
+    let start = c .before .before .before .before .before .before in
+    (omega (arith, start .pre .0, first-below (start .pre .1) refl (c .before .before .before .first-of .ensures)), start .pre .1 .ready)
 
 eval-post-is-stop-requires : (t : ℕ) → eval-post-lts.Need-is-stop-requires (eval-post-claims t) (eval-post-at t) eval-post.Post
 eval-post-is-stop-requires t c κs = search needs
 
 eval-post-returns : (t : ℕ) → eval-post-lts.Need-returns (eval-post-claims t) (eval-post-at t) eval-post.Post
 eval-post-returns t c =
-    let start = c .before .before .before .before .before .before .before .before in
-    stays _ (post-is _ _ _ (start .pre .1) (c .before .before .before .first-of .ensures)) (c .before .before .eval .ensures)
+    let at-first-of = c .before .before .before .before .before .before in
+    let start = at-first-of .before .before .before in
+    stays _ (post-is _ _ _ (start .pre .1) (at-first-of .first-of .ensures)) (c .before .before .eval .ensures)
     (sym (c .before .is-stop .ensures) ∙ c .if1 .taken)
 
 eval-post-slice-aggregate-append : (t : ℕ) → eval-post-lts.Need-slice-aggregate-append (eval-post-claims t) (eval-post-at t) eval-post.Post
@@ -740,19 +750,22 @@ eval-post-slice-aggregate-append t c = search needs
 eval-post-slice-aggregate-append-2 : (t : ℕ) → eval-post-lts.Need-slice-aggregate-append-2 (eval-post-claims t) (eval-post-at t) eval-post.Post
 eval-post-slice-aggregate-append-2 t c = search needs
 
+eval-post-slice-aggregate-append-3 : (t : ℕ) → eval-post-lts.Need-slice-aggregate-append-3 (eval-post-claims t) (eval-post-at t) eval-post.Post
+eval-post-slice-aggregate-append-3 t c = search needs
+
 eval-post-append-requires : (t : ℕ) → eval-post-lts.Need-append-requires (eval-post-claims t) (eval-post-at t) eval-post.Post
 eval-post-append-requires t c κs =
-    let start = c .before .before .before .before .before .before .before .before .before .before .before in
+    let start = c .before .before .before .before .before .before .before .before .before .before .before .before .before in
     guard-right (start .pre .1) refl
 
 eval-post-returns-2 : (t : ℕ) → eval-post-lts.Need-returns-2 (eval-post-claims t) (eval-post-at t) eval-post.Post
 eval-post-returns-2 t c =
-    let at-is-stop = c .before .before .before .before .before in
+    let at-if1 = c .before .before .before .before .before in
+    let at-is-stop = at-if1 .before in
     let at-eval = at-is-stop .before in
-    let at-first-of = at-eval .before in
-    let start = at-first-of .before .before .before .before .before in
-    follows _ (post-is _ _ _ (start .pre .1) (at-first-of .first-of .ensures)) (at-eval .eval .ensures)
-    (sym (at-is-stop .is-stop .ensures) ∙ c .before .before .before .before .if1 .left)
+    let at-first-of = at-eval .before .before .before .before in
+    let start = at-first-of .before .before .before in
+    follows _ (post-is _ _ _ (start .pre .1) (at-first-of .first-of .ensures)) (at-eval .eval .ensures) (sym (at-is-stop .is-stop .ensures) ∙ at-if1 .if1 .left)
     (record { done = post-done (c .append .ensures) _; calls = post-calls (c .append .ensures); names = refl })
 
 abbrev eval-tail-claims : ℕ → eval-tail-lts.Claims
@@ -764,9 +777,12 @@ eval-tail-slice-aggregate-enter t c = search needs
 eval-tail-slice-aggregate-enter-2 : (t : ℕ) → eval-tail-lts.Need-slice-aggregate-enter-2 (eval-tail-claims t) (eval-tail-at t) eval-tail.Post
 eval-tail-slice-aggregate-enter-2 t c = search needs
 
+eval-tail-slice-aggregate-enter-3 : (t : ℕ) → eval-tail-lts.Need-slice-aggregate-enter-3 (eval-tail-claims t) (eval-tail-at t) eval-tail.Post
+eval-tail-slice-aggregate-enter-3 t c = search needs
+
 eval-tail-enter-requires : (t : ℕ) → eval-tail-lts.Need-enter-requires (eval-tail-claims t) (eval-tail-at t) eval-tail.Post
 eval-tail-enter-requires t c κs =
-    let start = c .before .before .before in
+    let start = c .before .before .before .before in
     record { kind = start .pre .1 .tail; privilege = lower (start .pre .1 .node) .privilege }
 
 eval-tail-is-stop-requires : (t : ℕ) → eval-tail-lts.Need-is-stop-requires (eval-tail-claims t) (eval-tail-at t) eval-tail.Post
@@ -775,7 +791,7 @@ eval-tail-is-stop-requires t c κs = search needs
 eval-tail-returns : (t : ℕ) → eval-tail-lts.Need-returns (eval-tail-claims t) (eval-tail-at t) eval-tail.Post
 eval-tail-returns t c =
     let at-enter = c .before .before in
-    let start = at-enter .before .before .before .before in
+    let start = at-enter .before .before .before .before .before in
     record {
       done = sym (tail-stops (start .pre .1) _ _ _ (at-enter .enter .ensures) _ (sym (c .before .is-stop .ensures) ∙ c .if1 .taken));
       calls = omega
@@ -785,8 +801,8 @@ eval-tail-returns t c =
 
 eval-tail-eval-requires : (t : ℕ) → eval-tail-lts.Need-eval-requires (eval-tail-claims t) (eval-tail-at t) eval-tail.Post
 eval-tail-eval-requires t c κs =
-    let at-enter = c .before .before .before .before .before .before in
-    let start = at-enter .before .before .before .before in (
+    let at-enter = c .before .before .before .before .before .before .before in
+    let start = at-enter .before .before .before .before .before in (
       omega (
         arith,
         start .pre .0,
@@ -799,10 +815,10 @@ eval-tail-eval-requires t c κs =
 
 eval-tail-returns-2 : (t : ℕ) → eval-tail-lts.Need-returns-2 (eval-tail-claims t) (eval-tail-at t) eval-tail.Post
 eval-tail-returns-2 t c =
-    let at-if1 = c .before .before .before .before .before in
+    let at-if1 = c .before .before .before .before .before .before in
     let at-is-stop = at-if1 .before in
     let at-enter = at-is-stop .before in
-    let start = at-enter .before .before .before .before in
+    let start = at-enter .before .before .before .before .before in
     goes-on (tail-goes (start .pre .1) _ _ _ (at-enter .enter .ensures) _ (sym (at-is-stop .is-stop .ensures) ∙ at-if1 .if1 .left))
     (omega (arith, at-enter .enter .ensures .calls)) refl (c .eval .ensures)
 
@@ -924,6 +940,7 @@ pub +apply+eval+eval-enable+eval-if+eval-pair+eval-post+eval-tail-spec : {M : Ty
     (eval-post-returns t)
     (eval-post-slice-aggregate-append t)
     (eval-post-slice-aggregate-append-2 t)
+    (eval-post-slice-aggregate-append-3 t)
     (eval-post-append-requires t)
     (eval-post-returns-2 t))
     λ t. eval-tail-lts.spec (eval-tail-claims t)
@@ -931,6 +948,7 @@ pub +apply+eval+eval-enable+eval-if+eval-pair+eval-post+eval-tail-spec : {M : Ty
     eval-tail.Post
     (eval-tail-slice-aggregate-enter t)
     (eval-tail-slice-aggregate-enter-2 t)
+    (eval-tail-slice-aggregate-enter-3 t)
     (eval-tail-enter-requires t)
     (eval-tail-is-stop-requires t)
     (eval-tail-returns t)

@@ -11,7 +11,7 @@ authority-requires c κs = search needs
 
 start-grants-requires : tie.Need-start-grants-requires
 start-grants-requires c κs =
-    let start = c .before .before .before .before .before in
+    let start = c .before .before .before .before .before .before in
     start .pre .whole
 
 pair-requires : tie.Need-pair-requires
@@ -25,7 +25,7 @@ mode-of-requires c κs = search needs
 
 evaluate-requires : tie.Need-evaluate-requires
 evaluate-requires c κs =
-    let start = c .before .before .before .before .before .before .before .before .before .before .before in
+    let start = c .before .before .before .before .before .before .before .before .before .before .before .before .before in
     (start .pre .well-formed, start .pre .counts-are)
 
 same-length : tie.Need-same-length
@@ -34,18 +34,21 @@ same-length c = search needs
 same-length-2 : tie.Need-same-length-2
 same-length-2 c = search needs
 
+same-length-3 : tie.Need-same-length-3
+same-length-3 c = search needs
+
 returns : tie.Need-returns
 returns c =
-    let at-evaluate = c .before .before .before .before .before in
+    let at-evaluate = c .before .before .before .before .before .before .before in
     let at-mode-of = at-evaluate .before in
-    let at-pair = at-mode-of .before .before .before .before in
+    let at-pair = at-mode-of .before .before .before .before .before in
     let at-start-grants = at-pair .before in
     let at-authority = at-start-grants .before in
-    let start = at-authority .before .before .before .before .before in
-    eager-after (start .args .s .now) (start .args .start .now) (start .args .enforce) (start .args .cells .now) (start .args .posts .now) (start .args .calls)
-    (start .args .depth) (0 ∷ []) (start .pre) (at-authority .authority .ensures) (omega (arith, at-authority .authority .ok))
-    (at-start-grants .start-grants .ensures) (at-pair .pair .ensures) (at-mode-of .mode-of .ensures .0) (at-mode-of .mode-of .ensures .1)
-    (at-evaluate .evaluate .ensures)
+    let start = at-authority .before .before .before .before .before .before in
+    eager-after (start .args .s .now) (start .args .start .now) (start .args .enforce) (start .args .cells .now) (start .args .posts .now)
+    (start .args .noted .now) (start .args .calls) (start .args .depth) (0 ∷ []) (start .pre) (at-authority .authority .ensures)
+    (omega (arith, at-authority .authority .ok)) (at-start-grants .start-grants .ensures) (at-pair .pair .ensures) (at-mode-of .mode-of .ensures .0)
+    (at-mode-of .mode-of .ensures .1) (at-evaluate .evaluate .ensures)
 
 pub eager-spec : {M : Type 1} → statement M
 eager-spec =
@@ -59,4 +62,5 @@ eager-spec =
     evaluate-requires
     same-length
     same-length-2
+    same-length-3
     returns)

@@ -1,32 +1,14 @@
--- A run that is not admitted answers the refusal and leaves every buffer as it was (eager-refused); an admitted one is as `eager` requires and answers as it
--- does. An eager run has no frame store, so that the test of one is `true`.
+-- The run with a record of no bytes, without the number of its entries.
 use borrow.Author.Needs.{needs}
-use mathlib.Core.Bool.{true}
-use Rattle.interp.proofs.RunLaws.{is-admitted, eager-refused}
+use Rattle.interp.proofs.RunLaws.{plain-after}
 use Rattle.interp.proofs.run_eager.Statement.{statement}
 use Rattle.interp.proofs.run_eager.Tie as tie
 
-admit-requires : tie.Need-admit-requires
-admit-requires c κs = search needs
+slice-aggregate-record-eager : tie.Need-slice-aggregate-record-eager
+slice-aggregate-record-eager c = search needs
 
-enum-known-a : tie.Need-enum-known-a
-enum-known-a c = search needs
-
-enum-known-a-2 : tie.Need-enum-known-a-2
-enum-known-a-2 c = search needs
-
-eager-requires : tie.Need-eager-requires
-eager-requires c κs =
-    let at-admit = c .before .before .before .before .before in
-    let start = at-admit .before .before .before .before .before in
-    is-admitted (start .args .sheet .now) (start .args .start .now) (start .args .enforce) (start .args .cells .now) (start .args .posts .now)
-    (start .args .calls) (start .args .depth) true (c .before .before .before .a2 .given .1) (at-admit .admit .ensures)
-
-returns : tie.Need-returns
-returns c =
-    let start = c .before .before .before .before .before .before .before .before in
-    eager-refused (start .args .sheet .now) (start .args .start .now) (start .args .enforce) (start .args .cells .now) (start .args .posts .now)
-    (start .args .calls) (start .args .depth) (c .before .a .given .1) (c .before .before .before .admit .ensures)
+record-eager-requires : tie.Need-record-eager-requires
+record-eager-requires c κs = search needs
 
 same-length : tie.Need-same-length
 same-length c = search needs
@@ -34,18 +16,12 @@ same-length c = search needs
 same-length-2 : tie.Need-same-length-2
 same-length-2 c = search needs
 
-returns-2 : tie.Need-returns-2
-returns-2 c = search needs
+returns : tie.Need-returns
+returns c =
+    let at-record-eager = c .before .before .before .before .before in
+    plain-after _ _ _ _ (at-record-eager .record-eager .result) (at-record-eager .record-eager .ensures)
 
 pub run-eager-spec : {M : Type 1} → statement M
 run-eager-spec =
     tie.close
-    (tie.spec
-    admit-requires
-    enum-known-a
-    enum-known-a-2
-    eager-requires
-    returns
-    same-length
-    same-length-2
-    returns-2)
+    (tie.spec slice-aggregate-record-eager record-eager-requires same-length same-length-2 returns)

@@ -15,6 +15,7 @@ use Rattle.program.specs.Laws.Readable.{WellFormed}
 use Rattle.program.specs.Laws.Trees.{program-every}
 use Rattle.semantics.specs.Values.{empty}
 use Rattle.semantics.specs.Names.{namedBy, names}
+use Rattle.semantics.specs.Meaning.{Mode, plain}
 use Rattle.semantics.specs.Access.{chk, Rights, rights, privs, eagerControl}
 use Rattle.semantics.specs.Runs.{Request, Buffers, Sizes, sizes, stack, initial, evaluation}
 use Rattle.semantics.specs.Laws.Access.{privs-chk, addAuthorised-has}
@@ -70,12 +71,12 @@ program-names s w p u = program-every s w (NamesOnly (Other p)) (λ t l. names-o
 -- ---- two evaluations of it
 module _ (s : List ℕ) (w : WellFormed s) (p : ℕ) (u : Unnamed s p) where
   -- from two starts
-  start-alike : (x y : List ℕ) → DifferAtMost s p x y → (q : Request) (z : Sizes) (enforce : Bool)
-      → eagerlyFrom s x q z enforce ≡ eagerlyFrom s y q z enforce
+  start-alike : (x y : List ℕ) → DifferAtMost s p x y → (q : Request) (z : Sizes) (M : Mode)
+      → eagerlyFrom s x q z M ≡ eagerlyFrom s y q z M
   unfolding alike-simulation
-  start-alike x y d q z enforce =
+  start-alike x y d q z M =
       let A : ℕ → ℕ = authority s in
-      agree (Other p) (eagerControl A) (eagerControl A) (alike-simulation A (Other p)) enforce (q .depth) (program s) (program-names s w p u)
+      agree (Other p) (eagerControl A) (eagerControl A) (alike-simulation A (Other p)) M (q .depth) (program s) (program-names s w p u)
       (rights 0 (privs A (stack x))) (rights 0 (privs A (stack y)))
       (record { same-signer = refl; same-held = λ r n. privs-chk A (stack x) r ∙ d .others r n ∙ sym (privs-chk A (stack y) r) })
       empty tt (initial q z)
@@ -83,6 +84,7 @@ module _ (s : List ℕ) (w : WellFormed s) (p : ℕ) (u : Unnamed s p) where
   -- and of either runner
   pub same-result : (x y : Request) (b d : Buffers) → TwoStarts s p x y b d → evaluation (x .runner) s x (sizes b) ≡ evaluation (y .runner) s y (sizes d)
   same-result x y b d t =
-      as-eager s w x (sizes b) (x .runner) ∙ (λ i. eagerlyFrom s (x .start) x (sizes b) (t .first-enforced i))
-      ∙ start-alike (x .start) (y .start) (t .differ) x (sizes b) true ∙ same-limited s x y b d (t .limits) (y .start) true
-      ∙ (λ i. eagerlyFrom s (y .start) y (sizes d) (sym (t .second-enforced) i)) ∙ sym (as-eager s w y (sizes d) (y .runner))
+      as-eager s w (plain (x .enforce)) x (sizes b) (x .runner) ∙ (λ i. eagerlyFrom s (x .start) x (sizes b) (plain (t .first-enforced i)))
+      ∙ start-alike (x .start) (y .start) (t .differ) x (sizes b) (plain true) ∙ same-limited s x y b d (t .limits) (y .start) (plain true)
+      ∙ (λ i. eagerlyFrom s (y .start) y (sizes d) (plain (sym (t .second-enforced) i)))
+      ∙ sym (as-eager s w (plain (y .enforce)) y (sizes d) (y .runner))

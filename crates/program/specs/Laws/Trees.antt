@@ -128,7 +128,7 @@ every-any q (test at p y n) = (q (test at p y n), every-any q y, every-any q n)
 every-any q (binary at op a b) = (q (binary at op a b), every-any q a, every-any q b)
 every-any q (post at ch g c) = (q (post at ch g c), every-any q c)
 
--- it is enough that the trees of the sheet's terms have it
+-- in a sheet it is enough that the tree of each number has it
 module _ (s : List ℕ) (w : WellFormed s) (Q : Term → Type 0) (each : (t : ℕ) → t < terms s → Q (tree s t)) where
   node-every : (G : ℕ → Option ℕ) (k : Kind) (t x a b c : ℕ) (f : ℕ → Term) → Below (format k) t a b c → ((y : ℕ) → y < t → Every Q (f y))
       → Q (node G k t x a b c f) → Every Q (node G k t x a b c f)

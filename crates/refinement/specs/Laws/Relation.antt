@@ -1,7 +1,7 @@
 -- How the interpreter's words, cells, counters and outcomes stand for the meaning's values, environments, budgets and results.
 use mathlib.Core.Bool.{Bool, true, false}
 use mathlib.Core.Path.{_≡_, refl, sym, _∙_, subst}
-use mathlib.Core.List.{List, [], _∷_}
+use mathlib.Core.List.{List, [], _∷_, reverse}
 use Prim.Native.Nat.{ℕ, _+_, _*_, _/_, _<_, _≤_}
 use native.Mathlib.Omega.{arith}
 use lib.Dec.{ltb}
@@ -11,6 +11,7 @@ use Rattle.program.specs.Limits.{maxCells, maxNesting}
 use Rattle.program.specs.Layout.{guardIn}
 use Rattle.program.specs.Terms.{Op, sum, difference, less, Term, boolean, number, variable, function, letrec, call, if, check, enable, sign, test, binary, post}
 use Rattle.program.specs.Laws.Nesting.{height}
+use Rattle.traces.specs.Traces.{recorded}
 use Rattle.semantics.specs.Values.{Value, bool, num, closure, Env, empty, bind, Log, Budget, budget, Result, ends, stops}
 use Rattle.semantics.specs.Meaning.{_then_}
 use Rattle.stores.specs.declared.state.Stop.{Stop}
@@ -21,16 +22,18 @@ use Rattle.stores.specs.Cells.{behindOf, heldOf}
 use Rattle.machine.specs.Steps.{cellsMade, wrapped}
 use Rattle.machine.specs.Store.{Store as State, Done, doneOf, andThen}
 use Rattle.stores.specs.Stops.{stopCause, stopPlace}
+use Rattle.refinement.specs.Laws.Records.{recordOf}
 use Rattle.refinement.specs.Laws.Cells.{Agree, agree-held, agree-behind}
 
--- ---- what stays in a run: the words of the terms, the sets that the principals may use, the lent list of posts, and the mode
+-- ---- what stays in a run: the words of the terms, the sets that the principals may use, the lent list of posts, the lent record, and the mode
 pub record Fixed : Type 0 where
   pub terms : List ℕ
   pub may : ℕ → ℕ
   pub posts : List ℕ
+  pub trace : List ℕ
   pub mode : ℕ
 
--- ---- counters and posts
+-- ---- counters, posts and the record
 
 -- the posts, the latest first, written over the front of a list
 abbrev pub written : List ℕ → List ℕ → List ℕ
@@ -42,15 +45,17 @@ length-written l [] = refl
 length-written l (p ∷ ps) = length-set (written l ps) (length ps) p ∙ length-written l ps
 
 -- with m cells made
-abbrev pub countersOf : (calls m mode : ℕ) → Log → List ℕ
-countersOf c m mode log = c ∷ m ∷ length (log .posts) ∷ mode ∷ wrapped (log .saturated) ∷ []
+abbrev pub countersOf : Fixed → (calls m : ℕ) → Log → List ℕ
+countersOf z c m log =
+    c ∷ m ∷ length (log .posts) ∷ z .mode ∷ wrapped (log .saturated) ∷ length (recorded (length (z .trace)) (reverse (log .decisions))) ∷ []
 
 pub record Balance (z : Fixed) (st : State) (c m d r : ℕ) (log : Log) : Type 0 where
-  pub counters : st .n ≡ countersOf c m (z .mode) log
+  pub counters : st .n ≡ countersOf z c m log
   pub cells : m + d ≡ length (st .cells) / 8
   pub most : length (st .cells) ≤ maxCells
   pub room : length (log .posts) + r ≡ length (z .posts)
   pub list : st .posts ≡ written (z .posts) (log .posts)
+  pub trace-is : st .noted ≡ recordOf (z .trace) (reverse (log .decisions))
 
 pub data Balances (z : Fixed) (st : State) : Budget → Type 0 where
   balance : {c m d r : ℕ} {log : Log} → Balance z st c m d r log → Balances z st (budget c d r log)

@@ -4,7 +4,7 @@ use mathlib.Core.List.{List, [], _∷_, _++_, reverse, reverseAux-eq, append-ass
 use Prim.Native.Nat.{ℕ, suc, _+_, _*_, _/_, _-_, _≤_}
 use native.Mathlib.Omega.{arith}
 use lib.ListN.{getD, length, set, drop, length-append, length-reverse}
-use lib.Seq.{drop-cons, set-at, getD-at, getD-append-add}
+use lib.Seq.{take-nil, drop-cons, set-at, getD-at, getD-append-add}
 use Rattle.program.specs.Limits.{maxDepth, maxCells, maxStartFrames}
 use Rattle.program.specs.Layout.{root}
 use Rattle.program.specs.Terms.{program}
@@ -13,16 +13,19 @@ use Rattle.program.specs.Laws.Readable.{WellFormed}
 use Rattle.program.specs.Laws.Trees.{root-lower}
 use Rattle.program.specs.Laws.Nesting.{program-height}
 use Rattle.program.specs.declared.records.Counts.{Counts}
-use Rattle.semantics.specs.Values.{Value, empty, Budget, Result, ends}
-use Rattle.semantics.specs.Meaning.{Control, eval}
+use Rattle.traces.specs.Traces.{Event, traceBytes, recorded}
+use Rattle.semantics.specs.Values.{Value, empty, Budget, Result, ends, stops}
+use Rattle.semantics.specs.Meaning.{Control, plain, traced, eval}
 use Rattle.semantics.specs.Access.{Frame}
 use Rattle.semantics.specs.Runs.{Request, Buffers, sizes, ground-bool, ground-num, ended, initial, outcome, left, counts, inOrder}
+use Rattle.semantics.specs.Recording.{decidedIn, withEntries}
+use Rattle.semantics.specs.Laws.Tracing.{forget, forgets, outcome-forgotten, counts-forgotten, posts-forgotten}
 use Rattle.stores.specs.declared.state.Stop.{Stop}
 use Rattle.stores.specs.declared.state.Stop.the-variants.{Check, Stuck, OpenCalls, Calls, Cells, Posts}
 use Rattle.stores.specs.declared.state.Out.the-variants.{Stop as Stopped}
 use Rattle.stores.specs.Words.{payloadOf, envOf, stopWord, outBy, outOf}
 use Rattle.machine.specs.Table.{Decoded}
-use Rattle.machine.specs.Steps.{wrapped}
+use Rattle.machine.specs.Steps.{entriesMade, wrapped}
 use Rattle.machine.specs.Store.{Store as State, Done, doneOf, evalAt}
 use Rattle.stores.specs.Stops.{stopCause, stopPlace}
 use Rattle.refinement.specs.Claims.{outcomeOf, countsOf, wrappedCounts, sizesOf, laidOut, startOf, Refined}
@@ -76,16 +79,18 @@ module _ (z : Fixed) (n : ℕ) where
   value-outcome {w = w} o (rep-rec h b p q v e) = λ i. outcomeOf n (outBy (h .sort-is i) (payloadOf w) (envOf w))
 
 -- ---- what a state tells of the budget that it stands for
-module _ (s table : List ℕ) (mode : ℕ) (q : Request) (b : Buffers) where
+module _ (s table : List ℕ) (mode : ℕ) (q : Request) (b : Buffers) (t : List ℕ) where
   abbrev run : Fixed
-  run = fixedOf s table (b .posts) mode
+  run = fixedOf s table (b .posts) t mode
 
   record Agrees (st : State) (u : Budget) : Type 0 where
     counts-agree : countsOf (q .calls) (st .n) ≡ wrappedCounts (counts q (sizes b) u)
     posts-agree : st .posts ≡ inOrder u ++ drop (length (inOrder u)) (b .posts)
     sizes-agree : sizesOf st ≡ sizes b
+    entries-agree : entriesMade (st .n) ≡ length (recorded (length t) (decidedIn u))
+    trace-agrees : st .noted ≡ withEntries (recorded (length t) (decidedIn u)) t
 
-  agrees : {depth : ℕ} {st : State} {u : Budget} → Balances run st u → Later depth (startOf mode q b) st → Agrees st u
+  agrees : {depth : ℕ} {st : State} {u : Budget} → Balances run st u → Later depth (startOf mode q b t) st → Agrees st u
   agrees (balance {c = c} {m = m} {d = d} {log = log} h) l =
       let ps = log .posts in
       let p : m ≡ length (b .cells) / 8 - d = omega (arith, h .cells, l .old .long) in
@@ -94,28 +99,52 @@ module _ (s table : List ℕ) (mode : ℕ) (q : Request) (b : Buffers) where
             ∙ (λ i. record { calls = q .calls - c; cells = p i; posts = length ps; saturated = wrapped (log .saturated) });
         posts-agree = h .list ∙ written-is (b .posts) ps (omega (arith, h .room)) ∙ ap (λ (n : ℕ). reverse ps ++ drop n (b .posts)) (sym (length-reverse ps));
         sizes-agree = λ i. record { cells = l .old .long i; posts = (ap length (h .list) ∙ length-written (b .posts) ps) i; frames = l .frames .long i };
+        entries-agree = λ i. entriesMade (h .counters i);
+        trace-agrees = h .trace-is;
       }
 
-  refined-by : (n : ℕ) {w : ℕ} {st : State} {x : Result} → outcomeOf n (outOf w) ≡ outcome n x → Agrees st (left x) → Refined n q b (doneOf w st) x
-  refined-by n e t = record { same-outcome = e; same-counts = t .counts-agree; same-posts = t .posts-agree; same-sizes = t .sizes-agree }
+  refined-by : (n : ℕ) {w : ℕ} {st : State} (x : Result) → outcomeOf n (outOf w) ≡ outcome n x → Agrees st (left x)
+      → Refined n q b t (doneOf w st) (forget x) (decidedIn (left x))
+  refined-by n x e a = record {
+    same-outcome = e ∙ outcome-forgotten n x;
+    same-counts = a .counts-agree ∙ ap wrappedCounts (counts-forgotten q (sizes b) x);
+    same-posts = a .posts-agree ∙ ap (λ (l : List ℕ). l ++ drop (length l) (b .posts)) (posts-forgotten x);
+    same-sizes = a .sizes-agree;
+    same-entries = a .entries-agree;
+    same-trace = a .trace-agrees;
+  }
 
-  meets-refined : (n : ℕ) {depth : ℕ} {d : Done} {x : Result} → Meets run depth (startOf mode q b) d x → Refined n q b d x
-  meets-refined n (valued {o = o} r t l) = refined-by n (value-outcome run n o r) (agrees t l)
-  meets-refined n (halted {o = o} x i t l) =
+  meets-refined : (n : ℕ) {depth : ℕ} {d : Done} {x : Result} → Meets run depth (startOf mode q b t) d x → Refined n q b t d (forget x) (decidedIn (left x))
+  meets-refined n (valued {x = x} {o = o} r h l) = refined-by n (ends x o) (value-outcome run n o r) (agrees h l)
+  meets-refined n (halted {o = o} x i h l) =
       let w : ℕ = stopWord (stopCause x) (stopPlace x) in
       let v = stop-word x i in
-      refined-by n {w = w} ((λ j. outcomeOf n (outBy (v .0 j) (v .1 j) (envOf w))) ∙ (λ j. outcomeOf n (stop-out x (envOf w) j))) (agrees t l)
+      refined-by n {w = w} (stops (stopCause x) (stopPlace x) o)
+      ((λ j. outcomeOf n (outBy (v .0 j) (v .1 j) (envOf w))) ∙ (λ j. outcomeOf n (stop-out x (envOf w) j))) (agrees h l)
 
 -- ---- a whole run, in either style
 module _ (s : List ℕ) (w : WellFormed s) (c : Counts) (h : CountsOf s c) (table : List ℕ) (decoded : Decoded s c table) (q : Request) (b : Buffers)
-    (few : q .depth ≤ maxDepth) (most : length (b .cells) ≤ maxCells) (mode : ℕ) where
-  pub refined : (X : Control) (R : X .State → (acc depth : ℕ) → List ℕ → Type 0) → Models (fixedOf s table (b .posts) mode) X (q .enforce) R
+    (t : List ℕ) (few : q .depth ≤ maxDepth) (most : length (b .cells) ≤ maxCells) (mode : ℕ) where
+  pub refined : (X : Control) (R : X .State → (acc depth : ℕ) → List ℕ → Type 0) → Models (fixedOf s table (b .posts) t mode) X (q .enforce) R
       → (acc depth : ℕ) (a : X .State) → depth ≤ maxStartFrames → R a acc depth (b .frames)
-      → Refined (root s) q b (evalAt table (q .depth) (root s) 0 acc (startOf mode q b))
-      (eval X (q .enforce) (q .depth) (program s) a empty (initial q (sizes b)))
+      → Refined (root s) q b t (evalAt table (q .depth) (root s) 0 acc (startOf mode q b t))
+      (eval X (plain (q .enforce)) (q .depth) (program s) a empty (initial q (sizes b)))
+      (decidedIn (left (eval X (traced (q .enforce)) (q .depth) (program s) a empty (initial q (sizes b)))))
+  unfolding traceBytes
   refined X R models acc depth a deep r =
-      meets-refined s table mode q b (root s)
-      (eval-does (fixedOf s table (b .posts) mode) X (q .enforce) R models (q .depth) (program-stands s w c h table decoded (b .posts) mode)
+      let none : [] ≡ recorded (length t) [] = sym (take-nil {A = Event} (length t / 4)) in
+      let x = eval X (traced (q .enforce)) (q .depth) (program s) a empty (initial q (sizes b)) in
+      let d = evalAt table (q .depth) (root s) 0 acc (startOf mode q b t) in
+      subst (λ y. Refined (root s) q b t d y (decidedIn (left x))) (forgets X (traced (q .enforce)) (q .depth) (program s) a empty (initial q (sizes b)))
+      (meets-refined s table mode q b t (root s)
+      (eval-does (fixedOf s table (b .posts) t mode) X (q .enforce) R models (q .depth) (program-stands s w c h table decoded (b .posts) t mode)
       (omega (arith, root-lower s w, w .terms-most)) (program-height s w)
-      .go 0 empty acc depth a (startOf mode q b) (initial q (sizes b)) (omega arith) r env-none
-      (balance record { counters = refl; cells = omega arith; most = most; room = omega arith; list = refl }))
+      .go 0 empty acc depth a (startOf mode q b t) (initial q (sizes b)) (omega arith) r env-none
+      (balance record {
+        counters = λ i. q .calls ∷ 0 ∷ 0 ∷ mode ∷ 0 ∷ length (none i) ∷ [];
+        cells = omega arith;
+        most = most;
+        room = omega arith;
+        list = refl;
+        trace-is = λ i. withEntries (none i) t;
+      })))

@@ -11,7 +11,7 @@ use borrow.Author.Tests.{eq-eqb, ne-eqb}
 use Rattle.program.specs.Terms.{Op, sum, difference, less, Term}
 use Rattle.program.specs.Laws.Nesting.{height}
 use Rattle.semantics.specs.Values.{Value, bool, num, closure, lookup, Budget, ends}
-use Rattle.semantics.specs.Meaning.{Control, Evaluation, Application, found, tooDeep, evalWith, apply, eval}
+use Rattle.semantics.specs.Meaning.{Control, traced, Evaluation, Application, found, tooDeep, evalWith, apply, eval}
 use Rattle.stores.specs.declared.state.Stop.the-variants.{Stuck, OpenCalls}
 use Rattle.stores.specs.Words.{pick, booleanWord, numberWord, functionWord, stopWord, payloadOf}
 use Rattle.machine.specs.Table.{wordKind, wordSmall, wordFirst, wordSecond, wordAuthority}
@@ -105,7 +105,8 @@ module _ (z : Fixed) (X : Control) (enforce : Bool) (R : X .State → (acc depth
     lift : (h k : ℕ) {p : Runs} {P : Evaluation X} → h ≤ k → Does (g + h) p P → Does (g + k) p P
     lift h k {p} {P} l s = sim-less z X enforce R ctl (g + h) (g + k) p P (omega arith) s
 
-    pub sim : {t : ℕ} {x : Term} → Stands z t x → (n : ℕ) → t < n → t < 65536 → height x ≤ 32 → Does (g + height x) (under f n t) (evalWith X enforce F x)
+    pub sim : {t : ℕ} {x : Term} → Stands z t x → (n : ℕ) → t < n → t < 65536 → height x ≤ 32
+        → Does (g + height x) (under f n t) (evalWith X (traced enforce) F x)
     unfolding evalWith shapeOf
     sim (on-boolean {t = t} {b = b} k e) n l i s = at-step (g + 1) f _ n t 0 _ l k refl (leaf-boolean (g + 1) t (wordAt z t) b k e)
     sim (on-number {t = t} k) n l i s = at-step (g + 1) f _ n t 1 _ l k refl (leaf-number (g + 1) t (wordAt z t) k)
@@ -145,7 +146,7 @@ module _ (z : Fixed) (X : Control) (enforce : Bool) (R : X .State → (acc depth
     sim (on-test {t = t} {a = a} {b = b} k p q ha hb) n l i s =
         let h = 1 + max (height a) (height b) in
         at-step (g + h) f _ n t 10 _ l k refl
-        (sim-test z X enforce R ctl (g + h) (small z t) _ _ _ _
+        (sim-test z X enforce R ctl (g + h) (small z t) t _ _ _ _
         (lift (height a) h (omega arith) (sim ha t p (omega arith) (omega arith))) (lift (height b) h (omega arith) (sim hb t q (omega arith) (omega arith))))
     sim (on-binary {t = t} {a = a} {b = b} op k p q ha hb) n l i s =
         let h = 1 + max (height a) (height b) in
@@ -170,21 +171,21 @@ module _ (z : Fixed) (X : Control) (enforce : Bool) (R : X .State → (acc depth
     open-meets (rep-fun k b e) = meets-stop z (OpenCalls t) i y
     open-meets (rep-rec k b p q v e) = meets-stop z (OpenCalls t) i y
 
-    module _ (k h : ℕ) (hk : (b : ℕ) (x : Term) → b < 65536 → Body z b x → Does h (bodies k b) (evalWith X enforce (apply X enforce k) x))
+    module _ (k h : ℕ) (hk : (b : ℕ) (x : Term) → b < 65536 → Body z b x → Does h (bodies k b) (evalWith X (traced enforce) (apply X (traced enforce) k) x))
         (w : ℕ) (v : Value) (acc : ℕ) (a : X .State) (l : d + h ≤ 3248) (r : R a acc d (st .frames)) (rx : RepAt z st w v) where
       enter-meets : {x : Value} → RepAt z st u x
-          → Meets z d st (applied t st (begin (bodies k) t u w acc st) (sortFor x)) (apply X enforce (suc k) t x v a o)
+          → Meets z d st (applied t st (begin (bodies k) t u w acc st) (sortFor x)) (apply X (traced enforce) (suc k) t x v a o)
       unfolding apply
       enter-meets (rep-bool j e) = meets-stop z (Stuck t) i y
       enter-meets (rep-num j e) = meets-stop z (Stuck t) i y
       enter-meets (rep-fun {ty = ty} {c = x} {E = E} j b e) =
-          begin-meets z X enforce R ctl (bodies k) t u w acc st i h ty false x E v (evalWith X enforce (apply X enforce k) x)
+          begin-meets z X enforce R ctl (bodies k) t u w acc st i h ty false x E v (evalWith X (traced enforce) (apply X (traced enforce) k) x)
           (hk (payloadOf u) x (omega arith) b) d a l r (rep-fun j b e) rx y
       enter-meets (rep-rec {ty = ty} {c = x} {E = E} j b p q g e) =
-          begin-meets z X enforce R ctl (bodies k) t u w acc st i h ty true x E v (evalWith X enforce (apply X enforce k) x)
+          begin-meets z X enforce R ctl (bodies k) t u w acc st i h ty true x E v (evalWith X (traced enforce) (apply X (traced enforce) k) x)
           (hk (payloadOf u) x (omega arith) b) d a l r (rep-rec j b p q g e) rx y
 
-  apply-does : (k h : ℕ) → SimApply z X R (32 * k + h) (applyAt (z .terms) k) (apply X enforce k)
+  apply-does : (k h : ℕ) → SimApply z X R (32 * k + h) (applyAt (z .terms) k) (apply X (traced enforce) k)
   unfolding applyAt apply
   apply-does zero h = record {
     go = λ t i u x w y acc d a st o l r ru rx b.
@@ -192,16 +193,17 @@ module _ (z : Fixed) (X : Control) (enforce : Bool) (R : X .State → (acc depth
   }
   apply-does (suc k) h = record {
     go = λ t i u x w y acc d a st o l r ru rx b.
-        subst (λ s. Meets z d st (applied t st (begin (bodies k) t u w acc st) s) (apply X enforce (suc k) t x y a o)) (sym (rep-word z ru .sort-is))
+        subst (λ s. Meets z d st (applied t st (begin (bodies k) t u w acc st) s) (apply X (traced enforce) (suc k) t x y a o)) (sym (rep-word z ru .sort-is))
         (enter-meets t i u d st o b k (32 * k + 32)
         (λ c e j q. sim-less z X enforce R ctl (32 * k + height e) (32 * k + 32) _ _ (omega (arith, q .shallow))
-        (sim (32 * k) (applyAt (z .terms) k) (apply X enforce k) (apply-does k) (q .stands) 65536 j j (q .shallow)))
+        (sim (32 * k) (applyAt (z .terms) k) (apply X (traced enforce) k) (apply-does k) (q .stands) 65536 j j (q .shallow)))
         w y acc a (omega arith) r rx ru);
   }
 
   -- a term, with k open calls left: each call and the term itself signs at most 32 times
-  pub eval-does : (k : ℕ) {t : ℕ} {x : Term} → Stands z t x → t < 65536 → height x ≤ 32 → Does (32 * k + 32) (evalAt (z .terms) k t) (eval X enforce k x)
+  pub eval-does : (k : ℕ) {t : ℕ} {x : Term} → Stands z t x → t < 65536 → height x ≤ 32
+      → Does (32 * k + 32) (evalAt (z .terms) k t) (eval X (traced enforce) k x)
   unfolding evalAt eval
   eval-does k {t} {x} h i s =
       sim-less z X enforce R ctl (32 * k + height x) (32 * k + 32) _ _ (omega arith)
-      (sim (32 * k) (applyAt (z .terms) k) (apply X enforce k) (apply-does k) h 65536 i i s)
+      (sim (32 * k) (applyAt (z .terms) k) (apply X (traced enforce) k) (apply-does k) h 65536 i i s)

@@ -1,27 +1,32 @@
 -- Each way of putting runs together keeps the relation, for any access control that the interpreter's numbers stand for.
 use mathlib.Core.Bool.{Bool, true, false, cond}
 use mathlib.Core.Path.{_≡_, refl, sym, ap, _∙_, subst}
-use mathlib.Core.List.{List, [], _∷_}
+use mathlib.Core.List.{List, [], _∷_, _++_, reverse, reverse-cons}
 use mathlib.Core.Option.{Option, none, some}
 use Prim.Native.Nat.{ℕ, zero, suc, _+_, _*_, _/_, _-_, _<_, _≤_, min}
+use native.Mathlib.Decide.{decLt}
 use native.Mathlib.Omega.{arith}
 use lib.Dec.{ltb, eqb}
-use lib.ListN.{length, set}
+use lib.ListN.{length, set, length-take}
+use lib.Seq.{getD-set-other}
 use borrow.Author.Tests.{ne-eqb, lt-ltb, le-ltb}
 use Rattle.program.specs.Limits.{noGuard}
 use Rattle.program.specs.Layout.{guardIn}
 use Rattle.program.specs.Terms.{Op, sum, difference, less, Term}
-use Rattle.semantics.specs.Values.{Value, num, closure, Env, bind, lookup, entered, Log, logPost, logSaturated, Budget, budget, Result, ends, stops}
-use Rattle.semantics.specs.Meaning.{Control, Evaluation, Application, _then_, choose, found, branch, operate, saturates, countSaturated, compute, postEntry, appendPost, postValue, takeCell, beginCall, passes, guardPasses}
+use Rattle.traces.specs.Traces.{Event, eventBytes, recorded}
+use Rattle.semantics.specs.Values.{Value, num, closure, Env, bind, lookup, entered, Log, logPost, logSaturated, logDecision, Budget, budget, Result, ends, stops}
+use Rattle.semantics.specs.Meaning.{Control, Evaluation, Application, _then_, choose, found, branch, operate, saturates, countSaturated, compute, postEntry, appendPost, note, postValue, takeCell, beginCall, passes, guardPasses, eventIf}
+use Rattle.semantics.specs.Recording.{withEntries}
 use Rattle.stores.specs.declared.state.Stop.{Stop}
 use Rattle.stores.specs.declared.state.Stop.the-variants.{Check, Stuck, Calls, Cells, Posts}
 use Rattle.stores.specs.Words.{pick, numberWord, functionWord, stopWord, sortOf, payloadOf, envOf}
 use Rattle.stores.specs.Cells.{behindOf, walkOf, heldOf, lookOf, cellSet}
 use Rattle.stores.specs.Access.{enforced, grantedOf, allowedOf, signAccess, signFrames, enableAccess, enableFrames, enabledNow, restoreFrames}
 use Rattle.machine.specs.Table.{wordSmall, wordGuard}
-use Rattle.machine.specs.Steps.{callsLeft, cellsMade, postsMade, modeOf, saturatedMade, resultOf, operateOf, saturatesOf, operateSaturates, wrapped, countSaturated as countIn, operateCounters, guardPassed, causeOf, postCause, postWord, postCounters, postList}
-use Rattle.machine.specs.Store.{Store as State, Done, storeOf, doneOf, withFrames, andThen, Runs, Applier, hasRoom, ownCell, bound, called, letrecS, callS, branchS, ifS, checkS, testS, signS, restored, enableS, operateDone, binaryS, postDone, postS, begin}
+use Rattle.machine.specs.Steps.{callsLeft, cellsMade, postsMade, modeOf, saturatedMade, entriesMade, resultOf, operateOf, saturatesOf, operateSaturates, wrapped, countSaturated as countIn, operateCounters, decisionOf, overwrite, noteCounters, noteBytes, guardPassed, numberDecides, causeOf, postCause, postWord, postCounters, postList}
+use Rattle.machine.specs.Store.{Store as State, Done, storeOf, doneOf, withFrames, withEntry, andThen, Runs, Applier, hasRoom, ownCell, bound, called, letrecS, callS, branchS, ifS, checkS, testS, signS, restored, enableS, operateDone, binaryS, postDone, postS, begin}
 use Rattle.stores.specs.Stops.{stopCause, stopPlace}
+use Rattle.refinement.specs.Laws.Records.{recordOf, length-record, entry-more, entry-made, full}
 use Rattle.refinement.specs.Laws.Cells.{agree-cell, cell-holds, cell-behind, length-cell}
 use Rattle.refinement.specs.Laws.Relation.{Fixed, length-written, countersOf, Balance, Balances, balance, Kept, kept-refl, Later, later-refl, sortFor, Function, function-word, kindNumber, Body, Rep, rep-bool, rep-num, rep-fun, rep-rec, RepEnv, RepAt, EnvAt, env-none, env-some, boolean-rep, number-rep, rep-word, rep-low, rep-later, env-later, Meets, valued, halted, meets-later, meets-then}
 
@@ -45,7 +50,7 @@ look-next cells t e i = refl
 
 -- ---- a new cell
 abbrev withCell : State → (n : List ℕ) (w behind : ℕ) → State
-withCell st n w e = storeOf n (cellSet (st .cells) (cellsMade (st .n)) w e) (st .posts) (st .frames)
+withCell st n w e = storeOf n (cellSet (st .cells) (cellsMade (st .n)) w e) (st .posts) (st .frames) (st .noted)
 
 later-cell : (depth : ℕ) (st : State) (n : List ℕ) (w e : ℕ) → cellsMade n ≡ cellsMade (st .n) + 1 → Later depth st (withCell st n w e)
 later-cell depth st n w e h = record { more = omega arith; old = agree-cell (st .cells) (cellsMade (st .n)) w e; frames = kept-refl depth (st .frames) }
@@ -123,7 +128,7 @@ module _ (z : Fixed) where
   fits-is h = omega (arith, made-is h, h .cells)
 
   -- a cell more
-  cell-tally : (st : State) (n : List ℕ) (w e : ℕ) {c c′ m d r : ℕ} {log : Log} → n ≡ countersOf c′ (m + 1) (z .mode) log
+  cell-tally : (st : State) (n : List ℕ) (w e : ℕ) {c c′ m d r : ℕ} {log : Log} → n ≡ countersOf z c′ (m + 1) log
       → Balance z st c m (suc d) r log → Balance z (withCell st n w e) c′ (m + 1) d r log
   cell-tally st n w e k h = record {
     counters = k;
@@ -131,11 +136,19 @@ module _ (z : Fixed) where
     most = omega (arith, h .most, length-cell (st .cells) (cellsMade (st .n)) w e);
     room = h .room;
     list = h .list;
+    trace-is = h .trace-is;
   }
 
   -- the frames are no part of the counters
   balances-frames : {st : State} {o : Budget} (f : List ℕ) → Balances z st o → Balances z (withFrames f st) o
-  balances-frames f (balance h) = balance record { counters = h .counters; cells = h .cells; most = h .most; room = h .room; list = h .list }
+  balances-frames f (balance h) = balance record {
+    counters = h .counters;
+    cells = h .cells;
+    most = h .most;
+    room = h .room;
+    list = h .list;
+    trace-is = h .trace-is;
+  }
 
   -- ---- steps that evaluate no other term
   pub meets-stop : {depth : ℕ} {st : State} {o : Budget} (x : Stop) → stopPlace x < 65536 → Balances z st o
@@ -176,18 +189,19 @@ module _ (z : Fixed) where
 
   -- and its result counted, where it is saturated
   abbrev counted : Bool → State → State
-  counted over st = storeOf (pick over (countIn (st .n)) (st .n)) (st .cells) (st .posts) (st .frames)
+  counted over st = storeOf (pick over (countIn (st .n)) (st .n)) (st .cells) (st .posts) (st .frames) (st .noted)
 
   counted-tally : {st : State} {c m d r : ℕ} {log : Log} → Balance z st c m d r log → Balance z (counted true st) c m d r (logSaturated true log)
   counted-tally {c = c} {m = m} {log = log} h =
       let one-more : wrapped (wrapped (log .saturated) + 1) ≡ wrapped (suc (log .saturated)) = omega arith in
       record {
         counters = (λ i. set (h .counters i) 4 (wrapped (saturatedMade (h .counters i) + 1)))
-            ∙ (λ i. c ∷ m ∷ length (log .posts) ∷ z .mode ∷ one-more i ∷ []);
+            ∙ (λ i. c ∷ m ∷ length (log .posts) ∷ z .mode ∷ one-more i ∷ length (recorded (length (z .trace)) (reverse (log .decisions))) ∷ []);
         cells = h .cells;
         most = h .most;
         room = h .room;
         list = h .list;
+        trace-is = h .trace-is;
       }
 
   meets-counted : {depth : ℕ} {st : State} {o : Budget} {w : ℕ} {x : Value} (over : Bool) → RepAt z st w x → Balances z st o
@@ -246,23 +260,99 @@ module _ (z : Fixed) where
         go (rep-fun k b e) u = meets-stop (Stuck t) i h
         go (rep-rec k b p q g e) u = meets-stop (Stuck t) i h
 
+  -- ---- a decision is noted
+  entries-are : {st : State} {c m d r : ℕ} {log : Log} → Balance z st c m d r log
+      → entriesMade (st .n) ≡ length (recorded (length (z .trace)) (reverse (log .decisions)))
+  entries-are h = λ i. entriesMade (h .counters i)
+
+  noted-long : {st : State} {c m d r : ℕ} {log : Log} → Balance z st c m d r log → length (st .noted) ≡ length (z .trace)
+  noted-long {log = log} h = ap length (h .trace-is) ∙ length-record (z .trace) (reverse (log .decisions))
+
+  abbrev withNote : Event → State → State
+  withNote e st = storeOf (noteCounters true (st .n) (st .noted)) (st .cells) (st .posts) (st .frames) (noteBytes true e (st .n) (st .noted))
+
+  note-tally : (e : Event) {st : State} {c m d r : ℕ} {log : Log} → Balance z st c m d r log → Balance z (withNote e st) c m d r (logDecision e log)
+  unfolding noteCounters noteBytes
+  note-tally e {st} {c} {m} {d} {r} {log} h = go (decLt (length ds) (length t / 4))
+    where
+      t : List ℕ
+      t = z .trace
+
+      ds : List Event
+      ds = reverse (log .decisions)
+
+      behind : ds ++ e ∷ [] ≡ reverse (e ∷ log .decisions)
+      behind = sym (reverse-cons e (log .decisions))
+
+      kept : ℕ
+      kept = length (recorded (length t) ds)
+
+      many : kept ≡ min (length t / 4) (length ds)
+      many = length-take (length t / 4) ds
+
+      made : ℕ → List ℕ
+      made k = c ∷ m ∷ length (log .posts) ∷ z .mode ∷ wrapped (log .saturated) ∷ k ∷ []
+
+      go : Dec (length ds < length t / 4) → Balance z (withNote e st) c m d r (logDecision e log)
+      go (yes l) =
+          let room : ltb (entriesMade (st .n)) (length (st .noted) / 4) ≡ true =
+          lt-ltb (entriesMade (st .n)) (length (st .noted) / 4) (omega (arith, entries-are h, noted-long h, many)) in
+          record {
+            counters = (λ i. pick (room i) (set (st .n) 5 (entriesMade (st .n) + 1)) (st .n))
+                ∙ (λ i. set (h .counters i) 5 (entriesMade (h .counters i) + 1)) ∙ (λ i. made (sym (entry-more t ds e l) i))
+                ∙ (λ i. made (length (recorded (length t) (behind i))));
+            cells = h .cells;
+            most = h .most;
+            room = h .room;
+            list = h .list;
+            trace-is = (λ i. pick (room i) (overwrite (4 * entriesMade (st .n)) (eventBytes e) (st .noted)) (st .noted))
+                ∙ (λ i. overwrite (4 * entries-are h i) (eventBytes e) (h .trace-is i)) ∙ entry-made t ds e l ∙ (λ i. recordOf t (behind i));
+          }
+      go (no g) =
+          let no-room : ltb (entriesMade (st .n)) (length (st .noted) / 4) ≡ false =
+          le-ltb (entriesMade (st .n)) (length (st .noted) / 4) (omega (arith, entries-are h, noted-long h, many, g)) in
+          let same : recorded (length t) ds ≡ recorded (length t) (reverse (e ∷ log .decisions)) =
+          sym (full t ds e (omega (arith, g))) ∙ (λ i. recorded (length t) (behind i)) in
+          record {
+            counters = (λ i. pick (no-room i) (set (st .n) 5 (entriesMade (st .n) + 1)) (st .n)) ∙ h .counters ∙ (λ i. made (length (same i)));
+            cells = h .cells;
+            most = h .most;
+            room = h .room;
+            list = h .list;
+            trace-is = (λ i. pick (no-room i) (overwrite (4 * entriesMade (st .n)) (eventBytes e) (st .noted)) (st .noted)) ∙ h .trace-is
+                ∙ (λ i. withEntries (same i) t);
+          }
+
+  -- a state in which what is decided is noted; where nothing is, it is the same
+  record Notes (st st₁ : State) (o : Budget) : Type 0 where
+    balances : Balances z st₁ o
+    later : (depth : ℕ) → Later depth st st₁
+
+  notes : (decides : Bool) (t p acc : ℕ) (grants : ℕ → Bool) {st : State} {o : Budget} → grantedOf (modeOf (st .n)) acc (st .frames) p ≡ grants p
+      → Balances z st o → Notes st (withEntry decides t p acc st) (note (eventIf decides t grants (some p)) o)
+  unfolding noteCounters noteBytes
+  notes false t p acc grants {st} e h = record { balances = h; later = λ depth. later-refl depth st }
+  notes true t p acc grants {st} e (balance {c = c} {d = d} {r = r} {log = log} h) =
+      let event = decisionOf t p (grants p) in
+      let same : cellsMade (noteCounters true (st .n) (st .noted)) ≡ cellsMade (st .n) = made-is (note-tally event h) ∙ sym (made-is h) in
+      record {
+        balances = subst (λ b. Balances z (withNote (decisionOf t p b) st) (budget c d r (logDecision event log))) (sym e) (balance (note-tally event h));
+        later = λ depth. record { more = omega (arith, same); old = record { long = refl; same = λ j g. refl }; frames = kept-refl depth (st .frames) };
+      }
+
   -- ---- a post, which the word x of its term says the channel of: made, or not for a cause
-  module _ (st : State) (t x acc w : ℕ) where
+  module _ (st : State) (t x w : ℕ) where
     abbrev posted : State
     posted =
         storeOf (set (st .n) 2 (postsMade (st .n) + 1)) (st .cells) (set (st .posts) (postsMade (st .n)) (postEntry (wordSmall x) (payloadOf w))) (st .frames)
+        (st .noted)
 
     abbrev postBy : (cause : ℕ) → Done
     postBy c = doneOf (pick (eqb c 0) w (stopWord c t))
-        (storeOf (pick (eqb c 0) (posted .n) (st .n)) (st .cells) (pick (eqb c 0) (posted .posts) (st .posts)) (st .frames))
+        (storeOf (pick (eqb c 0) (posted .n) (st .n)) (st .cells) (pick (eqb c 0) (posted .posts) (st .posts)) (st .frames) (st .noted))
 
     abbrev room : Bool
     room = ltb (postsMade (st .n)) (length (st .posts))
-
-    post-is : (k : ℕ) (g : Bool) → sortOf w ≡ k → guardPassed (modeOf (st .n)) acc (st .frames) (wordGuard x) ≡ g
-        → postDone t x acc w st ≡ postBy (causeOf (eqb k 1) g room)
-    unfolding postDone postCause postWord postCounters postList
-    post-is k g e f = λ i. postBy (causeOf (eqb (e i) 1) (f i) room)
 
     posted-tally : {c m d r y : ℕ} {log : Log} → payloadOf w ≡ y → Balance z st c m d (suc r) log
         → Balance z posted c m d r (logPost (postEntry (wordSmall x) y) log)
@@ -274,6 +364,7 @@ module _ (z : Fixed) where
           most = h .most;
           room = omega (arith, h .room);
           list = λ i. set (h .list i) (posts-are h i) (postEntry (wordSmall x) (e i));
+          trace-is = h .trace-is;
         }
 
     post-number : {depth c m d y : ℕ} {log : Log} (r : ℕ) → t < 65536 → RepAt z st w (num y) → payloadOf w ≡ y → Balance z st c m d r log
@@ -291,19 +382,58 @@ module _ (z : Fixed) where
         (valued {st = posted} (subst (λ k. Rep z (st .cells) k w (num y)) (sym same) u) (balance (posted-tally v h))
         record { more = omega arith; old = record { long = refl; same = λ j g. refl }; frames = kept-refl depth (st .frames) })
 
-    post-value : (g : Bool) {depth : ℕ} {o : Budget} {y : Value} → t < 65536 → RepAt z st w y → Balances z st o
-        → Meets z depth st (postBy (causeOf (eqb (sortFor y) 1) g room)) (postValue t (wordSmall x) g y o)
+    -- a number, whose guard passes or not
+    post-decided : (g : Bool) {depth y : ℕ} {o : Budget} → t < 65536 → RepAt z st w (num y) → payloadOf w ≡ y → Balances z st o
+        → Meets z depth st (postBy (causeOf true g room)) (choose g (λ o₁. appendPost t (wordSmall x) y o₁) (λ o₁. stops 17 t o₁) o)
     unfolding causeOf
-    post-value g i (rep-bool k e) h = meets-stop (Stuck t) i h
-    post-value true i (rep-num k e) (balance {r = r} h) = post-number r i (rep-num k e) e h
-    post-value false i (rep-num k e) h = meets-stop (Check t) i h
-    post-value g i (rep-fun k b e) h = meets-stop (Stuck t) i h
-    post-value g i (rep-rec k b p q v e) h = meets-stop (Stuck t) i h
+    post-decided true i u v (balance {r = r} h) = post-number r i u v h
+    post-decided false i u v h = meets-stop (Check t) i h
 
-    meets-post : (g : Bool) {depth : ℕ} {o : Budget} {y : Value} → guardPassed (modeOf (st .n)) acc (st .frames) (wordGuard x) ≡ g → t < 65536
-        → RepAt z st w y → Balances z st o → Meets z depth st (postDone t x acc w st) (postValue t (wordSmall x) g y o)
-    meets-post g {depth} {o} {y} e i r h =
-        subst (λ d. Meets z depth st d (postValue t (wordSmall x) g y o)) (sym (post-is (sortFor y) g (rep-word z r .sort-is) e)) (post-value g i r h)
+  -- the same from the state before the guard is noted, if the word is a number's
+  module _ (st : State) (t x acc w : ℕ) where
+    abbrev guardedBy : (sort : ℕ) → State
+    guardedBy k = withEntry (pick (eqb k 1) (numberDecides (modeOf (st .n)) x) false) t (wordGuard x) acc st
+
+    -- noting an entry makes no post
+    posts-kept : (b : Bool) → postsMade (st .n) ≡ postsMade (withEntry b t (wordGuard x) acc st .n)
+    unfolding noteCounters
+    posts-kept b = go (pick b (ltb (entriesMade (st .n)) (length (st .noted) / 4)) false)
+      where
+        go : (y : Bool) → postsMade (st .n) ≡ postsMade (pick y (set (st .n) 5 (entriesMade (st .n) + 1)) (st .n))
+        go true = sym (getD-set-other (st .n) 5 2 (entriesMade (st .n) + 1) 0 (λ e. omega (arith, e)))
+        go false = refl
+
+    post-is : (k : ℕ) (g : Bool) → sortOf w ≡ k → guardPassed (modeOf (st .n)) acc (st .frames) (wordGuard x) ≡ g
+        → postDone t x acc w st ≡ postBy (guardedBy k) t x w (causeOf (eqb k 1) g (room (guardedBy k) t x w))
+    unfolding postDone postCause postWord postCounters postList
+    post-is k g e f =
+        (λ i. by (guardedBy (e i)) (postsMade (st .n)) (causeOf (eqb (e i) 1) (f i) (ltb (postsMade (st .n)) (length (st .posts)))))
+        ∙ (λ i. by (guardedBy k) (made i) (causeOf (eqb k 1) g (ltb (made i) (length (st .posts)))))
+      where
+        by : State → (made cause : ℕ) → Done
+        by u m c = doneOf (pick (eqb c 0) w (stopWord c t))
+            (storeOf (pick (eqb c 0) (set (u .n) 2 (postsMade (u .n) + 1)) (u .n)) (st .cells)
+            (pick (eqb c 0) (set (st .posts) m (postEntry (wordSmall x) (payloadOf w))) (st .posts)) (st .frames) (u .noted))
+
+        made : postsMade (st .n) ≡ postsMade (guardedBy k .n)
+        made = posts-kept (pick (eqb k 1) (numberDecides (modeOf (st .n)) x) false)
+
+    meets-post : (g : Bool) (n : Option Event) {depth : ℕ} {o : Budget} {y : Value} → guardPassed (modeOf (st .n)) acc (st .frames) (wordGuard x) ≡ g
+        → Notes st (guardedBy 1) (note n o) → t < 65536
+        → RepAt z st w y → Balances z st o → Meets z depth st (postDone t x acc w st) (postValue t (wordSmall x) g n y o)
+    unfolding causeOf noteCounters noteBytes
+    meets-post g n {depth} {o} {y} e k i r h =
+        subst (λ d. Meets z depth st d (postValue t (wordSmall x) g n y o)) (sym (post-is (sortFor y) g (rep-word z r .sort-is) e)) (go r)
+      where
+        go : {y : Value} → RepAt z st w y
+            → Meets z depth st (postBy (guardedBy (sortFor y)) t x w (causeOf (eqb (sortFor y) 1) g (room (guardedBy (sortFor y)) t x w)))
+            (postValue t (wordSmall x) g n y o)
+        go (rep-bool j v) = meets-stop (Stuck t) i h
+        go (rep-num j v) =
+            let l = k .later depth in
+            meets-later z l (post-decided (guardedBy 1) t x w g i (rep-later z (l .more) (l .old) (rep-num j v)) v (k .balances))
+        go (rep-fun j b v) = meets-stop (Stuck t) i h
+        go (rep-rec j b p q u v) = meets-stop (Stuck t) i h
 
 -- ---- what is asked of an access control and of how a number and the first frames stand for its states: 3,248 frames have room
 pub record Models (z : Fixed) (X : Control) (enforce : Bool) (R : X .State → (acc depth : ℕ) → List ℕ → Type 0) : Type 0 where
@@ -389,13 +519,22 @@ module _ (z : Fixed) (X : Control) (enforce : Bool) (R : X .State → (acc depth
       → grantedOf (modeOf (st .n)) acc (st .frames) p ≡ X .grants a p
   granted-is {a} {acc} {d} {st} p r l y = (λ i. grantedOf (mode-is z y i) acc (st .frames) p) ∙ ctl .grants a acc d (st .frames) p r l
 
-  pub sim-test : (h p : ℕ) (q u : Runs) (Q U : Evaluation X) → Does h q Q → Does h u U
-      → Does h (testS q u p) (λ a E o. choose (X .grants a p) (λ o₁. Q a E o₁) (λ o₁. U a E o₁) o)
+  -- a run from where a decision is noted
+  noted-go : (h : ℕ) (q : Runs) (Q : Evaluation X) → Does h q Q → {env acc d : ℕ} {E : Env} {a : X .State} {st st₁ : State} {o : Budget}
+      → d + h ≤ 3248 → R a acc d (st .frames) → EnvAt z st env E → Notes z st st₁ o → Meets z d st (q env acc st₁) (Q a E o)
+  noted-go h q Q hq {env} {acc} {d} {E} {a} {st} {st₁} {o} w r e k =
+      let l = k .later d in
+      meets-later z l (hq .go env E acc d a st₁ o w (ctl .keeps a acc d _ _ r (l .frames)) (env-later z (l .more) (l .old) e) (k .balances))
+
+  pub sim-test : (h p t : ℕ) (q u : Runs) (Q U : Evaluation X) → Does h q Q → Does h u U
+      → Does h (testS q u p t) (λ a E o. choose (X .grants a p) (λ o₁. Q a E o₁) (λ o₁. U a E o₁) (note (eventIf true t (X .grants a) (some p)) o))
   unfolding testS
-  sim-test h p q u Q U hq hu = record {
+  sim-test h p t q u Q U hq hu = record {
     go = λ env E acc d a st o w r e y.
-        meets-pick z (grantedOf (modeOf (st .n)) acc (st .frames) p) (X .grants a p) (granted-is p r (omega arith) y) _ _ _ _
-        (hq .go env E acc d a st o w r e y) (hu .go env E acc d a st o w r e y);
+        let g = granted-is p r (omega arith) y in
+        let k = notes z true t p acc (X .grants a) g y in
+        meets-pick z (grantedOf (modeOf (st .n)) acc (st .frames) p) (X .grants a p) g _ _ _ _
+        (noted-go h q Q hq w r e k) (noted-go h u U hu w r e k);
   }
 
   allowed-is : {a : X .State} {acc d : ℕ} {st : State} {o : Budget} (p : ℕ) → R a acc d (st .frames) → d ≤ 3248 → Balances z st o
@@ -405,13 +544,22 @@ module _ (z : Fixed) (X : Control) (enforce : Bool) (R : X .State → (acc depth
       allows enforce (enforced (modeOf (st .n))) (grantedOf (modeOf (st .n)) acc (st .frames) p) (X .grants a p)
       ((λ j. enforced (mode-is z y j)) ∙ ctl .enforces) (granted-is p r l y)
 
+  -- a decision on p where checks are in force
+  check-notes : (t p : ℕ) {a : X .State} {acc d : ℕ} {st : State} {o : Budget} → R a acc d (st .frames) → d ≤ 3248 → Balances z st o
+      → Notes z st (withEntry (enforced (modeOf (st .n))) t p acc st) (note (eventIf enforce t (X .grants a) (some p)) o)
+  check-notes t p {a} {acc} {d} {st} {o} r l y =
+      subst (λ b. Notes z st (withEntry b t p acc st) (note (eventIf enforce t (X .grants a) (some p)) o))
+      (sym ((λ j. enforced (mode-is z y j)) ∙ ctl .enforces)) (notes z enforce t p acc (X .grants a) (granted-is p r l y) y)
+
   pub sim-check : (h p t : ℕ) → t < 65536 → (q : Runs) (Q : Evaluation X) → Does h q Q
-      → Does h (checkS q p t) (λ a E o. choose (passes enforce (X .grants a p)) (λ o₁. Q a E o₁) (λ o₁. stops 17 t o₁) o)
+      → Does h (checkS q p t)
+      (λ a E o. choose (passes enforce (X .grants a p)) (λ o₁. Q a E o₁) (λ o₁. stops 17 t o₁) (note (eventIf enforce t (X .grants a) (some p)) o))
   unfolding checkS
   sim-check h p t i q Q hq = record {
     go = λ env E acc d a st o w r e y.
+        let k = check-notes t p r (omega arith) y in
         meets-pick z (allowedOf (modeOf (st .n)) acc (st .frames) p) (passes enforce (X .grants a p)) (allowed-is p r (omega arith) y)
-        _ _ _ _ (hq .go env E acc d a st o w r e y) (meets-stop z (Check t) i y);
+        _ _ _ _ (noted-go h q Q hq w r e k) (meets-later z (k .later d) (meets-stop z (Check t) i (k .balances)));
   }
 
   -- a post, whose guard is decided in the access of the post
@@ -424,13 +572,29 @@ module _ (z : Fixed) (X : Control) (enforce : Bool) (R : X .State → (acc depth
       go true = refl
       go false = allowed-is g r l y
 
+  guard-notes : (t x : ℕ) {a : X .State} {acc d : ℕ} {st : State} {o : Budget} → R a acc d (st .frames) → d ≤ 3248 → Balances z st o
+      → Notes z st (withEntry (numberDecides (modeOf (st .n)) x) t (wordGuard x) acc st) (note (eventIf enforce t (X .grants a) (guardIn (wordGuard x))) o)
+  guard-notes t x {a} {acc} {d} {st} {o} r l y = go (eqb (wordGuard x) noGuard)
+    where
+      unguarded : (f : Bool) → eventIf f t (X .grants a) none ≡ none
+      unguarded true = refl
+      unguarded false = refl
+
+      go : (b : Bool) → Notes z st (withEntry (pick b false (enforced (modeOf (st .n)))) t (wordGuard x) acc st)
+          (note (eventIf enforce t (X .grants a) (cond b none (some (wordGuard x)))) o)
+      go true = subst (λ n. Notes z st (withEntry false t (wordGuard x) acc st) (note n o)) (sym (unguarded enforce))
+          (notes z false t (wordGuard x) acc (X .grants a) (granted-is (wordGuard x) r l y) y)
+      go false = check-notes t (wordGuard x) r l y
+
   pub sim-post : (h t x : ℕ) → t < 65536 → (p : Runs) (P : Evaluation X) → Does h p P
-      → Does h (postS p t x) (λ a E o. P a E o then λ v o₁. postValue t (wordSmall x) (guardPasses enforce (X .grants a) (guardIn (wordGuard x))) v o₁)
+      → Does h (postS p t x) (λ a E o. P a E o then λ v o₁. postValue t (wordSmall x) (guardPasses enforce (X .grants a) (guardIn (wordGuard x)))
+      (eventIf enforce t (X .grants a) (guardIn (wordGuard x))) v o₁)
   unfolding postS
   sim-post h t x i p P hp = record {
     go = λ env E acc d a st o w r e y. meets-then z _ _ (hp .go env E acc d a st o w r e y)
         (λ v u st₁ o₁ rv t₁ l₁.
-        meets-post z st₁ t x acc v _ (guard-is (wordGuard x) (ctl .keeps a acc d _ _ r (l₁ .frames)) (omega arith) t₁) i rv t₁);
+        let r₁ = ctl .keeps a acc d _ _ r (l₁ .frames) in
+        meets-post z st₁ t x acc v _ _ (guard-is (wordGuard x) r₁ (omega arith) t₁) (guard-notes t x r₁ (omega arith) t₁) i rv t₁);
   }
 
   -- a run on other frames, of which g makes frames that keep the first ones
@@ -469,7 +633,7 @@ module _ (z : Fixed) (X : Control) (enforce : Bool) (R : X .State → (acc depth
   -- ---- a run that goes on with a new cell
   on-cell : (h : ℕ) (p : Runs) (P : Evaluation X) → Does h p P
       → (E : Env) (acc d : ℕ) (a : X .State) (st : State) (n : List ℕ) (w e : ℕ) {c c′ m k r : ℕ} {log : Log}
-      → d + h ≤ 3248 → R a acc d (st .frames) → Balance z st c m (suc k) r log → n ≡ countersOf c′ (m + 1) (z .mode) log
+      → d + h ≤ 3248 → R a acc d (st .frames) → Balance z st c m (suc k) r log → n ≡ countersOf z c′ (m + 1) log
       → RepEnv z (cellSet (st .cells) (cellsMade (st .n)) w e) (cellsMade (st .n) + 1) (cellsMade (st .n) + 1) E
       → Meets z d st (p (cellsMade (st .n) + 1) acc (withCell st n w e)) (P a E (budget c′ k r log))
   on-cell h p P hp E acc d a st n w e l r y k v =

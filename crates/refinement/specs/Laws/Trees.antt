@@ -27,13 +27,13 @@ flag-is (suc zero) h = refl
 flag-is (suc (suc n)) h = absurd (omega arith)
 
 -- what stays in a run of a sheet
-abbrev pub fixedOf : (s table posts : List ℕ) (mode : ℕ) → Fixed
-fixedOf s table posts mode = record { terms = table; may = authority s; posts = posts; mode = mode }
+abbrev pub fixedOf : (s table posts trace : List ℕ) (mode : ℕ) → Fixed
+fixedOf s table posts trace mode = record { terms = table; may = authority s; posts = posts; trace = trace; mode = mode }
 
 module _ (s : List ℕ) (w : WellFormed s) (c : Counts) (counts-are : CountsOf s c) (table : List ℕ) (decoded : Decoded s c table)
-    (posts : List ℕ) (mode : ℕ) where
+    (posts trace : List ℕ) (mode : ℕ) where
   abbrev run : Fixed
-  run = fixedOf s table posts mode
+  run = fixedOf s table posts trace mode
 
   module _ (t : ℕ) (sub : ℕ → Term) (h : (x : ℕ) → x < t → Stands run x (sub x)) where
     abbrev x : ℕ

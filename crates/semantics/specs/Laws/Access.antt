@@ -10,7 +10,7 @@ use Rattle.privileges.specs.Laws.{has-none, has-meet, has-union, has-insert}
 use Rattle.program.specs.Terms.{Term, sign}
 use Rattle.program.specs.Laws.Trees.{every-any, Signed, signed}
 use Rattle.semantics.specs.Values.{Env, Budget}
-use Rattle.semantics.specs.Meaning.{evalWith, eval}
+use Rattle.semantics.specs.Meaning.{Mode, evalWith, eval}
 use Rattle.semantics.specs.Access.{Frame, frame, chk, privs, enableFirst, lazyControl, Rights, rights, addAuthorised, eagerControl}
 use Rattle.semantics.specs.Laws.Bodies.{bodies-any}
 use Rattle.semantics.specs.Laws.Agree.{NamesOnly, Simulation, agree}
@@ -91,11 +91,11 @@ eager-lazy-simulation A = record {
 }
 
 -- At a sign only the granted set matters, so an empty stack is covered too.
-pub eager-lazy : (A : ℕ → ℕ) (enforce : Bool) (depth : ℕ) (c : Term) → Signed c → (r : Rights) (fs : List Frame) → ((p : ℕ) → has p (r .granted) ≡ chk A fs p)
-    → (e : Env) (u : Budget) → eval (eagerControl A) enforce depth c r e u ≡ eval (lazyControl A) enforce depth c fs e u
+pub eager-lazy : (A : ℕ → ℕ) (M : Mode) (depth : ℕ) (c : Term) → Signed c → (r : Rights) (fs : List Frame) → ((p : ℕ) → has p (r .granted) ≡ chk A fs p)
+    → (e : Env) (u : Budget) → eval (eagerControl A) M depth c r e u ≡ eval (lazyControl A) M depth c fs e u
 unfolding eval evalWith eager-lazy-simulation
-eager-lazy A enforce k (sign at n c) signed r fs h e u =
-    agree All (eagerControl A) (lazyControl A) (eager-lazy-simulation A) enforce k c (every-any all-named c) (rights n (meet (r .granted) (A n)))
+eager-lazy A M k (sign at n c) signed r fs h e u =
+    agree All (eagerControl A) (lazyControl A) (eager-lazy-simulation A) M k c (every-any all-named c) (rights n (meet (r .granted) (A n)))
     (frame n 0 ∷ fs) (stands-sign A n r fs h) e (bodies-any (NamesOnly All) all-named e) u
   where
     all-named : (c : Term) → NamesOnly All c

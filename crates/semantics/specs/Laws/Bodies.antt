@@ -1,10 +1,12 @@
 -- What every term of an evaluated term and of the bodies in its environment has, every term of the bodies in its value has: an evaluation makes no term.
 use mathlib.Core.Bool.{Bool, true, false}
+use mathlib.Core.Option.{Option, some}
 use Prim.Native.Nat.{ℕ, zero, suc}
 use Rattle.program.specs.Terms.{Op, sum, difference, less, Term, boolean, number, variable, function, letrec, call, if, check, enable, sign, test, binary, post, Every}
 use Rattle.program.specs.Laws.Trees.{every-any}
+use Rattle.traces.specs.Traces.{Event}
 use Rattle.semantics.specs.Values.{Value, bool, num, closure, Env, empty, bind, lookup, entered, Budget, budget, Result, ends, stops}
-use Rattle.semantics.specs.Meaning.{Control, _then_, choose, found, branch, operate, compute, appendPost, postValue, takeCell, beginCall, tooDeep, enter, passes, guardPasses, Application, evalWith, apply, eval}
+use Rattle.semantics.specs.Meaning.{Control, Mode, _then_, choose, found, branch, operate, compute, appendPost, note, postValue, takeCell, beginCall, tooDeep, enter, passes, eventIf, listsChecks, Application, evalWith, apply, eval}
 
 module _ (Q : Term → Type 0) where
   -- of the closures in a value and in an environment
@@ -69,10 +71,10 @@ module _ (Q : Term → Type 0) where
   bodies-append at ch n (budget c d zero l) = bodies-stop
   bodies-append at ch n (budget c d (suc r) l) = bodies-end tt
 
-  bodies-post : (at ch : ℕ) (allowed : Bool) (v : Value) (u : Budget) → Bodies (postValue at ch allowed v u)
-  bodies-post at ch allowed (num n) u = bodies-choose allowed _ _ u (bodies-append at ch n u) bodies-stop
-  bodies-post at ch allowed (bool b) u = bodies-stop
-  bodies-post at ch allowed (closure r ty body env) u = bodies-stop
+  bodies-post : (at ch : ℕ) (allowed : Bool) (o : Option Event) (v : Value) (u : Budget) → Bodies (postValue at ch allowed o v u)
+  bodies-post at ch allowed o (num n) u = bodies-choose allowed _ _ (note o u) (bodies-append at ch n (note o u)) bodies-stop
+  bodies-post at ch allowed o (bool b) u = bodies-stop
+  bodies-post at ch allowed o (closure r ty body env) u = bodies-stop
 
   bodies-cell : (at : ℕ) (k : Budget → Result) → ((u : Budget) → Bodies (k u)) → (u : Budget) → Bodies (takeCell at k u)
   bodies-cell at k h (budget c zero r l) = bodies-stop
@@ -102,12 +104,12 @@ module _ (Q : Term → Type 0) where
   bodies-enter at (num n) w run h u hv hw = bodies-stop
 
   -- ---- evaluations
-  module _ (X : Control) (enforce : Bool) where
+  module _ (X : Control) (M : Mode) where
     abbrev pub BodiesAll : Application X → Type 0
     BodiesAll f = (at : ℕ) (v w : Value) (st : X .State) (u : Budget) → EveryBody v → EveryBody w → Bodies (f at v w st u)
 
     pub eval-bodies : (f : Application X) → BodiesAll f → (c : Term) → Every Q c → (st : X .State) (e : Env) (u : Budget) → EveryBodyIn e
-        → Bodies (evalWith X enforce f c st e u)
+        → Bodies (evalWith X M f c st e u)
     unfolding evalWith
     eval-bodies f a (boolean at b) k st e u h = bodies-end tt
     eval-bodies f a (number at n) k st e u h = bodies-end tt
@@ -122,23 +124,25 @@ module _ (Q : Term → Type 0) where
         bodies-then _ _ (eval-bodies f a c (k .1) st e u h)
         (λ v w hv. bodies-branch at v _ _ w (eval-bodies f a y (k .2) st e w h) (eval-bodies f a n (k .3) st e w h))
     eval-bodies f a (check at r c) k st e u h =
-        bodies-choose (passes enforce (X .grants st r)) _ _ u (eval-bodies f a c (k .1) st e u h) bodies-stop
+        let w = note (eventIf (listsChecks M) at (X .grants st) (some r)) u in
+        bodies-choose (passes (M .enforce) (X .grants st r)) _ _ w (eval-bodies f a c (k .1) st e w h) bodies-stop
     eval-bodies f a (enable at r c) k st e u h = eval-bodies f a c (k .1) (X .enables r st) e u h
     eval-bodies f a (sign at n c) k st e u h = eval-bodies f a c (k .1) (X .signs n st) e u h
     eval-bodies f a (test at r y n) k st e u h =
-        bodies-choose (X .grants st r) _ _ u (eval-bodies f a y (k .1) st e u h) (eval-bodies f a n (k .2) st e u h)
+        let w = note (eventIf (M .tracing) at (X .grants st) (some r)) u in
+        bodies-choose (X .grants st r) _ _ w (eval-bodies f a y (k .1) st e w h) (eval-bodies f a n (k .2) st e w h)
     eval-bodies f a (binary at op c d) k st e u h =
         bodies-then _ _ (eval-bodies f a c (k .1) st e u h)
         (λ v w hv. bodies-then _ _ (eval-bodies f a d (k .2) st e w h) (λ x y hx. bodies-compute at op v x y))
     eval-bodies f a (post at ch g c) k st e u h =
-        bodies-then _ _ (eval-bodies f a c (k .1) st e u h) (λ v w hv. bodies-post at ch (guardPasses enforce (X .grants st) g) v w)
+        bodies-then _ _ (eval-bodies f a c (k .1) st e u h) (λ v w hv. bodies-post at ch _ _ v w)
 
-    pub apply-bodies : (k : ℕ) → BodiesAll (apply X enforce k)
+    pub apply-bodies : (k : ℕ) → BodiesAll (apply X M k)
     unfolding apply
     apply-bodies zero at v w st u hv hw = bodies-deep at v u
     apply-bodies (suc k) at v w st u hv hw =
-        bodies-enter at v w _ (λ body e x kb he. eval-bodies (apply X enforce k) (apply-bodies k) body kb st e x he) u hv hw
+        bodies-enter at v w _ (λ body e x kb he. eval-bodies (apply X M k) (apply-bodies k) body kb st e x he) u hv hw
 
-    pub bodies : (depth : ℕ) (c : Term) → Every Q c → (st : X .State) (e : Env) (u : Budget) → EveryBodyIn e → Bodies (eval X enforce depth c st e u)
+    pub bodies : (depth : ℕ) (c : Term) → Every Q c → (st : X .State) (e : Env) (u : Budget) → EveryBodyIn e → Bodies (eval X M depth c st e u)
     unfolding eval
-    bodies k c h st e u g = eval-bodies (apply X enforce k) (apply-bodies k) c h st e u g
+    bodies k c h st e u g = eval-bodies (apply X M k) (apply-bodies k) c h st e u g

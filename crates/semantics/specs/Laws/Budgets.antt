@@ -7,8 +7,9 @@ use native.Mathlib.Nat.{le-refl, le-trans}
 use native.Mathlib.Omega.{arith}
 use lib.ListN.{length}
 use Rattle.program.specs.Terms.{Op, Term, boolean, number, variable, function, letrec, call, if, check, enable, sign, test, binary, post}
+use Rattle.traces.specs.Traces.{Event}
 use Rattle.semantics.specs.Values.{Value, bool, num, closure, Env, bind, lookup, entered, Budget, budget, Result, ends, stops}
-use Rattle.semantics.specs.Meaning.{Control, _then_, choose, found, branch, compute, appendPost, postValue, takeCell, beginCall, tooDeep, enter, passes, guardPasses, Application, evalWith, apply, eval}
+use Rattle.semantics.specs.Meaning.{Control, Mode, _then_, choose, found, branch, compute, appendPost, note, postValue, takeCell, beginCall, tooDeep, enter, passes, eventIf, listsChecks, Application, evalWith, apply, eval}
 use Rattle.semantics.specs.Runs.{left}
 
 abbrev pub callsIn : Budget → ℕ
@@ -67,10 +68,16 @@ spends-append : (at ch n : ℕ) (u : Budget) → Spends u (appendPost at ch n u)
 spends-append at ch n (budget c d zero l) = spends-none (budget c d zero l) refl
 spends-append at ch n (budget c d (suc r) l) = record { spent = record { calls = le-refl c; cells = le-refl d; posts = omega arith } }
 
-spends-post : (at ch : ℕ) (allowed : Bool) (v : Value) (u : Budget) → Spends u (postValue at ch allowed v u)
-spends-post at ch allowed (num n) u = spends-choose allowed _ _ u (spends-append at ch n u) (spends-none u refl)
-spends-post at ch allowed (bool b) u = spends-none u refl
-spends-post at ch allowed (closure r ty body env) u = spends-none u refl
+-- a list of decisions takes nothing
+spends-noted : (o : Option Event) (u : Budget) {x : Result} → Spends (note o u) x → Spends u x
+spends-noted none u h = h
+spends-noted (some e) (budget c d r l) h = record { spent = record { calls = h .spent .calls; cells = h .spent .cells; posts = h .spent .posts } }
+
+spends-post : (at ch : ℕ) (allowed : Bool) (o : Option Event) (v : Value) (u : Budget) → Spends u (postValue at ch allowed o v u)
+spends-post at ch allowed o (num n) u =
+    spends-noted o u (spends-choose allowed _ _ (note o u) (spends-append at ch n (note o u)) (spends-none (note o u) refl))
+spends-post at ch allowed o (bool b) u = spends-none u refl
+spends-post at ch allowed o (closure r ty body env) u = spends-none u refl
 
 spends-cell : (at : ℕ) (k : Budget → Result) → ((w : Budget) → Spends w (k w)) → (u : Budget) → Spends u (takeCell at k u)
 spends-cell at k h (budget c zero r l) = spends-none (budget c zero r l) refl
@@ -98,11 +105,11 @@ spends-enter at (closure r ty body env) w run h u = spends-begin at _ (λ x. h b
 spends-enter at (bool b) w run h u = spends-none u refl
 spends-enter at (num n) w run h u = spends-none u refl
 
-module _ (X : Control) (enforce : Bool) where
+module _ (X : Control) (M : Mode) where
   abbrev SpendsAll : Application X → Type 0
   SpendsAll f = (at : ℕ) (v w : Value) (st : X .State) (u : Budget) → Spends u (f at v w st u)
 
-  eval-spends : (f : Application X) → SpendsAll f → (c : Term) (st : X .State) (e : Env) (u : Budget) → Spends u (evalWith X enforce f c st e u)
+  eval-spends : (f : Application X) → SpendsAll f → (c : Term) (st : X .State) (e : Env) (u : Budget) → Spends u (evalWith X M f c st e u)
   unfolding evalWith
   eval-spends f h (boolean at b) st e u = spends-none u refl
   eval-spends f h (number at n) st e u = spends-none u refl
@@ -113,20 +120,24 @@ module _ (X : Control) (enforce : Bool) where
       spends-then u _ _ (eval-spends f h c st e u) (λ v w. spends-then w _ _ (eval-spends f h a st e w) (λ x y. h at v x st y))
   eval-spends f h (if at c y n) st e u =
       spends-then u _ _ (eval-spends f h c st e u) (λ v w. spends-branch at v _ _ w (eval-spends f h y st e w) (eval-spends f h n st e w))
-  eval-spends f h (check at p c) st e u = spends-choose (passes enforce (X .grants st p)) _ _ u (eval-spends f h c st e u) (spends-none u refl)
+  eval-spends f h (check at p c) st e u =
+      let o = eventIf (listsChecks M) at (X .grants st) (some p) in
+      spends-noted o u (spends-choose (passes (M .enforce) (X .grants st p)) _ _ (note o u) (eval-spends f h c st e (note o u)) (spends-none (note o u) refl))
   eval-spends f h (enable at p c) st e u = eval-spends f h c (X .enables p st) e u
   eval-spends f h (sign at n c) st e u = eval-spends f h c (X .signs n st) e u
-  eval-spends f h (test at p y n) st e u = spends-choose (X .grants st p) _ _ u (eval-spends f h y st e u) (eval-spends f h n st e u)
+  eval-spends f h (test at p y n) st e u =
+      let o = eventIf (M .tracing) at (X .grants st) (some p) in
+      spends-noted o u (spends-choose (X .grants st p) _ _ (note o u) (eval-spends f h y st e (note o u)) (eval-spends f h n st e (note o u)))
   eval-spends f h (binary at op a b) st e u =
       spends-then u _ _ (eval-spends f h a st e u) (λ v w. spends-then w _ _ (eval-spends f h b st e w) (λ x y. spends-compute at op v x y))
   eval-spends f h (post at ch g c) st e u =
-      spends-then u _ _ (eval-spends f h c st e u) (λ v w. spends-post at ch (guardPasses enforce (X .grants st) g) v w)
+      spends-then u _ _ (eval-spends f h c st e u) (λ v w. spends-post at ch _ _ v w)
 
-  apply-spends : (k : ℕ) → SpendsAll (apply X enforce k)
+  apply-spends : (k : ℕ) → SpendsAll (apply X M k)
   unfolding apply
   apply-spends zero at v w st u = spends-deep at v u
-  apply-spends (suc k) at v w st u = spends-enter at v w _ (λ body e x. eval-spends (apply X enforce k) (apply-spends k) body st e x) u
+  apply-spends (suc k) at v w st u = spends-enter at v w _ (λ body e x. eval-spends (apply X M k) (apply-spends k) body st e x) u
 
-  pub spends : (depth : ℕ) (c : Term) (st : X .State) (e : Env) (u : Budget) → Spent u (left (eval X enforce depth c st e u))
+  pub spends : (depth : ℕ) (c : Term) (st : X .State) (e : Env) (u : Budget) → Spent u (left (eval X M depth c st e u))
   unfolding eval
-  spends k c st e u = eval-spends (apply X enforce k) (apply-spends k) c st e u .spent
+  spends k c st e u = eval-spends (apply X M k) (apply-spends k) c st e u .spent

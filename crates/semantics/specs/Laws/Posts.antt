@@ -1,9 +1,9 @@
--- What a run keeps to: 17 is told only at a check or a guarded post of the term, and every entry of the list of posts is one that a post of the term can
--- make. Values are 16-bit numbers, since number terms are and sums are held.
+-- What a run keeps to: 17 is told only at a check or a guarded post of the term, every entry of the list of posts is one that a post of the term can make,
+-- and every decision listed is one of a check, test or guard of the term. Values are 16-bit numbers, since number terms are and sums are held.
 use mathlib.Core.Bool.{Bool, true, false, true≢false}
 use mathlib.Core.List.{List, [], _∷_, reverseAux}
-use mathlib.Core.Option.{Option, none, some}
-use mathlib.Core.Path.{_≡_, refl, subst}
+use mathlib.Core.Option.{Option, none, some, Option·some-injective}
+use mathlib.Core.Path.{_≡_, refl, ap, _∙_, subst}
 use Prim.Native.Nat.{ℕ, zero, suc, _+_, _*_, _<_}
 use native.Mathlib.Omega.{arith}
 use Rattle.program.specs.Bytes.{Bytes, word16}
@@ -13,27 +13,29 @@ use Rattle.program.specs.Terms.{Op, sum, difference, less, Term, boolean, numbe
 use Rattle.program.specs.Laws.Readable.{WellFormed}
 use Rattle.program.specs.Laws.Trees.{Below, below, root-lower}
 use Rattle.program.specs.Laws.Guards.{channel-in}
+use Rattle.traces.specs.Traces.{Event}
 use Rattle.semantics.specs.Values.{Value, bool, num, closure, Env, empty, bind, lookup, entered, logPost, Budget, budget, Result, ends, stops}
-use Rattle.semantics.specs.Meaning.{Control, _then_, choose, found, branch, operate, compute, postEntry, appendPost, postValue, takeCell, beginCall, tooDeep, enter, passes, guardPasses, Application, evalWith, apply, eval}
+use Rattle.semantics.specs.Meaning.{Control, Mode, _then_, choose, found, branch, operate, compute, postEntry, appendPost, note, postValue, takeCell, beginCall, tooDeep, enter, passes, guardPasses, eventIf, listsChecks, Application, evalWith, apply, eval}
 use Rattle.semantics.specs.Access.{privs, lazyControl, rights, eagerControl}
-use Rattle.semantics.specs.Runs.{Runner, eager, lazy, Request, Sizes, stack, initial, evaluation, Ground, ended, stopped, outcome, left, inOrder}
+use Rattle.semantics.specs.Runs.{Runner, eager, lazy, Request, Sizes, stack, initial, evaluationIn, Ground, ended, stopped, outcome, left, inOrder}
+use Rattle.semantics.specs.Recording.{decidedIn}
 
 -- what every entry of a list has
-abbrev pub Each : (ℕ → Type 0) → List ℕ → Type 0
+abbrev pub Each : {A : Type 0} → (A → Type 0) → List A → Type 0
 Each E [] = Unit {0}
 Each E (x ∷ xs) = E x × Each E xs
 
-pub each-all : {E : ℕ → Type 0} (F : ℕ → Type 0) → ((x : ℕ) → E x → F x) → (xs : List ℕ) → Each E xs → Each F xs
+pub each-all : {A : Type 0} {E : A → Type 0} (F : A → Type 0) → ((x : A) → E x → F x) → (xs : List A) → Each E xs → Each F xs
 each-all F f [] h = tt
 each-all F f (x ∷ xs) h = (f x (h .0), each-all F f xs (h .1))
 
-each-reversed : (E : ℕ → Type 0) (xs ys : List ℕ) → Each E xs → Each E ys → Each E (reverseAux xs ys)
+each-reversed : {A : Type 0} (E : A → Type 0) (xs ys : List A) → Each E xs → Each E ys → Each E (reverseAux xs ys)
 each-reversed E [] ys h g = g
 each-reversed E (x ∷ xs) ys h g = each-reversed E xs (x ∷ ys) (h .1) (h .0, g)
 
--- R are the terms that may be refused by 17, E the entries that may be listed
-module _ (R E : ℕ → Type 0) where
-  -- a term whose checks and guarded posts are in R, and whose posts make entries of E
+-- R are the terms that may be refused by 17, E the entries that may be posted, D the terms and privileges that may be decided
+module _ (R E : ℕ → Type 0) (D : (at p : ℕ) → Type 0) where
+  -- a term whose checks and guarded posts are in R, whose posts make entries of E, and whose checks, tests and guards are in D
   abbrev pub Keeps : Term → Type 0
   Keeps (boolean at b) = Unit {0}
   Keeps (number at n) = n < 65536
@@ -42,12 +44,12 @@ module _ (R E : ℕ → Type 0) where
   Keeps (letrec at ty body rest) = Keeps body × Keeps rest
   Keeps (call at f a) = Keeps f × Keeps a
   Keeps (if at c y n) = Keeps c × Keeps y × Keeps n
-  Keeps (check at p c) = R at × Keeps c
+  Keeps (check at p c) = R at × D at p × Keeps c
   Keeps (enable at p c) = Keeps c
   Keeps (sign at n c) = Keeps c
-  Keeps (test at p y n) = Keeps y × Keeps n
+  Keeps (test at p y n) = D at p × Keeps y × Keeps n
   Keeps (binary at op a b) = Keeps a × Keeps b
-  Keeps (post at ch g c) = ((p : ℕ) → g ≡ some p → R at) × ((n : ℕ) → n < 65536 → E (postEntry ch n)) × Keeps c
+  Keeps (post at ch g c) = ((p : ℕ) → g ≡ some p → R at × D at p) × ((n : ℕ) → n < 65536 → E (postEntry ch n)) × Keeps c
 
   abbrev mutual
     Held : Value → Type 0
@@ -59,15 +61,15 @@ module _ (R E : ℕ → Type 0) where
     HeldIn empty = Unit {0}
     HeldIn (bind v e) = Held v × HeldIn e
 
-  abbrev Posted : Budget → Type 0
-  Posted (budget c d r l) = Each E (l .posts)
+  abbrev Logged : Budget → Type 0
+  Logged (budget c d r l) = Each E (l .posts) × Each (λ (e : Event). D (e .term) (e .privilege)) (l .decisions)
 
   pub data Kept : Result → Type 0 where
-    kept-end : {v : Value} {u : Budget} → Held v → Posted u → Kept (ends v u)
-    kept-stop : {c at : ℕ} {u : Budget} → (c ≡ 17 → R at) → Posted u → Kept (stops c at u)
+    kept-end : {v : Value} {u : Budget} → Held v → Logged u → Kept (ends v u)
+    kept-stop : {c at : ℕ} {u : Budget} → (c ≡ 17 → R at) → Logged u → Kept (stops c at u)
 
   -- ---- each way of putting results together
-  kept-then : (x : Result) (k : Value → Budget → Result) → Kept x → ((v : Value) (u : Budget) → Held v → Posted u → Kept (k v u)) → Kept (x then k)
+  kept-then : (x : Result) (k : Value → Budget → Result) → Kept x → ((v : Value) (u : Budget) → Held v → Logged u → Kept (k v u)) → Kept (x then k)
   kept-then (ends v u) k (kept-end h p) f = f v u h p
   kept-then (stops c at u) k (kept-stop r p) f = kept-stop r p
 
@@ -76,18 +78,18 @@ module _ (R E : ℕ → Type 0) where
   kept-choose false y n u hy hn = hn
 
   -- a stop by another cause
-  other : (c at : ℕ) (u : Budget) → (c ≡ 17 → ⊥) → Posted u → Kept (stops c at u)
+  other : (c at : ℕ) (u : Budget) → (c ≡ 17 → ⊥) → Logged u → Kept (stops c at u)
   other c at u n h = kept-stop (λ e. absurd (n e)) h
 
-  stuck : (at : ℕ) (u : Budget) → Posted u → Kept (stops 18 at u)
+  stuck : (at : ℕ) (u : Budget) → Logged u → Kept (stops 18 at u)
   stuck at u h = other 18 at u (λ e. omega (arith, e)) h
 
-  kept-found : (at i : ℕ) (e : Env) (u : Budget) → HeldIn e → Posted u → Kept (found at (lookup e i) u)
+  kept-found : (at i : ℕ) (e : Env) (u : Budget) → HeldIn e → Logged u → Kept (found at (lookup e i) u)
   kept-found at i empty u h p = stuck at u p
   kept-found at zero (bind v e) u h p = kept-end (h .0) p
   kept-found at (suc i) (bind v e) u h p = kept-found at i e u (h .1) p
 
-  kept-branch : (at : ℕ) (v : Value) (y n : Budget → Result) (u : Budget) → Posted u → Kept (y u) → Kept (n u) → Kept (branch at v y n u)
+  kept-branch : (at : ℕ) (v : Value) (y n : Budget → Result) (u : Budget) → Logged u → Kept (y u) → Kept (n u) → Kept (branch at v y n u)
   kept-branch at (bool b) y n u p hy hn = kept-choose b y n u hy hn
   kept-branch at (num m) y n u p hy hn = stuck at u p
   kept-branch at (closure r ty body env) y n u p hy hn = stuck at u p
@@ -98,39 +100,47 @@ module _ (R E : ℕ → Type 0) where
   operate-held difference m n h g = omega arith
   operate-held less m n h g = tt
 
-  kept-compute : (at : ℕ) (op : Op) (v w : Value) (u : Budget) → Held v → Held w → Posted u → Kept (compute at op v w u)
+  kept-compute : (at : ℕ) (op : Op) (v w : Value) (u : Budget) → Held v → Held w → Logged u → Kept (compute at op v w u)
   kept-compute at op (num m) (num n) (budget c d r l) h g p = kept-end (operate-held op m n h g) p
   kept-compute at op (num m) (bool b) u h g p = stuck at u p
   kept-compute at op (num m) (closure r ty body env) u h g p = stuck at u p
   kept-compute at op (bool b) w u h g p = stuck at u p
   kept-compute at op (closure r ty body env) w u h g p = stuck at u p
 
-  kept-append : (at ch n : ℕ) (u : Budget) → n < 65536 → E (postEntry ch n) → Posted u → Kept (appendPost at ch n u)
+  kept-append : (at ch n : ℕ) (u : Budget) → n < 65536 → E (postEntry ch n) → Logged u → Kept (appendPost at ch n u)
   kept-append at ch n (budget c d zero l) h e p = other 22 at (budget c d zero l) (λ z. omega (arith, z)) p
-  kept-append at ch n (budget c d (suc r) l) h e p = kept-end {v = num n} {u = budget c d r (logPost (postEntry ch n) l)} h (e, p)
+  kept-append at ch n (budget c d (suc r) l) h e p = kept-end {v = num n} {u = budget c d r (logPost (postEntry ch n) l)} h ((e, p .0), p .1)
+
+  -- a decision that is listed, about a privilege of D
+  logged-noted : (listed : Bool) (at : ℕ) (grants : ℕ → Bool) (g : Option ℕ) → ((p : ℕ) → g ≡ some p → D at p) → (u : Budget) → Logged u
+      → Logged (note (eventIf listed at grants g) u)
+  logged-noted true at grants (some x) h (budget c d r l) p = (p .0, (h x refl, p .1))
+  logged-noted true at grants none h u p = p
+  logged-noted false at grants g h u p = p
 
   -- 17 is told only where a guard does not pass, and so only where there is one
-  kept-value : (at ch : ℕ) (allowed : Bool) (v : Value) (u : Budget) → (allowed ≡ false → R at) → ((n : ℕ) → n < 65536 → E (postEntry ch n)) → Held v
-      → Posted u → Kept (postValue at ch allowed v u)
-  kept-value at ch true (num n) u r e h p = kept-append at ch n u h (e n h) p
-  kept-value at ch false (num n) u r e h p = kept-stop (λ z. r refl) p
-  kept-value at ch allowed (bool b) u r e h p = stuck at u p
-  kept-value at ch allowed (closure s ty body env) u r e h p = stuck at u p
+  kept-value : (at ch : ℕ) (allowed : Bool) (o : Option Event) (v : Value) (u : Budget) → (allowed ≡ false → R at)
+      → ((n : ℕ) → n < 65536 → E (postEntry ch n)) → Held v → Logged u → Logged (note o u) → Kept (postValue at ch allowed o v u)
+  kept-value at ch true o (num n) u r e h p q = kept-append at ch n (note o u) h (e n h) q
+  kept-value at ch false o (num n) u r e h p q = kept-stop (λ z. r refl) q
+  kept-value at ch allowed o (bool b) u r e h p q = stuck at u p
+  kept-value at ch allowed o (closure s ty body env) u r e h p q = stuck at u p
 
-  guard-fails : (enforce : Bool) (grants : ℕ → Bool) (g : Option ℕ) (at : ℕ) → ((p : ℕ) → g ≡ some p → R at) → guardPasses enforce grants g ≡ false → R at
+  guard-fails : (enforce : Bool) (grants : ℕ → Bool) (g : Option ℕ) (at : ℕ) → ((p : ℕ) → g ≡ some p → R at × D at p)
+      → guardPasses enforce grants g ≡ false → R at
   guard-fails enforce grants none at r e = absurd (true≢false e)
-  guard-fails enforce grants (some p) at r e = r p refl
+  guard-fails enforce grants (some p) at r e = r p refl .0
 
-  kept-cell : (at : ℕ) (k : Budget → Result) → ((u : Budget) → Posted u → Kept (k u)) → (u : Budget) → Posted u → Kept (takeCell at k u)
+  kept-cell : (at : ℕ) (k : Budget → Result) → ((u : Budget) → Logged u → Kept (k u)) → (u : Budget) → Logged u → Kept (takeCell at k u)
   kept-cell at k h (budget c zero r l) p = other 21 at (budget c zero r l) (λ z. omega (arith, z)) p
   kept-cell at k h (budget c (suc d) r l) p = h (budget c d r l) p
 
-  kept-begin : (at : ℕ) (k : Budget → Result) → ((u : Budget) → Posted u → Kept (k u)) → (u : Budget) → Posted u → Kept (beginCall at k u)
+  kept-begin : (at : ℕ) (k : Budget → Result) → ((u : Budget) → Logged u → Kept (k u)) → (u : Budget) → Logged u → Kept (beginCall at k u)
   kept-begin at k h (budget zero d r l) p = other 20 at (budget zero d r l) (λ z. omega (arith, z)) p
   kept-begin at k h (budget (suc c) zero r l) p = other 21 at (budget (suc c) zero r l) (λ z. omega (arith, z)) p
   kept-begin at k h (budget (suc c) (suc d) r l) p = h (budget c d r l) p
 
-  kept-deep : (at : ℕ) (v : Value) (u : Budget) → Posted u → Kept (tooDeep at v u)
+  kept-deep : (at : ℕ) (v : Value) (u : Budget) → Logged u → Kept (tooDeep at v u)
   kept-deep at (closure r ty body env) u p = other 19 at u (λ z. omega (arith, z)) p
   kept-deep at (bool b) u p = stuck at u p
   kept-deep at (num n) u p = stuck at u p
@@ -140,7 +150,7 @@ module _ (R E : ℕ → Type 0) where
   entered-held false ty body env w k h g = (g, h)
 
   kept-enter : (at : ℕ) (v w : Value) (run : Term → Env → Budget → Result)
-      → ((c : Term) (e : Env) (u : Budget) → Keeps c → HeldIn e → Posted u → Kept (run c e u)) → (u : Budget) → Held v → Held w → Posted u
+      → ((c : Term) (e : Env) (u : Budget) → Keeps c → HeldIn e → Logged u → Kept (run c e u)) → (u : Budget) → Held v → Held w → Logged u
       → Kept (enter at v w run u)
   kept-enter at (closure r ty body env) w run h u hv hw p =
       kept-begin at _ (λ x q. h body (entered r ty body env w) x (hv .0) (entered-held r ty body env w (hv .0) (hv .1) hw) q) u p
@@ -148,12 +158,12 @@ module _ (R E : ℕ → Type 0) where
   kept-enter at (num n) w run h u hv hw p = stuck at u p
 
   -- ---- evaluations
-  module _ (X : Control) (enforce : Bool) where
+  module _ (X : Control) (M : Mode) where
     abbrev KeptAll : Application X → Type 0
-    KeptAll f = (at : ℕ) (v w : Value) (st : X .State) (u : Budget) → Held v → Held w → Posted u → Kept (f at v w st u)
+    KeptAll f = (at : ℕ) (v w : Value) (st : X .State) (u : Budget) → Held v → Held w → Logged u → Kept (f at v w st u)
 
-    eval-kept : (f : Application X) → KeptAll f → (c : Term) → Keeps c → (st : X .State) (e : Env) (u : Budget) → HeldIn e → Posted u
-        → Kept (evalWith X enforce f c st e u)
+    eval-kept : (f : Application X) → KeptAll f → (c : Term) → Keeps c → (st : X .State) (e : Env) (u : Budget) → HeldIn e → Logged u
+        → Kept (evalWith X M f c st e u)
     unfolding evalWith
     eval-kept f a (boolean at b) k st e u h p = kept-end tt p
     eval-kept f a (number at n) k st e u h p = kept-end k p
@@ -168,27 +178,32 @@ module _ (R E : ℕ → Type 0) where
         kept-then _ _ (eval-kept f a c (k .0) st e u h p)
         (λ v w hv q. kept-branch at v _ _ w q (eval-kept f a y (k .1) st e w h q) (eval-kept f a n (k .2) st e w h q))
     eval-kept f a (check at r c) k st e u h p =
-        kept-choose (passes enforce (X .grants st r)) _ _ u (eval-kept f a c (k .1) st e u h p) (kept-stop (λ z. k .0) p)
+        let w = note (eventIf (listsChecks M) at (X .grants st) (some r)) u in
+        let q = logged-noted (listsChecks M) at (X .grants st) (some r) (λ x z. subst (D at) (Option·some-injective r x z) (k .1)) u p in
+        kept-choose (passes (M .enforce) (X .grants st r)) _ _ w (eval-kept f a c (k .2) st e w h q) (kept-stop (λ z. k .0) q)
     eval-kept f a (enable at r c) k st e u h p = eval-kept f a c k (X .enables r st) e u h p
     eval-kept f a (sign at n c) k st e u h p = eval-kept f a c k (X .signs n st) e u h p
     eval-kept f a (test at r y n) k st e u h p =
-        kept-choose (X .grants st r) _ _ u (eval-kept f a y (k .0) st e u h p) (eval-kept f a n (k .1) st e u h p)
+        let w = note (eventIf (M .tracing) at (X .grants st) (some r)) u in
+        let q = logged-noted (M .tracing) at (X .grants st) (some r) (λ x z. subst (D at) (Option·some-injective r x z) (k .0)) u p in
+        kept-choose (X .grants st r) _ _ w (eval-kept f a y (k .1) st e w h q) (eval-kept f a n (k .2) st e w h q)
     eval-kept f a (binary at op c d) k st e u h p =
         kept-then _ _ (eval-kept f a c (k .0) st e u h p)
         (λ v w hv q. kept-then _ _ (eval-kept f a d (k .1) st e w h q) (λ x y hx o. kept-compute at op v x y hv hx o))
     eval-kept f a (post at ch g c) k st e u h p =
         kept-then _ _ (eval-kept f a c (k .2) st e u h p)
-        (λ v w hv q. kept-value at ch (guardPasses enforce (X .grants st) g) v w (guard-fails enforce (X .grants st) g at (k .0)) (k .1) hv q)
+        (λ v w hv q. kept-value at ch (guardPasses (M .enforce) (X .grants st) g) (eventIf (listsChecks M) at (X .grants st) g) v w
+        (guard-fails (M .enforce) (X .grants st) g at (k .0)) (k .1) hv q (logged-noted (listsChecks M) at (X .grants st) g (λ x z. k .0 x z .1) w q))
 
-    apply-kept : (k : ℕ) → KeptAll (apply X enforce k)
+    apply-kept : (k : ℕ) → KeptAll (apply X M k)
     unfolding apply
     apply-kept zero at v w st u hv hw p = kept-deep at v u p
     apply-kept (suc k) at v w st u hv hw p =
-        kept-enter at v w _ (λ body e x kb he q. eval-kept (apply X enforce k) (apply-kept k) body kb st e x he q) u hv hw p
+        kept-enter at v w _ (λ body e x kb he q. eval-kept (apply X M k) (apply-kept k) body kb st e x he q) u hv hw p
 
-    kept : (depth : ℕ) (c : Term) → Keeps c → (st : X .State) (u : Budget) → Posted u → Kept (eval X enforce depth c st empty u)
+    kept : (depth : ℕ) (c : Term) → Keeps c → (st : X .State) (u : Budget) → Logged u → Kept (eval X M depth c st empty u)
     unfolding eval
-    kept k c h st u p = eval-kept (apply X enforce k) (apply-kept k) c h st empty u tt p
+    kept k c h st u p = eval-kept (apply X M k) (apply-kept k) c h st empty u tt p
 
 -- ---- the program of a readable sheet
 
@@ -201,6 +216,17 @@ pub data MayRefuse (s : List ℕ) (t : ℕ) : Type 0 where
 pub record OnChannel (s : List ℕ) (x : ℕ) : Type 0 where
   pub below : x < channels s * 65536
 
+-- 02, W12: "each check, test and guard": term t asks for privilege p
+pub data Asks (s : List ℕ) (t p : ℕ) : Type 0 where
+  by-check : kindOf (kindByte s t) ≡ Check → small s t ≡ p → Asks s t p
+  by-test : kindOf (kindByte s t) ≡ Test → small s t ≡ p → Asks s t p
+  by-guard : kindOf (kindByte s t) ≡ Post → guardOf s (small s t) ≡ some p → Asks s t p
+
+-- a decision of a run: about a privilege that one of the sheet's terms asks for
+pub record Decision (s : List ℕ) (t p : ℕ) : Type 0 where
+  pub a-term : t < terms s
+  pub asks : Asks s t p
+
 ended≢stopped : {g : Ground} {c t : ℕ} → ended g ≡ stopped c t → ⊥
 ended≢stopped e = absurd (let z : _≡_ {A = ℕ} 0 1 = cc in omega arith)
 
@@ -211,55 +237,84 @@ module _ (s : List ℕ) (bytes : Bytes s) (w : WellFormed s) where
   entry-low : (ch n : ℕ) → ch < channels s → n < 65536 → OnChannel s (postEntry ch n)
   entry-low ch n h g = record { below = omega arith }
 
-  module _ (f : ℕ → Term) (t : ℕ) (under : (y : ℕ) → y < t → Keeps (MayRefuse s) (OnChannel s) (f y)) where
-    node-keeps : (k : Kind) (x a b c : ℕ) → Below (format k) t a b c → a < 65536 → (k ≡ Check → MayRefuse s t)
-        → (k ≡ Post → (p : ℕ) → guardOf s x ≡ some p → MayRefuse s t) → (format k .small ≡ channel → x < channels s)
-        → Keeps (MayRefuse s) (OnChannel s) (node (guardOf s) k t x a b c f)
-    node-keeps Boolean x a b c v n r g h = tt
-    node-keeps Number x a b c v n r g h = n
-    node-keeps Variable x a b c v n r g h = tt
-    node-keeps Function x a b c v n r g h = under b (v .second-below refl)
-    node-keeps Letrec x a b c v n r g h = (under b (v .second-below refl), under c (v .third-below refl))
-    node-keeps Call x a b c v n r g h = (under a (v .first-below refl), under b (v .second-below refl))
-    node-keeps If x a b c v n r g h = (under a (v .first-below refl), under b (v .second-below refl), under c (v .third-below refl))
-    node-keeps Check x a b c v n r g h = (r refl, under a (v .first-below refl))
-    node-keeps Enable x a b c v n r g h = under a (v .first-below refl)
-    node-keeps Sign x a b c v n r g h = under a (v .first-below refl)
-    node-keeps Test x a b c v n r g h = (under a (v .first-below refl), under b (v .second-below refl))
-    node-keeps Sum x a b c v n r g h = (under a (v .first-below refl), under b (v .second-below refl))
-    node-keeps Difference x a b c v n r g h = (under a (v .first-below refl), under b (v .second-below refl))
-    node-keeps Less x a b c v n r g h = (under a (v .first-below refl), under b (v .second-below refl))
-    node-keeps Post x a b c v n r g h = (g refl, λ m l. entry-low x m (h refl) l, under a (v .first-below refl))
+  abbrev KeepsIn : Term → Type 0
+  KeepsIn c = Keeps (MayRefuse s) (OnChannel s) (Decision s) c
 
-  tree-keeps : (k t : ℕ) → t < terms s → t < k → Keeps (MayRefuse s) (OnChannel s) (treeTo s k t)
+  abbrev KeptIn : Result → Type 0
+  KeptIn x = Kept (MayRefuse s) (OnChannel s) (Decision s) x
+
+  -- what the record of term t gives
+  record Node (t : ℕ) (k : Kind) (x : ℕ) : Type 0 where
+    kind-is : kindOf (kindByte s t) ≡ k
+    small-is : small s t ≡ x
+    number : first s t < 65536
+    on-channel : format k .small ≡ channel → x < channels s
+
+  module _ (f : ℕ → Term) (t : ℕ) (l : t < terms s) (under : (y : ℕ) → y < t → KeepsIn (f y)) where
+    decision : {p : ℕ} → Asks s t p → Decision s t p
+    decision h = record { a-term = l; asks = h }
+
+    node-keeps : (k : Kind) (x b c : ℕ) → Node t k x → Below (format k) t (first s t) b c → KeepsIn (node (guardOf s) k t x (first s t) b c f)
+    node-keeps Boolean x b c h v = tt
+    node-keeps Number x b c h v = h .number
+    node-keeps Variable x b c h v = tt
+    node-keeps Function x b c h v = under b (v .second-below refl)
+    node-keeps Letrec x b c h v = (under b (v .second-below refl), under c (v .third-below refl))
+    node-keeps Call x b c h v = (under (first s t) (v .first-below refl), under b (v .second-below refl))
+    node-keeps If x b c h v = (under (first s t) (v .first-below refl), under b (v .second-below refl), under c (v .third-below refl))
+    node-keeps Check x b c h v = (at-check (h .kind-is), decision (by-check (h .kind-is) (h .small-is)), under (first s t) (v .first-below refl))
+    node-keeps Enable x b c h v = under (first s t) (v .first-below refl)
+    node-keeps Sign x b c h v = under (first s t) (v .first-below refl)
+    node-keeps Test x b c h v =
+        (decision (by-test (h .kind-is) (h .small-is)), under (first s t) (v .first-below refl), under b (v .second-below refl))
+    node-keeps Sum x b c h v = (under (first s t) (v .first-below refl), under b (v .second-below refl))
+    node-keeps Difference x b c h v = (under (first s t) (v .first-below refl), under b (v .second-below refl))
+    node-keeps Less x b c h v = (under (first s t) (v .first-below refl), under b (v .second-below refl))
+    node-keeps Post x b c h v = (
+      λ p g. let e = ap (guardOf s) (h .small-is) ∙ g in (at-guard p (h .kind-is) e, decision (by-guard (h .kind-is) e)),
+      λ m i. entry-low x m (h .on-channel refl) i,
+      under (first s t) (v .first-below refl),
+    )
+
+  tree-keeps : (k t : ℕ) → t < terms s → t < k → KeepsIn (treeTo s k t)
   tree-keeps zero t l h = absurd (omega arith)
   tree-keeps (suc k) t l h =
-      node-keeps (λ y. treeTo s k y) t (λ y g. tree-keeps k y (omega arith) (omega arith)) (kindOf (kindByte s t)) (small s t) (first s t) (second s t)
-      (third s t) (below s w t l) (word-low (termAt s t + 2)) (λ e. at-check e) (λ e p g. at-guard p e g) (channel-in s w t l)
+      node-keeps (λ y. treeTo s k y) t l (λ y g. tree-keeps k y (omega arith) (omega arith)) (kindOf (kindByte s t)) (small s t) (second s t) (third s t)
+      (record { kind-is = refl; small-is = refl; number = word-low (termAt s t + 2); on-channel = channel-in s w t l }) (below s w t l)
 
-  program-keeps : Keeps (MayRefuse s) (OnChannel s) (program s)
+  program-keeps : KeepsIn (program s)
   program-keeps = tree-keeps (suc (root s)) (root s) (root-lower s w) (omega arith)
 
-  evaluation-kept : (r : Runner) (q : Request) (z : Sizes) → Kept (MayRefuse s) (OnChannel s) (evaluation r s q z)
-  evaluation-kept eager q z =
-      kept (MayRefuse s) (OnChannel s) (eagerControl (authority s)) (q .enforce) (q .depth) (program s) program-keeps
-      (rights 0 (privs (authority s) (stack (q .start)))) (initial q z) tt
-  evaluation-kept lazy q z =
-      kept (MayRefuse s) (OnChannel s) (lazyControl (authority s)) (q .enforce) (q .depth) (program s) program-keeps (stack (q .start)) (initial q z) tt
+  evaluation-kept : (M : Mode) (r : Runner) (q : Request) (z : Sizes) → KeptIn (evaluationIn M r s q z)
+  evaluation-kept M eager q z =
+      kept (MayRefuse s) (OnChannel s) (Decision s) (eagerControl (authority s)) M (q .depth) (program s) program-keeps
+      (rights 0 (privs (authority s) (stack (q .start)))) (initial q z) (tt, tt)
+  evaluation-kept M lazy q z =
+      kept (MayRefuse s) (OnChannel s) (Decision s) (lazyControl (authority s)) M (q .depth) (program s) program-keeps (stack (q .start)) (initial q z) (tt, tt)
 
   -- what is told of a run
-  stop-may : {x : Result} → Kept (MayRefuse s) (OnChannel s) x → (t : ℕ) → outcome (root s) x ≡ stopped 17 t → MayRefuse s t
+  stop-may : {x : Result} → KeptIn x → (t : ℕ) → outcome (root s) x ≡ stopped 17 t → MayRefuse s t
   stop-may (kept-end {v = bool b} h p) t e = absurd (ended≢stopped e)
   stop-may (kept-end {v = num n} h p) t e = absurd (ended≢stopped e)
   stop-may (kept-end {v = closure r ty body env} h p) t e = absurd (let z : _≡_ {A = ℕ} 18 17 = cc in omega (arith, z))
   stop-may (kept-stop {c} {at} h p) t e = subst (MayRefuse s) (let z : at ≡ t = cc in z) (h (let z : c ≡ 17 = cc in z))
 
-  posts-may : {x : Result} → Kept (MayRefuse s) (OnChannel s) x → Each (OnChannel s) (inOrder (left x))
-  posts-may (kept-end {u = budget c d m l} h p) = each-reversed (OnChannel s) (l .posts) [] p tt
-  posts-may (kept-stop {u = budget c d m l} h p) = each-reversed (OnChannel s) (l .posts) [] p tt
+  logged : {x : Result} → KeptIn x → Logged (MayRefuse s) (OnChannel s) (Decision s) (left x)
+  logged (kept-end h p) = p
+  logged (kept-stop h p) = p
 
-  pub evaluation-refused : (r : Runner) (q : Request) (z : Sizes) (t : ℕ) → outcome (root s) (evaluation r s q z) ≡ stopped 17 t → MayRefuse s t
-  evaluation-refused r q z t e = stop-may (evaluation-kept r q z) t e
+  posts-may : (u : Budget) → Logged (MayRefuse s) (OnChannel s) (Decision s) u → Each (OnChannel s) (inOrder u)
+  posts-may (budget c d m l) p = each-reversed (OnChannel s) (l .posts) [] (p .0) tt
 
-  pub evaluation-posts : (r : Runner) (q : Request) (z : Sizes) → Each (OnChannel s) (inOrder (left (evaluation r s q z)))
-  evaluation-posts r q z = posts-may (evaluation-kept r q z)
+  decided-may : (u : Budget) → Logged (MayRefuse s) (OnChannel s) (Decision s) u → Each (λ (e : Event). Decision s (e .term) (e .privilege)) (decidedIn u)
+  decided-may (budget c d m l) p = each-reversed (λ (e : Event). Decision s (e .term) (e .privilege)) (l .decisions) [] (p .1) tt
+
+  module _ (M : Mode) (r : Runner) (q : Request) (z : Sizes) where
+    pub evaluation-refused : (t : ℕ) → outcome (root s) (evaluationIn M r s q z) ≡ stopped 17 t → MayRefuse s t
+    evaluation-refused t e = stop-may (evaluation-kept M r q z) t e
+
+    pub evaluation-posts : Each (OnChannel s) (inOrder (left (evaluationIn M r s q z)))
+    evaluation-posts = posts-may (left (evaluationIn M r s q z)) (logged (evaluation-kept M r q z))
+
+    pub evaluation-decides : Each (λ (e : Event). Decision s (e .term) (e .privilege)) (decidedIn (left (evaluationIn M r s q z)))
+    evaluation-decides = decided-may (left (evaluationIn M r s q z)) (logged (evaluation-kept M r q z))

@@ -1,21 +1,24 @@
--- How many sums and differences an evaluation saturates: at most as many as its term has terms, and for each call that it makes as many as a body has. So
--- what is saturated, with a body's terms for each call that is left, grows by at most the size of the term.
+-- How many sums and differences an evaluation saturates and how many decisions it lists: together at most as many as its term has terms, and for each call
+-- that it makes as many as a body has. So what is saturated and listed, with a body's terms for each call that is left, grows by at most the size of the term.
 use mathlib.Core.Bool.{Bool, true, false}
 use mathlib.Core.List.{List}
+use mathlib.Core.Option.{Option, none, some}
 use mathlib.Core.Path.{_≡_, refl, ap}
 use Prim.Native.Nat.{ℕ, zero, suc, _+_, _*_, _≤_}
 use native.Mathlib.Nat.{suc-mul}
 use native.Mathlib.Omega.{arith}
+use lib.ListN.{length}
 use Rattle.program.specs.Limits.{maxTerms}
 use Rattle.program.specs.Layout.{authority}
 use Rattle.program.specs.Terms.{Op, Term, boolean, number, variable, function, letrec, call, if, check, enable, sign, test, binary, post, program, size, Every}
 use Rattle.program.specs.Laws.Readable.{WellFormed}
 use Rattle.program.specs.Laws.Trees.{every-here}
 use Rattle.program.specs.Laws.Sizes.{sizes-most}
+use Rattle.traces.specs.Traces.{Event}
 use Rattle.semantics.specs.Values.{Value, bool, num, closure, Env, empty, bind, lookup, entered, Log, logSaturated, Budget, budget, Result, ends, stops}
-use Rattle.semantics.specs.Meaning.{Control, _then_, choose, found, branch, saturates, compute, appendPost, postValue, takeCell, beginCall, tooDeep, enter, passes, guardPasses, Application, evalWith, apply, eval}
+use Rattle.semantics.specs.Meaning.{Control, Mode, _then_, choose, found, branch, saturates, compute, appendPost, note, postValue, takeCell, beginCall, tooDeep, enter, passes, eventIf, listsChecks, Application, evalWith, apply, eval}
 use Rattle.semantics.specs.Access.{privs, lazyControl, rights, eagerControl}
-use Rattle.semantics.specs.Runs.{Runner, eager, lazy, Request, Sizes, stack, initial, evaluation, left}
+use Rattle.semantics.specs.Runs.{Runner, eager, lazy, Request, Sizes, stack, initial, evaluationIn, left}
 use Rattle.semantics.specs.Laws.Bodies.{EveryBody, EveryBodyIn, Bodies, bodies-end, entered-bodies, BodiesAll, eval-bodies, apply-bodies}
 
 abbrev pub saturatedIn : Budget → ℕ
@@ -27,9 +30,9 @@ module _ (M : ℕ) where
   Small c = size c ≤ M
 
   abbrev load : Budget → ℕ
-  load (budget c d r l) = l .saturated + c * M
+  load (budget c d r l) = l .saturated + length (l .decisions) + c * M
 
-  -- a result that saturates at most n, but for what its calls do
+  -- a result that saturates and lists at most n, but for what its calls do
   record Within (n : ℕ) (u : Budget) (x : Result) : Type 0 where
     most : load (left x) ≤ load u + n
 
@@ -74,10 +77,16 @@ module _ (M : ℕ) where
   within-append n at ch m (budget c d zero l) = within-none n (budget c d zero l) refl
   within-append n at ch m (budget c d (suc r) l) = record { most = omega arith }
 
-  within-post : (n at ch : ℕ) (allowed : Bool) (v : Value) (u : Budget) → Within n u (postValue at ch allowed v u)
-  within-post n at ch allowed (num m) u = within-choose n allowed _ _ u (within-append n at ch m u) (within-none n u refl)
-  within-post n at ch allowed (bool b) u = within-none n u refl
-  within-post n at ch allowed (closure r ty body env) u = within-none n u refl
+  -- a decision lists itself at most
+  within-noted : (n : ℕ) (o : Option Event) (u : Budget) {x : Result} → Within n (note o u) x → Within (n + 1) u x
+  within-noted n none u h = within-more (omega arith) h
+  within-noted n (some e) (budget c d r l) h = record { most = omega (arith, h .most) }
+
+  within-post : (at ch : ℕ) (allowed : Bool) (o : Option Event) (v : Value) (u : Budget) → Within 1 u (postValue at ch allowed o v u)
+  within-post at ch allowed o (num m) u =
+      within-noted 0 o u (within-choose 0 allowed _ _ (note o u) (within-append 0 at ch m (note o u)) (within-none 0 (note o u) refl))
+  within-post at ch allowed o (bool b) u = within-none 1 u refl
+  within-post at ch allowed o (closure r ty body env) u = within-none 1 u refl
 
   within-cell : (n at : ℕ) (k : Budget → Result) → ((w : Budget) → Within n w (k w)) → (u : Budget) → Within n u (takeCell at k u)
   within-cell n at k h (budget c zero r l) = within-none n (budget c zero r l) refl
@@ -104,13 +113,13 @@ module _ (M : ℕ) where
   within-enter at (num n) w run h u hv hw = within-none 0 u refl
 
   -- ---- evaluations
-  module _ (X : Control) (enforce : Bool) where
+  module _ (X : Control) (mode : Mode) where
     abbrev WithinAll : Application X → Type 0
     WithinAll f = (at : ℕ) (v w : Value) (st : X .State) (u : Budget) → EveryBody Small v → EveryBody Small w → Within 0 u (f at v w st u)
 
-    module _ (f : Application X) (a : BodiesAll Small X enforce f) (g : WithinAll f) where
+    module _ (f : Application X) (a : BodiesAll Small X mode f) (g : WithinAll f) where
       eval-within : (c : Term) → Every Small c → (st : X .State) (e : Env) (u : Budget) → EveryBodyIn Small e
-          → Within (size c) u (evalWith X enforce f c st e u)
+          → Within (size c) u (evalWith X mode f c st e u)
       unfolding evalWith
       eval-within (boolean at b) k st e u h = within-none 1 u refl
       eval-within (number at n) k st e u h = within-none 1 u refl
@@ -121,56 +130,66 @@ module _ (M : ℕ) where
           (λ w. within-more (omega arith) (eval-within rest (k .2) st (bind (closure true ty body e) e) w ((k .1, h), h))) u
       eval-within (call at c d) k st e u h =
           within-more (omega arith)
-          (within-then (size c) (size d) u _ _ (eval-within c (k .1) st e u h) (eval-bodies Small X enforce f a c (k .1) st e u h)
+          (within-then (size c) (size d) u _ _ (eval-within c (k .1) st e u h) (eval-bodies Small X mode f a c (k .1) st e u h)
           (λ v w hv. within-more (omega arith)
-          (within-then (size d) 0 w _ _ (eval-within d (k .2) st e w h) (eval-bodies Small X enforce f a d (k .2) st e w h)
+          (within-then (size d) 0 w _ _ (eval-within d (k .2) st e w h) (eval-bodies Small X mode f a d (k .2) st e w h)
           (λ x y hx. g at v x st y hv hx))))
       eval-within (if at c y n) k st e u h =
           within-more (omega arith)
-          (within-then (size c) (size y + size n) u _ _ (eval-within c (k .1) st e u h) (eval-bodies Small X enforce f a c (k .1) st e u h)
+          (within-then (size c) (size y + size n) u _ _ (eval-within c (k .1) st e u h) (eval-bodies Small X mode f a c (k .1) st e u h)
           (λ v w hv. within-branch _ at v _ _ w (within-more (omega arith) (eval-within y (k .2) st e w h))
           (within-more (omega arith) (eval-within n (k .3) st e w h))))
       eval-within (check at p c) k st e u h =
-          within-choose _ (passes enforce (X .grants st p)) _ _ u (within-more (omega arith) (eval-within c (k .1) st e u h)) (within-none _ u refl)
+          let o = eventIf (listsChecks mode) at (X .grants st) (some p) in
+          within-more (omega arith)
+          (within-noted (size c) o u
+          (within-choose (size c) (passes (mode .enforce) (X .grants st p)) _ _ (note o u) (eval-within c (k .1) st e (note o u) h)
+          (within-none (size c) (note o u) refl)))
       eval-within (enable at p c) k st e u h = within-more (omega arith) (eval-within c (k .1) (X .enables p st) e u h)
       eval-within (sign at n c) k st e u h = within-more (omega arith) (eval-within c (k .1) (X .signs n st) e u h)
       eval-within (test at p y n) k st e u h =
-          within-choose _ (X .grants st p) _ _ u (within-more (omega arith) (eval-within y (k .1) st e u h))
-          (within-more (omega arith) (eval-within n (k .2) st e u h))
+          let o = eventIf (mode .tracing) at (X .grants st) (some p) in
+          within-more (omega arith)
+          (within-noted (size y + size n) o u
+          (within-choose (size y + size n) (X .grants st p) _ _ (note o u) (within-more (omega arith) (eval-within y (k .1) st e (note o u) h))
+          (within-more (omega arith) (eval-within n (k .2) st e (note o u) h))))
       eval-within (binary at op c d) k st e u h =
           within-more (omega arith)
-          (within-then (size c) (size d + 1) u _ _ (eval-within c (k .1) st e u h) (eval-bodies Small X enforce f a c (k .1) st e u h)
-          (λ v w hv. within-then (size d) 1 w _ _ (eval-within d (k .2) st e w h) (eval-bodies Small X enforce f a d (k .2) st e w h)
+          (within-then (size c) (size d + 1) u _ _ (eval-within c (k .1) st e u h) (eval-bodies Small X mode f a c (k .1) st e u h)
+          (λ v w hv. within-then (size d) 1 w _ _ (eval-within d (k .2) st e w h) (eval-bodies Small X mode f a d (k .2) st e w h)
           (λ x y hx. within-compute at op v x y)))
       eval-within (post at ch p c) k st e u h =
           within-more (omega arith)
-          (within-then (size c) 0 u _ _ (eval-within c (k .1) st e u h) (eval-bodies Small X enforce f a c (k .1) st e u h)
-          (λ v w hv. within-post 0 at ch (guardPasses enforce (X .grants st) p) v w))
+          (within-then (size c) 1 u _ _ (eval-within c (k .1) st e u h) (eval-bodies Small X mode f a c (k .1) st e u h)
+          (λ v w hv. within-post at ch _ _ v w))
 
-    apply-within : (k : ℕ) → WithinAll (apply X enforce k)
+    apply-within : (k : ℕ) → WithinAll (apply X mode k)
     unfolding apply
     apply-within zero at v w st u hv hw = within-deep 0 at v u
     apply-within (suc k) at v w st u hv hw =
         within-enter at v w _
-        (λ body e x kb he. eval-within (apply X enforce k) (apply-bodies Small X enforce k) (apply-within k) body kb st e x he) u hv hw
+        (λ body e x kb he. eval-within (apply X mode k) (apply-bodies Small X mode k) (apply-within k) body kb st e x he) u hv hw
 
     within : (depth : ℕ) (c : Term) → Every Small c → (st : X .State) (e : Env) (u : Budget) → EveryBodyIn Small e
-        → Within (size c) u (eval X enforce depth c st e u)
+        → Within (size c) u (eval X mode depth c st e u)
     unfolding eval
-    within k c h st e u b = eval-within (apply X enforce k) (apply-bodies Small X enforce k) (apply-within k) c h st e u b
+    within k c h st e u b = eval-within (apply X mode k) (apply-bodies Small X mode k) (apply-within k) c h st e u b
 
 -- ---- the program of a readable sheet
-load-most : (M : ℕ) (u : Budget) → saturatedIn u ≤ load M u
+abbrev pub listedIn : Budget → ℕ
+listedIn (budget c d r l) = length (l .decisions)
+
+load-most : (M : ℕ) (u : Budget) → saturatedIn u + listedIn u ≤ load M u
 load-most M (budget c d r l) = omega arith
 
-pub evaluation-saturated : (s : List ℕ) → WellFormed s → (r : Runner) (q : Request) (z : Sizes) → saturatedIn (left (evaluation r s q z))
-    ≤ q .calls * maxTerms + maxTerms
-evaluation-saturated s w eager q z =
+pub evaluation-load : (s : List ℕ) → WellFormed s → (mode : Mode) (r : Runner) (q : Request) (z : Sizes)
+    → saturatedIn (left (evaluationIn mode r s q z)) + listedIn (left (evaluationIn mode r s q z)) ≤ q .calls * maxTerms + maxTerms
+evaluation-load s w mode eager q z =
     let small = sizes-most s w in
-    let h = within maxTerms (eagerControl (authority s)) (q .enforce) (q .depth) (program s) small
+    let h = within maxTerms (eagerControl (authority s)) mode (q .depth) (program s) small
     (rights 0 (privs (authority s) (stack (q .start)))) empty (initial q z) tt in
-    omega (arith, h .most, every-here _ (program s) small, load-most maxTerms (left (evaluation eager s q z)))
-evaluation-saturated s w lazy q z =
+    omega (arith, h .most, every-here _ (program s) small, load-most maxTerms (left (evaluationIn mode eager s q z)))
+evaluation-load s w mode lazy q z =
     let small = sizes-most s w in
-    let h = within maxTerms (lazyControl (authority s)) (q .enforce) (q .depth) (program s) small (stack (q .start)) empty (initial q z) tt in
-    omega (arith, h .most, every-here _ (program s) small, load-most maxTerms (left (evaluation lazy s q z)))
+    let h = within maxTerms (lazyControl (authority s)) mode (q .depth) (program s) small (stack (q .start)) empty (initial q z) tt in
+    omega (arith, h .most, every-here _ (program s) small, load-most maxTerms (left (evaluationIn mode lazy s q z)))

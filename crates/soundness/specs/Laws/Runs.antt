@@ -19,26 +19,26 @@ use Rattle.program.specs.Laws.Trees.{program-signed, program-standard}
 use Rattle.typing.specs.Verdicts.{SheetDerives}
 use Rattle.typing.specs.Laws.Subtyping.{sub-isFun}
 use Rattle.semantics.specs.Values.{bool, num, closure, empty, emptyLog, Budget, budget, Result, ends, stops}
-use Rattle.semantics.specs.Meaning.{eval}
+use Rattle.semantics.specs.Meaning.{Mode, plain, eval}
 use Rattle.semantics.specs.Access.{privs, rights, eagerControl}
-use Rattle.semantics.specs.Runs.{Runner, eager, lazy, Request, Buffers, Sizes, sizes, stack, known, framesOk, runConditions, initial, evaluation, Course, rejected, started, ran, outcome, left, counts, answerOf, inOrder, postsMade, buffersAfter, After}
+use Rattle.semantics.specs.Runs.{Runner, eager, lazy, Request, Buffers, Sizes, sizes, stack, known, framesOk, runConditions, initial, evaluationIn, evaluation, Course, rejected, started, ran, outcome, left, counts, answerOf, inOrder, postsMade, buffersAfter, After}
 use Rattle.semantics.specs.Laws.Access.{privs-chk, eager-lazy}
 use Rattle.soundness.specs.Claims.{GrantsSet, SameLimits, Comparable, postsOf, SameRun, Proper}
 use Rattle.soundness.specs.Laws.Safety.{Base, Safe, Alike, checks-removed}
 
--- the eager evaluation of a request, with checks in force or passed over; and from another start
-abbrev pub eagerlyFrom : List ℕ → (start : List ℕ) → Request → Sizes → (enforce : Bool) → Result
-eagerlyFrom s start q z enforce =
-    eval (eagerControl (authority s)) enforce (q .depth) (program s) (rights 0 (privs (authority s) (stack start))) empty (initial q z)
+-- the eager evaluation of a request, in any mode; and from another start
+abbrev pub eagerlyFrom : List ℕ → (start : List ℕ) → Request → Sizes → Mode → Result
+eagerlyFrom s start q z M =
+    eval (eagerControl (authority s)) M (q .depth) (program s) (rights 0 (privs (authority s) (stack start))) empty (initial q z)
 
-abbrev pub eagerly : List ℕ → Request → Sizes → (enforce : Bool) → Result
-eagerly s q z enforce = eagerlyFrom s (q .start) q z enforce
+abbrev pub eagerly : List ℕ → Request → Sizes → Mode → Result
+eagerly s q z M = eagerlyFrom s (q .start) q z M
 
 -- requests with the same limits are evaluated alike from the same start
-pub same-limited : (s : List ℕ) (x y : Request) (b d : Buffers) → SameLimits x y b d → (start : List ℕ) (enforce : Bool)
-    → eagerlyFrom s start x (sizes b) enforce ≡ eagerlyFrom s start y (sizes d) enforce
-same-limited s x y b d c start enforce = λ i.
-    eval (eagerControl (authority s)) enforce (c .same-depth i) (program s) (rights 0 (privs (authority s) (stack start))) empty
+pub same-limited : (s : List ℕ) (x y : Request) (b d : Buffers) → SameLimits x y b d → (start : List ℕ) (M : Mode)
+    → eagerlyFrom s start x (sizes b) M ≡ eagerlyFrom s start y (sizes d) M
+same-limited s x y b d c start M = λ i.
+    eval (eagerControl (authority s)) M (c .same-depth i) (program s) (rights 0 (privs (authority s) (stack start))) empty
     (budget (c .same-calls i) (c .same-cells i / 8) (c .same-posts i) emptyLog)
 
 -- ---- comparable requests
@@ -53,9 +53,9 @@ module _ (s : List ℕ) (x y : Request) (b d : Buffers) (c : Comparable x y b d)
       ∷ unless 16 (leb (c .limits .same-calls i) maxCalls && leb (c .limits .same-depth i) maxDepth) ∷ []
 
   -- and the eager runner evaluates them alike
-  pub same-eagerly : (enforce : Bool) → eagerly s x (sizes b) enforce ≡ eagerly s y (sizes d) enforce
-  same-eagerly enforce =
-      same-limited s x y b d (c .limits) (x .start) enforce ∙ λ i. eagerlyFrom s (c .same-start i) y (sizes d) enforce
+  pub same-eagerly : (M : Mode) → eagerly s x (sizes b) M ≡ eagerly s y (sizes d) M
+  same-eagerly M =
+      same-limited s x y b d (c .limits) (x .start) M ∙ λ i. eagerlyFrom s (c .same-start i) y (sizes d) M
 
 -- ---- the same results are told alike
 abbrev whole : (root : ℕ) → Request → Buffers → Course → After
@@ -88,18 +88,17 @@ unfolding decoding
 clear-readable s q z e = none-clear (none-append (decodingConditions s) _ (clear-none (runConditions s q z) e) .0)
 
 -- Either runner's evaluation is the eager one's: the program is a sign.
-pub as-eager : (s : List ℕ) → WellFormed s → (q : Request) (z : Sizes) (r : Runner) → evaluation r s q z ≡ evaluation eager s q z
-as-eager s w q z eager = refl
-as-eager s w q z lazy =
-    sym (eager-lazy (authority s) (q .enforce) (q .depth) (program s) (program-signed s w) (rights 0 (privs (authority s) (stack (q .start))))
+pub as-eager : (s : List ℕ) → WellFormed s → (M : Mode) (q : Request) (z : Sizes) (r : Runner) → evaluationIn M r s q z ≡ eagerly s q z M
+as-eager s w M q z eager = refl
+as-eager s w M q z lazy =
+    sym (eager-lazy (authority s) M (q .depth) (program s) (program-signed s w) (rights 0 (privs (authority s) (stack (q .start))))
     (stack (q .start))
     (privs-chk (authority s) (stack (q .start))) empty (initial q z))
 
-pub same-evaluation : (s : List ℕ) → WellFormed s → (x y : Request) (b d : Buffers) → Comparable x y b d → x .enforce ≡ y .enforce
-    → evaluation (x .runner) s x (sizes b) ≡ evaluation (y .runner) s y (sizes d)
-same-evaluation s w x y b d c e =
-    as-eager s w x (sizes b) (x .runner) ∙ same-eagerly s x y b d c (x .enforce) ∙ (λ i. eagerly s y (sizes d) (e i))
-    ∙ sym (as-eager s w y (sizes d) (y .runner))
+pub same-evaluation : (s : List ℕ) → WellFormed s → (M : Mode) (x y : Request) (b d : Buffers) → Comparable x y b d
+    → evaluationIn M (x .runner) s x (sizes b) ≡ evaluationIn M (y .runner) s y (sizes d)
+same-evaluation s w M x y b d c =
+    as-eager s w M x (sizes b) (x .runner) ∙ same-eagerly s x y b d c M ∙ sym (as-eager s w M y (sizes d) (y .runner))
 
 -- ---- safe results are proper
 base-types : (s : List ℕ) → Base (typesOf s)
@@ -125,13 +124,15 @@ pub removed : (s : List ℕ) → WellFormed s → (τ N : ℕ) → τ < 2 → Sh
 removed s w τ N l h x y b d c ex ey g =
     let A : ℕ → ℕ = authority s in
     let granted : N ⊆ privs A (stack (x .start)) = record { all = λ p i. privs-chk A (stack (x .start)) p ∙ g .each p i } in
-    let alike : Alike (typesOf s) A (base-types s) τ (eagerly s x (sizes b) true) (eagerly s x (sizes b) false) =
+    let alike : Alike (typesOf s) A (base-types s) τ (eagerly s x (sizes b) (plain true)) (eagerly s x (sizes b) (plain false)) =
     checks-removed (typesOf s) A (base-types s) (x .depth) h (program-standard s w) empty tt (privs A (stack (x .start))) granted (initial x (sizes b)) in
-    let first : evaluation (x .runner) s x (sizes b) ≡ eagerly s x (sizes b) true = as-eager s w x (sizes b) (x .runner) ∙ λ i. eagerly s x (sizes b) (ex i) in
-    let second : eagerly s x (sizes b) false ≡ evaluation (y .runner) s y (sizes d) =
-    same-eagerly s x y b d c false ∙ (λ i. eagerly s y (sizes d) (sym ey i)) ∙ sym (as-eager s w y (sizes d) (y .runner)) in
+    let first : evaluation (x .runner) s x (sizes b) ≡ eagerly s x (sizes b) (plain true) =
+    as-eager s w (plain (x .enforce)) x (sizes b) (x .runner) ∙ λ i. eagerly s x (sizes b) (plain (ex i)) in
+    let second : eagerly s x (sizes b) (plain false) ≡ evaluation (y .runner) s y (sizes d) =
+    same-eagerly s x y b d c (plain false) ∙ (λ i. eagerly s y (sizes d) (plain (sym ey i)))
+    ∙ sym (as-eager s w (plain (y .enforce)) y (sizes d) (y .runner)) in
     record {
       same-result = first ∙ alike .same ∙ second;
       proper = subst (λ (z : Result). Proper τ (answerOf (root s) x (sizes b) (started z))) (sym first)
-          (safe-proper s τ l x (sizes b) (eagerly s x (sizes b) true) (alike .safe));
+          (safe-proper s τ l x (sizes b) (eagerly s x (sizes b) (plain true)) (alike .safe));
     }

@@ -17,7 +17,7 @@ use Rattle.typing.specs.Rules.{bound, removeAuthorised, postNeeds, resultType, 
 use Rattle.typing.specs.Laws.Variants.{guard-needed}
 use Rattle.typing.specs.Laws.Subtyping.{sub-trans, sub-base, sub-isFun, sub-arg, sub-res, sub-latent, wider-bounds}
 use Rattle.semantics.specs.Values.{Value, bool, num, closure, Env, empty, bind, lookup, entered, Budget, budget, Result, ends, stops}
-use Rattle.semantics.specs.Meaning.{_then_, choose, found, branch, operate, compute, appendPost, postValue, takeCell, beginCall, tooDeep, enter, guardPasses, Evaluation, Application, evalWith, apply, eval}
+use Rattle.semantics.specs.Meaning.{plain, _then_, choose, found, branch, operate, compute, appendPost, postValue, takeCell, beginCall, tooDeep, enter, guardPasses, Evaluation, Application, evalWith, apply, eval}
 use Rattle.semantics.specs.Access.{rights, addAuthorised, eagerControl}
 use Rattle.soundness.specs.Claims.{Limit}
 
@@ -173,11 +173,11 @@ module _ (T : Types) (A : ℕ → ℕ) (base : Base T) where
 
   -- of a number, where the guard passes in both
   alike-post : (at ch : ℕ) {a b : Bool} → a ≡ true → b ≡ true → (v : Value) → HasType v 1 → (u : Budget)
-      → Alike 1 (postValue at ch a v u) (postValue at ch b v u)
+      → Alike 1 (postValue at ch a none v u) (postValue at ch b none v u)
   alike-post at ch {a} {b} ea eb v h u =
-      num-only (λ v. Alike 1 (postValue at ch a v u) (postValue at ch b v u))
-      (λ x. subst (λ z. Alike 1 (postValue at ch z (num x) u) (postValue at ch b (num x) u)) (sym ea)
-      (subst (λ z. Alike 1 (appendPost at ch x u) (postValue at ch z (num x) u)) (sym eb) (alike-append at ch x u))) v h
+      num-only (λ v. Alike 1 (postValue at ch a none v u) (postValue at ch b none v u))
+      (λ x. subst (λ z. Alike 1 (postValue at ch z none (num x) u) (postValue at ch b none (num x) u)) (sym ea)
+      (subst (λ z. Alike 1 (appendPost at ch x u) (postValue at ch z none (num x) u)) (sym eb) (alike-append at ch x u))) v h
 
   alike-found : (e : Env) (Γ : List ℕ) (i τ at : ℕ) (u : Budget) → Holds e Γ → bound Γ i ≡ some τ → Alike τ (found at (lookup e i) u) (found at (lookup e i) u)
   alike-found empty [] i τ at u h g = none≢some g
@@ -208,13 +208,13 @@ module _ (T : Types) (A : ℕ → ℕ) (base : Base T) where
 
   module _ (f g : Application (eagerControl A)) (alike-app : AlikeApplication f g) where
     abbrev checked : Term → Evaluation (eagerControl A)
-    checked = evalWith (eagerControl A) true f
+    checked = evalWith (eagerControl A) (plain true) f
 
     abbrev skipped : Term → Evaluation (eagerControl A)
-    skipped = evalWith (eagerControl A) false g
+    skipped = evalWith (eagerControl A) (plain false) g
 
     eval-alike : {Γ : List ℕ} {n : ℕ} {c : Term} {τ N : ℕ} → Derives current T A Γ n c τ N → Standard T c
-        → AlikeEvaluation Γ n τ N (evalWith (eagerControl A) true f c) (evalWith (eagerControl A) false g c)
+        → AlikeEvaluation Γ n τ N (evalWith (eagerControl A) (plain true) f c) (evalWith (eagerControl A) (plain false) g c)
     unfolding evalWith
     eval-alike (d-boolean {b = b}) w e he P hP u = alike-end (bool b) 0 u refl
     eval-alike (d-number {k = k}) w e he P hP u = alike-end (num k) 1 u refl
@@ -268,21 +268,22 @@ module _ (T : Types) (A : ℕ → ℕ) (base : Base T) where
       (hw, (record { Γ = h .Γ; N = h .N; function = h .function; holds = h .holds; derives = h .derives; within = h .within; standard = h .standard; below = sub-same }, h .holds))
   enter-holds false ty body env φ h w hw = (hw, h .holds)
 
-  apply-alike : (k : ℕ) → AlikeApplication (apply (eagerControl A) true k) (apply (eagerControl A) false k)
+  apply-alike : (k : ℕ) → AlikeApplication (apply (eagerControl A) (plain true) k) (apply (eagerControl A) (plain false) k)
   unfolding apply
   apply-alike zero at φ v w hf hv hw n P hP u =
       closure-only (λ v. Alike (T .res φ) (tooDeep at v u) (tooDeep at v u)) φ hf (λ r ty body env h. alike-stop 19 at (T .res φ) u (omega arith)) v hv
   apply-alike (suc k) at φ v w hf hv hw n P hP u =
       closure-only
-      (λ v. Alike (T .res φ) (enter at v w (λ body e u₁. evalWith (eagerControl A) true (apply (eagerControl A) true k) body (rights n P) e u₁) u)
-      (enter at v w (λ body e u₁. evalWith (eagerControl A) false (apply (eagerControl A) false k) body (rights n P) e u₁) u)) φ hf
+      (λ v. Alike (T .res φ)
+      (enter at v w (λ body e u₁. evalWith (eagerControl A) (plain true) (apply (eagerControl A) (plain true) k) body (rights n P) e u₁) u)
+      (enter at v w (λ body e u₁. evalWith (eagerControl A) (plain false) (apply (eagerControl A) (plain false) k) body (rights n P) e u₁) u)) φ hf
       (λ r ty body env h. alike-begin (T .res φ) at _ _
       (λ u₁. alike-widen _ _ (sub-res T (h .below))
-      (eval-alike (apply (eagerControl A) true k) (apply (eagerControl A) false k) (apply-alike k) (h .derives n) (h .standard)
+      (eval-alike (apply (eagerControl A) (plain true) k) (apply (eagerControl A) (plain false) k) (apply-alike k) (h .derives n) (h .standard)
       (entered r ty body env w) (enter-holds r ty body env φ h w (widen w hw (sub-arg T (h .below))))
       P (⊆-trans (h .within) (⊆-trans (sub-latent T (h .below)) hP)) u₁)) u) v hv
 
   pub checks-removed : (depth : ℕ) {Γ : List ℕ} {n : ℕ} {c : Term} {τ N : ℕ} → Derives current T A Γ n c τ N → Standard T c
-      → AlikeEvaluation Γ n τ N (eval (eagerControl A) true depth c) (eval (eagerControl A) false depth c)
+      → AlikeEvaluation Γ n τ N (eval (eagerControl A) (plain true) depth c) (eval (eagerControl A) (plain false) depth c)
   unfolding eval
-  checks-removed k d w = eval-alike (apply (eagerControl A) true k) (apply (eagerControl A) false k) (apply-alike k) d w
+  checks-removed k d w = eval-alike (apply (eagerControl A) (plain true) k) (apply (eagerControl A) (plain false) k) (apply-alike k) d w

@@ -111,45 +111,21 @@ fn random_sheet(rng: &mut Rng) -> (Sample, u8) {
 /// Puts all questions about one sheet to both implementations, and runs it
 /// with and without some of the privileges.
 fn compare(rng: &mut Rng, sample: &Sample, asked: u8, counts: &mut Counts) -> Result<(), String> {
-    let bytes = &sample.bytes;
-    let sheet = decode(bytes).ok();
-    let is_accepted = typecheck(bytes).is_ok();
-    let named = (0..PRIVILEGES)
-        .map(|privilege| u32::from(is_named_by_library(bytes, privilege)) << privilege)
-        .sum();
-    let above = random_above(rng, named);
+    let subject = Subject::new(&sample.bytes);
+    let above = random_above(rng, subject.named);
     for privilege in (0..PRIVILEGES).chain(above) {
-        let length = random_answer_length(rng);
-        let (returned, told) = ask_both(bytes, privilege, Lent::random(rng, length))?;
-        counts.count(&Answered {
-            is_readable: sheet.is_some(),
-            named,
-            privilege,
-            answer: length,
-            returned,
-            cause: told.contents().first().copied().unwrap_or(0),
-        });
-        if let (DONE, Some(sheet)) = (returned, &sheet) {
-            let question = question(sheet, privilege);
-            is_as_said(&question, told.contents())?;
-            counts.count_naming(&question, is_accepted);
-        }
+        subject.ask(rng, privilege, counts)?;
     }
-    let Some(sheet) = &sheet else {
+    let Some(sheet) = &subject.sheet else {
         return Ok(());
     };
-    let runs = Runs {
-        bytes,
-        world: World {
-            principals: sheet.principals.iter().map(|set| set.bits()).collect(),
-            ..sample.world.clone()
-        },
-        is_accepted,
-        named,
+    let world = World {
+        principals: sheet.principals.iter().map(|set| set.bits()).collect(),
+        ..sample.world.clone()
     };
     let any = rng.below(PRIVILEGES as usize) as u8;
-    for privilege in [asked, asked, sample.world.random_privilege(rng), any] {
-        runs.compare(rng, &question(sheet, privilege.into()), counts)?;
+    for privilege in [asked, asked, world.random_privilege(rng), any] {
+        subject.run(rng, &world, &question(sheet, privilege.into()), counts)?;
     }
     Ok(())
 }
@@ -228,26 +204,58 @@ fn is_as_said(question: &Question, answer: &[u32]) -> Result<(), String> {
     ))
 }
 
-/// What is run from two starts.
-struct Runs<'a> {
+/// A sheet that is asked about and run.
+struct Subject<'a> {
     bytes: &'a [u8],
-    world: World,
+    /// As it is read, if it can be.
+    sheet: Option<Sheet>,
     is_accepted: bool,
-    /// The privileges that the library says are named.
+    /// The privileges that it names, as the library tells.
     named: u32,
 }
 
-impl Runs<'_> {
+impl<'a> Subject<'a> {
+    fn new(bytes: &'a [u8]) -> Self {
+        let bit = |privilege| u32::from(is_named_by_library(bytes, privilege)) << privilege;
+        Self {
+            bytes,
+            sheet: decode(bytes).ok(),
+            is_accepted: typecheck(bytes).is_ok(),
+            named: (0..PRIVILEGES).map(bit).sum(),
+        }
+    }
+
+    /// Asks both implementations for any number.
+    fn ask(&self, rng: &mut Rng, privilege: u32, counts: &mut Counts) -> Result<(), String> {
+        let length = random_answer_length(rng);
+        let (returned, told) = ask_both(self.bytes, privilege, Lent::random(rng, length))?;
+        counts.count(&Answered {
+            is_readable: self.sheet.is_some(),
+            named: self.named,
+            privilege,
+            answer: length,
+            returned,
+            cause: told.contents().first().copied().unwrap_or(0),
+        });
+        if let (DONE, Some(sheet)) = (returned, &self.sheet) {
+            let question = question(sheet, privilege);
+            is_as_said(&question, told.contents())?;
+            counts.count_naming(&question, self.is_accepted);
+        }
+        Ok(())
+    }
+
     /// "two starts whose granted sets differ at most in p, neither of them
     /// turned back, give the same end or stop, posts and counts under the same
     /// allowances and buffers, with checks in force", of either runner.
-    fn compare(
+    fn run(
         &self,
         rng: &mut Rng,
+        world: &World,
         question: &Question,
         counts: &mut Counts,
     ) -> Result<(), String> {
-        let pair = Pair::random(rng, &self.world, question.privilege);
+        let pair = Pair::random(rng, world, question.privilege);
         let ways = [Way::in_force(rng), Way::in_force(rng)];
         let [start, other] = pair.starts.clone();
         let request = Request::random_admissible(rng, start);

@@ -2,7 +2,8 @@
 
 use super::authority::Authority;
 use super::request::{Checks, Request};
-use super::{Outcome, Run, Stop};
+use super::{Outcome, Recorded, Run, Stop};
+use crate::record::{Entry, Recorder};
 use crate::refusal::Cause;
 use crate::set::Privilege;
 use crate::sheet::{ChannelId, Sheet, Term, TermId};
@@ -40,6 +41,7 @@ pub struct Machine<'a, A> {
     cells: Vec<Cell>,
     max_cells: usize,
     posts: &'a mut [u32],
+    record: Recorder<'a>,
     posts_made: usize,
     calls_made: u32,
     open_calls: u32,
@@ -53,6 +55,7 @@ impl<'a, A: Authority> Machine<'a, A> {
         authority: A,
         cell_bytes: usize,
         posts: &'a mut [u32],
+        record: &'a mut [u8],
     ) -> Self {
         Self {
             sheet,
@@ -61,6 +64,7 @@ impl<'a, A: Authority> Machine<'a, A> {
             cells: Vec::new(),
             max_cells: cell_bytes / CELL_BYTES,
             posts,
+            record: Recorder::new(record),
             posts_made: 0,
             calls_made: 0,
             open_calls: 0,
@@ -73,14 +77,16 @@ impl<'a, A: Authority> Machine<'a, A> {
     }
 
     /// The whole answer of a run that came to `outcome`.
-    pub fn tell(&self, outcome: Outcome) -> Run {
-        Run {
+    pub fn tell(&self, outcome: Outcome) -> Recorded {
+        let run = Run {
             outcome,
             calls: self.calls_made,
             cells: self.cells.len() as u32,
             posts: self.posts_made as u32,
             held: self.held,
-        }
+        };
+        let entries = self.record.entries();
+        Recorded { run, entries }
     }
 
     fn eval(&mut self, id: TermId, bindings: Bindings) -> Result<Value, Stop> {
@@ -116,12 +122,8 @@ impl<'a, A: Authority> Machine<'a, A> {
                 self.eval_then_restore(inner, bindings, before)
             }
             Term::Test { privilege, yes, no } => {
-                let chosen = if self.authority.grants(privilege) {
-                    yes
-                } else {
-                    no
-                };
-                self.eval(chosen, bindings)
+                let granted = self.decide(id, privilege);
+                self.eval(if granted { yes } else { no }, bindings)
             }
             Term::Sum(left, right) => {
                 let (left, right) = self.numbers(id, left, right, bindings)?;
@@ -235,12 +237,28 @@ impl<'a, A: Authority> Machine<'a, A> {
     }
 
     /// Whether a check or a guard lets the run go on: it always does where
-    /// checks are passed over.
-    fn check(&self, id: TermId, privilege: Privilege) -> Result<(), Stop> {
-        match self.request.checks {
-            Checks::InForce if !self.authority.grants(privilege) => stop(Cause::RefusedCheck, id),
-            Checks::InForce | Checks::PassedOver => Ok(()),
+    /// checks are passed over, and then nothing is decided.
+    fn check(&mut self, id: TermId, privilege: Privilege) -> Result<(), Stop> {
+        let goes_on = match self.request.checks {
+            Checks::InForce => self.decide(id, privilege),
+            Checks::PassedOver => true,
+        };
+        if !goes_on {
+            return stop(Cause::RefusedCheck, id);
         }
+        Ok(())
+    }
+
+    /// Whether a privilege is granted, which a check, a test or a guard asks
+    /// once. The record has it, a refusal too.
+    fn decide(&mut self, term: TermId, privilege: Privilege) -> bool {
+        let yes = self.authority.grants(privilege);
+        self.record.add(Entry {
+            term,
+            privilege: privilege.number(),
+            yes,
+        });
+        yes
     }
 
     /// The guard is asked before a place for the post.

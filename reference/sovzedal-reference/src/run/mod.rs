@@ -33,6 +33,13 @@ pub struct Run {
     pub held: u32,
 }
 
+/// The same, with how many entries of the lent record were taken.
+#[derive(Clone, Copy, Debug, PartialEq, Eq)]
+pub struct Recorded {
+    pub run: Run,
+    pub entries: usize,
+}
+
 #[derive(Clone, Copy, Debug, PartialEq, Eq)]
 pub enum Outcome {
     End(Plain),
@@ -61,6 +68,19 @@ pub fn run_eager(
     cells: &mut [u8],
     posts: &mut [u32],
 ) -> Result<Run, Refusal> {
+    let recorded = record_eager(bytes, request, cells, posts, &mut [])?;
+    Ok(recorded.run)
+}
+
+/// As [`run_eager`], and what is decided stands in `record`, which is untouched
+/// past the last entry and after a refusal.
+pub fn record_eager(
+    bytes: &[u8],
+    request: &Request,
+    cells: &mut [u8],
+    posts: &mut [u32],
+    record: &mut [u8],
+) -> Result<Recorded, Refusal> {
     let sheet = decode(bytes)?;
     let lent = Lent {
         cell_bytes: cells.len(),
@@ -69,7 +89,7 @@ pub fn run_eager(
     };
     let start = request.admit(&sheet, lent)?;
     let authority = eager::Granted::new(&sheet, &start);
-    Ok(run(&sheet, request, authority, cells, posts))
+    Ok(run(&sheet, request, authority, cells, posts, record))
 }
 
 /// Runs a sheet, walking frames. As [`run_eager`], and `frames` is treated as
@@ -81,6 +101,19 @@ pub fn run_lazy(
     posts: &mut [u32],
     frames: &mut [u32],
 ) -> Result<Run, Refusal> {
+    let recorded = record_lazy(bytes, request, cells, posts, frames, &mut [])?;
+    Ok(recorded.run)
+}
+
+/// As [`run_lazy`], with a record as in [`record_eager`].
+pub fn record_lazy(
+    bytes: &[u8],
+    request: &Request,
+    cells: &mut [u8],
+    posts: &mut [u32],
+    frames: &mut [u32],
+    record: &mut [u8],
+) -> Result<Recorded, Refusal> {
     let sheet = decode(bytes)?;
     let lent = Lent {
         cell_bytes: cells.len(),
@@ -89,9 +122,9 @@ pub fn run_lazy(
     };
     let start = request.admit(&sheet, lent)?;
     let authority = lazy::Frames::new(&sheet, start);
-    let run = run(&sheet, request, authority, cells, posts);
+    let recorded = run(&sheet, request, authority, cells, posts, record);
     frames.fill(0);
-    Ok(run)
+    Ok(recorded)
 }
 
 /// Runs an admitted request. Cells and frames live in vectors here: of the
@@ -102,15 +135,16 @@ fn run(
     authority: impl Authority,
     cells: &mut [u8],
     posts: &mut [u32],
-) -> Run {
-    let mut machine = Machine::new(sheet, request, authority, cells.len(), posts);
+    record: &mut [u8],
+) -> Recorded {
+    let mut machine = Machine::new(sheet, request, authority, cells.len(), posts, record);
     let outcome = match machine.run() {
         Ok(value) => end(value, sheet.root()),
         Err(stop) => Outcome::Stop(stop),
     };
-    let run = machine.tell(outcome);
+    let recorded = machine.tell(outcome);
     cells.fill(0);
-    run
+    recorded
 }
 
 /// A root that gives a function is stuck.

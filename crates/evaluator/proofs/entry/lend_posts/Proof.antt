@@ -1,8 +1,8 @@
 -- The posts come back as the result. The cells come back from the call as what they were lent as, since the evaluator keeps their name.
+use borrow.Author.Needs.{needs}
 use mathlib.Core.Path.{refl, sym, ap}
 use Rattle.evaluator.specs.Contracts.{Names}
 use Rattle.evaluator.proofs.ContractLaws.{renamed, same-cells}
-use borrow.Author.Needs.{needs}
 use Rattle.evaluator.proofs.entry.lend_posts.Statement.{statement}
 use Rattle.evaluator.proofs.entry.lend_posts.Tie as tie
 
@@ -14,10 +14,10 @@ same-length c = search needs
 
 returns : tie.Need-returns
 returns c =
-    let start = c .before .before .before .before .before .before .before .before .before .before in
+    let start = c .before .before .before .before .before .before .before .before .before .before .before in
     let e = c .before .before .lend-cells .ensures in renamed refl
-    (same-cells _ _ _ (c .before .cells .given .1 .0 (sym (ap (λ (m : Names). m .cells) (e .names)))))
-    (ap (λ (m : Names). record { cells = start .args .cells .name; posts = m .posts; frames = m .frames }) (e .names)) e
+    (same-cells _ _ _ _ (c .before .cells .given .1 .0 (sym (ap (λ (m : Names). m .cells) (e .names)))))
+    (ap (λ (m : Names). record { cells = start .args .cells .name; posts = m .posts; frames = m .frames; noted = m .noted }) (e .names)) e
 
 pub lend-posts-spec : {M : Type 1} → statement M
 lend-posts-spec = tie.close (tie.spec lend-cells-requires same-length returns)

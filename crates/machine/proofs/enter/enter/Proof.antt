@@ -1,8 +1,9 @@
--- A letrec, check, sign or test is what it enters: a law for each of its six ends.
-use mathlib.Core.Path.{refl}
-use Rattle.machine.specs.Store.{shapeOf}
-use Rattle.machine.proofs.EnterLaws.{enter-full, enter-cell, enter-sign, enter-allowed, enter-refused, enter-test, privileged, only-test}
+-- A letrec, check, sign or test is what it enters: a law for each of its seven ends.
 use borrow.Author.Needs.{needs}
+use mathlib.Core.Path.{refl}
+use borrow.Author.Tests.{not-true, not-false}
+use Rattle.machine.specs.Store.{shapeOf}
+use Rattle.machine.proofs.EnterLaws.{enter-full, enter-cell, enter-sign, enter-passed, enter-allowed, enter-refused, enter-test, privileged, only-test}
 use Rattle.machine.proofs.enter.enter.Statement.{statement}
 use Rattle.machine.proofs.enter.enter.Tie as tie
 
@@ -41,7 +42,7 @@ returns c =
     let at-bind = c .before .before .before .before .before .before in
     let at-if1 = at-bind .before .before .before .before .before .before in
     let at-kind-of = at-if1 .before in
-    enter-full _ _ _ _ _ _ _ (at-kind-of .kind-of .ensures) (at-if1 .if1 .taken) (c .before .third-of .ensures) (at-bind .bind .ensures)
+    enter-full _ _ _ _ _ _ _ _ (at-kind-of .kind-of .ensures) (at-if1 .if1 .taken) (c .before .third-of .ensures) (at-bind .bind .ensures)
     (c .before .before .before .if2 .taken) (c .before .before .stop .ensures) (c .halts .ensures)
 
 element-write-n : tie.Need-element-write-n
@@ -64,7 +65,7 @@ returns-2 c =
     let at-next-cell = at-second-of .before .before in
     let at-if1 = at-next-cell .before .before in
     let at-kind-of = at-if1 .before in
-    enter-cell _ _ _ _ _ _ _ (at-kind-of .kind-of .ensures) (at-if1 .if1 .taken) (c .before .third-of2 .ensures) (at-bind .bind .ensures)
+    enter-cell _ _ _ _ _ _ _ _ (at-kind-of .kind-of .ensures) (at-if1 .if1 .taken) (c .before .third-of2 .ensures) (at-bind .bind .ensures)
     (c .before .before .if2 .left) (at-next-cell .next-cell .ensures) (at-second-of .second-of .ensures) (at-function .function .ensures) (c .goes .ensures)
 
 element-copy-out-mode : tie.Need-element-copy-out-mode
@@ -92,18 +93,14 @@ returns-3 c =
     let at-first-of = at-authority-of .before .before in
     let at-if3 = at-first-of .before in
     let at-kind-of = at-if3 .before .before .before in
-    enter-sign _ _ _ _ _ _ _ (at-kind-of .kind-of .ensures) (at-if3 .if3 .taken) (at-first-of .first-of .ensures) (at-authority-of .authority-of .ensures)
+    enter-sign _ _ _ _ _ _ _ _ (at-kind-of .kind-of .ensures) (at-if3 .if3 .taken) (at-first-of .first-of .ensures) (at-authority-of .authority-of .ensures)
     (at-sign .sign .ensures .0) (at-sign .sign .ensures .1) (c .goes2 .ensures)
 
 small-of-requires : tie.Need-small-of-requires
 small-of-requires c κs = search needs
 
-allowed-requires : tie.Need-allowed-requires
-unfolding shapeOf
-allowed-requires c κs =
-    let at-kind-of = c .before .before .before .before .before .before in
-    let start = at-kind-of .before .before .before in
-    privileged _ (at-kind-of .kind-of .ensures) 7 refl (c .before .before .if4 .taken) (start .pre .privilege) (c .small-of .ensures)
+enforces-requires : tie.Need-enforces-requires
+enforces-requires c κs = search needs
 
 first-of-requires-2 : tie.Need-first-of-requires-2
 first-of-requires-2 c κs = search needs
@@ -111,54 +108,91 @@ first-of-requires-2 c κs = search needs
 goes-requires-3 : tie.Need-goes-requires-3
 goes-requires-3 c κs = search needs
 
-same-length-4 : tie.Need-same-length-4
-same-length-4 c = search needs
-
 returns-4 : tie.Need-returns-4
 returns-4 c =
-    let at-allowed = c .before .before .before .before .before in
-    let at-small-of = at-allowed .before in
-    let at-if4 = at-small-of .before .before in
-    let at-kind-of = at-if4 .before .before .before .before in
-    enter-allowed _ _ _ _ _ _ _ (at-kind-of .kind-of .ensures) (at-if4 .if4 .taken) (at-small-of .small-of .ensures) (at-allowed .allowed .ensures .0)
-    (at-allowed .allowed .ensures .1) (c .before .first-of2 .ensures) (c .before .before .if5 .taken) (c .goes3 .ensures)
+    let at-if4 = c .before .before .before .before in
+    let at-kind-of = at-if4 .before .before .before .before .before in
+    enter-passed _ _ _ _ _ _ _ _ (at-kind-of .kind-of .ensures) (at-if4 .if4 .taken) (c .before .first-of2 .ensures)
+    (c .before .before .before .enforces .ensures) (not-true _ (c .before .before .if5 .taken)) (c .goes3 .ensures)
 
-stop-requires-2 : tie.Need-stop-requires-2
-stop-requires-2 c κs = search needs
+granted-requires : tie.Need-granted-requires
+unfolding shapeOf
+granted-requires c κs =
+    let at-small-of = c .before .before .before .before in
+    let at-kind-of = at-small-of .before .before .before .before in
+    let start = at-kind-of .before .before .before .before in
+    privileged _ (at-kind-of .kind-of .ensures) 7 refl (c .before .before .before .if4 .taken) (start .pre .privilege) (at-small-of .small-of .ensures)
+
+note-requires : tie.Need-note-requires
+note-requires c κs = search needs
 
 first-of-requires-3 : tie.Need-first-of-requires-3
 first-of-requires-3 c κs = search needs
 
-halts-requires-2 : tie.Need-halts-requires-2
-halts-requires-2 c κs = search needs
+goes-requires-4 : tie.Need-goes-requires-4
+goes-requires-4 c κs = search needs
+
+same-length-4 : tie.Need-same-length-4
+same-length-4 c = search needs
 
 same-length-5 : tie.Need-same-length-5
 same-length-5 c = search needs
 
 returns-5 : tie.Need-returns-5
 returns-5 c =
-    let at-allowed = c .before .before .before .before .before .before in
-    let at-small-of = at-allowed .before in
-    let at-if4 = at-small-of .before .before in
-    let at-kind-of = at-if4 .before .before .before .before in
-    enter-refused _ _ _ _ _ _ _ (at-kind-of .kind-of .ensures) (at-if4 .if4 .taken) (at-small-of .small-of .ensures) (at-allowed .allowed .ensures .0)
-    (at-allowed .allowed .ensures .1) (c .before .first-of3 .ensures) (c .before .before .before .if5 .left) (c .before .before .stop2 .ensures)
-    (c .halts2 .ensures)
+    let at-note = c .before .before .before .before .before in
+    let at-granted = at-note .before .before .before .before .before in
+    let at-if5 = at-granted .before .before in
+    let at-enforces = at-if5 .before in
+    let at-if4 = at-enforces .before in
+    let at-small-of = at-if4 .before in
+    let at-kind-of = at-small-of .before .before .before .before in
+    enter-allowed _ _ _ _ _ _ _ _ (at-kind-of .kind-of .ensures) (at-if4 .if4 .taken) (c .before .first-of3 .ensures) (at-enforces .enforces .ensures)
+    (not-false _ (at-if5 .if5 .left)) (at-small-of .small-of .ensures) (at-granted .granted .ensures .0) (at-granted .granted .ensures .1)
+    (at-note .note .ensures) (c .before .before .if6 .taken) (c .goes4 .ensures)
 
-small-of-requires-2 : tie.Need-small-of-requires-2
-small-of-requires-2 c κs = search needs
-
-granted-requires : tie.Need-granted-requires
-unfolding shapeOf
-granted-requires c κs =
-    let at-if1 = c .before .before .before .before .before in
-    let at-kind-of = at-if1 .before in
-    let start = at-kind-of .before .before .before in
-    privileged _ (at-kind-of .kind-of .ensures) 10 refl (only-test _ (at-kind-of .kind-of .ensures) (start .pre .kind) (at-if1 .if1 .left)
-    (c .before .before .before .if3 .left) (c .before .before .if4 .left)) (start .pre .privilege) (c .small-of2 .ensures)
+stop-requires-2 : tie.Need-stop-requires-2
+stop-requires-2 c κs = search needs
 
 first-of-requires-4 : tie.Need-first-of-requires-4
 first-of-requires-4 c κs = search needs
+
+halts-requires-2 : tie.Need-halts-requires-2
+halts-requires-2 c κs = search needs
+
+same-length-6 : tie.Need-same-length-6
+same-length-6 c = search needs
+
+same-length-7 : tie.Need-same-length-7
+same-length-7 c = search needs
+
+returns-6 : tie.Need-returns-6
+returns-6 c =
+    let at-note = c .before .before .before .before .before .before in
+    let at-granted = at-note .before .before .before .before .before in
+    let at-if5 = at-granted .before .before in
+    let at-enforces = at-if5 .before in
+    let at-if4 = at-enforces .before in
+    let at-small-of = at-if4 .before in
+    let at-kind-of = at-small-of .before .before .before .before in
+    enter-refused _ _ _ _ _ _ _ _ (at-kind-of .kind-of .ensures) (at-if4 .if4 .taken) (c .before .first-of4 .ensures) (at-enforces .enforces .ensures)
+    (not-false _ (at-if5 .if5 .left)) (at-small-of .small-of .ensures) (at-granted .granted .ensures .0) (at-granted .granted .ensures .1)
+    (at-note .note .ensures) (c .before .before .before .if6 .left) (c .before .before .stop2 .ensures) (c .halts2 .ensures)
+
+granted-requires-2 : tie.Need-granted-requires-2
+unfolding shapeOf
+granted-requires-2 c κs =
+    let at-if1 = c .before .before .before .before .before in
+    let at-kind-of = at-if1 .before in
+    let start = at-kind-of .before .before .before .before in
+    privileged _ (at-kind-of .kind-of .ensures) 10 refl (only-test _ (at-kind-of .kind-of .ensures) (start .pre .kind) (at-if1 .if1 .left)
+    (c .before .before .before .if3 .left) (c .before .if4 .left)) (start .pre .privilege) (c .before .before .small-of .ensures)
+
+note-requires-2 : tie.Need-note-requires-2
+note-requires-2 c κs = search needs
+
+first-of-requires-5 : tie.Need-first-of-requires-5
+first-of-requires-5 c κs = search needs
 
 second-of-requires-2 : tie.Need-second-of-requires-2
 second-of-requires-2 c κs = search needs
@@ -166,25 +200,29 @@ second-of-requires-2 c κs = search needs
 choose-requires : tie.Need-choose-requires
 choose-requires c κs = search needs
 
-goes-requires-4 : tie.Need-goes-requires-4
-goes-requires-4 c κs = search needs
+goes-requires-5 : tie.Need-goes-requires-5
+goes-requires-5 c κs = search needs
 
-same-length-6 : tie.Need-same-length-6
-same-length-6 c = search needs
+same-length-8 : tie.Need-same-length-8
+same-length-8 c = search needs
 
-returns-6 : tie.Need-returns-6
-returns-6 c =
-    let at-granted = c .before .before .before .before .before .before in
-    let at-small-of2 = at-granted .before in
-    let at-if4 = at-small-of2 .before .before in
-    let at-if3 = at-if4 .before in
+same-length-9 : tie.Need-same-length-9
+same-length-9 c = search needs
+
+returns-7 : tie.Need-returns-7
+returns-7 c =
+    let at-note2 = c .before .before .before .before .before .before in
+    let at-granted2 = at-note2 .before .before .before .before .before in
+    let at-if4 = at-granted2 .before .before in
+    let at-small-of = at-if4 .before in
+    let at-if3 = at-small-of .before in
     let at-if1 = at-if3 .before .before in
     let at-kind-of = at-if1 .before in
-    let start = at-kind-of .before .before .before in
-    enter-test _ _ _ _ _ _ _ (at-kind-of .kind-of .ensures) (only-test _ (at-kind-of .kind-of .ensures) (start .pre .kind) (at-if1 .if1 .left)
-    (at-if3 .if3 .left)
-    (at-if4 .if4 .left)) (at-small-of2 .small-of2 .ensures) (at-granted .granted .ensures .0) (at-granted .granted .ensures .1)
-    (c .before .before .before .first-of4 .ensures) (c .before .before .second-of2 .ensures) (c .before .choose .ensures) (c .goes4 .ensures)
+    let start = at-kind-of .before .before .before .before in
+    enter-test _ _ _ _ _ _ _ _ (at-kind-of .kind-of .ensures)
+    (only-test _ (at-kind-of .kind-of .ensures) (start .pre .kind) (at-if1 .if1 .left) (at-if3 .if3 .left) (at-if4 .if4 .left)) (at-small-of .small-of .ensures)
+    (at-granted2 .granted2 .ensures .0) (at-granted2 .granted2 .ensures .1) (at-note2 .note2 .ensures) (c .before .before .before .first-of5 .ensures)
+    (c .before .before .second-of2 .ensures) (c .before .choose .ensures) (c .goes5 .ensures)
 
 pub enter-spec : {M : Type 1} → statement M
 enter-spec =
@@ -214,21 +252,29 @@ enter-spec =
     same-length-3
     returns-3
     small-of-requires
-    allowed-requires
+    enforces-requires
     first-of-requires-2
     goes-requires-3
-    same-length-4
     returns-4
-    stop-requires-2
+    granted-requires
+    note-requires
     first-of-requires-3
-    halts-requires-2
+    goes-requires-4
+    same-length-4
     same-length-5
     returns-5
-    small-of-requires-2
-    granted-requires
+    stop-requires-2
     first-of-requires-4
+    halts-requires-2
+    same-length-6
+    same-length-7
+    returns-6
+    granted-requires-2
+    note-requires-2
+    first-of-requires-5
     second-of-requires-2
     choose-requires
-    goes-requires-4
-    same-length-6
-    returns-6)
+    goes-requires-5
+    same-length-8
+    same-length-9
+    returns-7)

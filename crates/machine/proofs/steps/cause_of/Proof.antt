@@ -1,4 +1,4 @@
--- The three choices, from the innermost on.
+-- Two choices are the definition's.
 use borrow.Author.Needs.{needs}
 use mathlib.Core.Path.{_∙_, ap}
 use Prim.Native.Nat.{ℕ}
@@ -13,15 +13,9 @@ choose-requires c κs = search needs
 choose-requires-2 : tie.Need-choose-requires-2
 choose-requires-2 c κs = search needs
 
-choose-requires-3 : tie.Need-choose-requires-3
-choose-requires-3 c κs = search needs
-
 returns : tie.Need-returns
 unfolding causeOf
-returns c =
-    let start = c .before .before .before in
-    c .choose3 .ensures ∙ ap (λ (k : ℕ). pick (start .args .number) k 18)
-    (c .before .choose2 .ensures ∙ ap (λ (k : ℕ). pick (start .args .passes) k 17) (c .before .before .choose .ensures))
+returns c = c .choose2 .ensures ∙ ap (λ (x : ℕ). pick (c .before .before .args .passes) x 17) (c .before .choose .ensures)
 
 pub cause-of-spec : {M : Type 1} → statement M
-cause-of-spec = tie.close (tie.spec choose-requires choose-requires-2 choose-requires-3 returns)
+cause-of-spec = tie.close (tie.spec choose-requires choose-requires-2 returns)

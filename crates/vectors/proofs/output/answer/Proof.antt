@@ -1,7 +1,8 @@
 -- `answer` has no contract. Shown is that no index is out of bounds, that nothing overflows, and that the loop ends. The invariant is empty: the test
--- i < 8 bounds the index. The measure is 8 - i, of the eight numbers of an answer those left to print, and falls since each turn adds 1 to i.
+-- bounds the index. The measure is the count of numbers left to print, the length of `numbers` less i, and falls since each turn adds 1 to i.
 use Prim.Native.Nat.{_-_}
 use native.Mathlib.Omega.{arith}
+use lib.ListN.{length}
 use Rattle.vectors.proofs.output.answer.Statement.{statement}
 use Rattle.vectors.proofs.output.answer.Tie as tie
 
@@ -9,7 +10,7 @@ abbrev Inv-loop : tie.InvT-loop
 Inv-loop name status numbers i₀ i = Unit {0}
 
 abbrev μ-loop : tie.MeasureT-loop
-μ-loop name status numbers i₀ i = 8 - i
+μ-loop name status numbers i₀ i = length numbers - i
 
 write-all-requires : tie.Need-write-all-requires Inv-loop μ-loop
 write-all-requires c κs = tt
@@ -23,8 +24,8 @@ loop-holds c = tt
 mul-word : tie.Need-mul-word Inv-loop μ-loop
 mul-word c = omega (arith, c .loop-test .taken)
 
-element-copy-out-word : tie.Need-element-copy-out-word Inv-loop μ-loop
-element-copy-out-word c = omega (arith, c .loop-test .taken)
+shared-slice-read-word : tie.Need-shared-slice-read-word Inv-loop μ-loop
+shared-slice-read-word c = omega (arith, c .before .loop-test .taken)
 
 word-requires-2 : tie.Need-word-requires-2 Inv-loop μ-loop
 word-requires-2 c κs = tt
@@ -51,7 +52,7 @@ answer-spec =
     word-requires
     loop-holds
     mul-word
-    element-copy-out-word
+    shared-slice-read-word
     word-requires-2
     add-i
     loop-less

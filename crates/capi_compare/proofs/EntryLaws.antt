@@ -1,0 +1,49 @@
+-- What the entry for a comparison leaves, from the promises of the functions that it calls.
+use mathlib.Core.Bool.{Bool, true, false, cond, _||_}
+use mathlib.Core.List.{List, _++_}
+use mathlib.Core.Path.{_≡_, refl, sym, ap, _∙_}
+use Prim.Native.Nat.{ℕ, _<_, _≤_}
+use native.Mathlib.Omega.{arith}
+use lib.ListN.{length, drop}
+use borrow.Author.Tests.{lt-ltb, le-ltb}
+use Rattle.traces.specs.Comparing.{comparison}
+use Rattle.traces.specs.Theorems.{fits-exactly, diverges-exactly}
+use Rattle.traces.specs.Laws.Records.{trace-length}
+use Rattle.compare.specs.Answers.{comparisonModel}
+use Rattle.compare.specs.declared.answer.Comparison.{Comparison}
+use Rattle.compare.specs.declared.answer.Comparison.the-variants.{Fits, Diverges, Malformed}
+use Rattle.replies.specs.Replies.{left, notDone, replied}
+use Rattle.replies.specs.Internal.{replyOf}
+use Rattle.replies.specs.Laws as replies
+use Rattle.replies.specs.declared.Reply.{Reply}
+use Rattle.capi_compare.specs.Entries.{comparisonReply, long, compareCall}
+use Rattle.capi_compare.specs.Internal.{Told}
+
+module _ (u o answer : List ℕ) where
+  -- ---- a record is too long
+  pub long-unit : 4294967295 < length u → left 3 answer ≡ compareCall u o answer
+  long-unit h = λ i. cond (sym (lt-ltb 4294967295 (length u) h) i || long o) (notDone answer) (replied answer (comparisonReply (comparison u o)))
+
+  pub long-office : length u ≤ 4294967295 → 4294967295 < length o → left 3 answer ≡ compareCall u o answer
+  long-office g h = λ i.
+      cond (sym (le-ltb 4294967295 (length u) g) i || sym (lt-ltb 4294967295 (length o) h) i) (notDone answer)
+      (replied answer (comparisonReply (comparison u o)))
+
+  module _ (g : length u ≤ 4294967295) (h : length o ≤ 4294967295) where
+    held : replied answer (comparisonReply (comparison u o)) ≡ compareCall u o answer
+    held = λ i.
+        cond (sym (le-ltb 4294967295 (length u) g) i || sym (le-ltb 4294967295 (length o) h) i) (notDone answer)
+        (replied answer (comparisonReply (comparison u o)))
+
+    pub few-numbers : length answer < 8 → left 3 answer ≡ compareCall u o answer
+    few-numbers l = replies.away answer l (comparisonReply (comparison u o)) ∙ held
+
+    -- ---- the number is one of entries
+    pub told : (x : Comparison) → comparisonModel x ≡ comparison u o → Told x
+    told (Fits m) e = omega (arith, fits-exactly u o m .0 (sym e) .1 .missing-is, trace-length o)
+    told (Diverges k) e = omega (arith, diverges-exactly u o k .0 (sym e) .1 .an-entry, trace-length u)
+    told Malformed e = omega arith
+
+    pub given : 8 ≤ length answer → (x : Comparison) → comparisonModel x ≡ comparison u o → {r : Reply} → replyOf r ≡ comparisonReply (comparisonModel x)
+        → {status : ℕ} {after : List ℕ} → (status ≡ r .status) × (after ≡ r .numbers ++ drop 8 answer) → left status after ≡ compareCall u o answer
+    given l x e f put = replies.given answer l (f ∙ ap comparisonReply e) put ∙ held

@@ -1,0 +1,14 @@
+-- What the contracts of internal functions say; no reader of the entry's promise needs it.
+use Prim.Native.Nat.{ℕ, _<_}
+use Rattle.compare.specs.declared.answer.Comparison.{Comparison}
+use Rattle.compare.specs.declared.answer.Comparison.the-variants.{Fits, Diverges, Malformed}
+
+-- the number of an answer
+abbrev pub entries : Comparison → ℕ
+entries (Fits m) = m
+entries (Diverges k) = k
+entries Malformed = 0
+
+-- it fits into 32 bits
+abbrev pub Told : Comparison → Type 0
+Told x = entries x < 4294967296

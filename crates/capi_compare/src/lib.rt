@@ -1,0 +1,54 @@
+// The unit's record held against the office's, for C. include/sovzedal.h documents each argument.
+ghost use mathlib.Core.Path.{_≡_};
+ghost use Prim.Native.Nat.{_<_};
+ghost use Rattle.compare.specs.Answers.{comparisonModel};
+ghost use Rattle.replies.specs.Replies.{left};
+ghost use Rattle.replies.specs.Internal.{replyOf};
+ghost use Rattle.capi_compare.specs.Entries.{toldReply, comparisonReply, compareCall};
+ghost use Rattle.capi_compare.specs.Internal.{Told};
+use compare::answer::Comparison;
+use replies::Reply;
+use replies::put;
+
+// Bytes of the longest record that is held: a number of its entries fits into 32 bits.
+pub const MAX_RECORD: usize = 4294967295;
+
+pub fn compare(unit: &[u8], office: &[u8], answer: &mut [u32]) -> u32
+    ensures { λ r. ⌜ left r (now (answer .exit)) ≡ compareCall (now (unit .entry)) (now (office .entry)) (now (answer .entry)) ⌝ }
+{
+    if MAX_RECORD < unit.len() {
+        return 3;
+    }
+    if MAX_RECORD < office.len() {
+        return 3;
+    }
+    if answer.len() < 8 {
+        return 3;
+    }
+    let x = compare::compare(unit, office);
+    put(of_comparison(x), answer)
+}
+
+fn told(fits: u32, entries: usize) -> Reply
+    requires { ⌜ entries < 4294967296 ⌝ }
+    ensures { λ r. ⌜ replyOf r ≡ toldReply fits entries ⌝ }
+{
+    Reply {
+        status: 0,
+        numbers: [0, 0, fits, entries as u32, 0, 0, 0, 0],
+    }
+}
+
+fn of_comparison(x: Comparison) -> Reply
+    requires { ⌜ Told x ⌝ }
+    ensures { λ r. ⌜ replyOf r ≡ comparisonReply (comparisonModel x) ⌝ }
+{
+    match x {
+        Comparison::Fits(missing) => told(1, missing),
+        Comparison::Diverges(entry) => told(0, entry),
+        Comparison::Malformed => Reply {
+            status: 2,
+            numbers: [34, 0, 0, 0, 0, 0, 0, 0],
+        },
+    }
+}

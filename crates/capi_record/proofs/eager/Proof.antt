@@ -1,0 +1,63 @@
+-- 3 where the list is shorter than nine (away). Else buffers and record are as the run leaves them, and `tell` leaves the nine numbers (told).
+use borrow.Author.Needs.{needs}
+use mathlib.Core.List.{[]}
+use Rattle.semantics.specs.Runs.{eager}
+use Rattle.interp.specs.Answers.{requestOf, buffersOf}
+use Rattle.replies.specs.Replies.{enforces}
+use Rattle.capi_record.proofs.EntryLaws.{away, tellable, told}
+use Rattle.capi_record.proofs.eager.Statement.{statement}
+use Rattle.capi_record.proofs.eager.Tie as tie
+
+returns : tie.Need-returns
+returns c =
+    let start = c .before .before .before .before .before .before .before in
+    away (start .args .sheet .now) (requestOf eager (enforces (start .args .enforce)) (start .args .start .now) (start .args .calls) (start .args .depth))
+    (buffersOf (start .args .cells .now) (start .args .posts .now) []) (start .args .noted .now) (start .args .answer .now) (c .if1 .taken)
+
+record-eager-requires : tie.Need-record-eager-requires
+record-eager-requires c κs = search needs
+
+tell-requires : tie.Need-tell-requires
+tell-requires c κs =
+    let at-record-eager = c .before .before .before .before .before .before .before in
+    let at-if1 = at-record-eager .before .before .before .before in
+    let start = at-if1 .before .before .before .before .before .before .before in (
+      tellable (start .args .sheet .now) (requestOf eager (enforces (start .args .enforce)) (start .args .start .now) (start .args .calls) (start .args .depth))
+          (buffersOf (start .args .cells .now) (start .args .posts .now) []) (start .args .noted .now) (at-record-eager .record-eager .result)
+          (at-record-eager .record-eager .ensures),
+      at-if1 .if1 .left,
+    )
+
+same-length : tie.Need-same-length
+same-length c = search needs
+
+same-length-2 : tie.Need-same-length-2
+same-length-2 c = search needs
+
+same-length-3 : tie.Need-same-length-3
+same-length-3 c = search needs
+
+same-length-4 : tie.Need-same-length-4
+same-length-4 c = search needs
+
+returns-2 : tie.Need-returns-2
+returns-2 c =
+    let at-record-eager = c .before .before .before .before .before .before .before .before .before .before in
+    let at-if1 = at-record-eager .before .before .before .before in
+    let start = at-if1 .before .before .before .before .before .before .before in
+    told (start .args .sheet .now) (requestOf eager (enforces (start .args .enforce)) (start .args .start .now) (start .args .calls) (start .args .depth))
+    (buffersOf (start .args .cells .now) (start .args .posts .now) []) (start .args .noted .now) (at-record-eager .record-eager .result)
+    (at-record-eager .record-eager .ensures) (start .args .answer .now) (at-if1 .if1 .left) (c .before .before .tell .ensures)
+
+pub eager-spec : {M : Type 1} → statement M
+eager-spec =
+    tie.close
+    (tie.spec
+    returns
+    record-eager-requires
+    tell-requires
+    same-length
+    same-length-2
+    same-length-3
+    same-length-4
+    returns-2)

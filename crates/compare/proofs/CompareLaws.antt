@@ -1,0 +1,180 @@
+-- What the loops of a comparison keep, and what each of its answers says.
+use mathlib.Core.Bool.{Bool, true, false, cond, _&&_, true≢false, false≢true}
+use mathlib.Core.List.{List, [], _∷_}
+use mathlib.Core.Path.{_≡_, refl, sym, ap, _∙_, subst}
+use Prim.Native.Nat.{ℕ, suc, _+_, _*_, _/_, _%_, _-_, _<_, _≤_}
+use native.Mathlib.Omega.{arith}
+use lib.Dec.{eqb, leb}
+use lib.ListN.{length, drop}
+use lib.Seq.{drop-length}
+use borrow.Author.Tests.{eqb-true, eq-eqb, le-leb, lt-leb}
+use Rattle.privileges.specs.Booleans.{and-left, and-right, bool-ext}
+use Rattle.program.specs.Bytes.{byte}
+use Rattle.traces.specs.Traces.{Event, eventOf, eventAt, wellFormed, trace}
+use Rattle.traces.specs.Comparing.{sameEvent, refused, fits, diverges, compared, ifBoth, comparison}
+use Rattle.traces.specs.Laws.Subsequences.{same-true, same-self}
+use Rattle.traces.specs.Laws.Greedy.{placed, placed-none, placed-room, compared-fits, compared-diverges}
+use Rattle.traces.specs.Laws.Records.{trace-length, well-formed-true, trace-next, well-formed-next, whole-entry, decision-at}
+use Rattle.compare.specs.Internal.{EntryAt, placedEntries}
+
+-- ---- equal entries
+decision-one : (d e : ℕ) → d ≤ 1 → e ≤ 1 → eqb d 1 ≡ eqb e 1 → d ≡ e
+decision-one d e h g q = bool-cases (eqb d 1) refl
+  where
+    bool-cases : (b : Bool) → eqb d 1 ≡ b → d ≡ e
+    bool-cases true p = eqb-true d 1 p ∙ sym (eqb-true e 1 (sym q ∙ p))
+    bool-cases false p = let x : (d ≡ 1 → ⊥) = λ z. true≢false (sym (eq-eqb d 1 z) ∙ p) in
+        let y : (e ≡ 1 → ⊥) = λ z. true≢false (sym (eq-eqb e 1 z) ∙ sym q ∙ p) in
+        omega (arith, x, y)
+
+-- events of equal bytes are equal, and those of others are not
+pub record SameBytes (s : List ℕ) (i : ℕ) (t : List ℕ) (j : ℕ) : Type 0 where
+  pub first : byte s i ≡ byte t j
+  pub second : byte s (i + 1) ≡ byte t (j + 1)
+  pub third : byte s (i + 2) ≡ byte t (j + 2)
+  pub fourth : byte s (i + 3) ≡ byte t (j + 3)
+
+module _ (s : List ℕ) (i : ℕ) (t : List ℕ) (j : ℕ) (a : EntryAt s i) (b : EntryAt t j) (low : byte s (i + 1) < 256) (low′ : byte t (j + 1) < 256) where
+  same-parts : sameEvent (eventAt s i) (eventAt t j) ≡ true → SameBytes s i t j
+  same-parts q =
+      let e = same-true (eventAt s i) (eventAt t j) q in
+      let term : byte s i * 256 + byte s (i + 1) ≡ byte t j * 256 + byte t (j + 1) = ap (λ (x : Event). x .term) e in
+      record {
+        first = omega arith;
+        second = omega arith;
+        third = ap (λ (x : Event). x .privilege) e;
+        fourth = decision-one (byte s (i + 3)) (byte t (j + 3)) (a .decision) (b .decision) (ap (λ (x : Event). x .decided) e);
+      }
+
+  pub other-bytes : (SameBytes s i t j → ⊥) → false ≡ sameEvent (eventAt s i) (eventAt t j)
+  other-bytes n = sym (bool-ext (sameEvent (eventAt s i) (eventAt t j)) false (λ q. absurd (n (same-parts q))) (λ q. absurd (false≢true q)))
+
+  pub last-byte : byte s i ≡ byte t j → byte s (i + 1) ≡ byte t (j + 1) → byte s (i + 2) ≡ byte t (j + 2)
+      → eqb (byte s (i + 3)) (byte t (j + 3)) ≡ sameEvent (eventAt s i) (eventAt t j)
+  last-byte e f g = bool-ext (eqb (byte s (i + 3)) (byte t (j + 3))) (sameEvent (eventAt s i) (eventAt t j)) there
+      (λ q. eq-eqb (byte s (i + 3)) (byte t (j + 3)) (same-parts q .fourth))
+    where
+      there : eqb (byte s (i + 3)) (byte t (j + 3)) ≡ true → sameEvent (eventAt s i) (eventAt t j) ≡ true
+      there q =
+          (λ k. sameEvent (eventAt s i) (eventOf (sym e k) (sym f k) (sym g k) (sym (eqb-true (byte s (i + 3)) (byte t (j + 3)) q) k)))
+          ∙ same-self (eventAt s i)
+
+-- ---- the form of a record: the entries before byte i are well formed
+pub record Formed (s : List ℕ) (i : ℕ) : Type 0 where
+  pub fourth : i % 4 ≡ 0
+  pub within : i ≤ length s
+  pub so-far : wellFormed s ≡ wellFormed (drop i s)
+
+module _ (s : List ℕ) where
+  pub not-whole : (length s % 4 ≡ 0 → ⊥) → false ≡ wellFormed s
+  not-whole n = sym (bool-ext (wellFormed s) false (λ w. absurd (n (well-formed-true s w .whole-entries))) (λ q. absurd (false≢true q)))
+
+  pub formed-starts : Formed s 0
+  formed-starts = record { fourth = refl; within = omega arith; so-far = refl }
+
+  module _ (whole : length s % 4 ≡ 0) (i : ℕ) (f : Formed s i) (inside : i < length s) where
+    pub room : i + 4 ≤ length s
+    room = omega (arith, f .fourth)
+
+    next : (b : Bool) → leb (byte s (i + 3)) 1 ≡ b → wellFormed s ≡ (b && wellFormed (drop (i + 4) s))
+    next b e = f .so-far ∙ well-formed-next s i room ∙ ap (λ (x : Bool). x && wellFormed (drop (i + 4) s)) e
+
+    pub above-one : 1 < byte s (i + 3) → false ≡ wellFormed s
+    above-one h = sym (next false (lt-leb (byte s (i + 3)) 1 h))
+
+    pub formed-more : byte s (i + 3) ≤ 1 → Formed s (i + 4)
+    formed-more h = record { fourth = omega (arith, f .fourth); within = room; so-far = next true (le-leb (byte s (i + 3)) 1 h) }
+
+  pub formed-all : (i : ℕ) → Formed s i → length s ≤ i → true ≡ wellFormed s
+  unfolding wellFormed
+  formed-all i f h =
+      let e : i ≡ length s = omega (arith, f .within) in
+      sym (f .so-far ∙ ap (λ (x : ℕ). wellFormed (drop x s)) e ∙ ap wellFormed (drop-length s))
+
+-- ---- placing the entries: those of the unit before byte i are placed before byte j of the office's record
+pub record Placing (u o : List ℕ) (i j : ℕ) : Type 0 where
+  pub fourth : (i % 4 ≡ 0) × (j % 4 ≡ 0)
+  pub within : (i ≤ length u) × (j ≤ length o)
+  pub so-far : i / 4 + placed (trace (drop i u)) (trace (drop j o)) ≡ placedEntries u o
+
+placed-step : (e f : Event) (t x : List Event) (b : Bool) → sameEvent e f ≡ b → placed (e ∷ t) (f ∷ x) ≡ cond b (suc (placed t x)) (placed (e ∷ t) x)
+unfolding placed
+placed-step e f t x b q = λ k. cond (q k) (suc (placed t x)) (placed (e ∷ t) x)
+
+module _ (u o : List ℕ) where
+  pub placing-starts : Placing u o 0 0
+  placing-starts = record { fourth = (refl, refl); within = (omega arith, omega arith); so-far = omega arith }
+
+  pub placing-all : (i j : ℕ) → Placing u o i j → i ≡ length u → i / 4 ≡ placedEntries u o
+  unfolding placed trace
+  placing-all i j p e =
+      let x : placed (trace (drop i u)) (trace (drop j o)) ≡ 0 =
+      λ k. placed (trace ((ap (λ (n : ℕ). drop n u) e ∙ drop-length u) k)) (trace (drop j o)) in
+      omega (arith, x, p .so-far)
+
+  pub placing-end : (i j : ℕ) → Placing u o i j → length o ≤ j → i / 4 ≡ placedEntries u o
+  unfolding trace
+  placing-end i j p h =
+      let e : j ≡ length o = omega (arith, p .within .1) in
+      let x : placed (trace (drop i u)) (trace (drop j o)) ≡ 0 =
+      (λ k. placed (trace (drop i u)) (trace ((ap (λ (n : ℕ). drop n o) e ∙ drop-length o) k))) ∙ placed-none (trace (drop i u)) in
+      omega (arith, x, p .so-far)
+
+  module _ (wu : wellFormed u ≡ true) (wo : wellFormed o ≡ true) (i j : ℕ) (p : Placing u o i j) (more : i ≡ length u → ⊥) (inside : j < length o) where
+    left : i < length u
+    left = omega (arith, more, p .within .0)
+
+    pub unit-entry : EntryAt u i
+    unit-entry = record { inside = whole-entry u wu i (p .fourth .0) left; decision = decision-at u wu i (p .fourth .0) left }
+
+    pub office-entry : EntryAt o j
+    office-entry = record { inside = whole-entry o wo j (p .fourth .1) inside; decision = decision-at o wo j (p .fourth .1) inside }
+
+    step : (b : Bool) → sameEvent (eventAt u i) (eventAt o j) ≡ b → placed (trace (drop i u)) (trace (drop j o))
+        ≡ cond b (suc (placed (trace (drop (i + 4) u)) (trace (drop (j + 4) o)))) (placed (eventAt u i ∷ trace (drop (i + 4) u)) (trace (drop (j + 4) o)))
+    step b q =
+        (λ k. placed (trace-next u i (unit-entry .inside) k) (trace-next o j (office-entry .inside) k))
+        ∙ placed-step (eventAt u i) (eventAt o j) (trace (drop (i + 4) u)) (trace (drop (j + 4) o)) b q
+
+    pub placing-same : {i′ : ℕ} → sameEvent (eventAt u i) (eventAt o j) ≡ true → i′ ≡ i + 4 → Placing u o i′ (j + 4)
+    placing-same q e = subst (λ (x : ℕ). Placing u o x (j + 4)) (sym e) (record {
+      fourth = (omega (arith, p .fourth .0), omega (arith, p .fourth .1));
+      within = (unit-entry .inside, office-entry .inside);
+      so-far = omega (arith, step true q, p .so-far);
+    })
+
+    pub placing-other : {i′ : ℕ} → sameEvent (eventAt u i) (eventAt o j) ≡ false → i′ ≡ i → Placing u o i′ (j + 4)
+    placing-other q e =
+        let x = step false q ∙ ap (λ (l : List Event). placed l (trace (drop (j + 4) o))) (sym (trace-next u i (unit-entry .inside))) in
+        subst (λ (x : ℕ). Placing u o x (j + 4)) (sym e) (record {
+          fourth = (p .fourth .0, omega (arith, p .fourth .1));
+          within = (p .within .0, office-entry .inside);
+          so-far = omega (arith, x, p .so-far);
+        })
+
+-- ---- the answers
+module _ (u o : List ℕ) where
+  pub malformed-unit : false ≡ wellFormed u → refused 34 0 ≡ comparison u o
+  unfolding comparison
+  malformed-unit h = λ i. ifBoth (h i && wellFormed o) u o
+
+  pub malformed-office : true ≡ wellFormed u → false ≡ wellFormed o → refused 34 0 ≡ comparison u o
+  unfolding comparison
+  malformed-office g h = λ i. ifBoth (g i && h i) u o
+
+  module _ (g : true ≡ wellFormed u) (h : true ≡ wellFormed o) where
+    as-compared : compared (trace u) (trace o) ≡ comparison u o
+    unfolding comparison
+    as-compared = λ i. ifBoth (g i && h i) u o
+
+    pub as-diverges : {k : ℕ} → k ≡ placedEntries u o → k < length u / 4 → diverges k ≡ comparison u o
+    as-diverges e l =
+        ap diverges e ∙ sym (compared-diverges (trace u) (trace o) (omega (arith, trace-length u))) ∙ as-compared
+
+    pub as-fits : {k : ℕ} → k ≡ placedEntries u o → length u / 4 ≤ k → fits (length o / 4 - length u / 4) ≡ comparison u o
+    as-fits e l =
+        (λ i. fits (sym (trace-length o) i - sym (trace-length u) i)) ∙ sym (compared-fits (trace u) (trace o) (omega (arith, trace-length u))) ∙ as-compared
+
+  -- no more entries are placed than the office has
+  pub enough : {k : ℕ} → k ≡ placedEntries u o → length u / 4 ≤ k → length u / 4 ≤ length o / 4
+  enough e l = omega (arith, trace-length u, trace-length o, placed-room (trace u) (trace o))

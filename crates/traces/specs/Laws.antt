@@ -1,0 +1,3 @@
+pub mod Subsequences
+pub mod Greedy
+pub mod Records

@@ -1,0 +1,61 @@
+//! One run with a record, to be had of any implementation.
+
+use crate::asked::{Asked, Buffers, Entry, Lent};
+use crate::implementation::{Implementation, RunArguments, ANSWER_NUMBERS, RECORD_NUMBERS};
+use sheets::rng::Rng;
+use sovzedal_reference::ENTRY_BYTES;
+
+/// All that such a run may write to, with margins. Two of them are equal if
+/// every number in and around the buffers is.
+#[derive(Clone, Debug, PartialEq, Eq)]
+pub struct Recording {
+    pub buffers: Buffers,
+    pub record: Lent<u8>,
+}
+
+impl Recording {
+    /// Buffers as for the run without a record, filled at random, and a record
+    /// of so many bytes.
+    pub fn random(rng: &mut Rng, asked: &Asked, record: usize, answer: usize) -> Self {
+        Self {
+            buffers: Buffers::random(rng, asked.entry, asked.request, answer),
+            record: Lent::random(rng, record),
+        }
+    }
+
+    /// Has the run and gives the returned number.
+    pub fn ask<I: Implementation>(&mut self, asked: &Asked) -> u32 {
+        let arguments = RunArguments {
+            start: &asked.request.start,
+            calls: asked.request.calls,
+            open_calls: asked.request.open_calls,
+            enforce: asked.enforce,
+        };
+        let Buffers {
+            cells,
+            posts,
+            frames,
+            answer,
+        } = &mut self.buffers;
+        let (cells, posts, answer) = (cells.lent(), posts.lent(), answer.lent());
+        let record = self.record.lent();
+        if asked.entry == Entry::RunLazy {
+            let frames = frames.lent();
+            I::record_lazy(asked.sheet, arguments, cells, posts, frames, record, answer)
+        } else {
+            I::record_eager(asked.sheet, arguments, cells, posts, record, answer)
+        }
+    }
+
+    /// The nine numbers of the answer, if there was room for them.
+    pub fn answer(&self) -> Option<&[u32; RECORD_NUMBERS]> {
+        self.buffers.answer.contents().first_chunk()
+    }
+
+    /// The bytes of the entries told, and those past them.
+    pub fn told(&self) -> (&[u8], &[u8]) {
+        let answer = self.answer().expect("the answer has room");
+        let entries = answer[ANSWER_NUMBERS] as usize;
+        self.record.contents().split_at(entries * ENTRY_BYTES)
+    }
+}
