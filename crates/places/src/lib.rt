@@ -6,8 +6,7 @@ use rules::bindings::Bindings;
 use rules::bindings::push;
 ghost use mathlib.Core.Bool.{false};
 ghost use mathlib.Core.Path.{_≡_};
-ghost use Prim.Native.Nat.{ℕ};
-ghost use Rattle.explain.specs.Internal.{present as presentOf, childrenAt, ReadyPlace, Reached};
+ghost use Rattle.places.specs.Internal.{present as presentOf, childrenAt, ReadyPlace, Reached};
 
 // A term with the bindings and the principal that it has in the sheet.
 pub struct Place {
@@ -44,10 +43,10 @@ pub fn absent(at: Place) -> Child
     }
 }
 
-// The first child, to look for privilege p. That of a test of p is the yes-branch, which is not followed.
-pub fn first_child(s: &[u8], c: Counts, at: Place, p: u8) -> Child
+// The first child. A sign's stands under the principal that signs.
+pub fn first_child(s: &[u8], c: Counts, at: Place) -> Child
     requires { ⌜ ReadyPlace (now s) c at ⌝ }
-    ensures { λ r. ⌜ Reached (now (s .entry)) c r (childrenAt (now (s .entry)) p at .first) ⌝ }
+    ensures { λ r. ⌜ Reached (now (s .entry)) c (at .term) r (childrenAt (now (s .entry)) at .first) ⌝ }
 {
     let b = at.bindings;
     let n = at.principal;
@@ -56,12 +55,6 @@ pub fn first_child(s: &[u8], c: Counts, at: Place, p: u8) -> Child
     match kind {
         0..=4 => absent(at),
         9 => present(x.first, b, x.small),
-        10 => {
-            if x.small == p {
-                return absent(at);
-            }
-            present(x.first, b, n)
-        }
         _ => present(x.first, b, n),
     }
 }
@@ -69,7 +62,7 @@ pub fn first_child(s: &[u8], c: Counts, at: Place, p: u8) -> Child
 // The second child. A function's body has one binding more, its argument's, and a letrec's body two.
 pub fn second_child(s: &[u8], c: Counts, at: Place) -> Child
     requires { ⌜ ReadyPlace (now s) c at ⌝ }
-    ensures { λ r. ⌜ ((p : ℕ) → Reached (now (s .entry)) c r (childrenAt (now (s .entry)) p at .second)) ⌝ }
+    ensures { λ r. ⌜ Reached (now (s .entry)) c (at .term) r (childrenAt (now (s .entry)) at .second) ⌝ }
 {
     let b = at.bindings;
     let n = at.principal;
@@ -98,7 +91,7 @@ pub fn second_child(s: &[u8], c: Counts, at: Place) -> Child
 // The third child. A letrec's rest has one binding more.
 pub fn third_child(s: &[u8], c: Counts, at: Place) -> Child
     requires { ⌜ ReadyPlace (now s) c at ⌝ }
-    ensures { λ r. ⌜ ((p : ℕ) → Reached (now (s .entry)) c r (childrenAt (now (s .entry)) p at .third)) ⌝ }
+    ensures { λ r. ⌜ Reached (now (s .entry)) c (at .term) r (childrenAt (now (s .entry)) at .third) ⌝ }
 {
     let b = at.bindings;
     let n = at.principal;
