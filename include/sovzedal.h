@@ -1,6 +1,6 @@
-/* Sovzedal: rule sheets decoded, type-checked and run, with or without their checks; why a sheet needs a privilege, and whether it names one; the lean
- * form of a sheet; a block of registers for a controller that has sheets run; four lines on which jobs wait to be run in turn; and records of what runs
- * decide, a unit's held against the office's.
+/* Sovzedal: rule sheets decoded, type-checked and run, with or without their checks; the smallest faulty piece of one that is refused; why a sheet needs a
+ * privilege, and whether it names one; the lean form of a sheet; a block of registers for a controller that has sheets run; four lines on which jobs wait
+ * to be run in turn; and records of what runs decide, a unit's held against the office's.
  *
  * For x86-64. Link libsovzedal.a (README.md, "Embed it", has the command that writes it). Of the C library it needs memcpy and memset alone: no heap,
  * no system call, no global state, so that calls on buffers of their own may be made from several threads. A run recurses: SOVZEDAL_STACK bytes of
@@ -17,7 +17,7 @@
  * Every function returns
  *   SOVZEDAL_OK       0  the sheet is readable, or accepted, or the run ended; or the register was read or written; or the job was added; or the
  *                        privilege is explained, or not needed; or the lean sheet is written; or it is told whether the sheet names the privilege;
- *                        or two records were compared;
+ *                        or the smallest faulty piece of a refused sheet is told, or that there is none; or two records were compared;
  *   SOVZEDAL_STOPPED  1  the run was stopped, for one of the causes 17 to 22;
  *   SOVZEDAL_REFUSED  2  refused, for one of the causes 1 to 16 and 24 to 34, or 23 for an address: every buffer but `answer` is as it was (but
  *                        `lines` has given up a job that was served);
@@ -42,6 +42,8 @@
  *   *** written by sovzedal_lines_serve alone, also of a job that is refused. All entries are zero of a job added, and all nine with SOVZEDAL_IDLE.
  *   **** by sovzedal_names 1 if the sheet names the privilege, and then entry 3 is the lowest term that does; else 0 in both.
  *   Entry 8 of a run that records is how many entries were recorded (RECORDED), 0 of a refused one; the first 8 are those of the run without a record.
+ *   Of a smallest faulty piece entry 2 is the number of its fault, entry 3 the term, entry 4 how many terms there are in it, entry 5 where its record begins
+ *   in the sheet and entry 6 how many bytes that has (FAULT, TERM, COUNT, OFFSET, BYTES); the others are zero, and all are where there is no piece.
  *   Of two records that were compared entry 2 tells whether they fit, 1 or 0, and entry 3 a number of entries (FITS, ENTRIES); the others are zero.
  *
  * Types: 0 is the boolean, 1 the number. Needs are a set of privileges: bit k, worth 2^k, stands for privilege k. docs/REFUSALS.md explains the causes.
@@ -65,7 +67,7 @@ extern "C" {
 /* The version of this interface, and the latest format that it reads: sheets of format 1 are read, too. Before version 2 of the interface, lists of posts
  * had entries of 16 bits; before 2.2, entry 7 of a run's answer was zero. */
 #define SOVZEDAL_VERSION_MAJOR 2
-#define SOVZEDAL_VERSION_MINOR 4
+#define SOVZEDAL_VERSION_MINOR 5
 #define SOVZEDAL_FORMAT 2
 
 /* What a function returns. */
@@ -85,16 +87,20 @@ enum {
     SOVZEDAL_AT_INTERRUPT = 2,   /* of a block: 1 if its interrupt is raised after the access, else 0 */
     SOVZEDAL_AT_NAMED = 2,       /* 1 if a privilege is named, else 0 */
     SOVZEDAL_AT_FITS = 2,        /* of two records: 1 if the unit's entries occur in the office's, else 0 */
+    SOVZEDAL_AT_FAULT = 2,       /* of a smallest faulty piece: the number of its fault, 9 to 12 or 24 to 26; 0 if there is no piece */
     SOVZEDAL_AT_VALUE = 3,       /* of a run that ended, or of a register that was read */
     SOVZEDAL_AT_TERMS = 3,       /* of a readable or accepted sheet */
     SOVZEDAL_AT_LENGTH = 3,      /* of a chain, in terms, 0 if the privilege is not needed; of a lean sheet, in bytes */
-    SOVZEDAL_AT_TERM = 3,        /* the lowest term that names a privilege, 0 if none does */
+    SOVZEDAL_AT_TERM = 3,        /* the lowest term that names a privilege, 0 if none does; or that of a smallest faulty piece */
     SOVZEDAL_AT_ENTRIES = 3,     /* of two records: how many are missing, or the first entry up to which they do not occur */
     SOVZEDAL_AT_CALLS = 4,       /* of a run */
     SOVZEDAL_AT_PRINCIPALS = 4,  /* of a readable sheet */
+    SOVZEDAL_AT_COUNT = 4,       /* of a smallest faulty piece: how many terms there are in it, itself counted; 0 if there is no piece */
     SOVZEDAL_AT_CELLS = 5,       /* of a run */
     SOVZEDAL_AT_TYPES = 5,       /* of a readable sheet */
+    SOVZEDAL_AT_OFFSET = 5,      /* of a smallest faulty piece: where its record begins in the sheet, in bytes; 0 if there is no piece */
     SOVZEDAL_AT_POSTS = 6,       /* of a run */
+    SOVZEDAL_AT_BYTES = 6,       /* of a smallest faulty piece: how many bytes its record has: 8, or 0 if there is no piece */
     SOVZEDAL_AT_NEEDS = 7,       /* of an accepted sheet */
     SOVZEDAL_AT_HELD = 7,        /* of a run: its sums and differences that were held at a limit */
     SOVZEDAL_AT_LINE = 8,        /* of a job that was served */
@@ -248,6 +254,22 @@ uint32_t sovzedal_decode(const uint8_t *sheet, size_t sheet_len,
  * Refusals: 1 to 8, then 31, then 9 to 13 and 24 to 26. */
 uint32_t sovzedal_typecheck(const uint8_t *sheet, size_t sheet_len,
                             uint32_t *answer, size_t answer_len);
+
+/* The smallest faulty piece of a sheet that the rules refuse by 9 to 12 or 24 to 26: the least to look at. Each term is considered where it stands, in the
+ * bindings and under the principal that it has in the sheet, whatever is faulty elsewhere. The variables around it have the types that are declared for
+ * them, and the principal is that of the nearest sign around it. Of the terms that the rules refuse there, the piece is the one with the fewest terms in it,
+ * itself counted, and of those with as few the one with the lowest number. It is refused for a fault of its own: each child of it is accepted where it stands.
+ *   sheet, sheet_len    the sheet and its length in bytes; only read
+ *   answer, answer_len  the list for the answer and its length in entries. Entry SOVZEDAL_AT_FAULT tells why the piece is refused where it stands, 9 to 12
+ *                       or 24 to 26, entry SOVZEDAL_AT_TERM its term and entry SOVZEDAL_AT_COUNT how many terms there are in it. Its record is bytes of
+ *                       `sheet`: entry SOVZEDAL_AT_OFFSET tells where it begins and entry SOVZEDAL_AT_BYTES how many there are, which is 8. All entries
+ *                       are zero if there is no piece, which is so exactly if sovzedal_typecheck accepts the sheet or refuses it by 13. Zero is a term's
+ *                       number, too, so go by the fault or the count
+ * sovzedal_typecheck tells the first fault that it meets and stops there. The piece may be another, behind that one, and then has fewer terms, or as many
+ * and a lower number. Other faults may be behind the piece, too: mend it and ask again.
+ * Refusals: 1 to 8, then 31, as of sovzedal_decode. */
+uint32_t sovzedal_piece(const uint8_t *sheet, size_t sheet_len,
+                        uint32_t *answer, size_t answer_len);
 
 /* Why an accepted sheet needs a privilege: a chain of terms from the root, each a child of the one before and with the privilege among its own needs,
  * down to the cause. That is a check of the privilege, a post on a channel that it guards, or a call or letrec whose latent set holds it: the set of the

@@ -13,6 +13,7 @@ ghost use Rattle.irrelevance.specs.Naming.{naming};
 ghost use Rattle.capi_names.specs.Entries.{namesReply};
 ghost use Rattle.capi_compare.specs.Entries.{compareCall};
 ghost use Rattle.capi_record.specs.Entries.{recordCall, leftRecord};
+ghost use Rattle.capi_piece.specs.Entries.{pieceReply};
 ghost use Rattle.capi.specs.Blocks.{blockRead, leftBlock, blockWrite};
 
 mod block;
@@ -284,4 +285,12 @@ pub extern "C" fn sovzedal_compare(unit: &[u8], office: &[u8], answer: &mut [u32
     ensures { λ r. ⌜ left r (now (answer .exit)) ≡ compareCall (now (unit .entry)) (now (office .entry)) (now (answer .entry)) ⌝ }
 {
     capi_compare::compare(unit, office, answer)
+}
+
+// The smallest faulty piece of a sheet, with the place of its record.
+#[no_mangle]
+pub extern "C" fn sovzedal_piece(sheet: &[u8], answer: &mut [u32]) -> u32
+    ensures { λ r. ⌜ left r (now (answer .exit)) ≡ replied (now (answer .entry)) (pieceReply (now (sheet .entry))) ⌝ }
+{
+    capi_piece::piece(sheet, answer)
 }

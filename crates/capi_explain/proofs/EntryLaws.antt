@@ -17,7 +17,8 @@ use Rattle.replies.specs.Replies.{short}
 use Rattle.replies.specs.Internal.{replyOf}
 use Rattle.replies.specs.Laws.{in-place}
 use Rattle.replies.specs.declared.Reply.{Reply}
-use Rattle.explain.specs.Explaining.{Placed, placedNumber, next, onward, chain, rootOf, chainOf, Explained as ExplainedOf, traced, tracedIn, explainedBy, explanation}
+use Rattle.typing.specs.Places.{Placed, placedNumber, rootOf}
+use Rattle.explain.specs.Explaining.{next, onward, chain, chainOf, Explained as ExplainedOf, traced, tracedIn, explainedBy, explanation}
 use Rattle.explain.specs.Answers.{answerModel, chainTerms, padded, chainLength, Told}
 use Rattle.explain.specs.declared.answer.Explanation.{Explanation}
 use Rattle.explain.specs.declared.answer.Explanation.the-variants.{Chain, NotNeeded, Unreadable, Refused, NoPrivilege}

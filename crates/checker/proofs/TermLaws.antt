@@ -43,7 +43,7 @@ pub past-ten : (k : ℕ) → 3 ≤ k → (k ≡ 3 → ⊥) → (k ≡ 4 → ⊥)
 past-ten k h n3 n4 n5 n6 n7 n8 n9 n10 = up n10 (up n9 (up n8 (up n7 (up n6 (up n5 (up n4 (up n3 h)))))))
 
 -- one of three numbers from m on
-three-of : (m k : ℕ) → m ≤ k → k < m + 3 → (k ≡ m) ⊎ ((k ≡ m + 1) ⊎ (k ≡ m + 2))
+pub three-of : (m k : ℕ) → m ≤ k → k < m + 3 → (k ≡ m) ⊎ ((k ≡ m + 1) ⊎ (k ≡ m + 2))
 three-of m k h g =
     ⊎-elim (λ e. inl (sym e)) (λ l. inr (⊎-elim (λ e. inl (omega arith)) (λ l2. inr (omega arith)) (eq-or-lt-of-le {n = m + 1} {m = k} (omega arith))))
     (eq-or-lt-of-le {n = m} {m = k} h)
@@ -269,7 +269,7 @@ module _ {s : List ℕ} {c : Counts} {l : List ℕ} {t : ℕ} {b : Bindings} {n 
 
   -- ---- what judging gives
   module _ (Γ : List ℕ) where
-    abbrev J : ℕ → Judgement
+    abbrev pub J : ℕ → Judgement
     J y = termJudgement s Γ n y
 
     pub leaf-is : {r : Judgement} → x .kind < 3 → r ≡ leafStep x t Γ → r ≡ J t
@@ -281,14 +281,14 @@ module _ {s : List ℕ} {c : Counts} {l : List ℕ} {t : ℕ} {b : Bindings} {n 
         go (inr (inl e)) = rw e (sym (inferred-as Number (named e) Γ n))
         go (inr (inr e)) = rw e (sym (inferred-as Variable (named e) Γ n))
 
-    check-as : x .kind ≡ 7 → J t ≡ checkStep (x .small) (J (x .first))
+    pub check-as : x .kind ≡ 7 → J t ≡ checkStep (x .small) (J (x .first))
     unfolding termJudgement infer checkStep
     check-as e = inferred-as Check (named e) Γ n
 
     pub check-is : x .kind ≡ 7 → {j r : Judgement} → j ≡ J (x .first) → r ≡ checkStep (x .small) j → r ≡ J t
     check-is e p q = ends (checkStep (x .small)) p (check-as e) q
 
-    enable-as : x .kind ≡ 8 → {may : ℕ} → may ≡ authorityRecord s n → J t ≡ enableStep may (x .small) (J (x .first))
+    pub enable-as : x .kind ≡ 8 → {may : ℕ} → may ≡ authorityRecord s n → J t ≡ enableStep may (x .small) (J (x .first))
     unfolding termJudgement infer enableStep removeAuthorised
     enable-as e a =
         inferred-as Enable (named e) Γ n
@@ -297,7 +297,7 @@ module _ {s : List ℕ} {c : Counts} {l : List ℕ} {t : ℕ} {b : Bindings} {n 
     pub enable-is : x .kind ≡ 8 → {may : ℕ} → may ≡ authorityRecord s n → {j r : Judgement} → j ≡ J (x .first) → r ≡ enableStep may (x .small) j → r ≡ J t
     enable-is e {may} a p q = ends (enableStep may (x .small)) p (enable-as e a) q
 
-    sign-as : x .kind ≡ 9 → {may : ℕ} → may ≡ authorityRecord s (x .small) → J t ≡ signStep may t (termJudgement s Γ (x .small) (x .first))
+    pub sign-as : x .kind ≡ 9 → {may : ℕ} → may ≡ authorityRecord s (x .small) → J t ≡ signStep may t (termJudgement s Γ (x .small) (x .first))
     unfolding termJudgement infer signStep
     sign-as e a =
         inferred-as Sign (named e) Γ n
@@ -307,7 +307,7 @@ module _ {s : List ℕ} {c : Counts} {l : List ℕ} {t : ℕ} {b : Bindings} {n 
         ≡ signStep may t j → r ≡ J t
     sign-is e {may} a p q = ends (signStep may t) p (sign-as e a) q
 
-    post-as : x .kind ≡ 14 → {g : ℕ} → g ≡ guardRecord s c (x .small) → J t ≡ postStep (guardIn g) t (J (x .first))
+    pub post-as : x .kind ≡ 14 → {g : ℕ} → g ≡ guardRecord s c (x .small) → J t ≡ postStep (guardIn g) t (J (x .first))
     unfolding termJudgement infer postStep
     post-as e a = inferred-as Post (named e) Γ n ∙ ap (λ (g : ℕ). postStep (guardIn g) t (J (x .first))) (sym (post-guard e a))
 
@@ -315,10 +315,10 @@ module _ {s : List ℕ} {c : Counts} {l : List ℕ} {t : ℕ} {b : Bindings} {n 
     post-is e {g} a p q = ends (postStep (guardIn g) t) p (post-as e a) q
 
     -- ---- two children
-    abbrev test-rest : (τ N : ℕ) → Judgement
+    abbrev pub test-rest : (τ N : ℕ) → Judgement
     test-rest τ N = testStep (typesOf s) (x .small) t τ N (J (x .second))
 
-    test-as : x .kind ≡ 10 → J t ≡ (J (x .first) next test-rest)
+    pub test-as : x .kind ≡ 10 → J t ≡ (J (x .first) next test-rest)
     unfolding termJudgement infer testStep
     test-as e = inferred-as Test (named e) Γ n
 
@@ -329,10 +329,10 @@ module _ {s : List ℕ} {c : Counts} {l : List ℕ} {t : ℕ} {b : Bindings} {n 
         → r ≡ testStep (typesOf s) (x .small) t τ N k → r ≡ J t
     test-is e {τ = τ} {N = N} h p q r = ends (testStep (typesOf s) (x .small) t τ N) q (goes test-rest (test-as e) h p) r
 
-    abbrev call-rest : (φ N : ℕ) → Judgement
+    abbrev pub call-rest : (φ N : ℕ) → Judgement
     call-rest φ N = callStep (typesOf s) t φ N (J (x .second))
 
-    call-as : x .kind ≡ 5 → J t ≡ (J (x .first) next call-rest)
+    pub call-as : x .kind ≡ 5 → J t ≡ (J (x .first) next call-rest)
     unfolding termJudgement infer callStep
     call-as e = inferred-as Call (named e) Γ n
 
@@ -343,10 +343,10 @@ module _ {s : List ℕ} {c : Counts} {l : List ℕ} {t : ℕ} {b : Bindings} {n 
         → r ≡ callStep (typesOf s) t φ N k → r ≡ J t
     call-is e {φ = φ} {N = N} h p q r = ends (callStep (typesOf s) t φ N) q (goes call-rest (call-as e) h p) r
 
-    abbrev binary-rest : (τ N : ℕ) → Judgement
+    abbrev pub binary-rest : (τ N : ℕ) → Judgement
     binary-rest τ N = binaryStep (resultOf (x .kind)) t τ N (J (x .second))
 
-    binary-as : 11 ≤ x .kind → x .kind < 14 → J t ≡ (J (x .first) next binary-rest)
+    pub binary-as : 11 ≤ x .kind → x .kind < 14 → J t ≡ (J (x .first) next binary-rest)
     unfolding termJudgement infer binaryStep resultOf
     binary-as l u = go (three-of 11 (x .kind) l u)
       where
@@ -365,13 +365,13 @@ module _ {s : List ℕ} {c : Counts} {l : List ℕ} {t : ℕ} {b : Bindings} {n 
         ends (binaryStep (resultOf (x .kind)) t τ N) q (goes binary-rest (binary-as l u) h p) (r ∙ ap (λ (z : ℕ). binaryStep z t τ N k) m)
 
     -- ---- three children
-    abbrev branch-rest : (σ N τ M : ℕ) → Judgement
+    abbrev pub branch-rest : (σ N τ M : ℕ) → Judgement
     branch-rest σ N τ M = ifStep (typesOf s) t σ N τ M (J (x .third))
 
-    abbrev if-rest : (σ N : ℕ) → Judgement
+    abbrev pub if-rest : (σ N : ℕ) → Judgement
     if-rest σ N = J (x .second) next branch-rest σ N
 
-    if-as : x .kind ≡ 6 → J t ≡ (J (x .first) next if-rest)
+    pub if-as : x .kind ≡ 6 → J t ≡ (J (x .first) next if-rest)
     unfolding termJudgement infer ifStep
     if-as e = inferred-as If (named e) Γ n
 
@@ -401,22 +401,36 @@ module _ {s : List ℕ} {c : Counts} {l : List ℕ} {t : ℕ} {b : Bindings} {n 
           → typesOf s .arg (x .first) ∷ Δ ≡ context inner
       argument-is h p q = sym (p .context-is ∙ λ i. parts-of h .arg-is i ∷ q i)
 
-      function-as : x .kind ≡ 3 → {inner : Bindings} → Pushed b (f .arg) inner → J t
-          ≡ functionStep f (x .first) t (termJudgement s (context inner) n (x .second))
+      pub function-step : x .kind ≡ 3 → J t ≡ functionStep f (x .first) t (termJudgement s (typesOf s .arg (x .first) ∷ Γ) n (x .second))
       unfolding termJudgement infer functionStep
-      function-as e p =
+      function-step e =
           let h : typesOf s .isFun (x .first) ≡ true = first-as Function (named e) in
           inferred-as Function (named e) Γ n
-          ∙ λ i. termJudgement s (argument-is h p same i) n (x .second) next λ τ N. body-as h τ N (typed (x .first) 0) i
+          ∙ λ i. termJudgement s (typesOf s .arg (x .first) ∷ Γ) n (x .second) next λ τ N. body-as h τ N (typed (x .first) 0) i
+
+      function-as : x .kind ≡ 3 → {inner : Bindings} → Pushed b (f .arg) inner → J t
+          ≡ functionStep f (x .first) t (termJudgement s (context inner) n (x .second))
+      function-as e p =
+          let h : typesOf s .isFun (x .first) ≡ true = first-as Function (named e) in
+          function-step e ∙ ap (λ (Δ : List ℕ). functionStep f (x .first) t (termJudgement s Δ n (x .second))) (argument-is h p same)
 
       pub function-is : x .kind ≡ 3 → {inner : Bindings} → Pushed b (f .arg) inner → {j r : Judgement} → j ≡ termJudgement s (context inner) n (x .second)
           → r ≡ functionStep f (x .first) t j → r ≡ J t
       function-is e p q r = ends (functionStep f (x .first) t) q (function-as e p) r
 
-      module _ (e : x .kind ≡ 4) {outer inner : Bindings} (po : Pushed b (x .first) outer) (pi : Pushed outer (f .arg) inner) where
-        function-type : typesOf s .isFun (x .first) ≡ true
-        function-type = first-as Letrec (named e)
+      -- a letrec's body and its rest, in the bindings that they have there
+      abbrev letrec-then : (body rest : List ℕ) → Judgement
+      letrec-then body rest = termJudgement s body n (x .second) next λ τ N. letrecStep f t τ N (termJudgement s rest n (x .third))
 
+      pub letrec-step : x .kind ≡ 4 → J t ≡ letrec-then (typesOf s .arg (x .first) ∷ x .first ∷ Γ) (x .first ∷ Γ)
+      unfolding termJudgement infer letrecStep
+      letrec-step e =
+          let h : typesOf s .isFun (x .first) ≡ true = first-as Letrec (named e) in
+          inferred-as Letrec (named e) Γ n
+          ∙ λ i. termJudgement s (typesOf s .arg (x .first) ∷ x .first ∷ Γ) n (x .second) next λ τ N. termJudgement s (x .first ∷ Γ) n (x .third) next λ ρ M.
+          body-as h τ N (typed ρ (union (sym (parts-of h .latent-is) i) M)) i
+
+      module _ (e : x .kind ≡ 4) {outer inner : Bindings} (po : Pushed b (x .first) outer) (pi : Pushed outer (f .arg) inner) where
         outer-is : context outer ≡ x .first ∷ Γ
         outer-is = po .context-is ∙ λ i. x .first ∷ same i
 
@@ -424,11 +438,7 @@ module _ {s : List ℕ} {c : Counts} {l : List ℕ} {t : ℕ} {b : Bindings} {n 
         letrec-after τ N = letrecStep f t τ N (termJudgement s (context outer) n (x .third))
 
         letrec-as : J t ≡ (termJudgement s (context inner) n (x .second) next letrec-after)
-        unfolding termJudgement infer letrecStep
-        letrec-as =
-            inferred-as Letrec (named e) Γ n
-            ∙ λ i. termJudgement s (argument-is function-type pi outer-is i) n (x .second) next λ τ N. termJudgement s (sym outer-is i) n (x .third) next λ ρ M.
-            body-as function-type τ N (typed ρ (union (sym (parts-of function-type .latent-is) i) M)) i
+        letrec-as = letrec-step e ∙ λ i. letrec-then (argument-is (first-as Letrec (named e)) pi outer-is i) (sym outer-is i)
 
         pub letrec-stops : (j : Inferred) → inferredModel j ≡ termJudgement s (context inner) n (x .second) → tagOf the-type j ≡ 1 → inferredModel j ≡ J t
         letrec-stops j p h = stops letrec-after letrec-as j p h

@@ -23,8 +23,9 @@ use Rattle.rules.specs.Steps.{callStep}
 use Rattle.rules.specs.Laws.Records.{type-parts}
 use Rattle.rules.specs.declared.bindings.Bindings.{Bindings}
 use Rattle.checker.proofs.TermLaws.{post-guard, call-is}
-use Rattle.explain.specs.Explaining.{placed, needing, latentOf, needs, isCause}
-use Rattle.explain.proofs.PlaceLaws.{_and_, all, among, at-record, most, term-of, tree-is}
+use Rattle.typing.specs.Places.{placed}
+use Rattle.explain.specs.Explaining.{needing, latentOf, needs, isCause}
+use Rattle.places.proofs.PlaceLaws.{_and_, all, among, at-record, most, term-of, tree-is}
 
 -- the latent set of a function type is that of its record
 pub latent-is : {s : List ℕ} {c : Counts} (S : Sheet s c) (p ty : ℕ) → typesOf s .isFun ty ≡ true → {f : TypeRecord} → f ≡ typeRecord s c ty → {r : Bool}

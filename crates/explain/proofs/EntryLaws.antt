@@ -22,7 +22,8 @@ use Rattle.typing.specs.declared.answer.Fault.{Fault}
 use Rattle.typing.specs.declared.answer.Verdict.{Verdict as VerdictAnswer}
 use Rattle.typing.specs.declared.answer.Verdict.the-variants as answer
 use Rattle.rules.specs.Inference.{Sheet}
-use Rattle.explain.specs.Explaining.{placedNumber, needing, needs, rootOf, chainOf, Explained as ExplainedOf, explained, not-needed, refused, tracedIn, explainedBy, explanation}
+use Rattle.typing.specs.Places.{placedNumber, rootOf}
+use Rattle.explain.specs.Explaining.{needing, needs, chainOf, Explained as ExplainedOf, explained, not-needed, refused, tracedIn, explainedBy, explanation}
 use Rattle.explain.specs.Answers.{answerModel, chainTerms, chainLength, Told}
 use Rattle.explain.specs.Internal.{RootNeeds, Traceable, unchained}
 use Rattle.explain.specs.declared.answer.Explanation.{Explanation}

@@ -1,4 +1,3 @@
-pub mod PlaceLaws
 pub mod CauseLaws
 pub mod NextLaws
 pub mod TraceLaws

@@ -5,21 +5,30 @@ use mathlib.Core.List.{List, [], _∷_}
 use mathlib.Core.Option.{Option, none, some}
 use mathlib.Core.Path.{_≡_, refl, sym, ap, _∙_}
 use Prim.Native.Nat.{ℕ, _<_}
+use native.Mathlib.Omega.{arith}
 use lib.Dec.{eqb}
+use borrow.Author.Tests.{eq-eqb, ne-eqb}
 use denote.Enum.Declared.{tagOf}
 use Rattle.privileges.specs.Sets.{has}
 use Rattle.program.specs.Layout.{Types, authority, typesOf}
-use Rattle.program.specs.Terms.{boolean, number, variable, function, letrec, call, if, check, enable, sign, test, binary, post}
+use Rattle.program.specs.Terms.{Term, boolean, number, variable, function, letrec, call, if, check, enable, sign, test, binary, post, tree}
+use Rattle.program.specs.Records.{termRecord}
 use Rattle.program.specs.declared.records.Counts.{Counts}
+use Rattle.program.specs.declared.records.TermRecord.{TermRecord}
 use Rattle.typing.specs.declared.answer.Inferred.{Inferred}
 use Rattle.typing.specs.declared.answer.Inferred.the-variants.{Typed}
 use Rattle.typing.proofs.answer.Inferred.{the-type}
-use Rattle.rules.specs.Inference.{inferredModel, context, termJudgement}
+use Rattle.rules.specs.Inference.{inferredModel, context, termJudgement, Ready}
+use Rattle.rules.specs.declared.bindings.Bindings.{Bindings}
 use Rattle.rules.specs.Known.{Answered}
-use Rattle.explain.specs.Explaining.{Placed, placed, needing, needs, followed, firstNeeding, next}
-use Rattle.explain.specs.Internal.{placedAt, Children, childrenOf, childrenAt, childAt, Reached, causeAt, nextAt, neededBy, Stepped}
-use Rattle.explain.specs.declared.places.Place.{Place}
-use Rattle.explain.specs.declared.places.Child.{Child}
+use Rattle.typing.specs.Places.{Placed, placed}
+use Rattle.explain.specs.Explaining.{needing, needs, testsIt, followed, firstNeeding, next}
+use Rattle.places.specs.Internal.{placedAt, Children, childrenOf, childAt, Reached}
+use Rattle.explain.specs.Internal.{followedOf, followedAt, causeAt, nextAt, neededBy, Stepped}
+use Rattle.places.specs.declared.Place.{Place}
+use Rattle.places.specs.declared.Child.{Child}
+use Rattle.places.proofs.PlaceLaws as each
+use Rattle.places.proofs.PlaceLaws.{_and_, all, most, term-of, tree-is}
 use Rattle.explain.proofs.CauseLaws.{untyped-needs}
 
 -- ---- the children that are followed, in order
@@ -38,7 +47,7 @@ tested : (z : Bool) (x y : Placed) → cond z (y ∷ []) (x ∷ y ∷ []) ≡ li
 tested true x y = refl
 tested false x y = refl
 
-followed-is : (T : Types) (A : ℕ → ℕ) (p : ℕ) (x : Placed) → followed T A p x ≡ those (in-order (childrenOf T p x))
+followed-is : (T : Types) (A : ℕ → ℕ) (p : ℕ) (x : Placed) → followed T A p x ≡ those (in-order (followedOf T A p x))
 unfolding followed
 followed-is T A p (placed Γ n (boolean at b)) = refl
 followed-is T A p (placed Γ n (number at k)) = refl
@@ -53,6 +62,36 @@ followed-is T A p (placed Γ n (sign at m c)) = refl
 followed-is T A p (placed Γ n (test at q y o)) = tested (eqb q p) (placed Γ n y) (placed Γ n o)
 followed-is T A p (placed Γ n (binary at op a b)) = refl
 followed-is T A p (placed Γ n (post at ch g c)) = refl
+
+-- ---- the first child, which is not followed where the term is a test of the privilege
+module _ {s : List ℕ} {c : Counts} {t : ℕ} {b : Bindings} {n : ℕ} (R : Ready s c t b n) {x : TermRecord} (h : x ≡ termRecord s c t) (p : ℕ) where
+  abbrev tests : Term → Bool
+  tests z = testsIt (typesOf s) (authority s) p z
+
+  abbrev first-of : Bool → Option Placed
+  first-of z = cond z none (childrenOf (typesOf s) (placed (context b) n (tree s t)) .first)
+
+  pub yes-branch : x .kind ≡ 10 → x .small ≡ p → {r : Child} → r .present ≡ false → Reached s c t r (first-of (tests (tree s t)))
+  yes-branch e q f = record {
+    is = rw f (ap first-of (sym (ap tests (tree-is R h e) ∙ eq-eqb (x .small) p q)));
+    lower = λ g. absurd (true≢false (sym g ∙ f));
+    ready = λ g. absurd (true≢false (sym g ∙ f));
+  }
+
+  first-kept : tests (tree s t) ≡ false → {r : Child} → Reached s c t r (first-of false) → Reached s c t r (first-of (tests (tree s t)))
+  first-kept q w = record { is = w .is ∙ ap first-of (sym q); lower = w .lower; ready = w .ready }
+
+  pub other-test : x .kind ≡ 10 → (x .small ≡ p → ⊥) → {r : Child} → Reached s c t r (first-of false) → Reached s c t r (first-of (tests (tree s t)))
+  other-test e q w = first-kept (ap tests (tree-is R h e) ∙ ne-eqb (x .small) p q) w
+
+  other : {k : ℕ} → tests (term-of R h k) ≡ false → x .kind ≡ k → tests (tree s t) ≡ false
+  other q e = ap tests (tree-is R h e) ∙ q
+
+  pub no-test : (x .kind ≡ 10 → ⊥) → {r : Child} → Reached s c t r (first-of false) → Reached s c t r (first-of (tests (tree s t)))
+  no-test n10 w = first-kept (each.among {P = λ k. x .kind ≡ k → tests (tree s t) ≡ false} {m = 0} {n = 15}
+      (other refl and other refl and other refl and other refl and other refl and other refl and other refl and other refl and other refl and other refl
+      and (λ e. absurd (n10 e)) and other refl and other refl and other refl and other refl and all)
+      (x .kind) (omega arith) (omega (arith, most R h)) refl) w
 
 -- ---- whether a child needs the privilege
 pub absent-needs : (s : List ℕ) (p : ℕ) (y : Child) → y .present ≡ false → false ≡ neededBy s p (childAt s y)
@@ -95,12 +134,12 @@ cause-ends p at a e f = record { is = rw (f, sym (a .is) ∙ e); following = λ 
 
 -- else one of the children is the next
 pub all-left : (s : List ℕ) (p : ℕ) (at : Place) {l : List ℕ} {z : Bool} → Answered (typesOf s) z (causeAt s p at) l → z ≡ false
-    → Left s p (nextAt s p at) (in-order (childrenAt s p at))
+    → Left s p (nextAt s p at) (in-order (followedAt s p at))
 unfolding next
 all-left s p at a e = record { due-is = rw (sym (a .is) ∙ e) (ap (among s p) (followed-is (typesOf s) (authority s) p (placedAt s at))) }
 
-module _ {s : List ℕ} {c : Counts} {p : ℕ} {o : Option Placed} {os : List (Option Placed)} {due : Option Placed} {y : Child} {l : List ℕ} {z : Bool}
-    (q : Left s p due (o ∷ os)) (w : Reached s c y o) (a : Answered (typesOf s) z (neededBy s p (childAt s y)) l) where
+module _ {s : List ℕ} {c : Counts} {p t : ℕ} {o : Option Placed} {os : List (Option Placed)} {due : Option Placed} {y : Child} {l : List ℕ} {z : Bool}
+    (q : Left s p due (o ∷ os)) (w : Reached s c t y o) (a : Answered (typesOf s) z (neededBy s p (childAt s y)) l) where
   needed-is : neededBy s p o ≡ z
   needed-is = ap (neededBy s p) (sym (w .is)) ∙ sym (a .is)
 

@@ -8,41 +8,22 @@ use native.Mathlib.Omega.{arith}
 use lib.ListN.{length, take, set, replicate, length-append}
 use lib.Seq.{set-append-seam, take-at}
 use Rattle.program.specs.Limits.{maxTypes, maxNesting}
-use Rattle.program.specs.Layout.{kindByte, small, first, second, third, guardOf, authority, typesOf}
-use Rattle.program.specs.Formats.{Kind, Boolean, Number, Variable, Function, Letrec, Call, If, Check, Enable, Sign, Test, Sum, Difference, Less, Post, kindOf}
-use Rattle.program.specs.Terms.{Term, node, treeTo, tree}
+use Rattle.program.specs.Layout.{authority, typesOf}
+use Rattle.program.specs.Terms.{tree}
 use Rattle.program.specs.declared.records.Counts.{Counts}
 use Rattle.rules.specs.Inference.{lastFirst, context}
 use Rattle.rules.specs.declared.bindings.Bindings.{Bindings}
 use Rattle.rules.proofs.KnownLaws.{known-none}
 use Rattle.checker.proofs.VerdictLaws.{root-ready}
-use Rattle.explain.specs.Explaining.{Placed, placed, placedNumber, numberOf, needs, next, onward, chain, chainOf, rootOf, explained}
+use Rattle.typing.specs.Places.{Placed, placed, placedNumber, rootOf}
+use Rattle.typing.specs.Laws.Places.{tree-number}
+use Rattle.explain.specs.Explaining.{needs, next, onward, chain, chainOf, explained}
 use Rattle.explain.specs.Answers.{Told}
-use Rattle.explain.specs.Internal.{placedAt, nextAt, Following, Stepped, Traceable}
+use Rattle.places.specs.Internal.{placedAt}
+use Rattle.explain.specs.Internal.{nextAt, Following, Stepped, Traceable}
 use Rattle.explain.specs.declared.answer.Explanation.the-variants.{Chain}
-use Rattle.explain.specs.declared.places.Place.{Place}
-use Rattle.explain.specs.declared.places.Child.{Child}
-
--- ---- a term's own number
-node-number : (g : ℕ → Option ℕ) (K : Kind) (t x a b c : ℕ) (f : ℕ → Term) → numberOf (node g K t x a b c f) ≡ t
-node-number g Boolean t x a b c f = refl
-node-number g Number t x a b c f = refl
-node-number g Variable t x a b c f = refl
-node-number g Function t x a b c f = refl
-node-number g Letrec t x a b c f = refl
-node-number g Call t x a b c f = refl
-node-number g If t x a b c f = refl
-node-number g Check t x a b c f = refl
-node-number g Enable t x a b c f = refl
-node-number g Sign t x a b c f = refl
-node-number g Test t x a b c f = refl
-node-number g Sum t x a b c f = refl
-node-number g Difference t x a b c f = refl
-node-number g Less t x a b c f = refl
-node-number g Post t x a b c f = refl
-
-tree-number : (s : List ℕ) (t : ℕ) → numberOf (tree s t) ≡ t
-tree-number s t = node-number (guardOf s) (kindOf (kindByte s t)) t (small s t) (first s t) (second s t) (third s t) (λ x. treeTo s t x)
+use Rattle.places.specs.declared.Place.{Place}
+use Rattle.places.specs.declared.Child.{Child}
 
 -- ---- so many terms are written, and of the chain's numbers those of `rest` follow, of which so many can be written that are left
 abbrev numbers : List Placed → List ℕ

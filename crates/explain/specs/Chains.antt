@@ -8,12 +8,8 @@ use Rattle.privileges.specs.Sets.{has}
 use Rattle.program.specs.Layout.{Types}
 use Rattle.program.specs.Terms.{Term, letrec, call, check, post}
 use Rattle.typing.specs.Checking.{typed, infer}
-use Rattle.explain.specs.Explaining.{Placed, placed, needs}
-
--- x is one of the list
-pub data Among (x : Placed) : List Placed → Type 0 where
-  among-first : {l : List Placed} → Among x (x ∷ l)
-  among-later : {z : Placed} {l : List Placed} → Among x l → Among x (z ∷ l)
+use Rattle.typing.specs.Places.{Placed, placed}
+use Rattle.explain.specs.Explaining.{needs}
 
 -- y stands right after x
 pub data Neighbours (x y : Placed) : List Placed → Type 0 where

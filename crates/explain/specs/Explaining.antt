@@ -8,51 +8,10 @@ use lib.Dec.{eqb, leb}
 use Rattle.privileges.specs.Sets.{has}
 use Rattle.program.specs.Limits.{maxNesting}
 use Rattle.program.specs.Layout.{Types, authority, typesOf}
-use Rattle.program.specs.Terms.{Term, boolean, number, variable, function, letrec, call, if, check, enable, sign, test, binary, post, program, contains}
+use Rattle.program.specs.Terms.{Term, boolean, number, variable, function, letrec, call, if, check, enable, sign, test, binary, post, contains}
+use Rattle.typing.specs.Places.{Placed, placed, placedNumber, childrenIn, rootOf}
 use Rattle.typing.specs.Checking.{Judgement, typed, fault, infer}
 use Rattle.typing.specs.Verdicts.{Verdict, accepted, rejected, verdict}
-
--- a term with the bindings and the principal that it has in the sheet
-pub data Placed : Type 0 where
-  placed : (Γ : List ℕ) (n : ℕ) (c : Term) → Placed
-
--- a term's number
-abbrev pub numberOf : Term → ℕ
-numberOf (boolean at b) = at
-numberOf (number at n) = at
-numberOf (variable at i) = at
-numberOf (function at ty body) = at
-numberOf (letrec at ty body rest) = at
-numberOf (call at f a) = at
-numberOf (if at c y o) = at
-numberOf (check at p c) = at
-numberOf (enable at p c) = at
-numberOf (sign at n c) = at
-numberOf (test at p y o) = at
-numberOf (binary at op a b) = at
-numberOf (post at ch g c) = at
-
-abbrev pub placedNumber : Placed → ℕ
-placedNumber (placed Γ n c) = numberOf c
-
--- a term's children by their position, first, second, third: a binder's have its bindings before the others, and a sign's has the sign's principal
-abbrev pub childrenIn : Types → (Γ : List ℕ) (n : ℕ) → Term → List Placed
-childrenIn T Γ n (boolean at b) = []
-childrenIn T Γ n (number at k) = []
-childrenIn T Γ n (variable at i) = []
-childrenIn T Γ n (function at ty body) = placed (T .arg ty ∷ Γ) n body ∷ []
-childrenIn T Γ n (letrec at ty body rest) = placed (T .arg ty ∷ ty ∷ Γ) n body ∷ placed (ty ∷ Γ) n rest ∷ []
-childrenIn T Γ n (call at f a) = placed Γ n f ∷ placed Γ n a ∷ []
-childrenIn T Γ n (if at c y o) = placed Γ n c ∷ placed Γ n y ∷ placed Γ n o ∷ []
-childrenIn T Γ n (check at q c) = placed Γ n c ∷ []
-childrenIn T Γ n (enable at q c) = placed Γ n c ∷ []
-childrenIn T Γ n (sign at m c) = placed Γ m c ∷ []
-childrenIn T Γ n (test at q y o) = placed Γ n y ∷ placed Γ n o ∷ []
-childrenIn T Γ n (binary at op a b) = placed Γ n a ∷ placed Γ n b ∷ []
-childrenIn T Γ n (post at ch g c) = placed Γ n c ∷ []
-
-unfoldable pub children : Types → Placed → List Placed
-children T (placed Γ n c) = childrenIn T Γ n c
 
 -- whether a privilege is among the needs of a judgement, and in the latent set of its type
 abbrev pub needing : (p : ℕ) → Judgement → Bool
@@ -141,9 +100,6 @@ pub data Explained : Type 0 where
   explained : (terms : List ℕ) → Explained
   not-needed : Explained
   refused : (cause place : ℕ) → Explained
-
-abbrev pub rootOf : List ℕ → Placed
-rootOf s = placed [] 0 (program s)
 
 unfoldable pub chainOf : List ℕ → (p : ℕ) → List Placed
 chainOf s p = chain (typesOf s) (authority s) p maxNesting (rootOf s)

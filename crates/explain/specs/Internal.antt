@@ -1,76 +1,34 @@
 -- What the contracts of internal functions say. No reader of the public promise needs this file.
 use mathlib.Core.Bool.{Bool, true, false, cond}
-use mathlib.Core.List.{List, _∷_}
+use mathlib.Core.List.{List}
 use mathlib.Core.Option.{Option, none, some}
 use mathlib.Core.Path.{_≡_}
 use Prim.Native.Nat.{ℕ, _<_}
-use lib.Dec.{eqb}
 use lib.ListN.{replicate}
 use Rattle.privileges.specs.Sets.{has}
 use Rattle.program.specs.Limits.{maxNesting}
 use Rattle.program.specs.Layout.{Types, authority, typesOf}
-use Rattle.program.specs.Terms.{boolean, number, variable, function, letrec, call, if, check, enable, sign, test, binary, post, tree}
 use Rattle.program.specs.declared.records.Counts.{Counts}
-use Rattle.rules.specs.Inference.{context, Sheet, Ready}
+use Rattle.rules.specs.Inference.{Sheet}
 use Rattle.rules.specs.Known.{Known}
-use Rattle.rules.specs.declared.bindings.Bindings.{Bindings}
-use Rattle.explain.specs.Explaining.{Placed, placed, needs, isCause, next, rootOf}
+use Rattle.typing.specs.Places.{Placed, placed, rootOf}
+use Rattle.explain.specs.Explaining.{needs, isCause, testsIt, next}
 use Rattle.explain.specs.declared.answer.Explanation.{Explanation}
 use Rattle.explain.specs.declared.answer.Explained.{Explained}
-use Rattle.explain.specs.declared.places.Place.{Place}
-use Rattle.explain.specs.declared.places.Child.{Child}
+use Rattle.places.specs.Internal.{placedAt, ReadyPlace, Children, childrenOf, childAt}
+use Rattle.places.specs.declared.Place.{Place}
+use Rattle.places.specs.declared.Child.{Child}
 
--- ---- places
--- the term that stands at a place
-abbrev pub placedAt : List ℕ → Place → Placed
-placedAt s x = placed (context (x .bindings)) (x .principal) (tree s (x .term))
+-- ---- the children that may be followed for privilege p: the first child of a test of p is its yes-branch
+abbrev pub followedOf : Types → (A : ℕ → ℕ) → (p : ℕ) → Placed → Children
+followedOf T A p (placed Γ n c) = record {
+  first = cond (testsIt T A p c) none (childrenOf T (placed Γ n c) .first);
+  second = childrenOf T (placed Γ n c) .second;
+  third = childrenOf T (placed Γ n c) .third;
+}
 
--- what judging it asks
-abbrev pub ReadyPlace : List ℕ → Counts → Place → Type 0
-ReadyPlace s c x = Ready s c (x .term) (x .bindings) (x .principal)
-
-abbrev pub present : (t : ℕ) → Bindings → (n : ℕ) → Child
-present t b n = record { present = true; place = record { term = t; bindings = b; principal = n } }
-
--- ---- children by their position
-pub record Children : Type 0 where
-  pub first : Option Placed
-  pub second : Option Placed
-  pub third : Option Placed
-
-abbrev children : (first second third : Option Placed) → Children
-children x y z = record { first = x; second = y; third = z }
-
--- those that may be followed for privilege p
-abbrev pub childrenOf : Types → (p : ℕ) → Placed → Children
-childrenOf T p (placed Γ n (boolean at b)) = children none none none
-childrenOf T p (placed Γ n (number at k)) = children none none none
-childrenOf T p (placed Γ n (variable at i)) = children none none none
-childrenOf T p (placed Γ n (function at ty body)) = children none (some (placed (T .arg ty ∷ Γ) n body)) none
-childrenOf T p (placed Γ n (letrec at ty body rest)) = children none (some (placed (T .arg ty ∷ ty ∷ Γ) n body)) (some (placed (ty ∷ Γ) n rest))
-childrenOf T p (placed Γ n (call at f a)) = children (some (placed Γ n f)) (some (placed Γ n a)) none
-childrenOf T p (placed Γ n (if at c y o)) = children (some (placed Γ n c)) (some (placed Γ n y)) (some (placed Γ n o))
-childrenOf T p (placed Γ n (check at q c)) = children (some (placed Γ n c)) none none
-childrenOf T p (placed Γ n (enable at q c)) = children (some (placed Γ n c)) none none
-childrenOf T p (placed Γ n (sign at m c)) = children (some (placed Γ m c)) none none
-childrenOf T p (placed Γ n (test at q y o)) = children (cond (eqb q p) none (some (placed Γ n y))) (some (placed Γ n o)) none
-childrenOf T p (placed Γ n (binary at op a b)) = children (some (placed Γ n a)) (some (placed Γ n b)) none
-childrenOf T p (placed Γ n (post at ch g c)) = children (some (placed Γ n c)) none none
-
-abbrev pub childrenAt : List ℕ → (p : ℕ) → Place → Children
-childrenAt s p x = childrenOf (typesOf s) p (placedAt s x)
-
-abbrev pub given : Bool → Placed → Option Placed
-given true x = some x
-given false x = none
-
-abbrev pub childAt : List ℕ → Child → Option Placed
-childAt s r = given (r .present) (placedAt s (r .place))
-
--- a child as it is due, of which a place that is there may be judged
-pub record Reached (s : List ℕ) (c : Counts) (r : Child) (due : Option Placed) : Type 0 where
-  pub is : childAt s r ≡ due
-  pub ready : r .present ≡ true → ReadyPlace s c (r .place)
+abbrev pub followedAt : List ℕ → (p : ℕ) → Place → Children
+followedAt s p x = followedOf (typesOf s) (authority s) p (placedAt s x)
 
 -- ---- the chain
 abbrev pub needsAt : List ℕ → (p : ℕ) → Place → Bool

@@ -21,8 +21,9 @@ use Rattle.program.specs.Laws.Guards.{program-unguarded}
 use Rattle.typing.specs.Verdicts.{Verdict, accepted, rejected, verdict}
 use Rattle.typing.specs.Laws.Checking.{infer-complete}
 use Rattle.typing.specs.Theorems.{Accepted, acceptance}
-use Rattle.explain.specs.Explaining.{Placed, placed, placedNumber, children, needing, needs, followed, chain, Explained, explained, not-needed, refused, rootOf, chainOf, traced, tracedIn, explainedBy, explanation}
-use Rattle.explain.specs.Chains.{Among, Neighbours, Last, Cause, post-guarded, Lowest}
+use Rattle.typing.specs.Places.{Placed, placed, placedNumber, children, rootOf, Among}
+use Rattle.explain.specs.Explaining.{needing, needs, followed, chain, Explained, explained, not-needed, refused, chainOf, traced, tracedIn, explainedBy, explanation}
+use Rattle.explain.specs.Chains.{Neighbours, Last, Cause, post-guarded, Lowest}
 use Rattle.explain.specs.Laws.Chains.{heightOf, Way, chain-way, way-root, way-needs, way-last, way-step, step-child, way-length, way-posts, way-only, way-of, cause-holds, holds-cause, test-followed}
 
 -- ---- what is asked

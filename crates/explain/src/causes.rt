@@ -1,9 +1,9 @@
 // What a privilege is needed for: a check that names it, a call or letrec whose latent set holds it, or a post that it guards.
-use crate::places::Place;
 use accessors::guard;
 use accessors::term;
 use accessors::type_record;
 use checker::infer::infer;
+use places::Place;
 use program::records::Counts;
 use rules::known::Known;
 use typing::answer::Inferred;

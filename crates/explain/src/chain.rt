@@ -2,13 +2,14 @@
 use crate::answer::Explained;
 use crate::answer::Explanation;
 use crate::causes::is_cause;
-use crate::places::Child;
-use crate::places::Place;
-use crate::places::absent;
-use crate::places::first_child;
-use crate::places::second_child;
-use crate::places::third_child;
+use accessors::term;
 use checker::infer::infer;
+use places::Child;
+use places::Place;
+use places::absent;
+use places::first_child;
+use places::second_child;
+use places::third_child;
 use program::records::Counts;
 use rules::bindings::Bindings;
 use rules::known::KNOWN_WORDS;
@@ -17,9 +18,11 @@ use typing::answer::Inferred;
 ghost use mathlib.Core.List.{map};
 ghost use Rattle.program.specs.Layout.{typesOf};
 ghost use Rattle.rules.specs.Known.{Answered};
-ghost use Rattle.explain.specs.Explaining.{explained, placedNumber, chainOf};
+ghost use Rattle.typing.specs.Places.{placedNumber};
+ghost use Rattle.explain.specs.Explaining.{explained, chainOf};
 ghost use Rattle.explain.specs.Answers.{Told};
-ghost use Rattle.explain.specs.Internal.{childAt, neededBy, nextAt, Candidate, Following, Stepped, Traceable};
+ghost use Rattle.places.specs.Internal.{childAt, ReadyPlace, Reached};
+ghost use Rattle.explain.specs.Internal.{followedAt, neededBy, nextAt, Candidate, Following, Stepped, Traceable};
 
 // Whether there is a child that needs privilege p.
 fn child_needs(s: &[u8], c: Counts, known: &mut Known, y: Child, p: u8) -> bool
@@ -37,6 +40,21 @@ fn child_needs(s: &[u8], c: Counts, known: &mut Known, y: Child, p: u8) -> bool
     privileges::contains(p, needs)
 }
 
+// The first child, to look for privilege p. That of a test of p is the yes-branch, which is not followed.
+fn first_followed(s: &[u8], c: Counts, at: Place, p: u8) -> Child
+    requires { ⌜ ReadyPlace (now s) c at ⌝ }
+    ensures { λ r. ⌜ Reached (now (s .entry)) c (at .term) r (followedAt (now (s .entry)) p at .first) ⌝ }
+{
+    let x = term(s, c, at.term);
+    if x.kind == 10 {
+        if x.small == p {
+            return absent(at);
+        }
+        return first_child(s, c, at);
+    }
+    first_child(s, c, at)
+}
+
 // The next place of the chain: none after a cause, else the child at the lowest position that needs privilege p.
 fn next_place(s: &[u8], c: Counts, known: &mut Known, at: Place, p: u8) -> Child
     requires { ⌜ Following (now s) c (now known) p at ⌝ }
@@ -45,7 +63,7 @@ fn next_place(s: &[u8], c: Counts, known: &mut Known, at: Place, p: u8) -> Child
     if is_cause(s, c, known, at, p) {
         return absent(at);
     }
-    let first = first_child(s, c, at, p);
+    let first = first_followed(s, c, at, p);
     if child_needs(s, c, known, first, p) {
         return first;
     }

@@ -2,7 +2,6 @@
 pub mod answer;
 mod causes;
 mod chain;
-mod places;
 
 use crate::answer::Explained;
 use crate::answer::Explanation;

@@ -3,3 +3,4 @@ pub mod Subtyping
 pub mod Checking
 pub mod Variants
 pub mod Faults
+pub mod Places

@@ -5,6 +5,7 @@ mod erasing;
 mod explaining;
 mod floor;
 mod naming;
+mod piecing;
 mod placement;
 mod recording;
 mod timing;
@@ -35,6 +36,7 @@ fn main() {
     explaining::print();
     erasing::print();
     naming::print();
+    piecing::print();
     recording::print();
     floor::print();
 }

@@ -130,6 +130,13 @@ mod c {
             answer_len: usize,
         ) -> u32;
 
+        pub fn sovzedal_piece(
+            sheet: *const u8,
+            sheet_len: usize,
+            answer: *mut u32,
+            answer_len: usize,
+        ) -> u32;
+
         pub fn sovzedal_compare(
             unit: *const u8,
             unit_len: usize,
@@ -375,6 +382,17 @@ impl Implementation for Library {
                 sheet.as_ptr(),
                 sheet.len(),
                 privilege,
+                answer.as_mut_ptr(),
+                answer.len(),
+            )
+        }
+    }
+
+    fn piece(sheet: &[u8], answer: &mut [u32]) -> u32 {
+        unsafe {
+            c::sovzedal_piece(
+                sheet.as_ptr(),
+                sheet.len(),
                 answer.as_mut_ptr(),
                 answer.len(),
             )

@@ -5,7 +5,7 @@ use crate::implementation::{ANSWER_NUMBERS, RECORD_NUMBERS, SERVE_NUMBERS};
 use sheets::lines::Job;
 use sovzedal_reference::lines::{self, Lines, Served, State};
 use sovzedal_reference::registers::{Block, Loaded, BLOCK_BYTES};
-use sovzedal_reference::{compare, decode, erase, explain, names, typecheck};
+use sovzedal_reference::{compare, decode, erase, explain, names, piece, typecheck};
 use sovzedal_reference::{record_eager, record_lazy, run_eager, run_lazy};
 use sovzedal_reference::{Checks, Recorded, Refusal, Reply, Request, CHAIN_TERMS};
 
@@ -153,6 +153,10 @@ impl Implementation for Reference {
 
     fn names(sheet: &[u8], privilege: u32, answer: &mut [u32]) -> u32 {
         reply_with(answer, || names(sheet, privilege))
+    }
+
+    fn piece(sheet: &[u8], answer: &mut [u32]) -> u32 {
+        reply_with(answer, || piece(sheet))
     }
 
     fn compare(unit: &[u8], office: &[u8], answer: &mut [u32]) -> u32 {

@@ -2,8 +2,8 @@
 //! reference's, and within bounds that leave room for a busy machine.
 
 use differential::{Implementation, Library, Reference, Shipped, Why, ANSWER_NUMBERS};
-use sheets::extremes::{costly_branches, costly_need, deep_calls, deep_need, NEEDED};
-use sheets::extremes::{many_checks, most_types, widest};
+use sheets::extremes::{costly_branches, costly_fault, costly_need, deep_calls, deep_need};
+use sheets::extremes::{late_fault, many_checks, most_types, widest, NEEDED};
 use sheets::rng::Rng;
 use std::time::{Duration, Instant};
 
@@ -14,6 +14,11 @@ const ROUNDS: usize = 5;
 /// for each of 32 levels, and once more for a call on the way, of which the
 /// function part is judged to see its type.
 const MOST_JUDGEMENTS: u32 = 2 * 32;
+
+/// How much longer the search for the smallest faulty piece may take than a
+/// judgement of a whole sheet: each term is judged once, and there is more to
+/// hand on.
+const MOST_FOR_A_PIECE: u32 = 10;
 
 #[test]
 fn branches_of_deep_types_are_judged_soon() {
@@ -51,6 +56,31 @@ fn deep_needs_are_explained_in_terms_times_nesting() {
     }
 }
 
+/// Each sheet beside one that is judged whole and has as much to judge.
+#[test]
+fn pieces_are_found_by_judging_each_term_once() {
+    let sheets = [
+        ("costly branches", costly_branches(), costly_branches()),
+        ("costly fault", costly_fault(), costly_branches()),
+        ("late fault", late_fault(), late_fault()),
+        ("widest", widest(), widest()),
+    ];
+    for (name, sheet, whole) in sheets {
+        let library = find::<Library>(&sheet);
+        assert_eq!(library, find::<Reference>(&sheet), "{name}");
+        assert_eq!(library.0, 0, "{name} can be read");
+        let judged = fastest(|| {
+            judge::<Library>(&whole);
+        });
+        let found = fastest(|| {
+            find::<Library>(&sheet);
+        });
+        let times = found.as_secs_f64() / judged.as_secs_f64();
+        println!("{name}: judged in {judged:?}, searched in {found:?}, {times:.1} times that");
+        assert!(found <= judged * MOST_FOR_A_PIECE, "{name}");
+    }
+}
+
 #[test]
 fn full_sheets_are_made_lean_soon() {
     let sheets = [
@@ -73,6 +103,11 @@ fn full_sheets_are_made_lean_soon() {
 fn judge<I: Implementation>(sheet: &[u8]) -> (u32, [u32; ANSWER_NUMBERS]) {
     let mut answer = [0; ANSWER_NUMBERS];
     (I::typecheck(sheet, &mut answer), answer)
+}
+
+fn find<I: Implementation>(sheet: &[u8]) -> (u32, [u32; ANSWER_NUMBERS]) {
+    let mut answer = [0; ANSWER_NUMBERS];
+    (I::piece(sheet, &mut answer), answer)
 }
 
 fn explain<I: Implementation>(sheet: &[u8]) -> (u32, Why) {

@@ -17,6 +17,9 @@ const ONE: u32 = 1 << PRIVILEGE;
 /// The privilege that the sheets with a need have.
 pub const NEEDED: u8 = 2;
 
+/// The number of a variable that no sheet binds.
+const UNBOUND: u16 = 65_535;
+
 /// How many terms a chain from the root to a cause has at most. Every cause
 /// has a child, so that it isn't nested as deep as a term may be.
 pub const MAX_CHAIN: usize = MAX_NESTING - 1;
@@ -163,6 +166,28 @@ pub fn costly_branches() -> Vec<u8> {
 pub fn costly_need() -> Vec<u8> {
     const SIGNS: usize = 10;
     costly(SIGNS, |tests| check(NEEDED, tests))
+}
+
+/// The same with a fault that is judged before all of this, so that a judge who
+/// stops there has little to do, and one who looks for the smallest faulty piece
+/// has to go on.
+pub fn costly_fault() -> Vec<u8> {
+    costly(0, |tests| when(variable(UNBOUND), tests, variable(1)))
+}
+
+/// As many principals, types and terms as a sheet can have, and one fault: the
+/// last term but the root. No term's record stands further from the beginning,
+/// but for the root's.
+pub fn late_fault() -> Vec<u8> {
+    let numbers = (0..MAX_TERMS as u16 / 2 - 1).map(number).collect();
+    let root = sign(0, less(balanced_sum(numbers), boolean(true)));
+    Records {
+        format: Format::version_2(&[31; CHANNELS]),
+        principals: vec![u32::MAX; MAX_PRINCIPALS],
+        types: twin_towers(),
+        terms: root.assemble(),
+    }
+    .to_bytes()
 }
 
 /// Tests below so many signs, which `inner` may put something around.

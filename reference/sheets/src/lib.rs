@@ -2,14 +2,14 @@
 //!
 //! [`tree`] and [`records`] assemble sheets. [`cases`], [`yes_branch`],
 //! [`branches`], [`type_faults`], [`explained`], [`pages`], [`erased`],
-//! [`held`], [`named`], [`recorded`], [`smallest`], [`extremes`] and [`load`]
-//! hold the ones made by hand, [`generate`], [`needy`], [`erasable`], [`sums`]
-//! and [`quiet`] draw others at random, [`request`] draws what to ask of their
-//! runs, [`session`] what a controller does with a register block, [`lines`]
-//! what is queued on four lines and [`pairs`] records to compare, from a
-//! [`seed`]. Nothing here knows how a sheet is judged or run, except [`grow`],
-//! [`needy`] and [`erasable`], which build sheets that the rules accept, and
-//! [`sums`], which builds some of known results.
+//! [`held`], [`named`], [`recorded`], [`pieces`], [`smallest`], [`extremes`] and
+//! [`load`] hold the ones made by hand, [`generate`], [`needy`], [`erasable`],
+//! [`sums`], [`quiet`] and [`faulty`] draw others at random, [`request`] draws
+//! what to ask of their runs, [`session`] what a controller does with a register
+//! block, [`lines`] what is queued on four lines and [`pairs`] records to
+//! compare, from a [`seed`]. Nothing here knows how a sheet is judged or run,
+//! except [`grow`], [`needy`] and [`erasable`], which build sheets that the rules
+//! accept, and [`sums`], which builds some of known results.
 
 pub mod branches;
 pub mod cases;
@@ -18,6 +18,7 @@ pub mod erasable;
 pub mod erased;
 pub mod explained;
 pub mod extremes;
+pub mod faulty;
 pub mod generate;
 pub mod grow;
 pub mod held;
@@ -27,6 +28,7 @@ pub mod named;
 pub mod needy;
 pub mod pages;
 pub mod pairs;
+pub mod pieces;
 pub mod quiet;
 pub mod recorded;
 pub mod records;

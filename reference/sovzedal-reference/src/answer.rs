@@ -5,6 +5,7 @@ use crate::erase::Lean;
 use crate::explain::Explanation;
 use crate::judge::Verdict;
 use crate::names::Naming;
+use crate::piece::Piece;
 use crate::refusal::Refusal;
 use crate::registers::Block;
 use crate::run::{Outcome, Plain, Run, Stop};
@@ -87,6 +88,24 @@ impl From<Naming> for Reply {
         if let Naming::By(term) = naming {
             answer[2] = 1;
             answer[3] = u32::from(term);
+        }
+        Reply {
+            status: DONE,
+            answer,
+        }
+    }
+}
+
+/// Of no piece all numbers are zero.
+impl From<Option<Piece>> for Reply {
+    fn from(piece: Option<Piece>) -> Self {
+        let mut answer = [0; 8];
+        if let Some(piece) = piece {
+            answer[2] = piece.fault.number();
+            answer[3] = u32::from(piece.term);
+            answer[4] = piece.count as u32;
+            answer[5] = piece.record.start as u32;
+            answer[6] = piece.record.len() as u32;
         }
         Reply {
             status: DONE,

@@ -100,6 +100,23 @@ impl Judgement {
     }
 }
 
+/// What the rules say of one term alone, in these bindings, the nearest last, and
+/// under a principal who may use this.
+pub(crate) fn judge_alone(
+    sheet: &Sheet,
+    id: TermId,
+    bindings: &[TypeId],
+    signer: Set,
+) -> Result<Judgement, Refusal> {
+    let mut judge = Judge {
+        rules: Rules::Today,
+        sheet,
+        bindings: bindings.to_vec(),
+        judgements: vec![None; sheet.terms.len()],
+    };
+    judge.judge(id, signer)
+}
+
 struct Judge<'a> {
     rules: Rules,
     sheet: &'a Sheet,

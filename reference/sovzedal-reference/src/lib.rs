@@ -2,13 +2,14 @@
 //!
 //! This crate follows the contract's words and nothing else, so that it can be
 //! compared with the proved library. It reads a sheet into a tree
-//! ([`decode`]), judges it ([`typecheck`]), tells where a need comes from
-//! ([`explain`]) and which privileges it names ([`names`]), makes it lean
-//! ([`erase`]) and interprets it ([`run_eager`], [`run_lazy`]), and has it run
-//! by a block of [`registers`] or in turn with others that wait on four
-//! [`lines`]. A run may record what it decides ([`record_eager`],
-//! [`record_lazy`]), and a unit's record is held against the office's
-//! ([`compare`]). Where the words leave a choice, `READINGS.md` names it.
+//! ([`decode`]), judges it ([`typecheck`]), finds the smallest faulty piece of
+//! one that is refused ([`piece`]), tells where a need comes from ([`explain`])
+//! and which privileges it names ([`names`]), makes it lean ([`erase`]) and
+//! interprets it ([`run_eager`], [`run_lazy`]), and has it run by a block of
+//! [`registers`] or in turn with others that wait on four [`lines`]. A run may
+//! record what it decides ([`record_eager`], [`record_lazy`]), and a unit's
+//! record is held against the office's ([`compare`]). Where the words leave a
+//! choice, `READINGS.md` names it.
 
 mod answer;
 mod compare;
@@ -19,6 +20,7 @@ mod explain;
 mod judge;
 pub mod lines;
 mod names;
+mod piece;
 mod record;
 mod refusal;
 pub mod registers;
@@ -35,6 +37,7 @@ pub use erase::{erase, Lean};
 pub use explain::{explain, Explanation, CHAIN_TERMS};
 pub use judge::{typecheck, typecheck_by, Accepted, Judgement, Rules, Verdict};
 pub use names::{names, Naming};
+pub use piece::{piece, Piece};
 pub use record::{Entry, ENTRY_BYTES};
 pub use refusal::{Cause, Refusal};
 pub use report::report;

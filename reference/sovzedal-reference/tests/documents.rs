@@ -10,7 +10,7 @@ use sheets::smallest::{all, Smallest};
 use sheets::tree;
 use sovzedal_reference::lines::{Job, Lent, Lines, STATE_NUMBERS};
 use sovzedal_reference::registers::{at, status, Block, BLOCK_BYTES, RUN};
-use sovzedal_reference::{compare, decode, erase, explain, names, report, run_eager};
+use sovzedal_reference::{compare, decode, erase, explain, names, piece, report, run_eager};
 use sovzedal_reference::{record_lazy, typecheck, typecheck_by, Naming};
 use sovzedal_reference::{Cause, Checks, Outcome, Plain, Refusal, Reply, Request, Rules};
 use sovzedal_reference::{Comparison, Entry, Set, Stop, Term, TermId};
@@ -517,6 +517,59 @@ fn the_frame_is_explained_by_its_chain() {
     mended[record + 3] = 2;
     let verdict = typecheck(&mended).expect("an accepted sheet");
     assert_eq!(verdict.needs, Set::EMPTY);
+}
+
+/// The draft's smallest faulty piece is the one that the readme prints, with the
+/// records of its terms, and mended as the readme says the next one is told, and
+/// in the end none.
+#[test]
+fn the_draft_has_the_piece_shown() {
+    let directory = repository().join("examples");
+    if !directory.exists() {
+        return;
+    }
+    let mut draft = bytes(&read(&directory.join("draft.hex")));
+    let shown = read(&directory.join("README.md"));
+    let print = block(section(&shown, "Pieces").expect("a section"), "text").expect("a print");
+    let told = piece(&draft).expect("a readable sheet").expect("a piece");
+    let first = typecheck(&draft).expect_err("a refusal");
+    let begin = format!(
+        "refused, {} (needs of a body) at {}\n\
+         smallest faulty piece: {} (argument) at {}, terms {}\n",
+        first.cause.number(),
+        first.place,
+        told.fault.number(),
+        told.term,
+        told.count
+    );
+    let records = print.strip_prefix(&begin).expect(&begin);
+    assert_eq!(records.lines().count(), told.count);
+    for line in records.lines() {
+        let (number, rest) = line.trim_start().split_once(": ").expect("a term");
+        let (_, record) = rest.split_once(", ").expect("its kind");
+        let number: TermId = number.parse().expect("a number");
+        let below = 8 * usize::from(told.term - number);
+        let place = told.record.start - below..told.record.end - below;
+        assert_eq!(bytes(record), draft[place], "the record of {number}");
+    }
+    the_gate_asks_for_the_print_of("Pieces");
+
+    let record = |number: TermId| told.record.start - 8 * usize::from(told.term - number);
+    let mends = [
+        (record(38), 0x0D, 0x0B, Some((34, 6, 10))),
+        (record(31), 0x0B, 0x0D, Some((18, 9, 12))),
+        (record(18) + 3, 2, 3, None),
+    ];
+    for (place, old, new, next) in mends {
+        assert_eq!(draft[place], old);
+        draft[place] = new;
+        let told = piece(&draft).expect("a readable sheet");
+        let told = told.map(|it| (it.term, it.count, it.fault.number()));
+        assert_eq!(told, next);
+    }
+    let mended = report(&draft);
+    assert!(mended.contains("\nneeds 00000000\n"), "{mended}");
+    assert!(mended.contains("\nend num 99 "), "{mended}");
 }
 
 /// The lean form of the choice is the example beside it and what the readme

@@ -2,7 +2,8 @@
 //! made from as deep as nesting allows, through terms of one kind; what such a
 //! run uses with fewer open calls, with a record, by a write to a register block, and as a
 //! job of the four lines; and what it takes to explain a need, to make a sheet
-//! lean and to tell whether it names a privilege.
+//! lean, to tell whether it names a privilege and to find its smallest faulty
+//! piece.
 
 mod paint;
 
@@ -10,8 +11,10 @@ use differential::{
     Asked, Board, Buffers, Entry, Implementation, Library, Recording, Reference, Shipped, Unit,
     Why, ANSWER_NUMBERS, RECORD_NUMBERS,
 };
-use sheets::extremes::{costly_need, deep_calls, deep_need, deepest, endless_through};
-use sheets::extremes::{longest, many_checks, most_types, widest, NEEDED};
+use sheets::extremes::{costly_branches, costly_fault, costly_need, deep_calls, deep_need};
+use sheets::extremes::{
+    deepest, endless_through, longest, many_checks, most_types, widest, NEEDED,
+};
 use sheets::lines::{Job, STATE_NUMBERS};
 use sheets::request::{Request, MAX_CALLS, MAX_OPEN_CALLS, MAX_POSTS};
 use sheets::rng::Rng;
@@ -102,6 +105,24 @@ fn main() {
         used_to_name::<Library>(&longest()),
         used_to_name::<Reference>(&longest())
     );
+    println!("finding the smallest faulty piece");
+    for (name, sheet) in judged() {
+        println!(
+            "{name:12}{:12}{:24}",
+            used_to_find::<Library>(&sheet),
+            used_to_find::<Reference>(&sheet)
+        );
+    }
+}
+
+/// Sheets that are judged as deep as can be.
+fn judged() -> [(&'static str, Vec<u8>); 4] {
+    [
+        ("deepest", deepest()),
+        ("deep", deep_need()),
+        ("branches", costly_branches()),
+        ("fault", costly_fault()),
+    ]
 }
 
 /// Sheets that have a lean form, with as much of something as there can be.
@@ -220,6 +241,14 @@ fn used_to_name<I: Implementation>(sheet: &[u8]) -> usize {
     })
 }
 
+/// The search for a piece, which goes down to every term.
+fn used_to_find<I: Implementation>(sheet: &[u8]) -> usize {
+    let mut answer = [0; ANSWER_NUMBERS];
+    paint::stack_used(|| {
+        I::piece(sheet, &mut answer);
+    })
+}
+
 #[cfg(test)]
 mod tests {
     use super::*;
@@ -293,5 +322,17 @@ mod tests {
         let base = header("SOVZEDAL_STACK_BASE ");
         let used = used_to_name::<Library>(&longest());
         assert!(used <= base, "{used}, {base} are allowed");
+    }
+
+    /// And this, though it goes down to every term.
+    #[test]
+    fn pieces_are_found_within_what_a_run_without_calls_may_use() {
+        let base = header("SOVZEDAL_STACK_BASE ");
+        let through = KINDS.map(endless_through);
+        let deep = judged().map(|(_, sheet)| sheet);
+        for sheet in through.iter().chain(&deep) {
+            let used = used_to_find::<Library>(sheet);
+            assert!(used <= base, "{used}, {base} are allowed");
+        }
     }
 }

@@ -13,8 +13,10 @@ use Rattle.program.specs.Layout.{Types}
 use Rattle.program.specs.Terms.{Term, boolean, number, variable, function, letrec, call, if, check, enable, sign, test, binary, post, EveryPost}
 use Rattle.program.specs.Laws.Nesting.{height}
 use Rattle.typing.specs.Checking.{Judgement, typed, fault, infer}
-use Rattle.explain.specs.Explaining.{Placed, placed, childrenIn, children, needs, latentOf, isCause, testsIt, followed, firstNeeding, orLater, unlessCause, next, onward, chain}
-use Rattle.explain.specs.Chains.{Among, among-first, among-later, Neighbours, side-by-side, further, Last, last-alone, last-later, Cause, check-names, call-holds, letrec-holds, post-guarded, Lowest, lowest-first, lowest-later}
+use Rattle.typing.specs.Places.{Placed, placed, childrenIn, children, Among, among-first, among-later}
+use Rattle.explain.specs.Explaining.{needs, latentOf, isCause, testsIt, followed, firstNeeding, orLater, unlessCause, next, onward, chain}
+use Rattle.explain.specs.Chains.{Neighbours, side-by-side, further, Last, last-alone, last-later, Cause, check-names, call-holds, letrec-holds, post-guarded, Lowest, lowest-first, lowest-later}
+use Rattle.typing.specs.Laws.Places.{EachOf, each-among}
 use Rattle.explain.specs.Laws.Progress.{progress}
 
 false-unless : (b : Bool) → (b ≡ true → ⊥) → b ≡ false
@@ -43,17 +45,8 @@ positive (post at ch g c) = omega arith
 positiveOf : (x : Placed) → 0 < heightOf x
 positiveOf (placed Γ n c) = positive c
 
--- what each of a list has
-abbrev Every : (Placed → Type 0) → List Placed → Type 0
-Every Q [] = Unit {0}
-Every Q (x ∷ l) = Q x × Every Q l
-
-every-among : (Q : Placed → Type 0) {y : Placed} {l : List Placed} → Among y l → Every Q l → Q y
-every-among Q among-first k = k .0
-every-among Q (among-later m) k = every-among Q m (k .1)
-
 module _ (T : Types) where
-  lower-in : (Γ : List ℕ) (n : ℕ) (c : Term) → Every (λ y. heightOf y < height c) (childrenIn T Γ n c)
+  lower-in : (Γ : List ℕ) (n : ℕ) (c : Term) → EachOf (λ y. heightOf y < height c) (childrenIn T Γ n c)
   lower-in Γ n (boolean at b) = tt
   lower-in Γ n (number at k) = tt
   lower-in Γ n (variable at i) = tt
@@ -70,14 +63,14 @@ module _ (T : Types) where
 
   child-lower : (x y : Placed) → Among y (children T x) → heightOf y < heightOf x
   unfolding children
-  child-lower (placed Γ n c) y m = every-among (λ y. heightOf y < height c) m (lower-in Γ n c)
+  child-lower (placed Γ n c) y m = each-among (λ y. heightOf y < height c) m (lower-in Γ n c)
 
 -- ---- the posts of a term are those of its children, and its own
 abbrev pub PostsOf : (ℕ → Option ℕ → Type 0) → Placed → Type 0
 PostsOf Q (placed Γ n c) = EveryPost Q c
 
 module _ (T : Types) (Q : ℕ → Option ℕ → Type 0) where
-  posts-in : (Γ : List ℕ) (n : ℕ) (c : Term) → EveryPost Q c → Every (PostsOf Q) (childrenIn T Γ n c)
+  posts-in : (Γ : List ℕ) (n : ℕ) (c : Term) → EveryPost Q c → EachOf (PostsOf Q) (childrenIn T Γ n c)
   posts-in Γ n (boolean at b) h = tt
   posts-in Γ n (number at k) h = tt
   posts-in Γ n (variable at i) h = tt
@@ -94,7 +87,7 @@ module _ (T : Types) (Q : ℕ → Option ℕ → Type 0) where
 
   child-posts : (x y : Placed) → Among y (children T x) → PostsOf Q x → PostsOf Q y
   unfolding children
-  child-posts (placed Γ n c) y m h = every-among (PostsOf Q) m (posts-in Γ n c h)
+  child-posts (placed Γ n c) y m h = each-among (PostsOf Q) m (posts-in Γ n c h)
 
 -- ---- the child that is followed
 module _ (T : Types) (A : ℕ → ℕ) (p : ℕ) where

@@ -17,8 +17,8 @@ use Rattle.program.specs.Terms.{Term, boolean, number, variable, function, letr
 use Rattle.typing.specs.Subtyping.{subtype, wider}
 use Rattle.typing.specs.Rules.{bound, removeAuthorised, postNeeds}
 use Rattle.typing.specs.Checking.{Judgement, typed, fault, _next_, require, variableType, joined, bodyFits, infer}
-use Rattle.explain.specs.Explaining.{Placed, placed, needing, latentOf, needs, isCause, followed}
-use Rattle.explain.specs.Chains.{Among, among-first, among-later}
+use Rattle.typing.specs.Places.{Placed, placed, Among, among-first, among-later}
+use Rattle.explain.specs.Explaining.{needing, latentOf, needs, isCause, followed}
 
 -- ---- a set that has the privilege, by what it is made of
 module _ (p : ℕ) where

@@ -39,7 +39,7 @@ pub one-parent : (s : List ℕ) → WellFormed s → (x : ℕ) → x < root s �
 one-parent s w x h =
     placed s w x (omega (arith, root-lower s w)) .times ∙ ap (λ (b : Bool). cond b 0 1) (ne-eqb x (root s) (λ e. omega arith))
 
-times-least : (s : List ℕ) (x n t : ℕ) → t < n → timesIn s x t ≤ timesBelow s x n
+pub times-least : (s : List ℕ) (x n t : ℕ) → t < n → timesIn s x t ≤ timesBelow s x n
 times-least s x zero t h = absurd (omega arith)
 times-least s x (suc n) t h =
     ⊎-elim (λ e. let q = ap (timesIn s x) e in omega arith) (λ l. let q = times-least s x n t l in omega arith) (eq-or-lt-of-le {n = t} {m = n} (omega arith))

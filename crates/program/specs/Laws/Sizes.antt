@@ -125,7 +125,7 @@ module _ (s : List ℕ) (w : WellFormed s) where
       ∙ node-size (guardOf s) (kindOf (kindByte s t)) t (small s t) (first s t) (second s t) (third s t) (tree s)
 
   -- no term up to t has t as a child
-  not-below : (t m : ℕ) → m ≤ terms s → m ≤ suc t → timesBelow s t m ≡ 0
+  pub not-below : (t m : ℕ) → m ≤ terms s → m ≤ suc t → timesBelow s t m ≡ 0
   not-below t zero l h = refl
   not-below t (suc m) l h =
       let b = below s w m (omega arith) in

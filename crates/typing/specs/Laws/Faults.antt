@@ -107,7 +107,7 @@ module _ (T : Types) (A : ℕ → ℕ) where
 
 -- ---- the reader's numbers are others
 abbrev readers : ℕ → Bool
-readers cause = ltb cause 24 || eqb cause 31
+readers cause = ltb cause 9 || eqb cause 31
 
 abbrev all-readers : List Condition → Bool
 all-readers [] = true
@@ -128,10 +128,10 @@ readers-conditions s = go (hasGuards s)
     go true = refl
     go false = refl
 
-pub decoding-readers : (s : List ℕ) (cause place : ℕ) → decoding s ≡ found cause place → (cause < 24) ⊎ (cause ≡ 31)
+pub decoding-readers : (s : List ℕ) (cause place : ℕ) → decoding s ≡ found cause place → (cause < 9) ⊎ (cause ≡ 31)
 unfolding decoding
-decoding-readers s cause place e = go (ltb cause 24) refl (first-readers (found-first (decodingConditions s) cause place e) (readers-conditions s))
+decoding-readers s cause place e = go (ltb cause 9) refl (first-readers (found-first (decodingConditions s) cause place e) (readers-conditions s))
   where
-    go : (b : Bool) → ltb cause 24 ≡ b → (b || eqb cause 31) ≡ true → (cause < 24) ⊎ (cause ≡ 31)
-    go true h r = inl (ltb-true cause 24 h)
+    go : (b : Bool) → ltb cause 9 ≡ b → (b || eqb cause 31) ≡ true → (cause < 9) ⊎ (cause ≡ 31)
+    go true h r = inl (ltb-true cause 9 h)
     go false h r = inr (eqb-true cause 31 r)

@@ -4,11 +4,13 @@ use crate::refusal::{Cause, Refusal};
 use crate::sheet::CHANNELS;
 use std::ops::RangeInclusive;
 
+/// A tag and a length.
+pub const HEADER_BYTES: usize = 3;
+
+pub const VERSION_BYTES: usize = 2;
 pub const PRINCIPAL_BYTES: usize = 4;
 pub const TYPE_BYTES: usize = 10;
 pub const TERM_BYTES: usize = 8;
-
-const VERSION_BYTES: usize = 2;
 
 /// The contents of the tables, each a whole number of records.
 pub struct Fields<'a> {

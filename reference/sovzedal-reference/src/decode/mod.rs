@@ -13,7 +13,8 @@ pub use guards::UNGUARDED;
 
 use crate::refusal::Refusal;
 use crate::set::Set;
-use crate::sheet::Sheet;
+use crate::sheet::{Sheet, TermId};
+use std::ops::Range;
 
 pub fn decode(bytes: &[u8]) -> Result<Sheet, Refusal> {
     let fields = fields::split(bytes)?;
@@ -31,6 +32,19 @@ pub fn decode(bytes: &[u8]) -> Result<Sheet, Refusal> {
     shape::check_nesting(&sheet)?;
     sheet.guards = fields.guards.map(guards::decode).transpose()?;
     Ok(sheet)
+}
+
+/// Which bytes of a sheet that can be read are a term's record: those of the
+/// fourth field's content that come after the records before it.
+pub fn record_place(sheet: &Sheet, id: TermId) -> Range<usize> {
+    let contents = [
+        fields::VERSION_BYTES,
+        fields::PRINCIPAL_BYTES * sheet.principals.len(),
+        fields::TYPE_BYTES * sheet.types.len(),
+    ];
+    let before: usize = contents.iter().map(|it| fields::HEADER_BYTES + it).sum();
+    let begin = before + fields::HEADER_BYTES + fields::TERM_BYTES * usize::from(id);
+    begin..begin + fields::TERM_BYTES
 }
 
 /// Any four bytes are a set, so principals cannot be at fault.

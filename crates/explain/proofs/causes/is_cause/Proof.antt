@@ -1,7 +1,7 @@
 -- By the kind: a letrec's type is a function's, and so is the type of a call's function part, since the call needs a privilege; a check is one if it
 -- names the privilege, and a post if it is guarded by it; no other kind is.
 use borrow.Author.Needs.{needs}
-use Rattle.explain.proofs.PlaceLaws.{letrec-function, call-ready}
+use Rattle.places.proofs.PlaceLaws.{letrec-function, call-ready}
 use Rattle.explain.proofs.CauseLaws.{letrec-cause, check-cause, post-cause, call-untyped, call-typed, part-function, no-cause}
 use Rattle.explain.proofs.causes.is_cause.Statement.{statement}
 use Rattle.explain.proofs.causes.is_cause.Tie as tie

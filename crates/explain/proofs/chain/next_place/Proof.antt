@@ -15,14 +15,14 @@ returns c =
     let start = c .before .before .before .before .before in
     cause-ends _ (start .args .at) (c .before .before .is-cause .ensures) (c .before .if1 .taken) (c .absent .ensures)
 
-first-child-requires : tie.Need-first-child-requires
-first-child-requires c κs = search needs
+first-followed-requires : tie.Need-first-followed-requires
+first-followed-requires c κs = search needs
 
 child-needs-requires : tie.Need-child-needs-requires
 child-needs-requires c κs =
     let start = c .before .before .before .before .before .before in
     record {
-      ready = c .before .first-child .ensures .ready;
+      ready = c .before .first-followed .ensures .ready;
       known = c .before .before .before .is-cause .ensures .known;
       privilege = start .pre .privilege;
     }
@@ -33,7 +33,7 @@ returns-2 c =
     let at-is-cause = at-if1 .before in
     let start = at-is-cause .before .before .before in
     let every = all-left _ _ (start .args .at) (at-is-cause .is-cause .ensures) (at-if1 .if1 .left) in
-    child-next every (c .before .before .before .first-child .ensures) (c .before .child-needs .ensures) (start .pre .privilege) (c .if2 .taken)
+    child-next every (c .before .before .before .first-followed .ensures) (c .before .child-needs .ensures) (start .pre .privilege) (c .if2 .taken)
 
 second-child-requires : tie.Need-second-child-requires
 second-child-requires c κs = search needs
@@ -42,7 +42,7 @@ child-needs-requires-2 : tie.Need-child-needs-requires-2
 child-needs-requires-2 c κs =
     let start = c .before .before .before .before .before .before .before .before .before .before in
     record {
-      ready = c .before .second-child .ensures 0 .ready;
+      ready = c .before .second-child .ensures .ready;
       known = c .before .before .before .child-needs .ensures .known;
       privilege = start .pre .privilege;
     }
@@ -51,13 +51,13 @@ returns-3 : tie.Need-returns-3
 returns-3 c =
     let at-if2 = c .before .before .before .before in
     let at-child-needs = at-if2 .before in
-    let at-first-child = at-child-needs .before .before in
-    let at-if1 = at-first-child .before in
+    let at-first-followed = at-child-needs .before .before in
+    let at-if1 = at-first-followed .before in
     let at-is-cause = at-if1 .before in
     let start = at-is-cause .before .before .before in
     let every = all-left _ _ (start .args .at) (at-is-cause .is-cause .ensures) (at-if1 .if1 .left) in
-    let two = others-left every (at-first-child .first-child .ensures) (at-child-needs .child-needs .ensures) (at-if2 .if2 .left) in
-    child-next two (c .before .before .before .second-child .ensures _) (c .before .child-needs2 .ensures) (start .pre .privilege) (c .if3 .taken)
+    let two = others-left every (at-first-followed .first-followed .ensures) (at-child-needs .child-needs .ensures) (at-if2 .if2 .left) in
+    child-next two (c .before .before .before .second-child .ensures) (c .before .child-needs2 .ensures) (start .pre .privilege) (c .if3 .taken)
 
 third-child-requires : tie.Need-third-child-requires
 third-child-requires c κs = search needs
@@ -66,7 +66,7 @@ child-needs-requires-3 : tie.Need-child-needs-requires-3
 child-needs-requires-3 c κs =
     let start = c .before .before .before .before .before .before .before .before .before .before .before .before .before .before in
     record {
-      ready = c .before .third-child .ensures 0 .ready;
+      ready = c .before .third-child .ensures .ready;
       known = c .before .before .before .child-needs2 .ensures .known;
       privilege = start .pre .privilege;
     }
@@ -78,14 +78,14 @@ returns-4 c =
     let at-second-child = at-child-needs2 .before .before in
     let at-if2 = at-second-child .before in
     let at-child-needs = at-if2 .before in
-    let at-first-child = at-child-needs .before .before in
-    let at-if1 = at-first-child .before in
+    let at-first-followed = at-child-needs .before .before in
+    let at-if1 = at-first-followed .before in
     let at-is-cause = at-if1 .before in
     let start = at-is-cause .before .before .before in
     let every = all-left _ _ (start .args .at) (at-is-cause .is-cause .ensures) (at-if1 .if1 .left) in
-    let two = others-left every (at-first-child .first-child .ensures) (at-child-needs .child-needs .ensures) (at-if2 .if2 .left) in
-    let one = others-left two (at-second-child .second-child .ensures _) (at-child-needs2 .child-needs2 .ensures) (at-if3 .if3 .left) in
-    child-next one (c .before .before .before .third-child .ensures _) (c .before .child-needs3 .ensures) (start .pre .privilege) (c .if4 .taken)
+    let two = others-left every (at-first-followed .first-followed .ensures) (at-child-needs .child-needs .ensures) (at-if2 .if2 .left) in
+    let one = others-left two (at-second-child .second-child .ensures) (at-child-needs2 .child-needs2 .ensures) (at-if3 .if3 .left) in
+    child-next one (c .before .before .before .third-child .ensures) (c .before .child-needs3 .ensures) (start .pre .privilege) (c .if4 .taken)
 
 absent-requires-2 : tie.Need-absent-requires-2
 absent-requires-2 c κs = search needs
@@ -98,14 +98,14 @@ returns-5 c =
     let at-second-child = at-child-needs2 .before .before in
     let at-if2 = at-second-child .before in
     let at-child-needs = at-if2 .before in
-    let at-first-child = at-child-needs .before .before in
-    let at-if1 = at-first-child .before in
+    let at-first-followed = at-child-needs .before .before in
+    let at-if1 = at-first-followed .before in
     let at-is-cause = at-if1 .before in
     let start = at-is-cause .before .before .before in
     let every = all-left _ _ (start .args .at) (at-is-cause .is-cause .ensures) (at-if1 .if1 .left) in
-    let two = others-left every (at-first-child .first-child .ensures) (at-child-needs .child-needs .ensures) (at-if2 .if2 .left) in
-    let one = others-left two (at-second-child .second-child .ensures _) (at-child-needs2 .child-needs2 .ensures) (at-if3 .if3 .left) in
-    none-left (others-left one (at-third-child .third-child .ensures _) (c .before .before .child-needs3 .ensures) (c .before .if4 .left)) (c .absent2 .ensures)
+    let two = others-left every (at-first-followed .first-followed .ensures) (at-child-needs .child-needs .ensures) (at-if2 .if2 .left) in
+    let one = others-left two (at-second-child .second-child .ensures) (at-child-needs2 .child-needs2 .ensures) (at-if3 .if3 .left) in
+    none-left (others-left one (at-third-child .third-child .ensures) (c .before .before .child-needs3 .ensures) (c .before .if4 .left)) (c .absent2 .ensures)
 
 pub next-place-spec : {M : Type 1} → statement M
 next-place-spec =
@@ -114,7 +114,7 @@ next-place-spec =
     is-cause-requires
     absent-requires
     returns
-    first-child-requires
+    first-followed-requires
     child-needs-requires
     returns-2
     second-child-requires

@@ -1,0 +1,51 @@
+// The smallest faulty piece of a sheet, for C: the place of its record stands in the answer. include/sovzedal.h documents each argument.
+ghost use mathlib.Core.Path.{_≡_};
+ghost use Rattle.replies.specs.Replies.{replied, left};
+ghost use Rattle.replies.specs.Internal.{replyOf};
+ghost use Rattle.capi_piece.specs.Entries.{pieceReply};
+ghost use Rattle.capi_piece.specs.Internal.{Near, replyFor};
+use piece::Located;
+use replies::Reply;
+use replies::put;
+use replies::refused;
+use subterms::answer::Piece;
+
+pub fn piece(sheet: &[u8], answer: &mut [u32]) -> u32
+    ensures { λ r. ⌜ left r (now (answer .exit)) ≡ replied (now (answer .entry)) (pieceReply (now (sheet .entry))) ⌝ }
+{
+    if answer.len() < 8 {
+        return 3;
+    }
+    let x = piece::locate(sheet);
+    put(of_located(x), answer)
+}
+
+fn of_located(x: Located) -> Reply
+    requires { ⌜ Near x ⌝ }
+    ensures { λ r. ⌜ replyOf r ≡ replyFor x ⌝ }
+{
+    let p = x.piece;
+    match p {
+        Piece::Unreadable(f) => refused(numbers::of_reader(f)),
+        Piece::NoPiece => Reply {
+            status: 0,
+            numbers: [0, 0, 0, 0, 0, 0, 0, 0],
+        },
+        Piece::Smallest { term, count, fault } => {
+            let f = numbers::of_fault(fault);
+            Reply {
+                status: 0,
+                numbers: [
+                    0,
+                    0,
+                    f.cause as u32,
+                    term as u32,
+                    count as u32,
+                    x.at as u32,
+                    x.len as u32,
+                    0,
+                ],
+            }
+        }
+    }
+}

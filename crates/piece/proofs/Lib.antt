@@ -1,0 +1,4 @@
+pub mod CandidateLaws
+pub mod JudgeLaws
+pub mod VisitLaws
+pub mod LocateLaws

@@ -1,0 +1,115 @@
+-- Smallest faulty pieces by computation from the bytes of sheets, each beside the verdict, which tells the first fault. A(0) = {1}, A(1) is empty, and type 2
+-- is a function from numbers to numbers whose latent set is empty.
+use mathlib.Core.List.{List, [], _∷_, map}
+use mathlib.Core.Path.{_≡_, refl}
+use Prim.Native.Nat.{ℕ, _*_}
+use Rattle.privileges.specs.Sets.{has, meet, union, insert, remove, subset}
+use Rattle.program.specs.Screening.{tell, screen}
+use Rattle.program.specs.Decoding.{decoding}
+use Rattle.typing.specs.Subtyping.{subtypeIn, subtype, wider}
+use Rattle.typing.specs.Rules.{removeAuthorised}
+use Rattle.typing.specs.Checking.{infer}
+use Rattle.typing.specs.Verdicts.{Verdict, accepted, rejected, verdict}
+use Rattle.subterms.specs.Smallest.{refusedAt, smallestOf, Piece, smallest, no-piece, unreadable, pieceOf, recordOf}
+
+abbrev sheet : (terms : ℕ) (records : List ℕ) → List ℕ
+sheet n records =
+    1 ∷ 0 ∷ 2 ∷ 0 ∷ 1
+    ∷ 2 ∷ 0 ∷ 8 ∷ 0 ∷ 0 ∷ 0 ∷ 2 ∷ 0 ∷ 0 ∷ 0 ∷ 0
+    ∷ 3 ∷ 0 ∷ 30
+    ∷ 0 ∷ 0 ∷ 0 ∷ 0 ∷ 0 ∷ 0 ∷ 0 ∷ 0 ∷ 0 ∷ 0
+    ∷ 1 ∷ 0 ∷ 0 ∷ 0 ∷ 0 ∷ 0 ∷ 0 ∷ 0 ∷ 0 ∷ 0
+    ∷ 2 ∷ 0 ∷ 0 ∷ 1 ∷ 0 ∷ 1 ∷ 0 ∷ 0 ∷ 0 ∷ 0
+    ∷ 4 ∷ 0 ∷ 8 * n ∷ records
+
+-- sign 0 ((if 1 then 2 else 3) + variable 5)
+abbrev later : List ℕ
+later = sheet 7 (
+    1 ∷ 0 ∷ 0 ∷ 1 ∷ 0 ∷ 0 ∷ 0 ∷ 0
+    ∷ 1 ∷ 0 ∷ 0 ∷ 2 ∷ 0 ∷ 0 ∷ 0 ∷ 0
+    ∷ 1 ∷ 0 ∷ 0 ∷ 3 ∷ 0 ∷ 0 ∷ 0 ∷ 0
+    ∷ 6 ∷ 0 ∷ 0 ∷ 0 ∷ 0 ∷ 1 ∷ 0 ∷ 2
+    ∷ 2 ∷ 0 ∷ 0 ∷ 5 ∷ 0 ∷ 0 ∷ 0 ∷ 0
+    ∷ 11 ∷ 0 ∷ 0 ∷ 3 ∷ 0 ∷ 4 ∷ 0 ∷ 0
+    ∷ 9 ∷ 0 ∷ 0 ∷ 5 ∷ 0 ∷ 0 ∷ 0 ∷ 0 ∷ [])
+
+-- sign 0 (variable 8 + variable 7), the second operand having the lower number
+abbrev tied : List ℕ
+tied = sheet 4 (
+    2 ∷ 0 ∷ 0 ∷ 7 ∷ 0 ∷ 0 ∷ 0 ∷ 0
+    ∷ 2 ∷ 0 ∷ 0 ∷ 8 ∷ 0 ∷ 0 ∷ 0 ∷ 0
+    ∷ 11 ∷ 0 ∷ 0 ∷ 1 ∷ 0 ∷ 0 ∷ 0 ∷ 0
+    ∷ 9 ∷ 0 ∷ 0 ∷ 2 ∷ 0 ∷ 0 ∷ 0 ∷ 0 ∷ [])
+
+-- sign 0 (sign n (enable 1 (check 1 for 7)))
+abbrev signed : (n : ℕ) → List ℕ
+signed n = sheet 5 (
+    1 ∷ 0 ∷ 0 ∷ 7 ∷ 0 ∷ 0 ∷ 0 ∷ 0
+    ∷ 7 ∷ 1 ∷ 0 ∷ 0 ∷ 0 ∷ 0 ∷ 0 ∷ 0
+    ∷ 8 ∷ 1 ∷ 0 ∷ 1 ∷ 0 ∷ 0 ∷ 0 ∷ 0
+    ∷ 9 ∷ n ∷ 0 ∷ 2 ∷ 0 ∷ 0 ∷ 0 ∷ 0
+    ∷ 9 ∷ 0 ∷ 0 ∷ 3 ∷ 0 ∷ 0 ∷ 0 ∷ 0 ∷ [])
+
+-- sign 0 ((fun x. sign 0 (x + x 3)) 5): x is a number, by the type that the function declares
+abbrev called : List ℕ
+called = sheet 10 (
+    2 ∷ 0 ∷ 0 ∷ 0 ∷ 0 ∷ 0 ∷ 0 ∷ 0
+    ∷ 2 ∷ 0 ∷ 0 ∷ 0 ∷ 0 ∷ 0 ∷ 0 ∷ 0
+    ∷ 1 ∷ 0 ∷ 0 ∷ 3 ∷ 0 ∷ 0 ∷ 0 ∷ 0
+    ∷ 5 ∷ 0 ∷ 0 ∷ 1 ∷ 0 ∷ 2 ∷ 0 ∷ 0
+    ∷ 11 ∷ 0 ∷ 0 ∷ 0 ∷ 0 ∷ 3 ∷ 0 ∷ 0
+    ∷ 9 ∷ 0 ∷ 0 ∷ 4 ∷ 0 ∷ 0 ∷ 0 ∷ 0
+    ∷ 3 ∷ 0 ∷ 0 ∷ 2 ∷ 0 ∷ 5 ∷ 0 ∷ 0
+    ∷ 1 ∷ 0 ∷ 0 ∷ 5 ∷ 0 ∷ 0 ∷ 0 ∷ 0
+    ∷ 5 ∷ 0 ∷ 0 ∷ 6 ∷ 0 ∷ 7 ∷ 0 ∷ 0
+    ∷ 9 ∷ 0 ∷ 0 ∷ 8 ∷ 0 ∷ 0 ∷ 0 ∷ 0 ∷ [])
+
+-- sign 0 (fun x. sign 0 x), and with a check of 1 for x
+abbrev returned : List ℕ
+returned = sheet 4 (
+    2 ∷ 0 ∷ 0 ∷ 0 ∷ 0 ∷ 0 ∷ 0 ∷ 0
+    ∷ 9 ∷ 0 ∷ 0 ∷ 0 ∷ 0 ∷ 0 ∷ 0 ∷ 0
+    ∷ 3 ∷ 0 ∷ 0 ∷ 2 ∷ 0 ∷ 1 ∷ 0 ∷ 0
+    ∷ 9 ∷ 0 ∷ 0 ∷ 2 ∷ 0 ∷ 0 ∷ 0 ∷ 0 ∷ [])
+
+abbrev checked : List ℕ
+checked = sheet 5 (
+    2 ∷ 0 ∷ 0 ∷ 0 ∷ 0 ∷ 0 ∷ 0 ∷ 0
+    ∷ 7 ∷ 1 ∷ 0 ∷ 0 ∷ 0 ∷ 0 ∷ 0 ∷ 0
+    ∷ 9 ∷ 0 ∷ 0 ∷ 1 ∷ 0 ∷ 0 ∷ 0 ∷ 0
+    ∷ 3 ∷ 0 ∷ 0 ∷ 2 ∷ 0 ∷ 2 ∷ 0 ∷ 0
+    ∷ 9 ∷ 0 ∷ 0 ∷ 3 ∷ 0 ∷ 0 ∷ 0 ∷ 0 ∷ [])
+
+-- a row: a sheet, its verdict, its smallest faulty piece, and that one's record
+pub data Case : Type 0 where
+  asking : (sheet : List ℕ) → Verdict → Piece → (bytes : List ℕ) → Case
+
+pub data Row : Type 0 where
+  row : Verdict → Piece → (bytes : List ℕ) → Row
+
+abbrev pub due : Case → Row
+due (asking s v p r) = row v p r
+
+abbrev pub observed : Case → Row
+observed (asking s v p r) = row (verdict s) (pieceOf s) (recordOf s (pieceOf s))
+
+unfoldable pub cases : List Case
+cases =
+    -- the first fault is that of the if, in which there are four terms; the variable after it is the least to look at
+    asking later (rejected 10 3) (smallest 4 1 9 4) (2 ∷ 0 ∷ 0 ∷ 5 ∷ 0 ∷ 0 ∷ 0 ∷ 0 ∷ [])
+    -- of two variables the one with the lower number, though it stands second
+    ∷ asking tied (rejected 9 1) (smallest 0 1 9 0) (2 ∷ 0 ∷ 0 ∷ 7 ∷ 0 ∷ 0 ∷ 0 ∷ 0 ∷ [])
+    -- principal 1 may not enable what the root's principal may
+    ∷ asking (signed 1) (rejected 11 3) (smallest 3 4 11 3) (9 ∷ 1 ∷ 0 ∷ 2 ∷ 0 ∷ 0 ∷ 0 ∷ 0 ∷ [])
+    ∷ asking (signed 0) (accepted 5 1 0) no-piece []
+    -- a call of a number
+    ∷ asking called (rejected 24 3) (smallest 3 3 24 3) (5 ∷ 0 ∷ 0 ∷ 1 ∷ 0 ∷ 2 ∷ 0 ∷ 0 ∷ [])
+    -- a root of a function type has no piece, unless the function itself is refused
+    ∷ asking returned (rejected 13 3) no-piece []
+    ∷ asking checked (rejected 12 3) (smallest 3 4 12 3) (3 ∷ 0 ∷ 0 ∷ 2 ∷ 0 ∷ 2 ∷ 0 ∷ 0 ∷ [])
+    -- a sheet that is not readable
+    ∷ asking [] (rejected 1 0) (unreadable 1 0) [] ∷ []
+
+pub worked : map observed cases ≡ map due cases
+unfolding cases pieceOf smallestOf refusedAt verdict decoding screen tell infer subtype subtypeIn wider removeAuthorised has meet union insert remove subset
+worked = refl

@@ -1,0 +1,6 @@
+-- The proofs behind the theorems, and laws for the code. Nothing here has to be believed.
+pub mod Order
+pub mod Subterms
+pub mod Judgements
+pub mod Pieces
+pub mod Standing
