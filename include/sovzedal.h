@@ -1,6 +1,6 @@
 /* Sovzedal: rule sheets decoded, type-checked and run, with or without their checks; the smallest faulty piece of one that is refused; why a sheet needs a
  * privilege, and whether it names one; the lean form of a sheet; a block of registers for a controller that has sheets run; four lines on which jobs wait
- * to be run in turn; and records of what runs decide, a unit's held against the office's.
+ * to be run in turn; records of what runs decide, a unit's held against the office's; and runs over ranges, of numbers that are known within limits.
  *
  * For x86-64. Link libsovzedal.a (README.md, "Embed it", has the command that writes it). Of the C library it needs memcpy and memset alone: no heap,
  * no system call, no global state, so that calls on buffers of their own may be made from several threads. A run recurses: SOVZEDAL_STACK bytes of
@@ -10,7 +10,7 @@
  *   - each pointer is valid for as many elements as the length after it says, and is aligned for its type; with a length of 0 nothing is read or
  *     written through it, and it may be null;
  *   - no buffer that a function writes (`answer`, `cells`, `posts`, `frames`, `block`, `lines`, `chain`, `lean`, `record`) overlaps another
- *     argument, and nobody else writes to any of them or to `sheet`, `start`, `store`, `unit` and `office` until the call returns;
+ *     argument, and nobody else writes to any of them or to `sheet`, `pairs`, `start`, `store`, `unit` and `office` until the call returns;
  *   - no length exceeds PTRDIFF_MAX bytes.
  * Under these each function does exactly what is said here, on any contents.
  *
@@ -18,8 +18,8 @@
  *   SOVZEDAL_OK       0  the sheet is readable, or accepted, or the run ended; or the register was read or written; or the job was added; or the
  *                        privilege is explained, or not needed; or the lean sheet is written; or it is told whether the sheet names the privilege;
  *                        or the smallest faulty piece of a refused sheet is told, or that there is none; or two records were compared;
- *   SOVZEDAL_STOPPED  1  the run was stopped, for one of the causes 17 to 22;
- *   SOVZEDAL_REFUSED  2  refused, for one of the causes 1 to 16 and 24 to 34, or 23 for an address: every buffer but `answer` is as it was (but
+ *   SOVZEDAL_STOPPED  1  the run was stopped, for one of the causes 17 to 22, or 36 over ranges;
+ *   SOVZEDAL_REFUSED  2  refused, for one of the causes 1 to 16 and 24 to 35, or 23 for an address: every buffer but `answer` is as it was (but
  *                        `lines` has given up a job that was served);
  *   SOVZEDAL_SHORT    3  `answer` or `chain` has fewer entries than are written, `block` is not of 16 bytes or `lines` not of 102 numbers, or `unit`
  *                        or `office` is longer than SOVZEDAL_MAX_RECORD bytes: nothing was done and nothing written anywhere;
@@ -45,12 +45,13 @@
  *   Of a smallest faulty piece entry 2 is the number of its fault, entry 3 the term, entry 4 how many terms there are in it, entry 5 where its record begins
  *   in the sheet and entry 6 how many bytes that has (FAULT, TERM, COUNT, OFFSET, BYTES); the others are zero, and all are where there is no piece.
  *   Of two records that were compared entry 2 tells whether they fit, 1 or 0, and entry 3 a number of entries (FITS, ENTRIES); the others are zero.
+ *   Of a run over ranges the value of entry 3 is a range, as in its list of posts, or 0, 1 or SOVZEDAL_UNDECIDED of a boolean; entry 7 is zero.
  *
  * Types: 0 is the boolean, 1 the number. Needs are a set of privileges: bit k, worth 2^k, stands for privilege k. docs/REFUSALS.md explains the causes.
  * An entry of a list of posts is channel * 65,536 + number: the lowest 16 bits are the number, and the others the channel, 0 to 15. A sheet of format 1
- * posts on channel 0 alone, so that its entries are its numbers.
+ * posts on channel 0 alone, so that its entries are its numbers. Only a run over ranges has other entries: lowest * 65,536 + highest.
  * A held result is a sum whose exact result is above 65,535, which gives 65,535, or a difference whose exact result is below 0, which gives 0. One that
- * just reaches the limit is not held. A run has at most 4,195,328 of them.
+ * just reaches the limit is not held. A run has at most 4,195,328 of them. A run over ranges does not count them.
  * How a run went that a write to a block asked for is told by the block's registers and not here: that write returns SOVZEDAL_OK. No register tells the
  * held results.
  */
@@ -67,7 +68,7 @@ extern "C" {
 /* The version of this interface, and the latest format that it reads: sheets of format 1 are read, too. Before version 2 of the interface, lists of posts
  * had entries of 16 bits; before 2.2, entry 7 of a run's answer was zero. */
 #define SOVZEDAL_VERSION_MAJOR 2
-#define SOVZEDAL_VERSION_MINOR 5
+#define SOVZEDAL_VERSION_MINOR 6
 #define SOVZEDAL_FORMAT 2
 
 /* What a function returns. */
@@ -112,10 +113,16 @@ enum {
     SOVZEDAL_NUMBER = 1
 };
 
+/* A boolean is 0, no, or 1, yes; of a run over ranges it may also be neither. */
+enum {
+    SOVZEDAL_UNDECIDED = 2
+};
+
 /* The causes, by the headings of docs/REFUSALS.md. 1 to 8 and 31 are told of a sheet that is not readable, 9 to 13 and 24 to 26 of one that the rules
  * refuse, 14 to 16 of a request to run one; 17 to 22 are stops; 23 is told of an address that a block does not have, 27 to 29 of a job that no line
  * takes, and 28 also of one whose turn comes when its part is no longer in the store; 30 is told of a privilege above 31; 32 is told of a sheet that has
- * no lean form, and 33 of a buffer that is too short for it; 34 is told of a record that is none. */
+ * no lean form, and 33 of a buffer that is too short for it; 34 is told of a record that is none; 35 is told of the pairs of a run over ranges, and 36
+ * is a stop of such a run. */
 enum {
     SOVZEDAL_CUT_SHORT = 1,
     SOVZEDAL_WRONG_TAG = 2,
@@ -150,7 +157,9 @@ enum {
     SOVZEDAL_GUARD = 31,
     SOVZEDAL_NO_LEAN_FORM = 32,
     SOVZEDAL_NO_ROOM = 33,
-    SOVZEDAL_RECORD = 34
+    SOVZEDAL_RECORD = 34,
+    SOVZEDAL_RANGES = 35,
+    SOVZEDAL_UNDECIDED_CONDITION = 36
 };
 
 enum {
@@ -225,7 +234,8 @@ static inline const char *sovzedal_cause_text(uint32_t cause)
         "no such privilege",
         "guard",
         "no lean form", "no room",
-        "record"
+        "record",
+        "ranges", "undecided condition"
     };
     return cause < sizeof texts / sizeof texts[0] ? texts[cause] : "unknown";
 }
@@ -239,6 +249,17 @@ static inline uint32_t sovzedal_post_channel(uint32_t entry)
 static inline uint32_t sovzedal_post_number(uint32_t entry)
 {
     return entry & 0xFFFF;
+}
+
+/* The lowest and the highest number of a range, as a run over ranges has it in its answer and in its list of posts. */
+static inline uint32_t sovzedal_lowest(uint32_t range)
+{
+    return range >> 16;
+}
+
+static inline uint32_t sovzedal_highest(uint32_t range)
+{
+    return range & 0xFFFF;
 }
 
 /* Whether any bytes are a readable sheet.
@@ -355,6 +376,31 @@ uint32_t sovzedal_run_lazy(const uint8_t *sheet, size_t sheet_len,
                            uint32_t *posts, size_t posts_len,
                            uint32_t *frames, size_t frames_len,
                            uint32_t *answer, size_t answer_len);
+
+/* A run of sovzedal_run_eager for numbers that are known within limits alone, of a sheet of format 1: each number term has a range, lowest and highest, in
+ * place of the number that is written there. A sum or difference has the range from the least to the greatest of its results, held ones too, over all
+ * numbers of its two ranges. Less is yes if every number of the left range is below every one of the right, no if none is below any, and else undecided.
+ * Undecided is a value: it can be bound, passed, returned and ended in. An if whose condition is undecided stops the run by 36, also where both branches
+ * would give the same. The arguments are those of sovzedal_run_eager, and
+ *   pairs, pairs_len    for each number term of the sheet, in term order, lowest and highest; pairs_len counts numbers, not pairs; only read
+ *   posts, posts_len    the list for posts, as of sovzedal_run_eager, but that each post is lowest * 65,536 + highest
+ *   answer, answer_len  the list for the answer and its length in entries. It is as of sovzedal_run_eager, but that the value of an end in a number is
+ *                       lowest * 65,536 + highest, and that of an end in a boolean 0, 1 or SOVZEDAL_UNDECIDED. Held results are not counted
+ * Unless this run is refused or stopped by 36, it tells the limits of all plain runs. Choose a number within its range for each number term, write it into
+ * the sheet in place of what stands there, and run that sheet by sovzedal_run_eager from the same start stack, with checks enforced in both or skipped in
+ * both, with the same allowances and lengths of buffers. It ends in a value within this answer, or is stopped for the same cause at the same term, with as
+ * many posts, each within its range, and the same calls and cells. A term keeps its number for the whole run, and this run does not go by that: a bound
+ * number minus itself has the range from 0 on. So the limits told need not be reached.
+ * Refusals, in this order: 1 to 8, 31, 14, 15, 16; then 35, of another number of pairs than there are number terms, half a pair among it, of a lowest above
+ * its highest, also of a term that no run comes to, and of a sheet of format 2. The place of 35 is 0. Stops: 17 to 22, and 36 at the if, after 18 of a
+ * condition that is no boolean. */
+uint32_t sovzedal_run_ranges(const uint8_t *sheet, size_t sheet_len,
+                             const uint16_t *pairs, size_t pairs_len,
+                             const uint32_t *start, size_t start_len,
+                             uint32_t calls, uint32_t depth, uint32_t enforce,
+                             uint8_t *cells, size_t cells_len,
+                             uint32_t *posts, size_t posts_len,
+                             uint32_t *answer, size_t answer_len);
 
 /* A run of sovzedal_run_eager that also records each check, test and guard that it decides, in the order met. An entry has SOVZEDAL_ENTRY bytes: the
  * term, its highest byte first, the privilege, and 1 for yes or 0 for no. A check is decided before its inner term and a guard when the post's number is

@@ -14,6 +14,8 @@ ghost use Rattle.capi_names.specs.Entries.{namesReply};
 ghost use Rattle.capi_compare.specs.Entries.{compareCall};
 ghost use Rattle.capi_record.specs.Entries.{recordCall, leftRecord};
 ghost use Rattle.capi_piece.specs.Entries.{pieceReply};
+ghost use Rattle.intervals.specs.Runs.{rangeRun};
+ghost use Rattle.capi_ranges.specs.Entries.{rangeCall};
 ghost use Rattle.capi.specs.Blocks.{blockRead, leftBlock, blockWrite};
 
 mod block;
@@ -105,6 +107,37 @@ pub extern "C" fn sovzedal_run_lazy(
         frames,
     );
     put(of_run(r), answer)
+}
+
+// A run over ranges: a pair, lowest and highest, for each number term.
+#[no_mangle]
+pub extern "C" fn sovzedal_run_ranges(
+    sheet: &[u8],
+    pairs: &[u16],
+    start: &[u32],
+    calls: u32,
+    depth: u32,
+    enforce: u32,
+    cells: &mut [u8],
+    posts: &mut [u32],
+    answer: &mut [u32],
+) -> u32
+    ensures { λ r. ⌜ leftAll r (now (answer .exit)) (buffersOf (now (cells .exit)) (now (posts .exit)) [])
+        ≡ rangeCall (now (answer .entry)) (buffersOf (now (cells .entry)) (now (posts .entry)) [])
+        (rangeRun (now (sheet .entry)) (now (pairs .entry)) (requestOf eagerRunner (enforces enforce) (now (start .entry)) calls depth)
+        (buffersOf (now (cells .entry)) (now (posts .entry)) [])) ⌝ }
+{
+    capi_ranges::ranges(
+        sheet,
+        pairs,
+        start,
+        calls,
+        depth,
+        enforce,
+        cells,
+        posts,
+        answer,
+    )
 }
 
 // A run that holds the granted set, with a record of what it decides.

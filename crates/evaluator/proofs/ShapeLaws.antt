@@ -12,7 +12,7 @@ use lib.Dec.{leb, ltb, eqb}
 use lib.ListN.{length, getD, set, List·getD-eq-default}
 use lib.Seq.{getD-set-same, getD-set-other}
 use borrow.Author.Tests.{eq-eqb, ne-eqb, le-leb, lt-leb, lt-ltb, le-ltb, ltb-true, ltb-false}
-use Rattle.stores.specs.Words.{pick, booleanWord, numberWord, functionWord, stopWord, sortOf, payloadOf, envOf, isStop}
+use Rattle.stores.specs.Words.{pick, booleanWord, intervalWord, functionWord, stopWord, sortOf, payloadOf, envOf, isStop}
 use Rattle.machine.specs.Table.{wordKind, wordSmall, wordFirst, wordSecond, wordThird, wordAuthority, wordGuard}
 use Rattle.stores.specs.Cells.{lookOf, cellSet, madeWith, storeWith, Bound}
 use Rattle.stores.specs.Access.{grantedOf, allowedOf, signAccess, signFrames, enableAccess, enableFrames, enabledNow, restoreFrames}
@@ -155,9 +155,9 @@ module _ {terms : List ℕ} {t x : ℕ} (k env acc : ℕ) where
       unfolding leafOf
       boolean-is j p q = leaf-is (q ∙ rw (← e, j, p) refl)
 
-      pub number-is : {w n : ℕ} → kind ≡ 1 → n ≡ wordFirst x → w ≡ numberWord n → evalAt terms k t env acc st ≡ doneOf w st
+      pub number-is : {w l h : ℕ} → kind ≡ 1 → l ≡ wordFirst x → h ≡ wordSecond x → w ≡ intervalWord l h → evalAt terms k t env acc st ≡ doneOf w st
       unfolding leafOf
-      number-is j p q = leaf-is (q ∙ rw (← e, j, p) refl)
+      number-is j p h q = leaf-is (q ∙ rw (← e, j, p, h) refl)
 
       pub variable-is : {w n : ℕ} → kind ≡ 2 → n ≡ wordFirst x → w ≡ lookOf (st .cells) t env n → evalAt terms k t env acc st ≡ doneOf w st
       unfolding leafOf
@@ -271,12 +271,18 @@ pub branch-stuck : (t w : ℕ) (p q : Done) (st : Store) {s r : ℕ} → s ≡ s
 unfolding branchS
 branch-stuck t w p q st e n r = simp (ne-eqb (sortOf w) 0 (λ z. n (e ∙ z))) (ap (λ (x : ℕ). doneOf x st) (sym r))
 
-pub branch-to : (terms : List ℕ) (k env acc t w u v : ℕ) (st : Store) {s n o : ℕ} → s ≡ sortOf w → s ≡ 0 → n ≡ payloadOf w → o ≡ pick (ltb 0 n) u v
-    → branchS t w (evalAt terms k u env acc st) (evalAt terms k v env acc st) st ≡ evalAt terms k o env acc st
-unfolding branchS
-branch-to terms k env acc t w u v st {n = n} e z g o =
-    simp (eq-eqb (sortOf w) 0 (sym e ∙ z)) (rw (← g) (picked (ltb 0 n) u v (λ (x : ℕ). evalAt terms k x env acc st)))
-    ∙ ap (λ (x : ℕ). evalAt terms k x env acc st) (sym o)
+module _ (t w : ℕ) (st : Store) {s n : ℕ} (e : s ≡ sortOf w) (z : s ≡ 0) (g : n ≡ payloadOf w) where
+  pub branch-undecided : (p q : Done) {r : ℕ} → n ≡ 2 → r ≡ stopWord 36 t → branchS t w p q st ≡ doneOf r st
+  unfolding branchS
+  branch-undecided p q two r = simp (eq-eqb (sortOf w) 0 (sym e ∙ z), eq-eqb (payloadOf w) 2 (sym g ∙ two)) (ap (λ (x : ℕ). doneOf x st) (sym r))
+
+  pub branch-to : (terms : List ℕ) (k env acc u v : ℕ) {m o : ℕ} → (n ≡ 2 → ⊥) → m ≡ payloadOf w → o ≡ pick (ltb 0 m) u v
+      → branchS t w (evalAt terms k u env acc st) (evalAt terms k v env acc st) st ≡ evalAt terms k o env acc st
+  unfolding branchS
+  branch-to terms k env acc u v {m = m} other f o =
+      simp (eq-eqb (sortOf w) 0 (sym e ∙ z), ne-eqb (payloadOf w) 2 (λ h. other (g ∙ h)))
+      (rw (← f) (picked (ltb 0 m) u v (λ (x : ℕ). evalAt terms k x env acc st)))
+      ∙ ap (λ (x : ℕ). evalAt terms k x env acc st) (sym o)
 
 -- ---- an application
 module _ (terms : List ℕ) (k t f v acc : ℕ) (st : Store) where
@@ -335,7 +341,7 @@ one-call-less n m h = go n h
 
 pub operate-calls : {k t a b r : ℕ} {n n′ : List ℕ} → Operated k t a b n r n′ → callsLeft n′ ≤ callsLeft n
 unfolding operateCounters
-operate-calls {k} {a = a} {b = b} {n = n} d = omega (arith, ap (λ (m : List ℕ). callsLeft m) (d .counters-are), go (operateSaturates k a b))
+operate-calls {k} {a = a} {b = b} {n = n} d = omega (arith, ap (λ (m : List ℕ). callsLeft m) (d .counters-are), go (operateSaturates (modeOf n) k a b))
   where
     go : (over : Bool) → callsLeft (pick over (countSaturated n) n) ≡ callsLeft n
     go true = getD-set-other n 4 0 (wrapped (saturatedMade n + 1)) 0 (λ e. omega (arith, e))

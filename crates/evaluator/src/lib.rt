@@ -45,7 +45,7 @@ pub fn eval(
     let kind = kind_of(x);
     match kind {
         0 => words::boolean(0 < small_of(x)),
-        1 => words::number(first_of(x)),
+        1 => words::interval(first_of(x), second_of(x)),
         2 => look(*cells, t, env, first_of(x)),
         3 => words::function(second_of(x), env),
         4 | 7 | 9 | 10 => eval_tail(terms, cells, n, t, env, acc, x, depth, frames, posts, noted),
@@ -182,6 +182,9 @@ fn eval_if(
     }
     if words::sort(b) != 0 {
         return words::stop(18, t);
+    }
+    if words::payload(b) == 2 {
+        return words::stop(36, t);
     }
     let branch = choose(0 < words::payload(b), second_of(x), third_of(x));
     eval(

@@ -2,29 +2,32 @@
 use mathlib.Core.Bool.{Bool, true, _&&_}
 use mathlib.Core.List.{List, [], _∷_, _++_}
 use mathlib.Core.Path.{_≡_}
-use Prim.Native.Nat.{ℕ, _-_, _%_, _≤_}
+use Prim.Native.Nat.{ℕ, _-_, _%_, _<_, _≤_}
 use lib.Dec.{leb, eqb}
 use lib.ListN.{length}
 use Rattle.program.specs.Limits.{maxStart, maxCells, maxPosts, maxCalls, maxDepth}
 use Rattle.program.specs.Layout.{principals}
-use Rattle.program.specs.Records.{CountsOf}
+use Rattle.program.specs.Records.{CountsOf, authorityRecord}
 use Rattle.program.specs.Screening.{Condition, clear, found, screen, unless}
 use Rattle.program.specs.Decoding.{decodingConditions}
 use Rattle.program.specs.Laws.Readable.{WellFormed}
 use Rattle.program.specs.declared.records.Counts.{Counts}
+use Rattle.semantics.specs.Access.{privs}
 use Rattle.semantics.specs.Runs.{stack, known, ran, Buffers}
 use Rattle.stores.specs.Words.{outOf}
+use Rattle.stores.specs.Access.{pairOf}
 use Rattle.machine.specs.Table.{Decoded}
 use Rattle.stores.specs.Cells.{zerosLike}
 use Rattle.machine.specs.Steps.{entriesMade}
 use Rattle.machine.specs.Store.{Done, storeOf, evalAt}
 use Rattle.refinement.specs.Claims.{outcomeOf, countsOf}
-use Rattle.interp.specs.Answers.{refusalCause, refusalPlace, runModel}
+use Rattle.interp.specs.Answers.{refusalCause, refusalPlace, countsModel, runModel}
 use Rattle.interp.specs.declared.answer.Admission.{Admission}
 use Rattle.interp.specs.declared.answer.Admission.the-variants.{Admitted, Refused}
 use Rattle.interp.specs.declared.answer.Refusal.{Refusal}
 use Rattle.interp.specs.declared.answer.Run.the-variants.{Refused as Rejected}
 use Rattle.interp.specs.declared.answer.RecordedRun.{RecordedRun}
+use Rattle.interp.specs.declared.answer.Tally.{Tally}
 
 -- ---- the start stack
 -- at most 16 frames, none of them half
@@ -36,6 +39,15 @@ pub record Whole (start : List ℕ) : Type 0 where
 pub record Layable (start frames : List ℕ) : Type 0 where
   pub whole : Whole start
   pub room : maxStart ≤ length frames
+
+-- what an eager run holds at its start
+pub record StartAccess (s start : List ℕ) (acc : ℕ) : Type 0 where
+  pub may : ℕ
+  pub granted : ℕ
+  pub acc-is : acc ≡ pairOf may granted
+  pub may-small : may < 4294967296
+  pub may-is : may ≡ authorityRecord s 0
+  pub granted-is : granted ≡ privs (authorityRecord s) (stack start)
 
 -- ---- admission
 abbrev pub startRight : (count : ℕ) (start : List ℕ) → Bool
@@ -67,21 +79,26 @@ abbrev pub turnedBack : Refusal → RecordedRun
 turnedBack f = record { run = Rejected f; entries = 0 }
 
 -- what the interpreter comes to at the root, with the terms' words in `terms` and a record lent
-abbrev pub rootDone : (terms : List ℕ) → Counts → (mode acc calls depth : ℕ) → Buffers → (trace : List ℕ) → Done
-rootDone terms c mode acc calls depth b t =
-    evalAt terms depth (c .terms - 1) 0 acc (storeOf (calls ∷ 0 ∷ 0 ∷ mode ∷ 0 ∷ 0 ∷ []) (b .cells) (b .posts) (b .frames) t)
+abbrev pub rootDone : (terms : List ℕ) (root mode acc calls depth : ℕ) → Buffers → (trace : List ℕ) → Done
+rootDone terms root mode acc calls depth b t =
+    evalAt terms depth root 0 acc (storeOf (calls ∷ 0 ∷ 0 ∷ mode ∷ 0 ∷ 0 ∷ []) (b .cells) (b .posts) (b .frames) t)
 
--- the answer from what it comes to, and the stores: cells cleared, posts, frames and record as it leaves them
-pub record Answered (root calls : ℕ) (d : Done) (r : RecordedRun) (b : Buffers) (trace : List ℕ) : Type 0 where
-  pub answer-is : runModel (r .run) ≡ ran (outcomeOf root (outOf (d .out))) (countsOf calls (d .store .n))
+-- word, counts and entries from what it comes to, and the stores: cells cleared, posts, frames and record as it leaves them
+pub record Tallied (calls : ℕ) (d : Done) (r : Tally) (b : Buffers) (trace : List ℕ) : Type 0 where
+  pub word-is : r .word ≡ d .out
+  pub made-is : countsModel (r .made) ≡ countsOf calls (d .store .n)
   pub entries-are : r .entries ≡ entriesMade (d .store .n)
   pub cells-are : b .cells ≡ zerosLike (d .store .cells)
   pub posts-are : b .posts ≡ d .store .posts
   pub frames-are : b .frames ≡ d .store .frames
   pub trace-is : trace ≡ d .store .noted
 
+-- the words of a sheet's terms, a tally of the root, and the answer from it
 pub record Evaluated (s : List ℕ) (c : Counts) (mode acc calls depth : ℕ) (b : Buffers) (t : List ℕ) (r : RecordedRun) (b′ : Buffers) (t′ : List ℕ)
     : Type 0 where
   pub terms : List ℕ
   pub table : Decoded s c terms
-  pub answered : Answered (c .terms - 1) calls (rootDone terms c mode acc calls depth b t) r b′ t′
+  pub tally : Tally
+  pub tallied : Tallied calls (rootDone terms (c .terms - 1) mode acc calls depth b t) tally b′ t′
+  pub answer-is : runModel (r .run) ≡ ran (outcomeOf (c .terms - 1) (outOf (tally .word))) (countsModel (tally .made))
+  pub entries-are : r .entries ≡ tally .entries

@@ -44,3 +44,10 @@ pub struct RecordedRun {
     pub run: Run,
     pub entries: usize,
 }
+
+// What evaluating a root gives, as a word, with what was made and the number of entries in the record.
+pub struct Tally {
+    pub word: u64,
+    pub made: Made,
+    pub entries: usize,
+}

@@ -15,24 +15,24 @@ ghost use Rattle.interp.specs.Internal.{Cleared, turnedBack, Evaluated};
 
 pub mod admission;
 pub mod answer;
+pub mod evaluation;
 pub mod start;
 
 use admission::admit;
 use answer::Admission;
-use answer::Made;
 use answer::Outcome;
 use answer::RecordedRun;
 use answer::Refusal;
 use answer::Run;
+use evaluation::evaluate_words;
 use machine::table::decode_terms;
 use program::limits::FRAME_NUMBERS;
 use program::limits::TERM_PLACES;
 use program::records::Counts;
 use start::lay_frames;
-use start::start_grants;
+use start::start_access;
 use stores::access::clear_frames;
 use stores::access::mode_of;
-use stores::access::pair;
 use stores::state::Out;
 use stores::state::Stop;
 use stores::words::out_of;
@@ -60,7 +60,7 @@ fn turned_back(f: Refusal) -> RecordedRun
     }
 }
 
-// Decodes the terms, evaluates the root, clears the cells and tells the outcome.
+// Decodes the terms, evaluates the root and tells the outcome.
 fn evaluate(
     s: &[u8],
     c: Counts,
@@ -81,36 +81,27 @@ fn evaluate(
     let root = c.terms - 1;
     let mut terms = [0; TERM_PLACES];
     decode_terms(s, c, &mut terms);
-    let allowed = calls as usize;
-    let mut n = [allowed, 0, 0, mode, 0, 0];
-    let mut word = 0;
-    evaluator::entry::run(
+    let t = evaluate_words(
         &terms,
+        root,
         cells,
         posts,
         frames,
         noted,
-        &mut n,
-        root,
+        mode,
         acc,
-        depth as usize,
-        &mut word,
+        calls,
+        depth,
     );
-    stores::cells::clear(cells);
-    let made = Made {
-        calls: allowed - n[0],
-        cells: n[1],
-        posts: n[2],
-        saturated: n[4],
-    };
-    let outcome = outcome_of(root, out_of(word));
+    let made = t.made;
+    let outcome = outcome_of(root, out_of(t.word));
     let run = Run::Ran {
         outcome: outcome,
         made: made,
     };
     RecordedRun {
         run: run,
-        entries: n[5],
+        entries: t.entries,
     }
 }
 
@@ -131,7 +122,7 @@ fn eager(
         ≡ recording (now (s .entry)) (requestOf eagerRunner enforce (now (start .entry)) calls depth)
         (buffersOf (now (cells .entry)) (now (posts .entry)) []) (now (noted .entry)) ⌝ }
 {
-    let acc = pair(accessors::authority(s, 0), start_grants(s, start));
+    let acc = start_access(s, start);
     let mut frames = [0; 1];
     evaluate(
         s,

@@ -6,8 +6,9 @@ ghost use Rattle.program.specs.Records.{authorityRecord};
 ghost use Rattle.semantics.specs.Access.{privs};
 ghost use Rattle.semantics.specs.Runs.{stack, known};
 ghost use Rattle.refinement.specs.Claims.{laidOut};
-ghost use Rattle.interp.specs.Internal.{Whole, Layable, startRight};
+ghost use Rattle.interp.specs.Internal.{Whole, Layable, startRight, StartAccess};
 use program::limits::MAX_START;
+use stores::access::pair;
 
 // Whether every frame's principal is one of so many.
 fn principals_known(start: &[u32], count: u8) -> bool
@@ -50,6 +51,14 @@ pub fn start_grants(s: &[u8], start: &[u32]) -> u32
         set = privileges::meet(may, privileges::union(start[i + 1], set));
     }
     set
+}
+
+// What an eager run holds at its start: the set of principal 0 and the set that the stack grants.
+pub fn start_access(s: &[u8], start: &[u32]) -> u64
+    requires { ⌜ Whole (now start) ⌝ }
+    ensures { λ r. ⌜ StartAccess (now (s .entry)) (now (start .entry)) r ⌝ }
+{
+    pair(accessors::authority(s, 0), start_grants(s, start))
 }
 
 // Lays the stack into the frame store, the outermost frame first: the set that each frame's principal may use, and the enabled set.

@@ -1,18 +1,18 @@
 -- What the operations and a post give, a law for each way that they end. Assumes nothing.
 use mathlib.Core.Bool.{Bool, true, false}
 use mathlib.Core.List.{List}
-use mathlib.Core.Path.{_≡_, refl, sym, ap, _∙_}
+use mathlib.Core.Path.{_≡_, refl, sym, ap, ap₂, _∙_}
 use Prim.Native.Nat.{ℕ, _+_, _-_, _<_, _≤_, min}
 use native.Mathlib.Nat.{min-eq-left, min-eq-right}
 use native.Mathlib.Omega.{arith}
 use lib.Dec.{ltb, eqb}
-use lib.ListN.{length, set}
-use borrow.Author.Tests.{eq-eqb, ne-eqb, lt-ltb, le-ltb, ltb-true}
+use lib.ListN.{length, getD, set}
+use borrow.Author.Tests.{eq-eqb, ne-eqb, le-leb, lt-leb, lt-ltb, le-ltb, ltb-true}
 use Rattle.program.specs.Limits.{noGuard}
-use Rattle.stores.specs.Words.{pick, booleanWord, numberWord, stopWord, sortOf, payloadOf}
-use Rattle.stores.specs.Access.{enforced, grantedOf, allowedOf}
+use Rattle.stores.specs.Words.{pick, booleanWord, numberWord, intervalWord, undecidedWord, stopWord, sortOf, payloadOf, envOf}
+use Rattle.stores.specs.Access.{enforced, intervalMode, grantedOf, allowedOf}
 use Rattle.machine.specs.Table.{wordSmall, wordGuard}
-use Rattle.machine.specs.Steps.{postsMade, modeOf, resultOf, operateOf, saturatesOf, operateSaturates, countSaturated, operateCounters, Operated, decisionOf, noteCounters, noteBytes, Noted, Guard, guardPassed, numberDecides, Guarded, causeOf, entryOf, postCause, postWord, postCounters, postList, Appended}
+use Rattle.machine.specs.Steps.{postsMade, modeOf, resultOf, lessOf, intervalResult, numbersResult, operateOf, saturatesOf, operateSaturates, countSaturated, operateCounters, Operated, decisionOf, noteCounters, noteBytes, Noted, Guard, guardPassed, numberDecides, Guarded, causeOf, entryOf, listedAs, postCause, postWord, postCounters, postList, Appended}
 use Rattle.machine.proofs.NoteLaws.{note-others}
 
 -- ---- what two numbers give, by the kind
@@ -32,6 +32,46 @@ difference-saturates : {k : ℕ} (x y : ℕ) → (k ≡ 11 → ⊥) → k ≡ 12
 unfolding saturatesOf
 difference-saturates {k} x y n e = simp (ne-eqb k 11 n, eq-eqb k 12 e)
 
+-- ---- the same of two intervals
+module _ {x y : ℕ} where
+  pub add-fits : y ≤ 65535 - x → x ≤ 65535 → x + y ≡ min (x + y) 65535
+  add-fits h g = sym (min-eq-left (omega arith))
+
+  pub add-over : 65535 - x < y → x ≤ 65535 → 65535 ≡ min (x + y) 65535
+  add-over h g = sym (min-eq-right (omega arith))
+
+module _ (a a′ b b′ : ℕ) {r : ℕ} where
+  pub less-yes : a′ < b → r ≡ booleanWord true → r ≡ lessOf a a′ b b′
+  unfolding lessOf
+  less-yes h q = q ∙ sym (simp (lt-ltb a′ b h))
+
+  pub less-no : b ≤ a′ → b′ ≤ a → r ≡ booleanWord false → r ≡ lessOf a a′ b b′
+  unfolding lessOf
+  less-no h g q = q ∙ sym (simp (le-ltb a′ b h, le-leb b′ a g))
+
+  pub less-undecided : b ≤ a′ → a < b′ → r ≡ undecidedWord → r ≡ lessOf a a′ b b′
+  unfolding lessOf
+  less-undecided h g q = q ∙ sym (simp (le-ltb a′ b h, lt-leb b′ a g))
+
+module _ (k a b : ℕ) {x x′ y y′ r : ℕ} (u : x ≡ payloadOf a) (u′ : x′ ≡ envOf a) (v : y ≡ payloadOf b) (v′ : y′ ≡ envOf b) where
+  interval-of : r ≡ intervalResult k x x′ y y′ → r ≡ intervalResult k (payloadOf a) (envOf a) (payloadOf b) (envOf b)
+  interval-of q = q ∙ (λ i. intervalResult k (u i) (u′ i) (v i) (v′ i))
+
+  pub interval-sum : {l h : ℕ} → k ≡ 11 → l ≡ min (x + y) 65535 → h ≡ min (x′ + y′) 65535 → r ≡ intervalWord l h
+      → r ≡ intervalResult k (payloadOf a) (envOf a) (payloadOf b) (envOf b)
+  unfolding intervalResult
+  interval-sum e l h q = interval-of (q ∙ ap₂ intervalWord l h ∙ sym (simp (eq-eqb k 11 e)))
+
+  pub interval-difference : {l h : ℕ} → (k ≡ 11 → ⊥) → k ≡ 12 → l ≡ x - y′ → h ≡ x′ - y → r ≡ intervalWord l h
+      → r ≡ intervalResult k (payloadOf a) (envOf a) (payloadOf b) (envOf b)
+  unfolding intervalResult
+  interval-difference n e l h q = interval-of (q ∙ ap₂ intervalWord l h ∙ sym (simp (ne-eqb k 11 n, eq-eqb k 12 e)))
+
+  pub interval-less : (k ≡ 11 → ⊥) → (k ≡ 12 → ⊥) → r ≡ lessOf x x′ y y′ → r ≡ intervalResult k (payloadOf a) (envOf a) (payloadOf b) (envOf b)
+  unfolding intervalResult
+  interval-less n m q = interval-of (q ∙ sym (simp (ne-eqb k 11 n, ne-eqb k 12 m)))
+
+-- ---- two words
 module _ (k t a b : ℕ) (n : List ℕ) {r : ℕ} where
   pub operate-left : (sortOf a ≡ 1 → ⊥) → r ≡ stopWord 18 t → Operated k t a b n r n
   unfolding operateOf operateSaturates operateCounters
@@ -45,45 +85,54 @@ module _ (k t a b : ℕ) (n : List ℕ) {r : ℕ} where
       counters-are = sym (simp (eq-eqb (sortOf a) 1 p, ne-eqb (sortOf b) 1 h));
     }
 
-    module _ {x y : ℕ} (q : sortOf b ≡ 1) (u : x ≡ payloadOf a) (v : y ≡ payloadOf b) where
-      operate-both : {n′ : List ℕ} (over : Bool) → r ≡ resultOf k x y → over ≡ saturatesOf k x y → n′ ≡ pick over (countSaturated n) n
-          → Operated k t a b n r n′
-      unfolding operateOf operateSaturates operateCounters
-      operate-both over e s c = record {
-        word-is = e ∙ (λ i. resultOf k (u i) (v i)) ∙ sym (simp (eq-eqb (sortOf a) 1 p, eq-eqb (sortOf b) 1 q));
-        counters-are = c ∙ ap counters (s ∙ (λ i. saturatesOf k (u i) (v i))) ∙ sym (simp (eq-eqb (sortOf a) 1 p, eq-eqb (sortOf b) 1 q));
+    module _ (q : sortOf b ≡ 1) {m : Bool} (known : m ≡ intervalMode (modeOf n)) where
+      pub operate-intervals : m ≡ true → r ≡ intervalResult k (payloadOf a) (envOf a) (payloadOf b) (envOf b) → Operated k t a b n r n
+      unfolding numbersResult operateOf operateSaturates operateCounters
+      operate-intervals on e = record {
+        word-is = e ∙ sym (simp (eq-eqb (sortOf a) 1 p, eq-eqb (sortOf b) 1 q, sym known ∙ on));
+        counters-are = sym (simp (eq-eqb (sortOf a) 1 p, eq-eqb (sortOf b) 1 q, sym known ∙ on));
       }
-        where
-          counters : Bool → List ℕ
-          counters o = pick o (countSaturated n) n
 
-      module _ (sum : k ≡ 11) where
-        pub sum-fits : y ≤ 65535 - x → x ≤ 65535 → r ≡ numberWord (x + y) → Operated k t a b n r n
-        sum-fits h g e =
-            let l : x + y ≤ 65535 = omega arith in
-            operate-both false (e ∙ ap numberWord (sym (min-eq-left l)) ∙ sym (sum-is x y sum))
-            (sym (sum-saturates x y sum ∙ le-ltb 65535 (x + y) l)) refl
+      module _ (plain : m ≡ false) {x y : ℕ} (u : x ≡ payloadOf a) (v : y ≡ payloadOf b) where
+        operate-both : {n′ : List ℕ} (over : Bool) → r ≡ resultOf k x y → over ≡ saturatesOf k x y → n′ ≡ pick over (countSaturated n) n
+            → Operated k t a b n r n′
+        unfolding numbersResult operateOf operateSaturates operateCounters
+        operate-both over e s c = record {
+          word-is = e ∙ (λ i. resultOf k (u i) (v i)) ∙ sym (simp (eq-eqb (sortOf a) 1 p, eq-eqb (sortOf b) 1 q, sym known ∙ plain));
+          counters-are =
+              c ∙ ap counters (s ∙ (λ i. saturatesOf k (u i) (v i))) ∙ sym (simp (eq-eqb (sortOf a) 1 p, eq-eqb (sortOf b) 1 q, sym known ∙ plain));
+        }
+          where
+            counters : Bool → List ℕ
+            counters o = pick o (countSaturated n) n
 
-        pub sum-over : {n′ : List ℕ} → 65535 - x < y → x ≤ 65535 → r ≡ numberWord 65535 → n′ ≡ countSaturated n → Operated k t a b n r n′
-        sum-over h g e c =
-            let l : 65535 < x + y = omega arith in
-            operate-both true (e ∙ ap numberWord (sym (min-eq-right (omega arith))) ∙ sym (sum-is x y sum))
-            (sym (sum-saturates x y sum ∙ lt-ltb 65535 (x + y) l)) c
+        module _ (sum : k ≡ 11) where
+          pub sum-fits : y ≤ 65535 - x → x ≤ 65535 → r ≡ numberWord (x + y) → Operated k t a b n r n
+          sum-fits h g e =
+              let l : x + y ≤ 65535 = omega arith in
+              operate-both false (e ∙ ap numberWord (add-fits h g) ∙ sym (sum-is x y sum))
+              (sym (sum-saturates x y sum ∙ le-ltb 65535 (x + y) l)) refl
 
-      module _ (no-sum : k ≡ 11 → ⊥) (difference : k ≡ 12) where
-        pub difference-fits : y ≤ x → r ≡ numberWord (x - y) → Operated k t a b n r n
-        difference-fits h e =
-            operate-both false (e ∙ sym (difference-is x y no-sum difference)) (sym (difference-saturates x y no-sum difference ∙ le-ltb x y h)) refl
+          pub sum-over : {n′ : List ℕ} → 65535 - x < y → x ≤ 65535 → r ≡ numberWord 65535 → n′ ≡ countSaturated n → Operated k t a b n r n′
+          sum-over h g e c =
+              let l : 65535 < x + y = omega arith in
+              operate-both true (e ∙ ap numberWord (add-over h g) ∙ sym (sum-is x y sum))
+              (sym (sum-saturates x y sum ∙ lt-ltb 65535 (x + y) l)) c
 
-        pub difference-under : {n′ : List ℕ} → x < y → r ≡ numberWord 0 → n′ ≡ countSaturated n → Operated k t a b n r n′
-        difference-under h e c =
-            let z : 0 ≡ x - y = omega arith in
-            operate-both true (e ∙ ap numberWord z ∙ sym (difference-is x y no-sum difference))
-            (sym (difference-saturates x y no-sum difference ∙ lt-ltb x y h)) c
+        module _ (no-sum : k ≡ 11 → ⊥) (difference : k ≡ 12) where
+          pub difference-fits : y ≤ x → r ≡ numberWord (x - y) → Operated k t a b n r n
+          difference-fits h e =
+              operate-both false (e ∙ sym (difference-is x y no-sum difference)) (sym (difference-saturates x y no-sum difference ∙ le-ltb x y h)) refl
 
-      pub less-is : (k ≡ 11 → ⊥) → (k ≡ 12 → ⊥) → r ≡ booleanWord (ltb x y) → Operated k t a b n r n
-      unfolding resultOf saturatesOf
-      less-is l m e = operate-both false (e ∙ sym (simp (ne-eqb k 11 l, ne-eqb k 12 m))) (sym (simp (ne-eqb k 11 l, ne-eqb k 12 m))) refl
+          pub difference-under : {n′ : List ℕ} → x < y → r ≡ numberWord 0 → n′ ≡ countSaturated n → Operated k t a b n r n′
+          difference-under h e c =
+              let z : 0 ≡ x - y = omega arith in
+              operate-both true (e ∙ ap numberWord z ∙ sym (difference-is x y no-sum difference))
+              (sym (difference-saturates x y no-sum difference ∙ lt-ltb x y h)) c
+
+        pub less-is : (k ≡ 11 → ⊥) → (k ≡ 12 → ⊥) → r ≡ booleanWord (ltb x y) → Operated k t a b n r n
+        unfolding resultOf saturatesOf
+        less-is l m e = operate-both false (e ∙ sym (simp (ne-eqb k 11 l, ne-eqb k 12 m))) (sym (simp (ne-eqb k 11 l, ne-eqb k 12 m))) refl
 
 -- ---- a post
 pub guard-low : {g y : ℕ} → g ≡ y → (g ≡ noGuard → ⊥) → Guard y → g < 32
@@ -122,6 +171,16 @@ module _ (t x acc : ℕ) (n f noted : List ℕ) {g : ℕ} (e : g ≡ wordGuard x
       frames-are = same;
       noted-are = d .bytes-are ∙ sym (rw (there-is, ← m, on, ← e, ← q) refl);
     }
+
+-- how a post is listed
+module _ (mode x w : ℕ) {b : Bool} (e : b ≡ intervalMode mode) {h l r : ℕ} (q : r ≡ entryOf h l) where
+  pub listed-interval : b ≡ true → h ≡ payloadOf w → l ≡ envOf w → r ≡ listedAs mode x w
+  unfolding listedAs
+  listed-interval on u v = q ∙ ap₂ entryOf u v ∙ sym (simp (sym e ∙ on))
+
+  pub listed-plain : b ≡ false → h ≡ wordSmall x → l ≡ payloadOf w → r ≡ listedAs mode x w
+  unfolding listedAs
+  listed-plain off u v = q ∙ ap₂ entryOf u v ∙ sym (simp (sym e ∙ off))
 
 cause-low : (a b : Bool) → causeOf true a b < 256
 unfolding causeOf
@@ -173,19 +232,22 @@ module _ (t x acc w : ℕ) (n l f noted : List ℕ) {s : ℕ} (e : s ≡ sortOf 
       noted-are = rw is-number (g .noted-are);
     }
 
-    pub post-done : {y : ℕ} → c ≡ 0 → y ≡ entryOf (wordSmall x) (payloadOf w)
+    pub post-done : {y : ℕ} → c ≡ 0 → y ≡ listedAs (modeOf n′) x w
         → Appended t x acc w n l f noted w (set n′ 2 (postsMade n + 1)) (set l (postsMade n) y) f′ noted′
     unfolding postWord postCounters postList
     post-done h y = record {
       word-is = rw (← cause-is) (simp (eq-eqb c 0 h));
       counters-are = rw (← cause-is, is-number) (counted ∙ sym (simp (eq-eqb c 0 h)));
-      posts-are = rw (← cause-is) (simp (eq-eqb c 0 h, y));
+      posts-are = rw (← cause-is) (simp (eq-eqb c 0 h, y ∙ ap (λ (m : ℕ). listedAs m x w) (kept 3 (λ e. omega (arith, e)))));
       frames-are = g .frames-are;
       noted-are = rw is-number (g .noted-are);
     }
       where
         after : List ℕ
         after = noteCounters (numberDecides (modeOf n) x) n noted
+
+        kept : (j : ℕ) → (j ≡ 5 → ⊥) → getD n′ j 0 ≡ getD n j 0
+        kept j e = ap (λ (m : List ℕ). getD m j 0) (g .counters-are) ∙ note-others (numberDecides (modeOf n) x) n noted j e
 
         counted : set n′ 2 (postsMade n + 1) ≡ set after 2 (postsMade after + 1)
         counted = λ i. set (g .counters-are i) 2 (sym (note-others (numberDecides (modeOf n) x) n noted 2 (λ e. omega (arith, e))) i + 1)

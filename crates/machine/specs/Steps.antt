@@ -4,12 +4,12 @@ use mathlib.Core.Bool.{Bool, true, false}
 use mathlib.Core.List.{List, _++_}
 use mathlib.Core.Path.{_≡_}
 use Prim.Native.Nat.{ℕ, _+_, _-_, _*_, _/_, _%_, _<_, min}
-use lib.Dec.{ltb, eqb}
+use lib.Dec.{leb, ltb, eqb}
 use lib.ListN.{length, getD, set, take, drop}
 use Rattle.program.specs.Limits.{noGuard}
 use Rattle.traces.specs.Traces.{Event, eventBytes}
-use Rattle.stores.specs.Words.{pick, booleanWord, numberWord, stopWord, sortOf, payloadOf}
-use Rattle.stores.specs.Access.{enforced, grantedOf, allowedOf}
+use Rattle.stores.specs.Words.{pick, booleanWord, numberWord, intervalWord, undecidedWord, stopWord, sortOf, payloadOf, envOf}
+use Rattle.stores.specs.Access.{enforced, intervalMode, grantedOf, allowedOf}
 use Rattle.machine.specs.Table.{wordSmall, wordGuard}
 
 abbrev pub callsLeft : (counters : List ℕ) → ℕ
@@ -34,16 +34,30 @@ entriesMade n = getD n 5 0
 unfoldable pub resultOf : (kind a b : ℕ) → ℕ
 resultOf k a b = pick (eqb k 11) (numberWord (min (a + b) 65535)) (pick (eqb k 12) (numberWord (a - b)) (booleanWord (ltb a b)))
 
-unfoldable pub operateOf : (kind t a b : ℕ) → ℕ
-operateOf k t a b = pick (eqb (sortOf a) 1) (pick (eqb (sortOf b) 1) (resultOf k (payloadOf a) (payloadOf b)) (stopWord 18 t)) (stopWord 18 t)
+-- the same of two intervals, each by its lowest and highest number
+unfoldable pub lessOf : (a a′ b b′ : ℕ) → ℕ
+lessOf a a′ b b′ = pick (ltb a′ b) (booleanWord true) (pick (leb b′ a) (booleanWord false) undecidedWord)
+
+unfoldable pub intervalResult : (kind a a′ b b′ : ℕ) → ℕ
+intervalResult k a a′ b b′ =
+    pick (eqb k 11) (intervalWord (min (a + b) 65535) (min (a′ + b′) 65535)) (pick (eqb k 12) (intervalWord (a - b′) (a′ - b)) (lessOf a a′ b b′))
+
+-- of two words of numbers
+unfoldable pub numbersResult : (mode kind a b : ℕ) → ℕ
+numbersResult mode k a b =
+    pick (intervalMode mode) (intervalResult k (payloadOf a) (envOf a) (payloadOf b) (envOf b)) (resultOf k (payloadOf a) (payloadOf b))
+
+unfoldable pub operateOf : (mode kind t a b : ℕ) → ℕ
+operateOf mode k t a b = pick (eqb (sortOf a) 1) (pick (eqb (sortOf b) 1) (numbersResult mode k a b) (stopWord 18 t)) (stopWord 18 t)
 
 -- 02, W10: "whether the exact result was outside 0 to 65,535"; less has no such result
 unfoldable pub saturatesOf : (kind a b : ℕ) → Bool
 saturatesOf k a b = pick (eqb k 11) (ltb 65535 (a + b)) (pick (eqb k 12) (ltb a b) false)
 
--- the same of two words: what is stuck has no result
-unfoldable pub operateSaturates : (kind a b : ℕ) → Bool
-operateSaturates k a b = pick (eqb (sortOf a) 1) (pick (eqb (sortOf b) 1) (saturatesOf k (payloadOf a) (payloadOf b)) false) false
+-- the same of two words: what is stuck has no result, and of intervals "held results aren't counted"
+unfoldable pub operateSaturates : (mode kind a b : ℕ) → Bool
+operateSaturates mode k a b =
+    pick (eqb (sortOf a) 1) (pick (eqb (sortOf b) 1) (pick (intervalMode mode) false (saturatesOf k (payloadOf a) (payloadOf b))) false) false
 
 -- one more is counted, in a counter of 64 bits, which no run fills
 abbrev pub wrapped : (count : ℕ) → ℕ
@@ -53,10 +67,10 @@ abbrev pub countSaturated : (counters : List ℕ) → List ℕ
 countSaturated n = set n 4 (wrapped (saturatedMade n + 1))
 
 unfoldable pub operateCounters : (kind a b : ℕ) (counters : List ℕ) → List ℕ
-operateCounters k a b n = pick (operateSaturates k a b) (countSaturated n) n
+operateCounters k a b n = pick (operateSaturates (modeOf n) k a b) (countSaturated n) n
 
 pub record Operated (kind t a b : ℕ) (n : List ℕ) (r : ℕ) (n′ : List ℕ) : Type 0 where
-  pub word-is : r ≡ operateOf kind t a b
+  pub word-is : r ≡ operateOf (modeOf n) kind t a b
   pub counters-are : n′ ≡ operateCounters kind a b n
 
 -- ---- the record of a run, 02, W12: "each check, test and guard they decide as term, privilege and yes or no"
@@ -114,9 +128,12 @@ pub record Guarded (t x acc : ℕ) (n frames noted : List ℕ) (r : Bool) (n′ 
 unfoldable pub causeOf : (number passes room : Bool) → ℕ
 causeOf number passes room = pick number (pick passes (pick room 0 22) 17) 18
 
--- "channel × 65,536 + number"
-abbrev pub entryOf : (channel number : ℕ) → ℕ
-entryOf ch m = ch * 65536 + m
+-- "channel × 65,536 + number"; 02, W14: of an interval "lowest × 65,536 + highest"
+abbrev pub entryOf : (high low : ℕ) → ℕ
+entryOf h l = h * 65536 + l
+
+unfoldable pub listedAs : (mode x w : ℕ) → ℕ
+listedAs mode x w = pick (intervalMode mode) (entryOf (payloadOf w) (envOf w)) (entryOf (wordSmall x) (payloadOf w))
 
 -- a post of the word w, by the word x of its term: why it is not made, what it gives, and the counters and the list after it
 unfoldable pub postCause : (x acc w : ℕ) (counters posts frames : List ℕ) → ℕ
@@ -129,7 +146,7 @@ unfoldable pub postCounters : (cause : ℕ) (counters : List ℕ) → List ℕ
 postCounters c n = pick (eqb c 0) (set n 2 (postsMade n + 1)) n
 
 unfoldable pub postList : (x w cause : ℕ) (counters posts : List ℕ) → List ℕ
-postList x w c n l = pick (eqb c 0) (set l (postsMade n) (entryOf (wordSmall x) (payloadOf w))) l
+postList x w c n l = pick (eqb c 0) (set l (postsMade n) (listedAs (modeOf n) x w)) l
 
 pub record Appended (t x acc w : ℕ) (n posts frames noted : List ℕ) (r : ℕ) (n′ posts′ frames′ noted′ : List ℕ) : Type 0 where
   pub word-is : r ≡ postWord t w (postCause x acc w n posts frames)

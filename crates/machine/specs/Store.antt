@@ -5,7 +5,7 @@ use mathlib.Core.List.{List}
 use Prim.Native.Nat.{ℕ, zero, suc, _+_, _-_, _/_}
 use lib.Dec.{leb, ltb, eqb}
 use lib.ListN.{length, getD, set}
-use Rattle.stores.specs.Words.{pick, booleanWord, numberWord, functionWord, stopWord, sortOf, payloadOf, envOf, isStop}
+use Rattle.stores.specs.Words.{pick, booleanWord, intervalWord, functionWord, stopWord, sortOf, payloadOf, envOf, isStop}
 use Rattle.machine.specs.Table.{wordKind, wordSmall, wordFirst, wordSecond, wordThird, wordAuthority, wordGuard}
 use Rattle.stores.specs.Cells.{lookOf, cellSet, nextCell}
 use Rattle.stores.specs.Access.{enforced, grantedOf, allowedOf, signAccess, signFrames, enableAccess, enableFrames, enabledNow, restoreFrames}
@@ -60,7 +60,7 @@ shapeOf k =
 -- boolean, number, variable, function
 unfoldable pub leafOf : (cells : List ℕ) (t word env : ℕ) → ℕ
 leafOf cells t x env =
-    pick (eqb (wordKind x) 0) (booleanWord (ltb 0 (wordSmall x))) (pick (eqb (wordKind x) 1) (numberWord (wordFirst x))
+    pick (eqb (wordKind x) 0) (booleanWord (ltb 0 (wordSmall x))) (pick (eqb (wordKind x) 1) (intervalWord (wordFirst x) (wordSecond x))
     (pick (eqb (wordKind x) 2) (lookOf cells t env (wordFirst x)) (functionWord (wordSecond x) env)))
 
 -- a new cell: whether there is one, its number, and the store with it
@@ -87,7 +87,8 @@ unfoldable pub callS : Runs → Runs → Applier → (t : ℕ) → Runs
 callS p q ap t env acc st = andThen (p env acc st) (λ f st₁. andThen (q env acc st₁) (λ v st₂. ap t f v acc st₂))
 
 unfoldable pub branchS : (t word : ℕ) → (onTrue onFalse : Done) → Store → Done
-branchS t w p q st = pick (eqb (sortOf w) 0) (pick (ltb 0 (payloadOf w)) p q) (doneOf (stopWord 18 t) st)
+branchS t w p q st =
+    pick (eqb (sortOf w) 0) (pick (eqb (payloadOf w) 2) (doneOf (stopWord 36 t) st) (pick (ltb 0 (payloadOf w)) p q)) (doneOf (stopWord 18 t) st)
 
 unfoldable pub ifS : Runs → Runs → Runs → (t : ℕ) → Runs
 ifS p q r t env acc st = andThen (p env acc st) (λ w st₁. branchS t w (q env acc st₁) (r env acc st₁) st₁)
@@ -116,7 +117,8 @@ enableS r p env acc st =
     (r env (enableAccess (modeOf (st .n)) acc p) (withFrames (enableFrames (modeOf (st .n)) acc (st .frames) p) st))
 
 unfoldable pub operateDone : (kind t a b : ℕ) → Store → Done
-operateDone kind t a b st = doneOf (operateOf kind t a b) (storeOf (operateCounters kind a b (st .n)) (st .cells) (st .posts) (st .frames) (st .noted))
+operateDone kind t a b st =
+    doneOf (operateOf (modeOf (st .n)) kind t a b) (storeOf (operateCounters kind a b (st .n)) (st .cells) (st .posts) (st .frames) (st .noted))
 
 unfoldable pub binaryS : Runs → Runs → (kind t : ℕ) → Runs
 binaryS p q kind t env acc st = andThen (p env acc st) (λ a st₁. andThen (q env acc st₁) (λ b st₂. operateDone kind t a b st₂))

@@ -1,8 +1,9 @@
 // The steps of a run that evaluate no other term.
 ghost use mathlib.Core.Bool.{true};
 ghost use mathlib.Core.Path.{_≡_};
-ghost use Rattle.stores.specs.Words.{pick, numberWord};
-ghost use Rattle.machine.specs.Steps.{countSaturated, Operated, Guard, Guarded, causeOf, entryOf, Appended};
+ghost use Prim.Native.Nat.{_+_, _-_, min};
+ghost use Rattle.stores.specs.Words.{pick, numberWord, payloadOf, envOf};
+ghost use Rattle.machine.specs.Steps.{countSaturated, lessOf, intervalResult, Operated, Guard, Guarded, causeOf, entryOf, listedAs, Appended};
 ghost use Rattle.machine.specs.Table.{wordGuard};
 use crate::notes::note;
 use crate::table::guard_of;
@@ -11,6 +12,7 @@ use program::limits::NO_GUARD;
 use std::num::wrapping_add_usize;
 use stores::access::enforces;
 use stores::access::granted;
+use stores::access::intervals;
 use stores::words;
 
 // One of two numbers.
@@ -28,6 +30,54 @@ fn saturate(n: &mut [usize; 6], limit: u16) -> u64
     words::number(limit)
 }
 
+fn add(x: u16, y: u16) -> u16
+    ensures { λ r. ⌜ r ≡ min (x + y) 65535 ⌝ }
+{
+    if y <= 65535 - x {
+        return x + y;
+    }
+    65535
+}
+
+fn subtract(x: u16, y: u16) -> u16
+    ensures { λ r. ⌜ r ≡ x - y ⌝ }
+{
+    if y <= x {
+        return x - y;
+    }
+    0
+}
+
+// Less of two intervals: decided where all their numbers agree.
+fn less(a: u16, a_most: u16, b: u16, b_most: u16) -> u64
+    ensures { λ r. ⌜ r ≡ lessOf a «a_most» b «b_most» ⌝ }
+{
+    if a_most < b {
+        return words::boolean(true);
+    }
+    if b_most <= a {
+        return words::boolean(false);
+    }
+    words::undecided()
+}
+
+// Sum, difference or less of two words of intervals.
+fn operate_intervals(kind: u8, a: u64, b: u64) -> u64
+    ensures { λ r. ⌜ r ≡ intervalResult kind (payloadOf a) (envOf a) (payloadOf b) (envOf b) ⌝ }
+{
+    let x = words::payload(a);
+    let x_most = words::env(a);
+    let y = words::payload(b);
+    let y_most = words::env(b);
+    if kind == 11 {
+        return words::interval(add(x, y), add(x_most, y_most));
+    }
+    if kind == 12 {
+        return words::interval(subtract(x, y_most), subtract(x_most, y));
+    }
+    less(x, x_most, y, y_most)
+}
+
 // Sum, difference or less of two words.
 pub fn operate(n: &mut [usize; 6], kind: u8, t: u16, a: u64, b: u64) -> u64
     ensures { λ r. ⌜ Operated kind t a b (now (n .entry)) r (now (n .exit)) ⌝ }
@@ -37,6 +87,9 @@ pub fn operate(n: &mut [usize; 6], kind: u8, t: u16, a: u64, b: u64) -> u64
     }
     if words::sort(b) != 1 {
         return words::stop(18, t);
+    }
+    if intervals(n[3]) {
+        return operate_intervals(kind, a, b);
     }
     let x = words::payload(a);
     let y = words::payload(b);
@@ -88,11 +141,21 @@ fn cause_of(passes: bool, room: bool) -> u16
     choose(passes, choose(room, 0, 22), 17)
 }
 
-// A post as the list has it.
-fn entry(channel: u8, number: u16) -> u32
-    ensures { λ r. ⌜ r ≡ entryOf channel number ⌝ }
+// The two halves of a post as the list has it.
+fn entry(high: u16, low: u16) -> u32
+    ensures { λ r. ⌜ r ≡ entryOf high low ⌝ }
 {
-    (channel as u32) * 65536 + (number as u32)
+    (high as u32) * 65536 + (low as u32)
+}
+
+// A post of the word w, by the word x of its term: its channel and number, or the interval.
+fn listed(mode: usize, x: u64, w: u64) -> u32
+    ensures { λ r. ⌜ r ≡ listedAs mode x w ⌝ }
+{
+    if intervals(mode) {
+        return entry(words::payload(w), words::env(w));
+    }
+    entry(small_of(x) as u16, words::payload(w))
 }
 
 // Appends a number to the posts, by the word x of the post.
@@ -119,7 +182,7 @@ pub fn append(
     if cause != 0 {
         return words::stop(cause as u8, t);
     }
-    posts[at] = entry(small_of(x), words::payload(w));
+    posts[at] = listed(n[3], x, w);
     n[2] = at + 1;
     w
 }

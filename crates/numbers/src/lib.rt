@@ -90,7 +90,7 @@ pub fn of_refusal(f: interp::answer::Refusal) -> Code
     }
 }
 
-// 17 to 22.
+// 17 to 22, and 36.
 pub fn of_stop(x: Stop) -> Code
     ensures { λ r. ⌜ CodeIs (stopCause x) (stopPlace x) r ⌝ }
 {
@@ -117,6 +117,10 @@ pub fn of_stop(x: Stop) -> Code
         },
         Stop::Posts(t) => Code {
             cause: 22,
+            place: t,
+        },
+        Stop::Undecided(t) => Code {
+            cause: 36,
             place: t,
         },
     }

@@ -1,17 +1,26 @@
 -- What the theorems claim of the interpreter's outcome, counts and stores.
+use mathlib.Core.Bool.{Bool}
 use mathlib.Core.List.{List, [], _∷_, _++_}
+use mathlib.Core.Option.{Option, none, some}
 use mathlib.Core.Path.{_≡_}
-use Prim.Native.Nat.{ℕ, _-_}
-use lib.ListN.{length, drop}
+use Prim.Native.Nat.{ℕ, _-_, _<_}
+use lib.Dec.{ltb, eqb}
+use lib.ListN.{getD, length, drop}
+use Rattle.program.specs.Layout.{terms, kindByte}
+use Rattle.program.specs.declared.records.Counts.{Counts}
 use Rattle.traces.specs.Traces.{Event, recorded}
-use Rattle.semantics.specs.Values.{Result}
+use Rattle.semantics.specs.Domains.{Domain}
+use Rattle.semantics.specs.Values.{ResultOf, Result}
 use Rattle.semantics.specs.Access.{Frame}
-use Rattle.semantics.specs.Runs.{Request, Buffers, Sizes, sizes, ground-bool, ground-num, Outcome, ended, stopped, Counts, outcome, left, counts, inOrder}
+use Rattle.semantics.specs.Runs.{Request, Buffers, Sizes, sizes, ground-bool, ground-num, OutcomeOf, Outcome, ended, stopped, Counts as Made, outcome, left, counts, inOrder}
 use Rattle.semantics.specs.Recording.{withEntries}
+use Rattle.intervals.specs.Intervals.{interval, intervals}
+use Rattle.intervals.specs.Pairs.{pairOf}
 use Rattle.stores.specs.declared.state.Value.the-variants.{Bool as VBool, Num, Fun}
 use Rattle.stores.specs.declared.state.Out.{Out}
 use Rattle.stores.specs.declared.state.Out.the-variants.{Val, Stop as Stopped}
-use Rattle.stores.specs.Words.{outOf}
+use Rattle.stores.specs.Words.{pick, sortOf, payloadOf, envOf, outBy, outOf}
+use Rattle.machine.specs.Table.{wordKind, wordFirst, wordSecond, Holds}
 use Rattle.machine.specs.Steps.{callsLeft, cellsMade, postsMade, saturatedMade, entriesMade, wrapped}
 use Rattle.machine.specs.Store.{Store, Done, storeOf}
 use Rattle.stores.specs.Stops.{stopCause, stopPlace}
@@ -23,12 +32,36 @@ outcomeOf r (Val (Num n)) = ended (ground-num n)
 outcomeOf r (Val (Fun body env)) = stopped 18 r
 outcomeOf r (Stopped x) = stopped (stopCause x) (stopPlace x)
 
+-- what the payload of a boolean's word decides; by 2 nothing
+abbrev pub decidedBy : (payload : ℕ) → Option Bool
+decidedBy n = pick (eqb n 2) none (some (ltb 0 n))
+
+-- what the word at the root tells of a run over ranges, by its parts; 02, W14: "An end is a range, or yes, no or undecided"
+abbrev pub rangeOutcomeIn : (root payload env : ℕ) → Out → OutcomeOf intervals
+rangeOutcomeIn r n e (Val (VBool b)) = ended (ground-bool (decidedBy n))
+rangeOutcomeIn r n e (Val (Num m)) = ended (ground-num (interval n e))
+rangeOutcomeIn r n e (Val (Fun body env)) = stopped 18 r
+rangeOutcomeIn r n e (Stopped x) = stopped (stopCause x) (stopPlace x)
+
+unfoldable pub rangeOutcomeBy : (root sort payload env : ℕ) → OutcomeOf intervals
+rangeOutcomeBy r k n e = rangeOutcomeIn r n e (outBy k n e)
+
+abbrev pub rangeOutcomeOf : (root word : ℕ) → OutcomeOf intervals
+rangeOutcomeOf r w = rangeOutcomeBy r (sortOf w) (payloadOf w) (envOf w)
+
+-- the words of a sheet's terms, but that those of number terms have the pairs in the place of first and second
+pub record IntervalTable (s : List ℕ) (c : Counts) (pairs table : List ℕ) : Type 0 where
+  pub others : (t : ℕ) → t < terms s → (kindByte s t ≡ 1 → ⊥) → Holds s c t (getD table t 0)
+  pub kind-is : (t : ℕ) → t < terms s → kindByte s t ≡ 1 → wordKind (getD table t 0) ≡ 1
+  pub lowest-is : (t : ℕ) → t < terms s → kindByte s t ≡ 1 → wordFirst (getD table t 0) ≡ pairOf s pairs t .low
+  pub highest-is : (t : ℕ) → t < terms s → kindByte s t ≡ 1 → wordSecond (getD table t 0) ≡ pairOf s pairs t .high
+
 -- what was made, of so many calls allowed: the counters hold the calls that are left
-abbrev pub countsOf : (calls : ℕ) → (counters : List ℕ) → Counts
+abbrev pub countsOf : (calls : ℕ) → (counters : List ℕ) → Made
 countsOf c n = record { calls = c - callsLeft n; cells = cellsMade n; posts = postsMade n; saturated = saturatedMade n }
 
 -- the counter of saturated results has 64 bits
-abbrev pub wrappedCounts : Counts → Counts
+abbrev pub wrappedCounts : Made → Made
 wrappedCounts k = record { calls = k .calls; cells = k .cells; posts = k .posts; saturated = wrapped (k .saturated) }
 
 abbrev pub sizesOf : Store → Sizes
@@ -43,11 +76,17 @@ laidOut A (f ∷ fs) = laidOut A fs ++ (A (f .principal) ∷ f .enabled ∷ [])
 abbrev pub startOf : (mode : ℕ) → Request → Buffers → (trace : List ℕ) → Store
 startOf mode q b t = storeOf (q .calls ∷ 0 ∷ 0 ∷ mode ∷ 0 ∷ 0 ∷ []) (b .cells) (b .posts) (b .frames) t
 
--- evaluating the root of a sheet gives and leaves what the meaning's result says, and of the decisions what the record takes
-pub record Refined (root : ℕ) (q : Request) (b : Buffers) (trace : List ℕ) (d : Done) (x : Result) (decided : List Event) : Type 0 where
-  pub same-outcome : outcomeOf root (outOf (d .out)) ≡ outcome root x
+-- evaluating the root of a sheet gives and leaves what the meaning's result says, and of the decisions what the record takes; `tells` reads the word that it
+-- gives
+pub record RefinedBy {D : Domain} (tells : (root word : ℕ) → OutcomeOf D) (root : ℕ) (q : Request) (b : Buffers) (trace : List ℕ) (d : Done)
+    (x : ResultOf D) (decided : List Event) : Type 0 where
+  pub same-outcome : tells root (d .out) ≡ outcome root x
   pub same-counts : countsOf (q .calls) (d .store .n) ≡ wrappedCounts (counts q (sizes b) (left x))
   pub same-posts : d .store .posts ≡ inOrder (left x) ++ drop (length (inOrder (left x))) (b .posts)
   pub same-sizes : sizesOf (d .store) ≡ sizes b
   pub same-entries : entriesMade (d .store .n) ≡ length (recorded (length trace) decided)
   pub same-trace : d .store .noted ≡ withEntries (recorded (length trace) decided) trace
+
+-- of a plain run
+abbrev pub Refined : (root : ℕ) → Request → Buffers → (trace : List ℕ) → Done → Result → (decided : List Event) → Type 0
+Refined root q b t d x ds = RefinedBy (λ r w. outcomeOf r (outOf w)) root q b t d x ds

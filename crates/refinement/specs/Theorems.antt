@@ -1,8 +1,8 @@
--- The refinement: on a readable sheet, with the words of its terms, the store-level interpreter computes the meaning. Claims.antt says what the
--- words mean.
+-- The refinement: on a readable sheet, with the words of its terms, the store-level interpreter computes the meaning, over plain numbers or over ranges as its
+-- mode says. Claims.antt says what the words mean.
 use mathlib.Core.Bool.{true, false}
 use mathlib.Core.List.{List, _++_}
-use mathlib.Core.Path.{_≡_, refl, sym, subst}
+use mathlib.Core.Path.{_≡_, sym, subst}
 use Prim.Native.Nat.{ℕ, _*_, _<_, _≤_}
 use native.Mathlib.Omega.{arith}
 use lib.ListN.{length}
@@ -12,40 +12,60 @@ use Rattle.program.specs.Terms.{program}
 use Rattle.program.specs.Records.{CountsOf}
 use Rattle.program.specs.Laws.Readable.{WellFormed}
 use Rattle.program.specs.declared.records.Counts.{Counts}
+use Rattle.semantics.specs.Domains.{Interpretation, standard}
 use Rattle.semantics.specs.Values.{empty}
 use Rattle.semantics.specs.Meaning.{plain, traced, eval}
 use Rattle.semantics.specs.Access.{Frame, lazyControl, rights, eagerControl}
 use Rattle.semantics.specs.Runs.{Request, Buffers, sizes, initial, left}
 use Rattle.semantics.specs.Recording.{decidedIn}
+use Rattle.intervals.specs.Pairs.{ranged}
 use Rattle.machine.specs.Table.{Decoded}
-use Rattle.stores.specs.Access.{pairOf, enforced, lazyMode}
+use Rattle.stores.specs.Access.{pairOf, enforced, lazyMode, intervalMode}
 use Rattle.machine.specs.Store.{evalAt}
-use Rattle.refinement.specs.Claims.{laidOut, startOf, Refined}
-use Rattle.refinement.specs.Laws.Controls.{EagerMode, pair-mode, eager-models, Frames, LazyMode, lazy-models}
+use Rattle.refinement.specs.Claims.{IntervalTable, rangeOutcomeOf, laidOut, startOf, RefinedBy, Refined}
+use Rattle.refinement.specs.Laws.Exact.{exactCoding, exact-telling, exact-tabled}
+use Rattle.refinement.specs.Laws.Ranges.{rangeCoding, range-telling, range-tabled}
+use Rattle.refinement.specs.Laws.Controls.{Frames, LazyMode, lazy-models}
 use Rattle.refinement.specs.Laws.Trees.{fixedOf}
-use Rattle.refinement.specs.Laws.Runs.{laid-frames, refined}
+use Rattle.refinement.specs.Laws.Runs.{laid-frames, refined, refined-eagerly}
 
 -- Whatever the buffers and the record hold, with at most 100 open calls and 65,536 bytes of cells, checks in force or passed over: the result is that of the
 -- plain evaluation, and the record takes what fits of the list of the evaluation that traces.
 module _ (s : List ℕ) (w : WellFormed s) (c : Counts) (h : CountsOf s c) (terms : List ℕ) (table : Decoded s c terms) (q : Request) (b : Buffers)
-    (t : List ℕ) (few : q .depth ≤ maxDepth) (most : length (b .cells) ≤ maxCells) (mode : ℕ) (checks : enforced mode ≡ q .enforce) where
+    (t : List ℕ) (few : q .depth ≤ maxDepth) (most : length (b .cells) ≤ maxCells) (mode : ℕ) (checks : enforced mode ≡ q .enforce)
+    (numbers : intervalMode mode ≡ false) where
   -- an eager run, that holds any set, with any frame store
   pub eager-refined : (may P : ℕ) → lazyMode mode ≡ false → may < 4294967296 → may ≡ authority s 0
       → Refined (root s) q b t (evalAt terms (q .depth) (root s) 0 (pairOf may P) (startOf mode q b t))
-      (eval (eagerControl (authority s)) (plain (q .enforce)) (q .depth) (program s) (rights 0 P) empty (initial q (sizes b)))
-      (decidedIn (left (eval (eagerControl (authority s)) (traced (q .enforce)) (q .depth) (program s) (rights 0 P) empty (initial q (sizes b)))))
+      (eval standard (eagerControl (authority s)) (plain (q .enforce)) (q .depth) (program s) (rights 0 P) empty (initial q (sizes b)))
+      (decidedIn (left (eval standard (eagerControl (authority s)) (traced (q .enforce)) (q .depth) (program s) (rights 0 P) empty (initial q (sizes b)))))
   eager-refined may P style i e =
-      refined s w c h terms table q b t few most mode (eagerControl (authority s)) (λ a acc d f. EagerMode (authority s) a acc)
-      (eager-models (fixedOf s terms (b .posts) t mode) style (q .enforce) checks)
-      (pairOf may P) 0 (rights 0 P) (omega arith) (pair-mode (authority s) 0 may P P e i refl)
+      refined-eagerly standard (exactCoding mode numbers) (exact-telling mode numbers) s w c h terms (exact-tabled mode numbers s w c h terms table) q b t
+      few most may P checks style i e
 
   -- A lazy run, on any stack of at most 16 frames that lies in a frame store of 6,496 numbers. The store never overflows.
   pub lazy-refined : lazyMode mode ≡ true → (fs : List Frame) (rest : List ℕ) → length fs ≤ maxStartFrames → b .frames ≡ laidOut (authority s) fs ++ rest
       → length (b .frames) ≡ frameNumbers
       → Refined (root s) q b t (evalAt terms (q .depth) (root s) 0 (length fs * 2) (startOf mode q b t))
-      (eval (lazyControl (authority s)) (plain (q .enforce)) (q .depth) (program s) fs empty (initial q (sizes b)))
-      (decidedIn (left (eval (lazyControl (authority s)) (traced (q .enforce)) (q .depth) (program s) fs empty (initial q (sizes b)))))
+      (eval standard (lazyControl (authority s)) (plain (q .enforce)) (q .depth) (program s) fs empty (initial q (sizes b)))
+      (decidedIn (left (eval standard (lazyControl (authority s)) (traced (q .enforce)) (q .depth) (program s) fs empty (initial q (sizes b)))))
   lazy-refined style fs rest l e long =
-      refined s w c h terms table q b t few most mode (lazyControl (authority s)) (LazyMode (authority s))
-      (lazy-models (fixedOf s terms (b .posts) t mode) style (q .enforce) checks) (length fs * 2) (length fs) fs l
+      refined standard (exactCoding mode numbers) (exact-telling mode numbers) s w c h terms (exact-tabled mode numbers s w c h terms table) q b t few most
+      (lazyControl (authority s)) (LazyMode (authority s))
+      (lazy-models (fixedOf standard (exactCoding mode numbers) s terms (b .posts) t) style (q .enforce) checks) (length fs * 2) (length fs) fs l
       record { used = omega arith; long = long; frames = subst (λ f. Frames (authority s) f (length fs) fs) (sym e) (laid-frames (authority s) fs rest) }
+
+-- The same of an eager run over ranges, with the pairs in the words of the number terms: the result is that of the evaluation over ranges.
+module _ (s : List ℕ) (w : WellFormed s) (c : Counts) (h : CountsOf s c) (pairs terms : List ℕ) (table : IntervalTable s c pairs terms) (q : Request)
+    (b : Buffers) (t : List ℕ) (few : q .depth ≤ maxDepth) (most : length (b .cells) ≤ maxCells) (mode : ℕ) (checks : enforced mode ≡ q .enforce)
+    (ranges : intervalMode mode ≡ true) where
+  abbrev over : Interpretation
+  over = ranged s pairs
+
+  pub interval-refined : (may P : ℕ) → lazyMode mode ≡ false → may < 4294967296 → may ≡ authority s 0
+      → RefinedBy rangeOutcomeOf (root s) q b t (evalAt terms (q .depth) (root s) 0 (pairOf may P) (startOf mode q b t))
+      (eval over (eagerControl (authority s)) (plain (q .enforce)) (q .depth) (program s) (rights 0 P) empty (initial q (sizes b)))
+      (decidedIn (left (eval over (eagerControl (authority s)) (traced (q .enforce)) (q .depth) (program s) (rights 0 P) empty (initial q (sizes b)))))
+  interval-refined may P style i e =
+      refined-eagerly over (rangeCoding mode ranges) (range-telling mode ranges) s w c h terms (range-tabled mode ranges table) q b t few most may P checks
+      style i e

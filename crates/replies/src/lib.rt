@@ -66,7 +66,7 @@ pub fn of_verdict(v: Verdict) -> Reply
 }
 
 // What a run tells, with its counts.
-fn counted(status: u32, first: Code, sort: u32, value: u32, m: Made) -> Reply
+pub fn counted(status: u32, first: Code, sort: u32, value: u32, m: Made) -> Reply
     requires { ⌜ Few (countsModel m) ⌝ }
     ensures { λ r. ⌜ replyOf r ≡ withCounts status (first .cause) (first .place) sort value m ⌝ }
 {

@@ -7,6 +7,7 @@ use mathlib.Core.Path.{_≡_, refl}
 use Prim.Native.Nat.{ℕ, zero, suc}
 use Rattle.privileges.specs.Sets.{has, meet, union, insert}
 use Rattle.program.specs.Terms.{Op, sum, difference, less, Term, boolean, number, variable, function, letrec, call, check, enable, sign, binary, post}
+use Rattle.semantics.specs.Domains.{standard}
 use Rattle.semantics.specs.Values.{bool, num, empty, emptyLog, Budget, budget, Result, ends, stops}
 use Rattle.semantics.specs.Meaning.{plain, evalWith, apply, eval}
 use Rattle.semantics.specs.Access.{frame, privs, lazyControl, rights, addAuthorised, eagerControl}
@@ -94,13 +95,13 @@ examples =
 
 pub eagerly : Example → Result
 eagerly x =
-    eval (eagerControl authority) (plain (x .enforce)) (x .depth) (x .term) (rights 0 (privs authority (map (λ f. frame (f .0) (f .1)) (x .start)))) empty
-    (budget (x .calls) 9 (x .room) emptyLog)
+    eval standard (eagerControl authority) (plain (x .enforce)) (x .depth) (x .term)
+    (rights 0 (privs authority (map (λ f. frame (f .0) (f .1)) (x .start)))) empty (budget (x .calls) 9 (x .room) emptyLog)
 
 pub lazily : Example → Result
 lazily x =
-    eval (lazyControl authority) (plain (x .enforce)) (x .depth) (x .term) (map (λ f. frame (f .0) (f .1)) (x .start)) empty
-    (budget (x .calls) 9 (x .room) emptyLog)
+    eval standard (lazyControl authority) (plain (x .enforce)) (x .depth) (x .term)
+    (map (λ f. frame (f .0) (f .1)) (x .start)) empty (budget (x .calls) 9 (x .room) emptyLog)
 
 pub record Refuted : Type 0 where
   pub by-eager : map eagerly examples ≡ map (λ x. x .result) examples

@@ -8,6 +8,7 @@ use Prim.Native.Nat.{ℕ}
 use Rattle.privileges.specs.Sets.{has, meet, union, insert}
 use Rattle.program.specs.Terms.{sum, Term, boolean, number, variable, letrec, call, check, enable, sign, test, binary, post}
 use Rattle.traces.specs.Traces.{Event}
+use Rattle.semantics.specs.Domains.{standard}
 use Rattle.semantics.specs.Values.{empty, emptyLog, budget, Result}
 use Rattle.semantics.specs.Meaning.{traced, evalWith, apply, eval}
 use Rattle.semantics.specs.Access.{frame, privs, lazyControl, rights, addAuthorised, eagerControl}
@@ -37,11 +38,12 @@ enabled false = 0
 
 pub eagerly : Case → Observed
 eagerly (running enforce g room c o es) =
-    observed (eval (eagerControl authority) (traced enforce) 9 c (rights 0 (privs authority (frame 0 (enabled g) ∷ []))) empty (budget 9 9 room emptyLog))
+    observed
+    (eval standard (eagerControl authority) (traced enforce) 9 c (rights 0 (privs authority (frame 0 (enabled g) ∷ []))) empty (budget 9 9 room emptyLog))
 
 pub lazily : Case → Observed
 lazily (running enforce g room c o es) =
-    observed (eval (lazyControl authority) (traced enforce) 9 c (frame 0 (enabled g) ∷ []) empty (budget 9 9 room emptyLog))
+    observed (eval standard (lazyControl authority) (traced enforce) 9 c (frame 0 (enabled g) ∷ []) empty (budget 9 9 room emptyLog))
 
 -- an event of privilege 1
 abbrev granted : (at : ℕ) → Event

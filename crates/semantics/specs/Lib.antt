@@ -1,3 +1,4 @@
+pub mod Domains
 pub mod Values
 pub mod Meaning
 pub mod Names

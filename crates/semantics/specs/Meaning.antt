@@ -1,12 +1,12 @@
--- The meaning of a term: a definitional interpreter, for any access control. 003's Figures 2 and 4 are its two instances in Access.antt, so
--- that each clause below is one clause of both figures. Numbers 17 to 22 are 01's stops.
+-- The meaning of a term: a definitional interpreter, for any domain of values and any access control. 003's Figures 2 and 4 are two instances, by the access
+-- controls of Access.antt over numbers and booleans, so that each clause below is one clause of both figures. Numbers 17 to 22 are 01's stops.
 use mathlib.Core.Bool.{Bool, true, false, _&&_}
 use mathlib.Core.Option.{Option, none, some}
-use Prim.Native.Nat.{ℕ, zero, suc, _+_, _*_, _-_, min}
-use lib.Dec.{ltb}
+use Prim.Native.Nat.{ℕ, zero, suc}
 use Rattle.program.specs.Terms.{Op, sum, difference, less, Term, boolean, number, variable, function, letrec, call, if, check, enable, sign, test, binary, post}
 use Rattle.traces.specs.Traces.{Event}
-use Rattle.semantics.specs.Values.{Value, bool, num, closure, Env, bind, lookup, entered, logPost, logSaturated, logDecision, Budget, budget, Result, ends, stops}
+use Rattle.semantics.specs.Domains.{Domain, Interpretation}
+use Rattle.semantics.specs.Values.{ValueOf, bool, num, closure, EnvOf, bind, lookup, entered, logPost, logSaturated, logDecision, Budget, budget, ResultOf, ends, stops}
 
 -- what access control keeps, how a sign and an enable change it, and what it grants
 pub record Control : Type 1 where
@@ -28,56 +28,50 @@ traced b = record { enforce = b; tracing = true }
 
 -- 003's let: a stop is the result of the whole
 infixl 20 _then_
-abbrev pub _then_ : Result → (Value → Budget → Result) → Result
+abbrev pub _then_ : {D : Domain} → ResultOf D → (ValueOf D → Budget → ResultOf D) → ResultOf D
 _then_ (ends v u) k = k v u
 _then_ (stops c at u) k = stops c at u
 
-abbrev pub choose : Bool → (onTrue onFalse : Budget → Result) → Budget → Result
+abbrev pub choose : {D : Domain} → Bool → (onTrue onFalse : Budget → ResultOf D) → Budget → ResultOf D
 choose true y n u = y u
 choose false y n u = n u
 
 -- "18 stuck: unbound variable, wrong kind of value, or a root that gives a function."
-abbrev pub found : (at : ℕ) → Option Value → Budget → Result
+abbrev pub found : {D : Domain} (at : ℕ) → Option (ValueOf D) → Budget → ResultOf D
 found at (some v) u = ends v u
 found at none u = stops 18 at u
 
--- the branch that a boolean picks
-abbrev pub branch : (at : ℕ) → Value → (onTrue onFalse : Budget → Result) → Budget → Result
-branch at (bool b) y n u = choose b y n u
+-- 02, W14: "An if with an undecided condition stops by 36 at the if"
+abbrev pub decided : {D : Domain} (at : ℕ) → Option Bool → (onTrue onFalse : Budget → ResultOf D) → Budget → ResultOf D
+decided at (some b) y n u = choose b y n u
+decided at none y n u = stops 36 at u
+
+-- the branch that a truth value picks
+abbrev pub branch : {D : Domain} (at : ℕ) → ValueOf D → (onTrue onFalse : Budget → ResultOf D) → Budget → ResultOf D
+branch {D} at (bool b) y n u = decided at (D .decide b) y n u
 branch at (num m) y n u = stops 18 at u
 branch at (closure r ty body env) y n u = stops 18 at u
 
--- "Sums are held at 65,535, differences at 0."
-abbrev pub operate : Op → (m n : ℕ) → Value
-operate sum m n = num (min 65535 (m + n))
-operate difference m n = num (m - n)
-operate less m n = bool (ltb m n)
-
--- 02, W10: "Sum and difference now also say whether the exact result was outside 0 to 65,535."
-abbrev pub saturates : Op → (m n : ℕ) → Bool
-saturates sum m n = ltb 65535 (m + n)
-saturates difference m n = ltb m n
-saturates less m n = false
+abbrev pub operate : {D : Domain} → Op → (m n : D .Number) → ValueOf D
+operate {D} sum m n = num (D .sum m n)
+operate {D} difference m n = num (D .difference m n)
+operate {D} less m n = bool (D .less m n)
 
 abbrev pub countSaturated : Bool → Budget → Budget
 countSaturated b (budget c d r l) = budget c d r (logSaturated b l)
 
 -- "The kinds of values are looked at when all operands of a term have one"
-abbrev pub compute : (at : ℕ) → Op → (left right : Value) → Budget → Result
-compute at op (num m) (num n) u = ends (operate op m n) (countSaturated (saturates op m n) u)
+abbrev pub compute : {D : Domain} (at : ℕ) → Op → (left right : ValueOf D) → Budget → ResultOf D
+compute {D} at op (num m) (num n) u = ends (operate op m n) (countSaturated (D .saturates op m n) u)
 compute at op (num m) (bool b) u = stops 18 at u
 compute at op (num m) (closure r ty body env) u = stops 18 at u
 compute at op (bool b) w u = stops 18 at u
 compute at op (closure r ty body env) w u = stops 18 at u
 
--- 02, W8: "Lists of posts become 32-bit: channel × 65,536 + number."
-abbrev pub postEntry : (channel number : ℕ) → ℕ
-postEntry ch n = ch * 65536 + n
-
 -- "A post appends its number and yields it." "22 no place for a post".
-abbrev pub appendPost : (at channel number : ℕ) → Budget → Result
+abbrev pub appendPost : {D : Domain} (at channel : ℕ) (number : D .Number) → Budget → ResultOf D
 appendPost at ch n (budget c d zero l) = stops 22 at (budget c d zero l)
-appendPost at ch n (budget c d (suc r) l) = ends (num n) (budget c d r (logPost (postEntry ch n) l))
+appendPost {D} at ch n (budget c d (suc r) l) = ends (num n) (budget c d r (logPost (D .entry ch n) l))
 
 -- 02, W12: "each check, test and guard they decide as term, privilege and yes or no, in the order met"; a decision that is not listed is none
 abbrev pub note : Option Event → Budget → Budget
@@ -86,30 +80,30 @@ note (some e) (budget c d r l) = budget c d r (logDecision e l)
 
 -- A post of a value, whose guard passes or not. 02, W8: "it is refused by 17 after its number is worked out, after 18 and before 22". The guard is decided
 -- when there is a number, and listed before 17.
-abbrev pub postValue : (at channel : ℕ) (allowed : Bool) (decision : Option Event) → Value → Budget → Result
+abbrev pub postValue : {D : Domain} (at channel : ℕ) (allowed : Bool) (decision : Option Event) → ValueOf D → Budget → ResultOf D
 postValue at ch allowed e (num n) u = choose allowed (λ u₁. appendPost at ch n u₁) (λ u₁. stops 17 at u₁) (note e u)
 postValue at ch allowed e (bool b) u = stops 18 at u
 postValue at ch allowed e (closure r ty body env) u = stops 18 at u
 
 -- "a recursive binder one" cell; "21 no cell … also at a recursive binder"
-abbrev pub takeCell : (at : ℕ) → (Budget → Result) → Budget → Result
+abbrev pub takeCell : {D : Domain} (at : ℕ) → (Budget → ResultOf D) → Budget → ResultOf D
 takeCell at k (budget c zero r l) = stops 21 at (budget c zero r l)
 takeCell at k (budget c (suc d) r l) = k (budget c d r l)
 
 -- A call takes one of the calls and one cell: "20 calls spent, then 21 no cell". "A call, cell or post that a stop prevents isn't counted."
-abbrev pub beginCall : (at : ℕ) → (Budget → Result) → Budget → Result
+abbrev pub beginCall : {D : Domain} (at : ℕ) → (Budget → ResultOf D) → Budget → ResultOf D
 beginCall at k (budget zero d r l) = stops 20 at (budget zero d r l)
 beginCall at k (budget (suc c) zero r l) = stops 21 at (budget (suc c) zero r l)
 beginCall at k (budget (suc c) (suc d) r l) = k (budget c d r l)
 
 -- a call where no more may be open: "calling a non-function is stuck after its argument, before 19"; "19 open calls would pass the allowance, then 20"
-abbrev pub tooDeep : (at : ℕ) → (fun : Value) → Budget → Result
+abbrev pub tooDeep : {D : Domain} (at : ℕ) → (fun : ValueOf D) → Budget → ResultOf D
 tooDeep at (closure r ty body env) u = stops 19 at u
 tooDeep at (bool b) u = stops 18 at u
 tooDeep at (num n) u = stops 18 at u
 
 -- a call where another may be open; `run` is what becomes of the body
-abbrev pub enter : (at : ℕ) → (fun arg : Value) → (run : Term → Env → Budget → Result) → Budget → Result
+abbrev pub enter : {D : Domain} (at : ℕ) → (fun arg : ValueOf D) → (run : Term → EnvOf D → Budget → ResultOf D) → Budget → ResultOf D
 enter at (closure r ty body env) w run u = beginCall at (λ u′. run body (entered r ty body env w) u′) u
 enter at (bool b) w run u = stops 18 at u
 enter at (num n) w run u = stops 18 at u
@@ -134,20 +128,20 @@ eventIf false at grants p = none
 abbrev pub listsChecks : Mode → Bool
 listsChecks M = M .tracing && M .enforce
 
-module _ (X : Control) where
+module _ (I : Interpretation) (X : Control) where
   abbrev pub Evaluation : Type 0
-  Evaluation = X .State → Env → Budget → Result
+  Evaluation = X .State → EnvOf (I .domain) → Budget → ResultOf (I .domain)
 
   -- a call at a term, of a function and an argument
   abbrev pub Application : Type 0
-  Application = (at : ℕ) (fun arg : Value) → X .State → Budget → Result
+  Application = (at : ℕ) (fun arg : ValueOf (I .domain)) → X .State → Budget → ResultOf (I .domain)
 
   module _ (M : Mode) where
     -- "Evaluation goes left to right."
     unfoldable pub evalWith : Application → Term → Evaluation
     -- Figures 2 and 4: true, x
-    evalWith app (boolean at b) st env u = ends (bool b) u
-    evalWith app (number at n) st env u = ends (num n) u
+    evalWith app (boolean at b) st env u = ends (bool (I .domain .truth b)) u
+    evalWith app (number at n) st env u = ends (num (I .literal at n)) u
     evalWith app (variable at i) st env u = found at (lookup env i) u
     -- fun: the body will run with the caller's state, not with this one
     evalWith app (function at ty body) st env u = ends (closure false ty body env) u

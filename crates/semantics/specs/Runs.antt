@@ -9,7 +9,8 @@ use Rattle.program.specs.Layout.{principals, authority, root}
 use Rattle.program.specs.Terms.{program}
 use Rattle.program.specs.Screening.{Condition, Screening, clear, found, screen, unless}
 use Rattle.program.specs.Decoding.{decodingConditions}
-use Rattle.semantics.specs.Values.{bool, num, closure, empty, emptyLog, Budget, budget, Result, ends, stops}
+use Rattle.semantics.specs.Domains.{Domain, exact, Interpretation, standard}
+use Rattle.semantics.specs.Values.{bool, num, closure, empty, emptyLog, Budget, budget, ResultOf, Result, ends, stops}
 use Rattle.semantics.specs.Meaning.{Mode, plain, eval}
 use Rattle.semantics.specs.Access.{Frame, frame, privs, lazyControl, rights, eagerControl}
 
@@ -79,19 +80,26 @@ initial q z = budget (q .calls) (z .cells / 8) (z .posts) emptyLog
 
 -- The eager runner starts with the set that the start stack grants, the lazy one with the stack. The program is a sign, so that the signer named
 -- here is never looked at.
+abbrev pub evaluationOver : (I : Interpretation) → Mode → Runner → List ℕ → Request → Sizes → ResultOf (I .domain)
+evaluationOver I M eager s q z =
+    eval I (eagerControl (authority s)) M (q .depth) (program s) (rights 0 (privs (authority s) (stack (q .start)))) empty (initial q z)
+evaluationOver I M lazy s q z = eval I (lazyControl (authority s)) M (q .depth) (program s) (stack (q .start)) empty (initial q z)
+
 abbrev pub evaluationIn : Mode → Runner → List ℕ → Request → Sizes → Result
-evaluationIn M eager s q z = eval (eagerControl (authority s)) M (q .depth) (program s) (rights 0 (privs (authority s) (stack (q .start)))) empty (initial q z)
-evaluationIn M lazy s q z = eval (lazyControl (authority s)) M (q .depth) (program s) (stack (q .start)) empty (initial q z)
+evaluationIn M r s q z = evaluationOver standard M r s q z
 
 abbrev pub evaluation : Runner → List ℕ → Request → Sizes → Result
 evaluation r s q z = evaluationIn (plain (q .enforce)) r s q z
 
 -- a run is turned back, or it comes to a result
-pub data Course : Type 0 where
-  rejected : (cause place : ℕ) → Course
-  started : Result → Course
+pub data CourseOf (D : Domain) : Type 0 where
+  rejected : (cause place : ℕ) → CourseOf D
+  started : ResultOf D → CourseOf D
 
-abbrev pub settled : Screening → (Unit {0} → Result) → Course
+abbrev pub Course : Type 0
+Course = CourseOf exact
+
+abbrev pub settled : {D : Domain} → Screening → (Unit {0} → ResultOf D) → CourseOf D
 settled clear k = started (k tt)
 settled (found c p) k = rejected c p
 
@@ -102,13 +110,13 @@ course s q z = settled (screen (runConditions s q z)) λ _. evaluation (q .runne
 
 -- "an end carries a boolean or a number, a stop its cause and term; both carry calls, cells and posts made"; 02, W10: "ends and stops carry that count"
 -- of held sums and differences "beside the calls"
-pub data Ground : Type 0 where
-  ground-bool : Bool → Ground
-  ground-num : ℕ → Ground
+pub data GroundOf (D : Domain) : Type 0 where
+  ground-bool : D .Truth → GroundOf D
+  ground-num : D .Number → GroundOf D
 
-pub data Outcome : Type 0 where
-  ended : Ground → Outcome
-  stopped : (cause term : ℕ) → Outcome
+pub data OutcomeOf (D : Domain) : Type 0 where
+  ended : GroundOf D → OutcomeOf D
+  stopped : (cause term : ℕ) → OutcomeOf D
 
 pub record Counts : Type 0 where
   pub calls : ℕ
@@ -116,18 +124,28 @@ pub record Counts : Type 0 where
   pub posts : ℕ
   pub saturated : ℕ
 
-pub data Answer : Type 0 where
-  refused : (cause place : ℕ) → Answer
-  ran : Outcome → Counts → Answer
+pub data AnswerOf (D : Domain) : Type 0 where
+  refused : (cause place : ℕ) → AnswerOf D
+  ran : OutcomeOf D → Counts → AnswerOf D
+
+-- 01's
+abbrev pub Ground : Type 0
+Ground = GroundOf exact
+
+abbrev pub Outcome : Type 0
+Outcome = OutcomeOf exact
+
+abbrev pub Answer : Type 0
+Answer = AnswerOf exact
 
 -- 18 also for "a root that gives a function"
-abbrev pub outcome : (root : ℕ) → Result → Outcome
+abbrev pub outcome : {D : Domain} (root : ℕ) → ResultOf D → OutcomeOf D
 outcome r (ends (bool b) u) = ended (ground-bool b)
 outcome r (ends (num n) u) = ended (ground-num n)
 outcome r (ends (closure rec ty body env) u) = stopped 18 r
 outcome r (stops cause at u) = stopped cause at
 
-abbrev pub left : Result → Budget
+abbrev pub left : {D : Domain} → ResultOf D → Budget
 left (ends v u) = u
 left (stops cause at u) = u
 
@@ -136,7 +154,7 @@ abbrev pub counts : Request → Sizes → Budget → Counts
 counts q z (budget c d r l) = record { calls = q .calls - c; cells = z .cells / 8 - d; posts = length (l .posts); saturated = l .saturated }
 
 -- "After 1 to 16 … no count is told."
-abbrev pub answerOf : (root : ℕ) → Request → Sizes → Course → Answer
+abbrev pub answerOf : {D : Domain} (root : ℕ) → Request → Sizes → CourseOf D → AnswerOf D
 answerOf r q z (rejected c p) = refused c p
 answerOf r q z (started x) = ran (outcome r x) (counts q z (left x))
 
@@ -146,7 +164,7 @@ abbrev pub inOrder : Budget → List ℕ
 inOrder (budget c d r l) = reverse (l .posts)
 
 -- the posts made, in order
-abbrev pub postsMade : Course → List ℕ
+abbrev pub postsMade : {D : Domain} → CourseOf D → List ℕ
 postsMade (rejected c p) = []
 postsMade (started x) = inOrder (left x)
 
@@ -159,7 +177,7 @@ clearedFrames lazy fs = zeros (length fs)
 
 -- "Posts made so far stand in the lent list and its other entries are untouched; cell and frame stores are all zero. After 1 to 16 every buffer is
 -- untouched".
-abbrev pub buffersAfter : Runner → Buffers → Course → Buffers
+abbrev pub buffersAfter : {D : Domain} → Runner → Buffers → CourseOf D → Buffers
 buffersAfter r b (rejected c p) = b
 buffersAfter r b (started x) = record {
   cells = zeros (length (b .cells));
@@ -169,12 +187,16 @@ buffersAfter r b (started x) = record {
 
 -- ---- the whole run
 
-pub record After : Type 0 where
-  pub answer : Answer
+pub record AfterOf (D : Domain) : Type 0 where
+  pub answer : AnswerOf D
   pub buffers : Buffers
 
+abbrev pub After : Type 0
+After = AfterOf exact
+
+-- what a course leaves
+abbrev pub afterCourse : {D : Domain} → List ℕ → Request → Buffers → CourseOf D → AfterOf D
+afterCourse s q b c = record { answer = answerOf (root s) q (sizes b) c; buffers = buffersAfter (q .runner) b c }
+
 unfoldable pub run : List ℕ → Request → Buffers → After
-run s q b = record {
-  answer = answerOf (root s) q (sizes b) (course s q (sizes b));
-  buffers = buffersAfter (q .runner) b (course s q (sizes b));
-}
+run s q b = afterCourse s q b (course s q (sizes b))

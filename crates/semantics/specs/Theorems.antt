@@ -23,10 +23,11 @@ use Rattle.program.specs.Decoding.{decodingConditions, decoding}
 use Rattle.program.specs.Laws.Screening.{found-first, first-found, clear-none, none-clear, none-append, none-cons, unless-none}
 use Rattle.program.specs.Laws.Readable.{WellFormed, well-formed}
 use Rattle.program.specs.Laws.Guards.{without-guards}
-use Rattle.semantics.specs.Values.{num, Env, empty, Log, logPost, Budget, budget, ends}
-use Rattle.semantics.specs.Meaning.{Control, Mode, plain, _then_, postEntry, postValue, eventIf, listsChecks, evalWith, eval}
+use Rattle.semantics.specs.Domains.{Domain, Interpretation, standard, postEntry}
+use Rattle.semantics.specs.Values.{num, Env, empty, Log, logPost, Budget, budget, ResultOf, ends}
+use Rattle.semantics.specs.Meaning.{Control, Mode, plain, _then_, postValue, eventIf, listsChecks, evalWith, eval}
 use Rattle.semantics.specs.Access.{Frame, chk, privs, lazyControl, rights, eagerControl}
-use Rattle.semantics.specs.Runs.{Runner, eager, lazy, Request, Buffers, Sizes, sizes, stack, framesOk, runConditions, initial, evaluation, Course, rejected, started, settled, course, Outcome, stopped, Counts, Answer, refused, ran, left, counts, answerOf, inOrder, postsMade, clearedFrames, buffersAfter, After, run}
+use Rattle.semantics.specs.Runs.{Runner, eager, lazy, Request, Buffers, Sizes, sizes, stack, framesOk, runConditions, initial, evaluationOver, evaluation, Course, rejected, started, settled, course, Outcome, stopped, Counts, AnswerOf, refused, ran, left, counts, answerOf, inOrder, postsMade, clearedFrames, buffersAfter, After, run}
 use Rattle.semantics.specs.Laws.Access.{privs-chk}
 use Rattle.semantics.specs.Laws.Budgets.{places, Spent, spends}
 use Rattle.semantics.specs.Laws.Saturation.{saturatedIn, evaluation-load}
@@ -139,8 +140,8 @@ no-event false at grants = refl
 
 -- They are the numbers posted: on channel 0 and without a guard "A post appends its number and yields it", whatever is granted.
 pub plain-post : (X : Control) (M : Mode) (depth at : ℕ) (c : Term) (st : X .State) (e : Env) (u : Budget) (n k d r : ℕ) (l : Log)
-    → eval X M depth c st e u ≡ ends (num n) (budget k d (suc r) l)
-    → eval X M depth (post at 0 none c) st e u ≡ ends (num n) (budget k d r (logPost n l))
+    → eval standard X M depth c st e u ≡ ends (num n) (budget k d (suc r) l)
+    → eval standard X M depth (post at 0 none c) st e u ≡ ends (num n) (budget k d r (logPost n l))
 unfolding eval evalWith
 plain-post X M depth at c st e u n k d r l h =
     let z : postEntry 0 n ≡ n = omega arith in
@@ -149,10 +150,11 @@ plain-post X M depth at c st e u n k d r l h =
 
 -- ---- What a run leaves
 -- Every buffer keeps its length, whatever becomes of the run: the posts made find their places in the lent list.
-evaluation-spends : (r : Runner) (s : List ℕ) (q : Request) (z : Sizes) → Spent (initial q z) (left (evaluation r s q z))
-evaluation-spends eager s q z =
-    spends (eagerControl (authority s)) (plain (q .enforce)) (q .depth) (program s) (rights 0 (privs (authority s) (stack (q .start)))) empty (initial q z)
-evaluation-spends lazy s q z = spends (lazyControl (authority s)) (plain (q .enforce)) (q .depth) (program s) (stack (q .start)) empty (initial q z)
+pub evaluation-spends : (I : Interpretation) (M : Mode) (r : Runner) (s : List ℕ) (q : Request) (z : Sizes)
+    → Spent (initial q z) (left (evaluationOver I M r s q z))
+evaluation-spends I M eager s q z =
+    spends I (eagerControl (authority s)) M (q .depth) (program s) (rights 0 (privs (authority s) (stack (q .start)))) empty (initial q z)
+evaluation-spends I M lazy s q z = spends I (lazyControl (authority s)) M (q .depth) (program s) (stack (q .start)) empty (initial q z)
 
 frames-length : (r : Runner) (fs : List ℕ) → length (clearedFrames r fs) ≡ length fs
 frames-length eager fs = refl
@@ -164,18 +166,20 @@ posts-length (budget c d r l) ps e =
     length-append (reverse qs) _ ∙ ap (λ (n : ℕ). length (reverse qs) + n) (length-drop (length (reverse qs)) ps)
     ∙ omega (arith, length-reverse qs)
 
-after-sizes : (s : List ℕ) (q : Request) (b : Buffers) (x : Screening)
-    → sizes (buffersAfter (q .runner) b (settled x (λ _. evaluation (q .runner) s q (sizes b)))) ≡ sizes b
-after-sizes s q b (found c p) = refl
-after-sizes s q b clear = λ i. record {
+pub after-sizes : {D : Domain} (q : Request) (b : Buffers) (x : Screening) (y : ResultOf D) → Spent (initial q (sizes b)) (left y)
+    → sizes (buffersAfter (q .runner) b (settled x (λ _. y))) ≡ sizes b
+after-sizes q b (found c p) y h = refl
+after-sizes q b clear y h = λ i. record {
   cells = length-replicate {A = ℕ} (length (b .cells)) 0 i;
-  posts = posts-length (left (evaluation (q .runner) s q (sizes b))) (b .posts) (evaluation-spends (q .runner) s q (sizes b) .posts) i;
+  posts = posts-length (left y) (b .posts) (h .posts) i;
   frames = frames-length (q .runner) (b .frames) i;
 }
 
 pub lengths-kept : (s : List ℕ) (q : Request) (b : Buffers) → sizes (run s q b .buffers) ≡ sizes b
 unfolding run course
-lengths-kept s q b = after-sizes s q b (screen (runConditions s q (sizes b)))
+lengths-kept s q b =
+    after-sizes q b (screen (runConditions s q (sizes b))) (evaluation (q .runner) s q (sizes b))
+    (evaluation-spends standard (plain (q .enforce)) (q .runner) s q (sizes b))
 
 -- How large the counts are that a run tells.
 pub record Few (k : Counts) : Type 0 where
@@ -193,21 +197,24 @@ few q z (budget c d r l) calls cells posts h n = record {
   saturated-most = omega (arith, calls, n);
 }
 
-abbrev countsIn : Counts → Answer → Counts
+-- of a run that starts
+pub clear-few : (s : List ℕ) (q : Request) (b : Buffers) → screen (runConditions s q (sizes b)) ≡ clear → (u : Budget) → Spent (initial q (sizes b)) u
+    → saturatedIn u ≤ q .calls * maxTerms + maxTerms → Few (counts q (sizes b) u)
+clear-few s q b e u h n =
+    let callers = none-append (decodingConditions s) _ (clear-none (runConditions s q (sizes b)) e) .1 in
+    let fits : (leb (length (b .cells)) maxCells && leb (length (b .posts)) maxPosts && framesOk (q .runner) (length (b .frames)))
+    ≡ true = unless-none 15 _ (none-cons (none-cons callers .1) .0) in
+    few q (sizes b) u (clear-calls s q b e) (leb-true (length (b .cells)) maxCells (search (fits, and-left, and-right)))
+    (leb-true (length (b .posts)) maxPosts (search (fits, and-left, and-right))) h n
+
+abbrev pub countsIn : {D : Domain} → Counts → AnswerOf D → Counts
 countsIn k (refused c p) = k
 countsIn k (ran o k′) = k′
 
 pub counts-few : (s : List ℕ) (q : Request) (b : Buffers) (o : Outcome) (k : Counts) → run s q b .answer ≡ ran o k → Few k
 counts-few s q b o k e =
     let clear-of = starts-screened s q b (o, k, e) in
-    let callers = none-append (decodingConditions s) _ (clear-none (runConditions s q (sizes b)) clear-of) .1 in
-    let fits : (leb (length (b .cells)) maxCells && leb (length (b .posts)) maxPosts && framesOk (q .runner) (length (b .frames)))
-    ≡ true = unless-none 15 _ (none-cons (none-cons callers .1) .0) in
-    subst Few
-    (ap (countsIn k) (sym (answer-course s q b _ (course-clear s q b clear-of)) ∙ e))
-    (few q (sizes b) (left (evaluation (q .runner) s q (sizes b)))
-    (clear-calls s q b clear-of)
-    (leb-true (length (b .cells)) maxCells (search (fits, and-left, and-right)))
-    (leb-true (length (b .posts)) maxPosts (search (fits, and-left, and-right)))
-    (evaluation-spends (q .runner) s q (sizes b))
+    subst Few (ap (countsIn k) (sym (answer-course s q b _ (course-clear s q b clear-of)) ∙ e))
+    (clear-few s q b clear-of (left (evaluation (q .runner) s q (sizes b)))
+    (evaluation-spends standard (plain (q .enforce)) (q .runner) s q (sizes b))
     (omega (arith, evaluation-load s (started-well s q b (o, k, e)) (plain (q .enforce)) (q .runner) q (sizes b))))

@@ -5,26 +5,34 @@ use mathlib.Core.Option.{Option, none, some}
 use Prim.Native.Nat.{ℕ, zero, suc}
 use Rattle.program.specs.Terms.{Term}
 use Rattle.traces.specs.Traces.{Event}
+use Rattle.semantics.specs.Domains.{Domain, exact}
 
--- A closure is a function type's number, a body and the environment where it was made. It is recursive if a letrec made it: then its body also
--- sees the function itself.
+-- Over any domain. A closure is a function type's number, a body and the environment where it was made. It is recursive if a letrec made it: then its body
+-- also sees the function itself.
 mutual
-  pub data Value : Type 0 where
-    bool : Bool → Value
-    num : ℕ → Value
-    closure : (recursive : Bool) (ty : ℕ) (body : Term) (env : Env) → Value
+  pub data ValueOf (D : Domain) : Type 0 where
+    bool : D .Truth → ValueOf D
+    num : D .Number → ValueOf D
+    closure : (recursive : Bool) (ty : ℕ) (body : Term) (env : EnvOf D) → ValueOf D
 
-  pub data Env : Type 0 where
-    empty : Env
-    bind : Value → Env → Env
+  pub data EnvOf (D : Domain) : Type 0 where
+    empty : EnvOf D
+    bind : ValueOf D → EnvOf D → EnvOf D
 
-abbrev pub lookup : Env → (i : ℕ) → Option Value
+-- 01's
+abbrev pub Value : Type 0
+Value = ValueOf exact
+
+abbrev pub Env : Type 0
+Env = EnvOf exact
+
+abbrev pub lookup : {D : Domain} → EnvOf D → (i : ℕ) → Option (ValueOf D)
 lookup empty i = none
 lookup (bind v e) zero = some v
 lookup (bind v e) (suc i) = lookup e i
 
 -- The environment of a called body. "In a body of kind 3 variable 0 is the argument. In a body of kind 4 variable 0 is the argument and 1 the function".
-abbrev pub entered : (recursive : Bool) (ty : ℕ) (body : Term) (env : Env) (arg : Value) → Env
+abbrev pub entered : {D : Domain} (recursive : Bool) (ty : ℕ) (body : Term) (env : EnvOf D) (arg : ValueOf D) → EnvOf D
 entered true ty body env w = bind w (bind (closure true ty body env) env)
 entered false ty body env w = bind w env
 
@@ -52,6 +60,9 @@ pub data Budget : Type 0 where
   budget : (calls cells room : ℕ) (log : Log) → Budget
 
 -- a term ends with a value, or a cause stops it at a term
-pub data Result : Type 0 where
-  ends : Value → Budget → Result
-  stops : (cause at : ℕ) → Budget → Result
+pub data ResultOf (D : Domain) : Type 0 where
+  ends : ValueOf D → Budget → ResultOf D
+  stops : (cause at : ℕ) → Budget → ResultOf D
+
+abbrev pub Result : Type 0
+Result = ResultOf exact

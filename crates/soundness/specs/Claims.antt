@@ -6,8 +6,9 @@ use Prim.Native.Nat.{ℕ, _*_, _≤_}
 use lib.ListN.{length, take}
 use Rattle.privileges.specs.Sets.{has}
 use Rattle.program.specs.Layout.{authority}
+use Rattle.semantics.specs.Domains.{Domain}
 use Rattle.semantics.specs.Access.{chk}
-use Rattle.semantics.specs.Runs.{Request, Buffers, stack, ground-bool, ground-num, ended, stopped, Answer, refused, ran, After}
+use Rattle.semantics.specs.Runs.{Request, Buffers, stack, ground-bool, ground-num, ended, stopped, AnswerOf, Answer, refused, ran, AfterOf, After}
 use Rattle.semantics.specs.Recording.{Recorded}
 use Rattle.semantics.specs.Theorems.{Starts}
 
@@ -36,11 +37,11 @@ pub record TwoRuns (s : List ℕ) (x y : Request) (b d : Buffers) : Type 0 where
   pub second-starts : Starts s y d
 
 -- "The posts are the first entries of the lent list, as many as the posts made, in order."
-abbrev pub postCount : Answer → ℕ
+abbrev pub postCount : {D : Domain} → AnswerOf D → ℕ
 postCount (refused c p) = 0
 postCount (ran o k) = k .posts
 
-abbrev pub postsOf : After → List ℕ
+abbrev pub postsOf : {D : Domain} → AfterOf D → List ℕ
 postsOf a = take (postCount (a .answer)) (a .buffers .posts)
 
 -- the same end, or the same stop at the same term, with the same counts; and the same posts

@@ -2,6 +2,7 @@
 -- how many numbers of its frame store are in use, two for each frame: the set that its principal may use, and the enabled set.
 use mathlib.Core.Bool.{Bool, true, false}
 use mathlib.Core.List.{List}
+use mathlib.Core.Path.{_≡_}
 use Prim.Native.Nat.{ℕ, zero, suc, _+_, _*_, _/_, _%_}
 use lib.Dec.{leb, ltb, eqb}
 use lib.ListN.{length, getD, set}
@@ -17,12 +18,20 @@ lowOf acc = acc % 4294967296
 abbrev pub highOf : ℕ → ℕ
 highOf acc = acc / 4294967296
 
--- a run's mode: 1 if checks are enforced, and 2 more if it is lazy
+-- a run's mode: 1 if checks are enforced, 2 more if it is lazy, and 4 more if its numbers are intervals
 abbrev pub enforced : (mode : ℕ) → Bool
 enforced mode = eqb (mode % 2) 1
 
 abbrev pub lazyMode : (mode : ℕ) → Bool
-lazyMode mode = ltb 1 mode
+lazyMode mode = eqb (mode / 2) 1
+
+abbrev pub intervalMode : (mode : ℕ) → Bool
+intervalMode mode = ltb 3 mode
+
+pub record ModeIs (lazy enforce interval : Bool) (mode : ℕ) : Type 0 where
+  pub lazy-is : lazyMode mode ≡ lazy
+  pub enforce-is : enforced mode ≡ enforce
+  pub interval-is : intervalMode mode ≡ interval
 
 -- whether the frames in the first numbers grant p, the last of them being the innermost
 unfoldable pub walkGrants : (frames : List ℕ) (used p : ℕ) → Bool

@@ -1,7 +1,7 @@
--- 01's numbers of the stops, 17 to 22, and the term that stops.
+-- The papers' numbers of the stops, 01's 17 to 22 and 02's 36, and the term that stops.
 use Prim.Native.Nat.{ℕ}
 use Rattle.stores.specs.declared.state.Stop.{Stop}
-use Rattle.stores.specs.declared.state.Stop.the-variants.{Check, Stuck, OpenCalls, Calls, Cells, Posts}
+use Rattle.stores.specs.declared.state.Stop.the-variants.{Check, Stuck, OpenCalls, Calls, Cells, Posts, Undecided}
 
 abbrev pub stopCause : Stop → ℕ
 stopCause (Check t) = 17
@@ -10,6 +10,7 @@ stopCause (OpenCalls t) = 19
 stopCause (Calls t) = 20
 stopCause (Cells t) = 21
 stopCause (Posts t) = 22
+stopCause (Undecided t) = 36
 
 abbrev pub stopPlace : Stop → ℕ
 stopPlace (Check t) = t
@@ -18,3 +19,4 @@ stopPlace (OpenCalls t) = t
 stopPlace (Calls t) = t
 stopPlace (Cells t) = t
 stopPlace (Posts t) = t
+stopPlace (Undecided t) = t

@@ -1,10 +1,12 @@
 -- Words: what evaluating a term gives, as one number, sort + 2^16 payload + 2^32 environment. Sorts 0, 1 and 2 are a boolean, a number and a
--- function, whose environment is the number of a cell; a stop's sort is 01's number of it and its payload the term that stops.
+-- function, whose environment is the number of a cell; a number that is known within limits has its lowest value as payload and its highest in the
+-- place of the environment, and a boolean that is not decided has the payload 2; a stop's sort is the papers' number of it and its payload the term
+-- that stops.
 use mathlib.Core.Bool.{Bool, true, false}
 use Prim.Native.Nat.{ℕ, _+_, _*_, _/_, _%_}
 use lib.Dec.{ltb, eqb}
 use Rattle.stores.specs.declared.state.Value.the-variants.{Bool as VBool, Num, Fun}
-use Rattle.stores.specs.declared.state.Stop.the-variants.{Check, Stuck, OpenCalls, Calls, Cells, Posts}
+use Rattle.stores.specs.declared.state.Stop.the-variants.{Check, Stuck, OpenCalls, Calls, Cells, Posts, Undecided}
 use Rattle.stores.specs.declared.state.Out.{Out}
 use Rattle.stores.specs.declared.state.Out.the-variants.{Val, Stop as Stopped}
 
@@ -17,6 +19,12 @@ booleanWord b = pick b 65536 0
 
 abbrev pub numberWord : ℕ → ℕ
 numberWord n = 1 + 65536 * n
+
+abbrev pub intervalWord : (lowest highest : ℕ) → ℕ
+intervalWord l h = 1 + 65536 * l + 4294967296 * h
+
+abbrev pub undecidedWord : ℕ
+undecidedWord = 131072
 
 abbrev pub functionWord : (body env : ℕ) → ℕ
 functionWord body env = 2 + 65536 * body + 4294967296 * env
@@ -41,7 +49,7 @@ unfoldable pub outBy : (sort payload env : ℕ) → Out
 outBy k n e =
     pick (eqb k 0) (Val (VBool (ltb 0 n))) (pick (eqb k 1) (Val (Num n)) (pick (eqb k 2) (Val (Fun n e))
     (pick (eqb k 17) (Stopped (Check n)) (pick (eqb k 18) (Stopped (Stuck n)) (pick (eqb k 19) (Stopped (OpenCalls n))
-    (pick (eqb k 20) (Stopped (Calls n)) (pick (eqb k 21) (Stopped (Cells n)) (Stopped (Posts n)))))))))
+    (pick (eqb k 20) (Stopped (Calls n)) (pick (eqb k 21) (Stopped (Cells n)) (pick (eqb k 22) (Stopped (Posts n)) (Stopped (Undecided n))))))))))
 
 abbrev pub outOf : ℕ → Out
 outOf w = outBy (sortOf w) (payloadOf w) (envOf w)

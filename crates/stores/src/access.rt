@@ -1,10 +1,11 @@
 // Access control, as one number. An eager run holds a pair: the set that the signing principal may use, and 2^32 times the granted set. A lazy run
 // holds how many numbers of its frame store are in use, two for each frame: the set that its principal may use, and the enabled set. A run's mode is
 // 1 if checks are enforced, and 2 more if it is lazy.
+ghost use mathlib.Core.Bool.{true, false};
 ghost use mathlib.Core.Path.{_≡_};
 ghost use Prim.Native.Nat.{_<_};
 ghost use lib.ListN.{getD, set};
-ghost use Rattle.stores.specs.Access.{pairOf, lowOf, highOf, enforced, lazyMode, framesGrant, grantedOf, signAccess, signFrames, firstEnabled, enableAccess, enableFrames, enabledNow, restoreFrames};
+ghost use Rattle.stores.specs.Access.{pairOf, lowOf, highOf, enforced, lazyMode, intervalMode, ModeIs, framesGrant, grantedOf, signAccess, signFrames, firstEnabled, enableAccess, enableFrames, enabledNow, restoreFrames};
 ghost use Rattle.stores.specs.Cells.{zerosLike};
 
 fn number_at(f: &[u32], i: usize) -> u32
@@ -40,7 +41,7 @@ fn high(acc: u64) -> u32
 }
 
 pub fn mode_of(lazy: bool, enforce: bool) -> usize
-    ensures { λ r. ⌜ (lazyMode r ≡ lazy) × (enforced r ≡ enforce) ⌝ }
+    ensures { λ r. ⌜ ModeIs lazy enforce false r ⌝ }
 {
     if lazy {
         if enforce {
@@ -54,6 +55,22 @@ pub fn mode_of(lazy: bool, enforce: bool) -> usize
     0
 }
 
+// The mode of an eager run whose numbers are intervals.
+pub fn interval_mode(enforce: bool) -> usize
+    ensures { λ r. ⌜ ModeIs false enforce true r ⌝ }
+{
+    if enforce {
+        return 5;
+    }
+    4
+}
+
+pub fn intervals(mode: usize) -> bool
+    ensures { λ r. ⌜ r ≡ intervalMode mode ⌝ }
+{
+    3 < mode
+}
+
 pub fn enforces(mode: usize) -> bool
     ensures { λ r. ⌜ r ≡ enforced mode ⌝ }
 {
@@ -63,7 +80,7 @@ pub fn enforces(mode: usize) -> bool
 fn is_lazy(mode: usize) -> bool
     ensures { λ r. ⌜ r ≡ lazyMode mode ⌝ }
 {
-    1 < mode
+    mode / 2 == 1
 }
 
 // Whether the frames in the first `used` numbers grant p, the last of them being the innermost. One test stands for all indexes.

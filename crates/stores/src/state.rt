@@ -8,7 +8,7 @@ pub enum Value {
     Fun { body: u16, env: u16 },
 }
 
-// The paper's stops 17 to 22, in this order, each with the term that stops.
+// The papers' stops 17 to 22 and 36, in this order, each with the term that stops. Only a run over intervals has 36.
 pub enum Stop {
     Check(u16),
     Stuck(u16),
@@ -16,6 +16,7 @@ pub enum Stop {
     Calls(u16),
     Cells(u16),
     Posts(u16),
+    Undecided(u16),
 }
 
 pub enum Out {

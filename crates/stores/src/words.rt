@@ -1,7 +1,8 @@
 // What evaluating a term gives, as one number, so that it is returned in a register: sort + 2^16 payload + 2^32 environment. Sorts 0, 1 and 2 are a
-// boolean, a number and a function; a stop's sort is its number in the paper, 17 to 22, and its payload the term that stops.
+// boolean, a number and a function; a stop's sort is its number in the papers, 17 to 22 or 36, and its payload the term that stops. A number that is
+// known within limits has its lowest value as payload and its highest in the place of the environment; a boolean that is not decided has payload 2.
 ghost use mathlib.Core.Path.{_≡_};
-ghost use Rattle.stores.specs.Words.{booleanWord, numberWord, functionWord, stopWord, sortOf, payloadOf, envOf, isStop, outOf};
+ghost use Rattle.stores.specs.Words.{booleanWord, numberWord, intervalWord, undecidedWord, functionWord, stopWord, sortOf, payloadOf, envOf, isStop, outOf};
 use crate::state::Out;
 use crate::state::Stop;
 use crate::state::Value;
@@ -16,6 +17,18 @@ pub fn number(n: u16) -> u64
     ensures { λ r. ⌜ r ≡ numberWord n ⌝ }
 {
     1 + 65536 * (n as u64)
+}
+
+pub fn interval(lowest: u16, highest: u16) -> u64
+    ensures { λ r. ⌜ r ≡ intervalWord lowest highest ⌝ }
+{
+    1 + 65536 * (lowest as u64) + 4294967296 * (highest as u64)
+}
+
+pub fn undecided() -> u64
+    ensures { λ r. ⌜ r ≡ undecidedWord ⌝ }
+{
+    131072
 }
 
 pub fn function(body: u16, env: u16) -> u64
@@ -72,6 +85,7 @@ pub fn out_of(w: u64) -> Out
         19 => Out::Stop(Stop::OpenCalls(n)),
         20 => Out::Stop(Stop::Calls(n)),
         21 => Out::Stop(Stop::Cells(n)),
-        _ => Out::Stop(Stop::Posts(n)),
+        22 => Out::Stop(Stop::Posts(n)),
+        _ => Out::Stop(Stop::Undecided(n)),
     }
 }

@@ -16,7 +16,7 @@ use std::process::ExitCode;
 use std::{env, fs};
 
 /// The headings of docs/REFUSALS.md, by their numbers.
-const CAUSES: [&str; 35] = [
+const CAUSES: [&str; 37] = [
     "none",
     "cut short",
     "wrong tag",
@@ -52,6 +52,8 @@ const CAUSES: [&str; 35] = [
     "no lean form",
     "no room",
     "record",
+    "ranges",
+    "undecided condition",
 ];
 
 fn main() -> ExitCode {

@@ -7,6 +7,7 @@ mod floor;
 mod naming;
 mod piecing;
 mod placement;
+mod ranging;
 mod recording;
 mod timing;
 mod workload;
@@ -38,6 +39,7 @@ fn main() {
     naming::print();
     piecing::print();
     recording::print();
+    ranging::print();
     floor::print();
 }
 

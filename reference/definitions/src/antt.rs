@@ -1,8 +1,9 @@
 //! Entries as text that the checker reads.
 
-use crate::row::{Asked, Buffers, Compared, Entry, Row, Runner, Running};
+use crate::row::{Asked, Buffers, Choosing, Compared, Entry, Ranging, Row, Runner, Running};
 use sovzedal_reference::{
-    Checks, Comparison, Outcome, Plain, Recorded, Refusal, Run, Stop, Verdict, FRAME_NUMBERS,
+    Checks, Comparison, Outcome, Piece, Plain, Range, RangeRun, Recorded, Refusal, Run, Stop,
+    Truth, Verdict, FRAME_NUMBERS,
 };
 use std::fmt::Display;
 
@@ -23,7 +24,12 @@ pub fn theorem(entries: &[Entry]) -> String {
         let name = format!("sheet{number}");
         let bytes = list(&entry.sheet);
         sheets += &format!("{name} : List ℕ\n{name} = {bytes}\n\n");
-        rows.extend(entry.rows.iter().map(|asked| row(&name, asked)));
+        rows.extend(
+            entry
+                .rows
+                .iter()
+                .map(|asked| row(&name, &entry.sheet, asked)),
+        );
         names.push(name);
     }
     ROWS.replace("{sheets}\n", &sheets)
@@ -50,10 +56,16 @@ fn comparison(compared: &Compared) -> String {
     format!("holding {unit} {office} {answer}")
 }
 
-fn row(sheet: &str, row: &Row) -> String {
+/// A row about the sheet of this name and these bytes.
+fn row(sheet: &str, bytes: &[u8], row: &Row) -> String {
     match row {
         Row::Deciding(due) => format!("deciding {sheet} {}", verdict(*due)),
         Row::Running(run) => running(sheet, run),
+        Row::Ranging(run) => ranging(sheet, run),
+        Row::Choosing(Choosing { numbers, bytes }) => {
+            format!("choosing {sheet} {} {}", list(numbers), list(bytes))
+        }
+        Row::Seeking(due) => format!("seeking {sheet} {}", piece(bytes, due)),
     }
 }
 
@@ -70,6 +82,37 @@ fn running(sheet: &str, run: &Running) -> String {
         buffers(&run.after),
         list(&run.after.record)
     )
+}
+
+fn ranging(sheet: &str, run: &Ranging) -> String {
+    let told = match run.answer {
+        Ok(run) => ran_over_ranges(run),
+        Err(refusal) => refused(refusal),
+    };
+    format!(
+        "ranging {sheet} {} {} {} (after {told} {})",
+        list(&run.pairs),
+        request(&run.asked),
+        buffers(&run.before),
+        buffers(&run.after)
+    )
+}
+
+/// A piece of this sheet, and its record.
+fn piece(sheet: &[u8], piece: &Result<Option<Piece>, Refusal>) -> String {
+    match piece {
+        Ok(Some(piece)) => format!(
+            "(smallest {} {} {} {}) {}",
+            piece.term,
+            piece.count,
+            piece.fault.number(),
+            // The fault is the piece's own.
+            piece.term,
+            list(piece.record_in(sheet))
+        ),
+        Ok(None) => "no-piece []".to_string(),
+        Err(refusal) => format!("(unreadable {}) []", cause_and_place(*refusal)),
+    }
 }
 
 fn verdict(verdict: Result<Verdict, Refusal>) -> String {
@@ -121,7 +164,11 @@ fn frames(numbers: &[u32]) -> String {
 fn ran(run: Run) -> String {
     format!(
         "(ran {} (counted {} {} {} {}))",
-        outcome(run.outcome),
+        outcome(
+            run.outcome,
+            |value| value.to_string(),
+            |number| number.to_string()
+        ),
         run.calls,
         run.cells,
         run.posts,
@@ -129,14 +176,43 @@ fn ran(run: Run) -> String {
     )
 }
 
+/// Held results aren't counted.
+fn ran_over_ranges(run: RangeRun) -> String {
+    format!(
+        "(ran {} (counted {} {} {} 0))",
+        outcome(run.outcome, truth, range),
+        run.calls,
+        run.cells,
+        run.posts
+    )
+}
+
+fn truth(truth: Truth) -> String {
+    match truth {
+        Truth::No => "(some false)",
+        Truth::Yes => "(some true)",
+        Truth::Undecided => "none",
+    }
+    .to_string()
+}
+
+fn range(range: Range) -> String {
+    format!("(interval {} {})", range.lowest, range.highest)
+}
+
 fn refused(refusal: Refusal) -> String {
     format!("(refused {})", cause_and_place(refusal))
 }
 
-fn outcome(outcome: Outcome) -> String {
+/// An outcome whose values are written thus.
+fn outcome<B, N>(
+    outcome: Outcome<Plain<B, N>>,
+    truth: fn(B) -> String,
+    number: fn(N) -> String,
+) -> String {
     match outcome {
-        Outcome::End(Plain::Bool(value)) => format!("(ended (ground-bool {value}))"),
-        Outcome::End(Plain::Number(value)) => format!("(ended (ground-num {value}))"),
+        Outcome::End(Plain::Bool(value)) => format!("(ended (ground-bool {}))", truth(value)),
+        Outcome::End(Plain::Number(value)) => format!("(ended (ground-num {}))", number(value)),
         Outcome::Stop(Stop { cause, term }) => format!("(stopped {} {term})", cause.number()),
     }
 }
@@ -165,6 +241,8 @@ mod tests {
     use sheets::cases;
     use sheets::pairs::{Made, Pair};
     use sheets::request::Request;
+    use sheets::tree::*;
+    use sovzedal_reference::decode;
 
     #[test]
     fn a_run_is_asked_and_answered() {
@@ -180,7 +258,11 @@ mod tests {
             record: 6,
         };
         let entry = Entry::answered(cases::posting(2), [asked]);
-        let rows: Vec<String> = entry.rows.iter().map(|asked| row("s", asked)).collect();
+        let rows: Vec<String> = entry
+            .rows
+            .iter()
+            .map(|asked| row("s", &entry.sheet, asked))
+            .collect();
         assert_eq!(
             rows,
             [
@@ -193,6 +275,73 @@ mod tests {
                  1 (0 ∷ 2 ∷ 1 ∷ 1 ∷ 6 ∷ 6 ∷ []))",
             ]
         );
+    }
+
+    #[test]
+    fn a_run_over_ranges_is_asked_and_answered() {
+        let answered = |tree, pairs: &[u16]| {
+            let request = Request {
+                posts: 2,
+                cell_bytes: 9,
+                ..Request::largest()
+            };
+            let sheet = cases::computing(tree);
+            let run = Ranging::answered(&sheet, pairs.to_vec(), Checks::PassedOver, request);
+            ranging("s", &run)
+        };
+        let before = "(requestOf eager false [] 4096 100) \
+                      (buffersOf (replicate 9 7) (8 ∷ 8 ∷ []) (9 ∷ []))";
+        assert_eq!(
+            answered(post(sum(number(7), number(7))), &[1, 2, 3, 9]),
+            format!(
+                "ranging s (1 ∷ 2 ∷ 3 ∷ 9 ∷ []) {before} \
+                 (after (ran (ended (ground-num (interval 4 11))) (counted 0 0 1 0)) \
+                 (buffersOf (replicate 9 0) (262155 ∷ 8 ∷ []) (9 ∷ [])))"
+            )
+        );
+        assert_eq!(
+            answered(less(number(7), number(7)), &[1, 3, 3, 9]),
+            format!(
+                "ranging s (1 ∷ 3 ∷ 3 ∷ 9 ∷ []) {before} \
+                 (after (ran (ended (ground-bool none)) (counted 0 0 0 0)) \
+                 (buffersOf (replicate 9 0) (8 ∷ 8 ∷ []) (9 ∷ [])))"
+            )
+        );
+        assert_eq!(
+            answered(number(7), &[2, 1]),
+            format!(
+                "ranging s (2 ∷ 1 ∷ []) {before} \
+                 (after (refused 35 0) (buffersOf (replicate 9 7) (8 ∷ 8 ∷ []) (9 ∷ [])))"
+            )
+        );
+    }
+
+    #[test]
+    fn numbers_are_chosen() {
+        let sheet = |number_of| cases::computing(post(number(number_of)));
+        let bytes = sheet(7);
+        let chosen = Choosing::answered(&decode(&bytes).unwrap(), &bytes, vec![515, 9, 9]);
+        assert_eq!(chosen.bytes, sheet(515));
+        let due = list(&sheet(515));
+        assert_eq!(
+            row("s", &bytes, &Row::Choosing(chosen)),
+            format!("choosing s (515 ∷ 9 ∷ 9 ∷ []) {due}")
+        );
+    }
+
+    #[test]
+    fn a_piece_is_sought() {
+        let sought = |sheet: Vec<u8>| {
+            let entry = Entry::with_piece(sheet);
+            row("s", &entry.sheet, &entry.rows[1])
+        };
+        let faulty = cases::computing(sum(number(1), variable(77)));
+        assert_eq!(
+            sought(faulty),
+            "seeking s (smallest 1 1 9 1) (2 ∷ 0 ∷ 0 ∷ 77 ∷ 0 ∷ 0 ∷ 0 ∷ 0 ∷ [])"
+        );
+        assert_eq!(sought(cases::posting(2)), "seeking s no-piece []");
+        assert_eq!(sought(Vec::new()), "seeking s (unreadable 1 0) []");
     }
 
     #[test]

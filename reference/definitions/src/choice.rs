@@ -1,14 +1,18 @@
 //! Which sheets and runs are asked about: small sheets and short runs, since
 //! the checker computes with lists.
 
-use crate::row::{Asked, Compared, Entry, Runner, Running};
+use crate::row::{Asked, Choosing, Compared, Entry, Ranging, Row, Runner, Running};
+use sheets::faulty::faulty;
 use sheets::generate::{sample, Sample};
 use sheets::pairs::Pair;
+use sheets::ranges::{random_pairs, random_sheet, wrong_pairs, Wrong};
 use sheets::request::{
     Request, FRAME_NUMBERS, MAX_CALLS, MAX_CELL_BYTES, MAX_OPEN_CALLS, MAX_POSTS,
 };
 use sheets::rng::Rng;
-use sheets::{branches, cases, held, pages, recorded, smallest, type_faults, yes_branch};
+use sheets::world::World;
+use sheets::{branches, cases, held, pages, pieces, ranged};
+use sheets::{recorded, smallest, type_faults, yes_branch};
 use sovzedal_reference::{decode, Checks, ENTRY_BYTES};
 
 const MAX_TYPES: usize = 12;
@@ -18,6 +22,16 @@ const MAX_BYTES: usize = 240;
 const MAX_BYTES_OF_FEW: usize = 480;
 /// Of a short run.
 const MAX_SHORT_CALLS: u32 = 100;
+
+const CHECKS: [Checks; 2] = [Checks::InForce, Checks::PassedOver];
+
+const WRONG: [Wrong; 5] = [
+    Wrong::HalfAPair,
+    Wrong::Fewer,
+    Wrong::More,
+    Wrong::NumbersForPairs,
+    Wrong::Crossed,
+];
 
 const WAYS: [(Runner, Checks); 4] = [
     (Runner::Eager, Checks::InForce),
@@ -31,8 +45,8 @@ const WAYS: [(Runner, Checks); 4] = [
 const SHORT_RECORD: usize = 3 * ENTRY_BYTES + 2;
 
 /// The smallest sheet for each cause, the contract's cases and those of W1, W4,
-/// W5, W8, W10 and W12, each with its own request or a shorter one, and the
-/// limits of a request.
+/// W5, W8, W10 and W12 to W14, each with its own request or a shorter one, and
+/// the limits of a request.
 pub fn named() -> Vec<Entry> {
     let smallest = smallest::all()
         .into_iter()
@@ -50,6 +64,8 @@ pub fn named() -> Vec<Entry> {
         .map(|(sheet, request)| asked_in_all_ways(sheet, &shortened(request)))
         .chain(recorded::all().into_iter().map(asked_with_records))
         .chain([limits_of_requests()])
+        .chain(ranged::all().into_iter().map(ranged_case))
+        .chain(searched_cases())
         .collect()
 }
 
@@ -57,6 +73,27 @@ pub fn named() -> Vec<Entry> {
 pub fn random(seed: u64, count: usize) -> Vec<Entry> {
     (0..)
         .filter_map(|index| random_entry(&mut Rng::for_item(seed, index)))
+        .take(count)
+        .collect()
+}
+
+/// `count` sheets with ranges for their numbers. One in four also gets other
+/// numbers, if it can be read.
+pub fn ranged(seed: u64, count: usize) -> Vec<Entry> {
+    // Not the numbers that other sheets were drawn from; so below.
+    let items = (0..).map(|index| Rng::for_item(seed.rotate_left(14), index));
+    items
+        .filter_map(|mut rng| ranged_entry(&mut rng))
+        .take(count)
+        .collect()
+}
+
+/// `count` sheets, most of them with several faults, of which the smallest piece
+/// is sought.
+pub fn searched(seed: u64, count: usize) -> Vec<Entry> {
+    let items = (0..).map(|index| Rng::for_item(seed.rotate_left(13), index));
+    items
+        .filter_map(|mut rng| searched_entry(&mut rng))
         .take(count)
         .collect()
 }
@@ -92,6 +129,31 @@ fn in_all_ways(request: &Request, record: usize) -> [Asked; 4] {
         request: request.clone(),
         record,
     })
+}
+
+/// The smallest sheet for each cause again, and the cases of W13.
+fn searched_cases() -> impl Iterator<Item = Entry> {
+    let smallest = smallest::all().into_iter().map(|case| case.sheet);
+    let cases = pieces::all().into_iter().map(|case| case.sheet);
+    smallest.chain(cases).map(Entry::with_piece)
+}
+
+/// With checks in force and passed over.
+fn ranged_case(case: ranged::Ranged) -> Entry {
+    let request = shortened(case.request);
+    let rows = CHECKS.map(|checks| {
+        let (pairs, request) = (case.pairs.clone(), request.clone());
+        Row::Ranging(Box::new(Ranging::answered(
+            &case.sheet,
+            pairs,
+            checks,
+            request,
+        )))
+    });
+    Entry {
+        sheet: case.sheet,
+        rows: rows.into(),
+    }
 }
 
 /// Allows fewer calls and cells, unless it is turned back for its calls.
@@ -158,7 +220,7 @@ fn random_entry(rng: &mut Rng) -> Option<Entry> {
     } else {
         MAX_BYTES
     };
-    if sample.bytes.len() > max_bytes || sample.world.types.len() > MAX_TYPES {
+    if !is_small(&sample, max_bytes) {
         return None;
     }
     // Whatever is asked of an unreadable sheet, the answer is its refusal.
@@ -171,6 +233,67 @@ fn random_entry(rng: &mut Rng) -> Option<Entry> {
         .map(|(runner, checks)| random_short(rng, &sample, runner, checks))
         .collect();
     Some(Entry::answered(sample.bytes, asked))
+}
+
+fn is_small(sample: &Sample, max_bytes: usize) -> bool {
+    sample.bytes.len() <= max_bytes && sample.world.types.len() <= MAX_TYPES
+}
+
+/// `None` if the sheet that is drawn is too large.
+fn ranged_entry(rng: &mut Rng) -> Option<Entry> {
+    let sample = random_sheet(rng);
+    if !is_small(&sample, MAX_BYTES) {
+        return None;
+    }
+    let Sample { bytes, world } = sample;
+    let mut rows = Vec::new();
+    let read = decode(&bytes).ok();
+    let ways: &[Checks] = match read {
+        Some(_) => &CHECKS,
+        None => &CHECKS[..1],
+    };
+    for &checks in ways {
+        let run = random_short_ranging(rng, &bytes, &world, checks);
+        rows.push(Row::Ranging(Box::new(run)));
+    }
+    if let Some(sheet) = read.filter(|_| rng.percent(25)) {
+        let numbers = sheet.terms.iter().map(|_| rng.bits() as u16).collect();
+        rows.push(Row::Choosing(Choosing::answered(&sheet, &bytes, numbers)));
+    }
+    Some(Entry { sheet: bytes, rows })
+}
+
+/// One sheet in eight is of any sort. `None` if it is too large. Of those that
+/// have no other piece than what the judge tells, one in six is taken.
+fn searched_entry(rng: &mut Rng) -> Option<Entry> {
+    let sample = match rng.below(8) {
+        0 => sample(rng),
+        _ => faulty(rng),
+    };
+    if !is_small(&sample, MAX_BYTES) {
+        return None;
+    }
+    let entry = Entry::with_piece(sample.bytes);
+    (entry.piece_is_another() || rng.below(6) == 0).then_some(entry)
+}
+
+/// A run over ranges that makes few calls. One in six has wrong pairs.
+fn random_short_ranging(rng: &mut Rng, sheet: &[u8], world: &World, checks: Checks) -> Ranging {
+    loop {
+        let right = random_pairs(rng, sheet);
+        let wrong = match rng.percent(17) {
+            true => {
+                let way = rng.pick(&WRONG);
+                wrong_pairs(rng, &right, way)
+            }
+            false => None,
+        };
+        let request = Request::random_small(rng, world);
+        let run = Ranging::answered(sheet, wrong.unwrap_or(right), checks, request);
+        if run.answer.map_or(0, |run| run.calls) <= MAX_SHORT_CALLS {
+            return run;
+        }
+    }
 }
 
 /// A run that makes few calls.

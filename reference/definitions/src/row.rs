@@ -1,10 +1,11 @@
 //! Questions about a sheet or two records, and the reference's answers.
 
 use sheets::pairs::Pair;
+use sheets::ranges::with_numbers;
 use sheets::request::Request;
 use sovzedal_reference::{
-    compare, record_eager, record_lazy, typecheck, Checks, Comparison, Recorded, Refusal,
-    Request as Allowed, Verdict,
+    compare, piece, record_eager, record_lazy, run_ranges, typecheck, Checks, Comparison, Piece,
+    RangeRun, Recorded, Refusal, Request as Allowed, Sheet, Term, Verdict,
 };
 
 /// A sheet and what is asked about it.
@@ -16,6 +17,9 @@ pub struct Entry {
 pub enum Row {
     Deciding(Result<Verdict, Refusal>),
     Running(Box<Running>),
+    Ranging(Box<Ranging>),
+    Choosing(Choosing),
+    Seeking(Result<Option<Piece>, Refusal>),
 }
 
 /// A run with a record, and the contents of the buffers before and after it.
@@ -24,6 +28,23 @@ pub struct Running {
     pub before: Buffers,
     pub answer: Result<Recorded, Refusal>,
     pub after: Buffers,
+}
+
+/// A run over ranges, and the contents of the buffers before and after it.
+pub struct Ranging {
+    /// Lowest and highest of each number term.
+    pub pairs: Vec<u16>,
+    pub asked: Asked,
+    pub before: Buffers,
+    pub answer: Result<RangeRun, Refusal>,
+    pub after: Buffers,
+}
+
+/// The sheet with other numbers.
+pub struct Choosing {
+    /// One for each term; what others than number terms get is of no account.
+    pub numbers: Vec<u16>,
+    pub bytes: Vec<u8>,
 }
 
 /// The unit's record held against the office's.
@@ -68,6 +89,25 @@ impl Entry {
         Self { sheet, rows }
     }
 
+    /// The sheet's verdict and its smallest faulty piece.
+    pub fn with_piece(sheet: Vec<u8>) -> Self {
+        let rows = vec![
+            Row::Deciding(typecheck(&sheet)),
+            Row::Seeking(piece(&sheet)),
+        ];
+        Self { sheet, rows }
+    }
+
+    /// Whether it has a piece that isn't the fault which the verdict tells.
+    pub fn piece_is_another(&self) -> bool {
+        match &self.rows[..] {
+            [Row::Deciding(Err(first)), Row::Seeking(Ok(Some(piece)))] => {
+                first.place != piece.term.into()
+            }
+            _ => false,
+        }
+    }
+
     /// Each row by itself.
     pub fn split(self) -> impl Iterator<Item = Self> {
         let sheet = self.sheet;
@@ -92,6 +132,42 @@ impl Running {
     }
 }
 
+impl Ranging {
+    /// What is asked is an eager run without a record.
+    pub fn answered(sheet: &[u8], pairs: Vec<u16>, checks: Checks, request: Request) -> Self {
+        let asked = Asked {
+            runner: Runner::Eager,
+            checks,
+            request,
+            record: 0,
+        };
+        let before = Buffers::filled(&asked);
+        let mut after = before.clone();
+        let Buffers { cells, posts, .. } = &mut after;
+        let answer = run_ranges(sheet, &pairs, &asked.allowed(), cells, posts);
+        Self {
+            pairs,
+            asked,
+            before,
+            answer,
+            after,
+        }
+    }
+}
+
+impl Choosing {
+    /// `bytes` are those of the sheet.
+    pub fn answered(sheet: &Sheet, bytes: &[u8], numbers: Vec<u16>) -> Self {
+        let terms = sheet.terms.iter().zip(&numbers);
+        let of_numbers = terms.filter(|(term, _)| matches!(term, Term::Number(_)));
+        let chosen: Vec<u16> = of_numbers.map(|(_, number)| *number).collect();
+        Self {
+            bytes: with_numbers(bytes, &chosen),
+            numbers,
+        }
+    }
+}
+
 impl Compared {
     pub fn answered(pair: Pair) -> Self {
         Self {
@@ -103,13 +179,17 @@ impl Compared {
 }
 
 impl Asked {
-    fn run(&self, sheet: &[u8], buffers: &mut Buffers) -> Result<Recorded, Refusal> {
-        let allowed = Allowed {
+    fn allowed(&self) -> Allowed<'_> {
+        Allowed {
             start: &self.request.start,
             calls: self.request.calls,
             open_calls: self.request.open_calls,
             checks: self.checks,
-        };
+        }
+    }
+
+    fn run(&self, sheet: &[u8], buffers: &mut Buffers) -> Result<Recorded, Refusal> {
+        let allowed = self.allowed();
         let Buffers {
             cells,
             posts,

@@ -7,7 +7,8 @@ use std::fs::{self, OpenOptions};
 use std::io::{self, Write};
 use std::path::Path;
 
-const LINE: &str = "definition_rows: typing semantics traces program privileges";
+const LINE: &str =
+    "definition_rows: intervals soundness subterms typing semantics traces program privileges";
 const CRATE: &str = "crates/definition_rows";
 
 /// How many rows a theorem has, or a few more.

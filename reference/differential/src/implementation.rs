@@ -106,4 +106,13 @@ pub trait Implementation {
         record: &mut [u8],
         answer: &mut [u32],
     ) -> u32;
+
+    fn run_ranges(
+        sheet: &[u8],
+        pairs: &[u16],
+        arguments: RunArguments,
+        cells: &mut [u8],
+        posts: &mut [u32],
+        answer: &mut [u32],
+    ) -> u32;
 }

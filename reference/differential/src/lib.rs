@@ -7,6 +7,7 @@ mod granting;
 mod happened;
 mod implementation;
 mod library;
+pub mod ranging;
 mod recording;
 mod reference;
 pub mod settings;
@@ -23,6 +24,7 @@ pub use implementation::{
     Implementation, RunArguments, ANSWER_NUMBERS, CHAIN_NUMBERS, RECORD_NUMBERS, SERVE_NUMBERS,
 };
 pub use library::Library;
+pub use ranging::Ranging;
 pub use recording::Recording;
 pub use reference::Reference;
 pub use shipped::Shipped;

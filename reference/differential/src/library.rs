@@ -183,6 +183,24 @@ mod c {
             answer: *mut u32,
             answer_len: usize,
         ) -> u32;
+
+        pub fn sovzedal_run_ranges(
+            sheet: *const u8,
+            sheet_len: usize,
+            pairs: *const u16,
+            pairs_len: usize,
+            start: *const u32,
+            start_len: usize,
+            calls: u32,
+            depth: u32,
+            enforce: u32,
+            cells: *mut u8,
+            cells_len: usize,
+            posts: *mut u32,
+            posts_len: usize,
+            answer: *mut u32,
+            answer_len: usize,
+        ) -> u32;
     }
 }
 
@@ -467,6 +485,35 @@ impl Implementation for Library {
                 frames.len(),
                 record.as_mut_ptr(),
                 record.len(),
+                answer.as_mut_ptr(),
+                answer.len(),
+            )
+        }
+    }
+
+    fn run_ranges(
+        sheet: &[u8],
+        pairs: &[u16],
+        arguments: RunArguments,
+        cells: &mut [u8],
+        posts: &mut [u32],
+        answer: &mut [u32],
+    ) -> u32 {
+        unsafe {
+            c::sovzedal_run_ranges(
+                sheet.as_ptr(),
+                sheet.len(),
+                pairs.as_ptr(),
+                pairs.len(),
+                arguments.start.as_ptr(),
+                arguments.start.len(),
+                arguments.calls,
+                arguments.open_calls,
+                arguments.enforce,
+                cells.as_mut_ptr(),
+                cells.len(),
+                posts.as_mut_ptr(),
+                posts.len(),
                 answer.as_mut_ptr(),
                 answer.len(),
             )

@@ -6,7 +6,7 @@ use sheets::lines::Job;
 use sovzedal_reference::lines::{self, Lines, Served, State};
 use sovzedal_reference::registers::{Block, Loaded, BLOCK_BYTES};
 use sovzedal_reference::{compare, decode, erase, explain, names, piece, typecheck};
-use sovzedal_reference::{record_eager, record_lazy, run_eager, run_lazy};
+use sovzedal_reference::{record_eager, record_lazy, run_eager, run_lazy, run_ranges};
 use sovzedal_reference::{Checks, Recorded, Refusal, Reply, Request, CHAIN_TERMS};
 
 /// What is returned where the answer or a chain has no room, or the block or
@@ -187,6 +187,19 @@ impl Implementation for Reference {
     ) -> u32 {
         reply_recorded(answer, || {
             record_lazy(sheet, &arguments.into(), cells, posts, frames, record)
+        })
+    }
+
+    fn run_ranges(
+        sheet: &[u8],
+        pairs: &[u16],
+        arguments: RunArguments,
+        cells: &mut [u8],
+        posts: &mut [u32],
+        answer: &mut [u32],
+    ) -> u32 {
+        reply_with(answer, || {
+            run_ranges(sheet, pairs, &arguments.into(), cells, posts)
         })
     }
 }

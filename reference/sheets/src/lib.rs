@@ -2,14 +2,15 @@
 //!
 //! [`tree`] and [`records`] assemble sheets. [`cases`], [`yes_branch`],
 //! [`branches`], [`type_faults`], [`explained`], [`pages`], [`erased`],
-//! [`held`], [`named`], [`recorded`], [`pieces`], [`smallest`], [`extremes`] and
-//! [`load`] hold the ones made by hand, [`generate`], [`needy`], [`erasable`],
-//! [`sums`], [`quiet`] and [`faulty`] draw others at random, [`request`] draws
-//! what to ask of their runs, [`session`] what a controller does with a register
-//! block, [`lines`] what is queued on four lines and [`pairs`] records to
-//! compare, from a [`seed`]. Nothing here knows how a sheet is judged or run,
-//! except [`grow`], [`needy`] and [`erasable`], which build sheets that the rules
-//! accept, and [`sums`], which builds some of known results.
+//! [`held`], [`named`], [`recorded`], [`pieces`], [`ranged`], [`smallest`],
+//! [`extremes`] and [`load`] hold the ones made by hand, [`generate`],
+//! [`needy`], [`erasable`], [`sums`], [`quiet`] and [`faulty`] draw others at
+//! random, [`request`] draws what to ask of their runs, [`ranges`] the limits of
+//! their numbers, [`session`] what a controller does with a register block,
+//! [`lines`] what is queued on four lines and [`pairs`] records to compare, from
+//! a [`seed`]. Nothing here knows how a sheet is judged or run, except [`grow`],
+//! [`needy`] and [`erasable`], which build sheets that the rules accept, and
+//! [`sums`], which builds some of known results.
 
 pub mod branches;
 pub mod cases;
@@ -30,6 +31,8 @@ pub mod pages;
 pub mod pairs;
 pub mod pieces;
 pub mod quiet;
+pub mod ranged;
+pub mod ranges;
 pub mod recorded;
 pub mod records;
 pub mod request;

@@ -1,5 +1,6 @@
-//! For each cause the smallest sheet known to reach it. 23 and 27 to 30 are told
-//! of no sheet, and 32 and 33 only where one is to be made lean.
+//! For each cause the smallest sheet known to reach it. 23, 27 to 30 and 34 are
+//! told of no sheet, 32 and 33 only where one is to be made lean, and 35 and 36
+//! only of runs over ranges.
 
 use crate::cases::{computing, endless, nested, plain};
 use crate::cases::{with_functions, with_guards, FIRST_FUNCTION};

@@ -8,7 +8,7 @@ use crate::names::Naming;
 use crate::piece::Piece;
 use crate::refusal::Refusal;
 use crate::registers::Block;
-use crate::run::{Outcome, Plain, Run, Stop};
+use crate::run::{Outcome, Plain, Range, RangeRun, Run, Stop, Truth};
 use crate::sheet::Sheet;
 
 /// What a C function returns and the eight numbers that it writes.
@@ -141,32 +141,45 @@ impl From<Comparison> for Reply {
 
 impl From<Run> for Reply {
     fn from(run: Run) -> Self {
-        let mut answer = [0; 8];
-        answer[4] = run.calls;
-        answer[5] = run.cells;
-        answer[6] = run.posts;
-        answer[7] = run.held;
-        let status = match run.outcome {
-            Outcome::End(Plain::Bool(value)) => {
-                answer[3] = u32::from(value);
-                DONE
-            }
-            Outcome::End(Plain::Number(value)) => {
-                answer[2] = 1;
-                answer[3] = u32::from(value);
-                DONE
-            }
-            Outcome::Stop(Stop { cause, term }) => {
-                answer[0] = cause.number();
-                answer[1] = u32::from(term);
-                STOPPED
-            }
+        let counts = [run.calls, run.cells, run.posts, run.held];
+        Reply::of_run(run.outcome, counts, u32::from, u32::from)
+    }
+}
+
+/// A range is told as it is listed. Held results aren't counted.
+impl From<RangeRun> for Reply {
+    fn from(run: RangeRun) -> Self {
+        let counts = [run.calls, run.cells, run.posts, 0];
+        let truth = |truth| match truth {
+            Truth::No => 0,
+            Truth::Yes => 1,
+            Truth::Undecided => 2,
         };
-        Reply { status, answer }
+        Reply::of_run(run.outcome, counts, truth, Range::word)
     }
 }
 
 impl Reply {
+    /// To a run, by the numbers of a boolean and of a number that it ends with.
+    fn of_run<B, N>(
+        outcome: Outcome<Plain<B, N>>,
+        [calls, cells, posts, held]: [u32; 4],
+        boolean: impl Fn(B) -> u32,
+        number: impl Fn(N) -> u32,
+    ) -> Self {
+        let (status, [cause, place, ty, value]) = match outcome {
+            Outcome::End(Plain::Bool(value)) => (DONE, [0, 0, 0, boolean(value)]),
+            Outcome::End(Plain::Number(value)) => (DONE, [0, 0, 1, number(value)]),
+            Outcome::Stop(Stop { cause, term }) => {
+                (STOPPED, [cause.number(), u32::from(term), 0, 0])
+            }
+        };
+        Reply {
+            status,
+            answer: [cause, place, ty, value, calls, cells, posts, held],
+        }
+    }
+
     /// To an access of a register block, as that is afterwards: the byte
     /// read, or 0 for a write. How a run went is told by the block alone.
     pub fn of_block(block: &Block, accessed: Result<u8, Refusal>) -> Self {

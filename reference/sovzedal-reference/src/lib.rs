@@ -8,8 +8,9 @@
 //! interprets it ([`run_eager`], [`run_lazy`]), and has it run by a block of
 //! [`registers`] or in turn with others that wait on four [`lines`]. A run may
 //! record what it decides ([`record_eager`], [`record_lazy`]), and a unit's
-//! record is held against the office's ([`compare`]). Where the words leave a
-//! choice, `READINGS.md` names it.
+//! record is held against the office's ([`compare`]). A run may also know its
+//! numbers within limits alone ([`run_ranges`]). Where the words leave a choice,
+//! `READINGS.md` names it.
 
 mod answer;
 mod compare;
@@ -42,9 +43,9 @@ pub use record::{Entry, ENTRY_BYTES};
 pub use refusal::{Cause, Refusal};
 pub use report::report;
 pub use run::{
-    granted_by, record_eager, record_lazy, run_eager, run_lazy, start_frames, Checks, Frame,
-    Outcome, Plain, Recorded, Request, Run, Stop, FRAME_NUMBERS, MAX_CALLS, MAX_CELL_BYTES,
-    MAX_OPEN_CALLS, MAX_POSTS,
+    granted_by, record_eager, record_lazy, run_eager, run_lazy, run_ranges, start_frames, Checks,
+    Frame, Outcome, Plain, Range, RangeRun, Recorded, Request, Run, Stop, Truth, FRAME_NUMBERS,
+    MAX_CALLS, MAX_CELL_BYTES, MAX_OPEN_CALLS, MAX_POSTS,
 };
 pub use set::{Privilege, Set};
 pub use sheet::{

@@ -3,7 +3,8 @@
 /// Every cause of a refusal (1 to 16, 23 for an address of the register block,
 /// 24 to 26, 27 to 29 for a job of the four lines, 30 for a privilege that is
 /// asked about, 31, 32 and 33 for a sheet that is to be made lean, 34 for a
-/// record that is compared) or a stop (17 to 22).
+/// record that is compared, 35 for the pairs of a run over ranges) or a stop (17
+/// to 22, and 36 in a run over ranges).
 #[derive(Clone, Copy, Debug, PartialEq, Eq)]
 #[repr(u32)]
 pub enum Cause {
@@ -42,6 +43,8 @@ pub enum Cause {
     NoLeanForm = 32,
     NoRoom = 33,
     Record = 34,
+    Ranges = 35,
+    Undecided = 36,
 }
 
 impl Cause {
@@ -63,8 +66,8 @@ impl Cause {
     }
 }
 
-/// A sheet, a request, an address, a job, a privilege, a buffer or a record was
-/// turned back.
+/// A sheet, a request, an address, a job, a privilege, a buffer, a record or
+/// pairs were turned back.
 #[derive(Clone, Copy, Debug, PartialEq, Eq)]
 pub struct Refusal {
     pub cause: Cause,

@@ -6,14 +6,15 @@
 
 use sheets::cases::computing;
 use sheets::extremes::longest;
+use sheets::ranges::{numbers_of, with_numbers};
 use sheets::smallest::{all, Smallest};
 use sheets::tree;
 use sovzedal_reference::lines::{Job, Lent, Lines, STATE_NUMBERS};
 use sovzedal_reference::registers::{at, status, Block, BLOCK_BYTES, RUN};
 use sovzedal_reference::{compare, decode, erase, explain, names, piece, report, run_eager};
-use sovzedal_reference::{record_lazy, typecheck, typecheck_by, Naming};
+use sovzedal_reference::{record_lazy, run_ranges, typecheck, typecheck_by, Naming};
 use sovzedal_reference::{Cause, Checks, Outcome, Plain, Refusal, Reply, Request, Rules};
-use sovzedal_reference::{Comparison, Entry, Set, Stop, Term, TermId};
+use sovzedal_reference::{Comparison, Entry, Range, RangeRun, Set, Stop, Term, TermId, Truth};
 use sovzedal_reference::{
     CHAIN_TERMS, CHANNELS, ENTRY_BYTES, FRAME_NUMBERS, MAX_CALLS, MAX_CELL_BYTES, MAX_OPEN_CALLS,
     MAX_POSTS,
@@ -392,6 +393,8 @@ fn the_header_has_the_same_numbers() {
         ("NO_LEAN_FORM", Cause::NoLeanForm),
         ("NO_ROOM", Cause::NoRoom),
         ("RECORD", Cause::Record),
+        ("RANGES", Cause::Ranges),
+        ("UNDECIDED_CONDITION", Cause::Undecided),
     ];
     for (name, cause) in causes {
         assert_eq!(number(name), u64::from(cause.number()), "{name}");
@@ -408,6 +411,7 @@ fn the_header_has_the_same_numbers() {
         ("LINES", STATE_NUMBERS),
         ("CHAIN", CHAIN_TERMS),
         ("ENTRY", ENTRY_BYTES),
+        ("UNDECIDED", undecided_value()),
         ("REG_COMMAND", at::COMMAND),
         ("REG_STATUS", at::STATUS),
         ("REG_CAUSE", at::CAUSE),
@@ -758,6 +762,144 @@ fn the_records_are_compared_as_shown() {
     the_gate_asks_for_the_print_of("Records");
 }
 
+/// 35 and 36 are told of runs over ranges, which are shown with their sheets.
+#[test]
+fn the_runs_over_ranges_are_those_of_the_calls_shown() {
+    let path = repository().join("docs/REFUSALS.md");
+    if !path.exists() {
+        return;
+    }
+    let shown = read(&path);
+    for cause in [Cause::Ranges, Cause::Undecided] {
+        let section = section(&shown, &cause.number().to_string()).expect("a section");
+        let sheet = bytes(block(section, "hex").expect("a sheet"));
+        let calls = block(section, "c").expect("a call");
+        let (pairs, call) = calls.split_once(" };\n\n").expect("pairs");
+        let pairs = pairs.strip_prefix("uint16_t pairs[] = { ").expect("pairs");
+        let pairs: Vec<u16> = pairs.split(", ").map(|it| it.parse().unwrap()).collect();
+        let asked = format!(
+            "sovzedal_run_ranges(sheet, {}, pairs, {}, start, 0, {MAX_CALLS}, {MAX_OPEN_CALLS}, 1, \
+             cells, {MAX_CELL_BYTES}, posts, {MAX_POSTS}, answer, 8);\n",
+            sheet.len(),
+            pairs.len()
+        );
+        assert_eq!(call, asked);
+        let reply = Reply::from(over_ranges(&sheet, &pairs).0);
+        assert_eq!(reply.answer[0], cause.number());
+        assert_eq!(block(section, "text"), Some(&*in_words(reply)));
+        // As is said of other pairs below the call.
+        let mended = match cause {
+            Cause::Ranges => vec![20, 24],
+            _ => vec![20, 23, 24, 24],
+        };
+        let outcome = over_ranges(&sheet, &mended)
+            .0
+            .expect("a run that starts")
+            .outcome;
+        let [lowest, highest] = [20, 24];
+        let expected = match cause {
+            Cause::Ranges => Plain::Number(Range { lowest, highest }),
+            _ => Plain::Bool(Truth::No),
+        };
+        assert_eq!(outcome, Outcome::End(expected));
+    }
+}
+
+/// A run with the largest allowances and buffers, and its posts.
+fn over_ranges(sheet: &[u8], pairs: &[u16]) -> (Result<RangeRun, Refusal>, Vec<u32>) {
+    let (mut cells, mut posts) = (vec![0; MAX_CELL_BYTES], vec![0; MAX_POSTS]);
+    let told = run_ranges(sheet, pairs, &Request::LARGEST, &mut cells, &mut posts);
+    posts.truncate(told.map_or(0, |run| run.posts as usize));
+    (told, posts)
+}
+
+/// The number of an undecided end.
+fn undecided_value() -> usize {
+    let run = RangeRun {
+        outcome: Outcome::End(Plain::Bool(Truth::Undecided)),
+        calls: 0,
+        cells: 0,
+        posts: 0,
+    };
+    Reply::from(run).answer[3] as usize
+}
+
+/// The frame is run before grading as the readme shows, by the limits in the
+/// commands there.
+#[test]
+fn the_frame_is_graded_as_shown() {
+    let directory = repository().join("examples");
+    if !directory.exists() {
+        return;
+    }
+    let sheet = bytes(&read(&directory.join("grading.hex")));
+    let shown = read(&directory.join("README.md"));
+    let mut rest = section(&shown, "Members").expect("a section");
+    let mut prints = Vec::new();
+    while let Some((_, command)) = rest.split_once("target/grading examples/grading.hex ") {
+        let (limits, after) = command.split_once('\n').expect("a line");
+        let print = block(after, "text").expect("a print");
+        assert_eq!(graded(&sheet, limits), print);
+        prints.push(print);
+        rest = after;
+    }
+    assert_eq!(prints.len(), 2);
+    let gate = repository().join(".ci/examples");
+    if gate.exists() {
+        let gate = read(&gate);
+        assert!(prints.iter().all(|print| gate.contains(print)));
+    }
+    // As the readme says: 14 is enough.
+    let better = graded(&sheet, "0=14-24 1=28-30 2=18-22");
+    assert!(better.starts_with("within limits: ended in 0 to 16,"));
+    let short_of_it = graded(&sheet, "0=13-24 1=28-30 2=18-22");
+    assert!(short_of_it.starts_with("within limits: stopped, 36 "));
+}
+
+/// What the example in C prints for limits `TERM=LOWEST-HIGHEST`.
+fn graded(sheet: &[u8], limits: &str) -> String {
+    let terms = decode(sheet).expect("a readable sheet").terms;
+    let is_number = |&id: &usize| matches!(terms[id], Term::Number(_));
+    let numbered: Vec<usize> = (0..terms.len()).filter(is_number).collect();
+    let [mut lowest, mut highest] = [numbers_of(sheet), numbers_of(sheet)];
+    for argument in limits.split(' ') {
+        let (term, range) = argument.split_once('=').expect("a term");
+        let (low, high) = range.split_once('-').expect("limits");
+        let place = numbered.iter().position(|id| id.to_string() == term);
+        let place = place.expect("a number term");
+        (lowest[place], highest[place]) = (low.parse().unwrap(), high.parse().unwrap());
+    }
+    let pairs = lowest.iter().zip(&highest);
+    let pairs: Vec<u16> = pairs.flat_map(|(&low, &high)| [low, high]).collect();
+    let (told, posts) = over_ranges(sheet, &pairs);
+    let mut print = told_in_full("within limits", told.into(), &posts, |range| {
+        match (range >> 16, range & 0xFFFF) {
+            (low, high) if low == high => low.to_string(),
+            (low, high) => format!("{low} to {high}"),
+        }
+    });
+    for (name, numbers) in [("all lowest", lowest), ("all highest", highest)] {
+        let (mut cells, mut posts) = (vec![0; MAX_CELL_BYTES], vec![0; MAX_POSTS]);
+        let chosen = with_numbers(sheet, &numbers);
+        let told = run_eager(&chosen, &Request::LARGEST, &mut cells, &mut posts);
+        posts.truncate(told.map_or(0, |run| run.posts as usize));
+        print += &told_in_full(name, told.into(), &posts, |number| number.to_string());
+    }
+    print
+}
+
+/// A line of that example, for an end in a number or a stop by 36.
+fn told_in_full(name: &str, reply: Reply, posts: &[u32], number: fn(u32) -> String) -> String {
+    let [cause, place, _, value, calls, cells, ..] = reply.answer;
+    let outcome = match cause {
+        0 => format!("ended in {}", number(value)),
+        _ => format!("stopped, {cause} (undecided condition) at {place}"),
+    };
+    let posts: Vec<String> = posts.iter().map(|&post| number(post)).collect();
+    let posts = posts.join(", ");
+    format!("{name}: {outcome}, calls {calls}, cells {cells}, posts {posts}\n")
+}
+
 /// A record of the example in C.
 fn record_in(example: &str, name: &str) -> Vec<u8> {
     let begin = format!("{name}[] = {{\n");
@@ -875,13 +1017,18 @@ fn run(case: &Smallest) -> String {
         checks: Checks::InForce,
     };
     let (mut cells, mut posts) = (vec![0; asked.cell_bytes], vec![0; asked.posts]);
-    let reply = Reply::from(run_eager(&case.sheet, &request, &mut cells, &mut posts));
+    let run = run_eager(&case.sheet, &request, &mut cells, &mut posts);
+    in_words(run.into())
+}
+
+/// A refusal or a stop, as the program prints it.
+fn in_words(reply: Reply) -> String {
     let [cause, place, _, _, calls, cells, posts, held] = reply.answer;
     match reply.status {
         1 => format!(
             "stop {cause} at {place} calls {calls} cells {cells} posts {posts} held {held}\n"
         ),
         2 => format!("refused {cause} at {place}\n"),
-        _ => panic!("the run for {} ends", case.cause),
+        _ => panic!("the run ends: {reply:?}"),
     }
 }

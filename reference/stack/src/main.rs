@@ -1,21 +1,22 @@
 //! Prints how much native stack the deepest runs use: 100 open calls, each
 //! made from as deep as nesting allows, through terms of one kind; what such a
-//! run uses with fewer open calls, with a record, by a write to a register block, and as a
-//! job of the four lines; and what it takes to explain a need, to make a sheet
-//! lean, to tell whether it names a privilege and to find its smallest faulty
-//! piece.
+//! run uses with fewer open calls, with a record, over ranges, by a write to a
+//! register block, and as a job of the four lines; and what it takes to explain
+//! a need, to make a sheet lean, to tell whether it names a privilege and to
+//! find its smallest faulty piece.
 
 mod paint;
 
 use differential::{
-    Asked, Board, Buffers, Entry, Implementation, Library, Recording, Reference, Shipped, Unit,
-    Why, ANSWER_NUMBERS, RECORD_NUMBERS,
+    Asked, Board, Buffers, Entry, Implementation, Library, Ranging, Recording, Reference, Shipped,
+    Unit, Why, ANSWER_NUMBERS, RECORD_NUMBERS,
 };
 use sheets::extremes::{costly_branches, costly_fault, costly_need, deep_calls, deep_need};
 use sheets::extremes::{
     deepest, endless_through, longest, many_checks, most_types, widest, NEEDED,
 };
 use sheets::lines::{Job, STATE_NUMBERS};
+use sheets::ranges::numbers_of;
 use sheets::request::{Request, MAX_CALLS, MAX_OPEN_CALLS, MAX_POSTS};
 use sheets::rng::Rng;
 use sheets::session::{Access, BLOCK_BYTES};
@@ -80,6 +81,16 @@ fn main() {
             format!("{entry:?}"),
             used_to_record::<Library>(&sheet, entry, MAX_OPEN_CALLS),
             used_to_record::<Reference>(&sheet, entry, MAX_OPEN_CALLS)
+        );
+    }
+    println!("through each, over ranges");
+    for kind in KINDS {
+        let sheet = endless_through(kind);
+        println!(
+            "{:12}{:12}{:24}",
+            format!("{kind:?}"),
+            used_over_ranges::<Library>(&sheet, MAX_OPEN_CALLS),
+            used_over_ranges::<Reference>(&sheet, MAX_OPEN_CALLS)
         );
     }
     println!("explaining a need");
@@ -194,6 +205,26 @@ fn used_to_record<I: Implementation>(sheet: &[u8], entry: Entry, open_calls: u32
     })
 }
 
+/// The same eager run over ranges, of one number each, what is written.
+fn used_over_ranges<I: Implementation>(sheet: &[u8], open_calls: u32) -> usize {
+    let request = Request {
+        open_calls,
+        ..Request::largest().with_start(&[0, u32::MAX])
+    };
+    let numbers = numbers_of(sheet).into_iter();
+    let pairs: Vec<u16> = numbers.flat_map(|number| [number; 2]).collect();
+    let ranging = Ranging {
+        sheet,
+        pairs: &pairs,
+        request: &request,
+        enforce: 1,
+    };
+    let mut buffers = ranging.buffers(&mut Rng::new(0), ANSWER_NUMBERS);
+    paint::stack_used(|| {
+        ranging.of::<I>(&mut buffers);
+    })
+}
+
 /// A write to a register block that runs the sheet, on the empty stack, with
 /// 4,096 calls allowed.
 fn used_by_block<I: Implementation>(sheet: &[u8]) -> usize {
@@ -286,6 +317,11 @@ mod tests {
                         "{kind:?} {entry:?} {open_calls} {what}: {used}"
                     );
                 }
+                let used = used_over_ranges::<Library>(&sheet, open_calls);
+                assert!(
+                    used <= allowed,
+                    "{kind:?} over ranges, {open_calls}: {used}"
+                );
             }
             let used = used_by_block::<Library>(&sheet);
             assert!(used <= most, "{kind:?} by a register block: {used}");

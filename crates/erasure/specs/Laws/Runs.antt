@@ -4,6 +4,7 @@ use mathlib.Core.Bool.{Bool, true, false}
 use mathlib.Core.Option.{none}
 use Prim.Native.Nat.{ℕ, zero, suc}
 use Rattle.program.specs.Terms.{Op, sum, difference, less, Term}
+use Rattle.semantics.specs.Domains.{standard}
 use Rattle.semantics.specs.Values.{Value, bool, num, closure, Env, empty, bind, lookup, entered, Budget, budget, Result, ends, stops}
 use Rattle.semantics.specs.Meaning.{Control, plain, _then_, choose, found, branch, operate, compute, appendPost, postValue, takeCell, beginCall, tooDeep, enter, Application, evalWith, apply, eval}
 use Rattle.erasure.specs.Laws.Erases.{Erases, e-boolean, e-number, e-variable, e-function, e-letrec, e-call, e-if, e-check, e-enable, e-sign, e-binary, e-post}
@@ -97,12 +98,13 @@ module _ (ρ ν : ℕ → ℕ) where
   erased-enter at v-num w k l h u = r-stops
 
   module _ (X Y : Control) (enforce : Bool) where
-    abbrev ErasesApplication : Application X → Application Y → Type 0
+    abbrev ErasesApplication : Application standard X → Application standard Y → Type 0
     ErasesApplication f g = (at : ℕ) (v v′ w w′ : Value) → ErasesValue ρ ν v v′ → ErasesValue ρ ν w w′ → (s : X .State) (t : Y .State) (u : Budget)
         → ErasesResult ρ ν (f at v w s u) (g (ν at) v′ w′ t u)
 
-    eval-erased : (f : Application X) (g : Application Y) → ErasesApplication f g → {c c′ : Term} → Erases ρ ν c c′ → (s : X .State) (t : Y .State)
-        → {e e′ : Env} → ErasesEnv ρ ν e e′ → (u : Budget) → ErasesResult ρ ν (evalWith X (plain false) f c s e u) (evalWith Y (plain enforce) g c′ t e′ u)
+    eval-erased : (f : Application standard X) (g : Application standard Y) → ErasesApplication f g → {c c′ : Term} → Erases ρ ν c c′
+        → (s : X .State) (t : Y .State) {e e′ : Env} → ErasesEnv ρ ν e e′ → (u : Budget)
+        → ErasesResult ρ ν (evalWith standard X (plain false) f c s e u) (evalWith standard Y (plain enforce) g c′ t e′ u)
     unfolding evalWith
     eval-erased f g h e-boolean s t e u = r-ends v-bool
     eval-erased f g h e-number s t e u = r-ends v-num
@@ -121,13 +123,14 @@ module _ (ρ ν : ℕ → ℕ) where
         erased-then _ _ (eval-erased f g h a s t e u) (λ _ _ v u₁. erased-then _ _ (eval-erased f g h b s t e u₁) (λ _ _ w u₂. erased-compute at op v w u₂))
     eval-erased f g h (e-post {at} {ch} c) s t e u = erased-then _ _ (eval-erased f g h c s t e u) (λ _ _ v u₁. erased-post at ch v u₁)
 
-    apply-erased : (k : ℕ) → ErasesApplication (apply X (plain false) k) (apply Y (plain enforce) k)
+    apply-erased : (k : ℕ) → ErasesApplication (apply standard X (plain false) k) (apply standard Y (plain enforce) k)
     unfolding apply
     apply-erased zero at _ _ _ _ v w s t u = erased-deep at v u
     apply-erased (suc k) at _ _ _ _ v w s t u =
-        erased-enter at v w _ _ (λ _ _ _ _ c e u₁. eval-erased (apply X (plain false) k) (apply Y (plain enforce) k) (apply-erased k) c s t e u₁) u
+        erased-enter at v w _ _
+        (λ _ _ _ _ c e u₁. eval-erased (apply standard X (plain false) k) (apply standard Y (plain enforce) k) (apply-erased k) c s t e u₁) u
 
     pub runs-erased : (depth : ℕ) {c c′ : Term} → Erases ρ ν c c′ → (s : X .State) (t : Y .State) → (u : Budget)
-        → ErasesResult ρ ν (eval X (plain false) depth c s empty u) (eval Y (plain enforce) depth c′ t empty u)
+        → ErasesResult ρ ν (eval standard X (plain false) depth c s empty u) (eval standard Y (plain enforce) depth c′ t empty u)
     unfolding eval
-    runs-erased k c s t u = eval-erased (apply X (plain false) k) (apply Y (plain enforce) k) (apply-erased k) c s t env-empty u
+    runs-erased k c s t u = eval-erased (apply standard X (plain false) k) (apply standard Y (plain enforce) k) (apply-erased k) c s t env-empty u

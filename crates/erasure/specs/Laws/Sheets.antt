@@ -17,6 +17,7 @@ use Rattle.program.specs.Laws.Screening.{clear-none, none-append, append-none}
 use Rattle.program.specs.Laws.Readable.{well-formed}
 use Rattle.typing.specs.Verdicts.{accepted, verdict, SheetDerives}
 use Rattle.typing.specs.Theorems.{acceptance, accepted-exactly}
+use Rattle.semantics.specs.Domains.{standard}
 use Rattle.semantics.specs.Values.{empty, emptyLog, Budget, budget, Result}
 use Rattle.semantics.specs.Meaning.{Control, plain, eval}
 use Rattle.semantics.specs.Access.{eagerControl, lazyControl}
@@ -81,11 +82,11 @@ module _ (s s′ : List ℕ) (ρ ν : ℕ → ℕ) (L : Leaner s s′ ρ ν) whe
     skipping = record { runner = x .runner; enforce = false; start = x .start; calls = x .calls; depth = x .depth }
 
     evaluated : (X Y : Control) (enforce : Bool) (p : X .State) (q : Y .State)
-        → ErasesResult ρ ν (eval X (plain false) (x .depth) (program s) p empty (initial x (sizes b)))
-        (eval Y (plain enforce) (y .depth) (program s′) q empty (initial y (sizes d)))
+        → ErasesResult ρ ν (eval standard X (plain false) (x .depth) (program s) p empty (initial x (sizes b)))
+        (eval standard Y (plain enforce) (y .depth) (program s′) q empty (initial y (sizes d)))
     evaluated X Y enforce p q =
-        subst (λ (z : Result). ErasesResult ρ ν (eval X (plain false) (x .depth) (program s) p empty (initial x (sizes b))) z)
-        (λ i. eval Y (plain enforce) (c .limits .same-depth i) (program s′) q empty
+        subst (λ (z : Result). ErasesResult ρ ν (eval standard X (plain false) (x .depth) (program s) p empty (initial x (sizes b))) z)
+        (λ i. eval standard Y (plain enforce) (c .limits .same-depth i) (program s′) q empty
         (budget (c .limits .same-calls i) (c .limits .same-cells i / 8) (c .limits .same-posts i) emptyLog))
         (runs-erased ρ ν X Y enforce (x .depth) (L .erases) p q (initial x (sizes b)))
 

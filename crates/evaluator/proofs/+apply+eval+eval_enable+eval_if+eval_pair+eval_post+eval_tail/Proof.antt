@@ -12,7 +12,7 @@ use lib.Dec.{ltb}
 use Rattle.machine.specs.Store.{shapeOf}
 use Rattle.evaluator.specs.Contracts.{workLeft}
 use Rattle.evaluator.proofs.ContractLaws.{ends, ends-same, goes-on, stays, follows, same-cells}
-use Rattle.evaluator.proofs.ShapeLaws.{node-of, node-leaf, node-post, pair-of, nine-or-ten, first-below, second-below, third-below, privilege-below, guard-right, lower, tail-of, tail-stops, next-below, tail-goes, boolean-is, number-is, variable-is, function-is, operand-below, pair-is, pair-applies, pair-operates, post-is, if-is, enable-is, branch-stuck, branch-to, chosen-below, apply-stuck, apply-deep, apply-spent, apply-full, apply-runs, one-call-less, operate-calls, post-done, post-calls}
+use Rattle.evaluator.proofs.ShapeLaws.{node-of, node-leaf, node-post, pair-of, nine-or-ten, first-below, second-below, third-below, privilege-below, guard-right, lower, tail-of, tail-stops, next-below, tail-goes, boolean-is, number-is, variable-is, function-is, operand-below, pair-is, pair-applies, pair-operates, post-is, if-is, enable-is, branch-stuck, branch-undecided, branch-to, chosen-below, apply-stuck, apply-deep, apply-spent, apply-full, apply-runs, one-call-less, operate-calls, post-done, post-calls}
 use Rattle.stores.proofs.CellLaws.{bound-full}
 use Prim.Native.Nat.{ℕ, _<_}
 use borrow.Fn.Kinds.{In}
@@ -57,8 +57,8 @@ use Rattle.stores.proofs.cells.next_cell.Reads as next-cell-reads
 use Rattle.stores.proofs.words.boolean.Reads as boolean-reads
 use Rattle.stores.proofs.words.env.Reads as env-reads
 use Rattle.stores.proofs.words.function.Reads as function-reads
+use Rattle.stores.proofs.words.interval.Reads as interval-reads
 use Rattle.stores.proofs.words.is_stop.Reads as is-stop-reads
-use Rattle.stores.proofs.words.number.Reads as number-reads
 use Rattle.stores.proofs.words.payload.Reads as payload-reads
 use Rattle.stores.proofs.words.sort.Reads as sort-reads
 use Rattle.stores.proofs.words.stop.Reads as stop-reads
@@ -265,12 +265,12 @@ eval-claims t = (
   boolean-reads.Learnt,
   first-of-reads.Asked,
   first-of-reads.Learnt,
-  number-reads.Asked,
-  number-reads.Learnt,
-  look-reads.Asked,
-  look-reads.Learnt,
   second-of-reads.Asked,
   second-of-reads.Learnt,
+  interval-reads.Asked,
+  interval-reads.Learnt,
+  look-reads.Asked,
+  look-reads.Learnt,
   function-reads.Asked,
   function-reads.Learnt,
   eval-if-below t,
@@ -300,8 +300,11 @@ eval-boolean-requires t c κs = search needs
 eval-first-of-requires : (t : ℕ) → eval-lts.Need-first-of-requires (eval-claims t) (eval-at t) eval.Post
 eval-first-of-requires t c κs = search needs
 
-eval-number-requires : (t : ℕ) → eval-lts.Need-number-requires (eval-claims t) (eval-at t) eval.Post
-eval-number-requires t c κs = search needs
+eval-second-of-requires : (t : ℕ) → eval-lts.Need-second-of-requires (eval-claims t) (eval-at t) eval.Post
+eval-second-of-requires t c κs = search needs
+
+eval-interval-requires : (t : ℕ) → eval-lts.Need-interval-requires (eval-claims t) (eval-at t) eval.Post
+eval-interval-requires t c κs = search needs
 
 eval-slice-aggregate-look : (t : ℕ) → eval-lts.Need-slice-aggregate-look (eval-claims t) (eval-at t) eval.Post
 eval-slice-aggregate-look t c = search needs
@@ -312,8 +315,8 @@ eval-first-of-requires-2 t c κs = search needs
 eval-look-requires : (t : ℕ) → eval-lts.Need-look-requires (eval-claims t) (eval-at t) eval.Post
 eval-look-requires t c κs = search needs
 
-eval-second-of-requires : (t : ℕ) → eval-lts.Need-second-of-requires (eval-claims t) (eval-at t) eval.Post
-eval-second-of-requires t c κs = search needs
+eval-second-of-requires-2 : (t : ℕ) → eval-lts.Need-second-of-requires-2 (eval-claims t) (eval-at t) eval.Post
+eval-second-of-requires-2 t c κs = search needs
 
 eval-function-requires : (t : ℕ) → eval-lts.Need-function-requires (eval-claims t) (eval-at t) eval.Post
 eval-function-requires t c κs = search needs
@@ -388,12 +391,13 @@ eval-returns t c =
 
 eval-returns-2 : (t : ℕ) → eval-lts.Need-returns-2 (eval-claims t) (eval-at t) eval.Post
 eval-returns-2 t c =
-    let at-match = c .before .before in
+    let at-match = c .before .before .before in
     let at-kind-of = at-match .before in
     let at-word-at = at-kind-of .before in
     let start = at-word-at .before in
     ends (number-is _ _ _ (node-leaf (start .pre .1) (start .fits .t .fits) (at-word-at .word-at .ensures) (at-kind-of .kind-of .ensures)
-    (omega (arith, at-match .match .keys2))) _ (at-kind-of .kind-of .ensures) (at-match .match .keys2) (c .before .first-of .ensures) (c .number .ensures))
+    (omega (arith, at-match .match .keys2))) _ (at-kind-of .kind-of .ensures) (at-match .match .keys2)
+    (c .before .before .first-of .ensures) (c .before .second-of .ensures) (c .interval .ensures))
 
 eval-returns-3 : (t : ℕ) → eval-lts.Need-returns-3 (eval-claims t) (eval-at t) eval.Post
 eval-returns-3 t c =
@@ -412,7 +416,7 @@ eval-returns-4 t c =
     let at-word-at = at-kind-of .before in
     let start = at-word-at .before in
     ends (function-is _ _ _ (node-leaf (start .pre .1) (start .fits .t .fits) (at-word-at .word-at .ensures) (at-kind-of .kind-of .ensures)
-    (omega (arith, at-match .match .keys4))) _ (at-kind-of .kind-of .ensures) (at-match .match .keys4) (c .before .second-of .ensures) (c .function .ensures))
+    (omega (arith, at-match .match .keys4))) _ (at-kind-of .kind-of .ensures) (at-match .match .keys4) (c .before .second-of2 .ensures) (c .function .ensures))
 
 eval-returns-5 : (t : ℕ) → eval-lts.Need-returns-5 (eval-claims t) (eval-at t) eval.Post
 eval-returns-5 t c = search needs
@@ -555,6 +559,26 @@ eval-if-returns-2 t c =
 eval-if-payload-requires : (t : ℕ) → eval-if-lts.Need-payload-requires (eval-if-claims t) (eval-if-at t) eval-if.Post
 eval-if-payload-requires t c κs = search needs
 
+eval-if-stop-requires-2 : (t : ℕ) → eval-if-lts.Need-stop-requires-2 (eval-if-claims t) (eval-if-at t) eval-if.Post
+eval-if-stop-requires-2 t c κs = search needs
+
+eval-if-returns-3 : (t : ℕ) → eval-if-lts.Need-returns-3 (eval-if-claims t) (eval-if-at t) eval-if.Post
+eval-if-returns-3 t c =
+    let at-payload = c .before .before in
+    let at-if2 = at-payload .before in
+    let at-sort = at-if2 .before in
+    let at-if1 = at-sort .before in
+    let at-is-stop = at-if1 .before in
+    let at-eval = at-is-stop .before in
+    let at-first-of = at-eval .before .before .before .before in
+    let start = at-first-of .before .before .before in
+    follows _ (if-is _ _ _ (start .pre .1) (at-first-of .first-of .ensures) refl refl) (at-eval .eval .ensures)
+    (sym (at-is-stop .is-stop .ensures) ∙ at-if1 .if1 .left)
+    (ends (branch-undecided _ _ _ (at-sort .sort .ensures) (at-if2 .if2 .left) (at-payload .payload .ensures) _ _ (c .before .if3 .taken) (c .stop2 .ensures)))
+
+eval-if-payload-requires-2 : (t : ℕ) → eval-if-lts.Need-payload-requires-2 (eval-if-claims t) (eval-if-at t) eval-if.Post
+eval-if-payload-requires-2 t c κs = search needs
+
 eval-if-second-of-requires : (t : ℕ) → eval-if-lts.Need-second-of-requires (eval-if-claims t) (eval-if-at t) eval-if.Post
 eval-if-second-of-requires t c κs = search needs
 
@@ -569,25 +593,27 @@ eval-if-eval-requires-2 t c κs =
     let at-choose = c .before .before .before .before .before in
     let at-third-of = at-choose .before in
     let at-second-of = at-third-of .before in
-    let at-payload = at-second-of .before in
-    let at-eval = at-payload .before .before .before .before .before in
+    let at-payload2 = at-second-of .before in
+    let at-eval = at-payload2 .before .before .before .before .before .before .before in
     let start = at-eval .before .before .before .before .before .before .before in (
       omega (
         arith,
         start .pre .0,
         at-eval .eval .ensures .calls,
-        chosen-below (ltb 0 (at-payload .payload .result)) (at-choose .choose .ensures)
+        chosen-below (ltb 0 (at-payload2 .payload2 .result)) (at-choose .choose .ensures)
             (second-below (start .pre .1) refl (at-second-of .second-of .ensures)) (third-below (start .pre .1) refl (at-third-of .third-of .ensures)),
       ),
       start .pre .1 .ready,
     )
 
-eval-if-returns-3 : (t : ℕ) → eval-if-lts.Need-returns-3 (eval-if-claims t) (eval-if-at t) eval-if.Post
-eval-if-returns-3 t c =
+eval-if-returns-4 : (t : ℕ) → eval-if-lts.Need-returns-4 (eval-if-claims t) (eval-if-at t) eval-if.Post
+eval-if-returns-4 t c =
     let at-choose = c .before .before .before .before .before .before in
     let at-third-of = at-choose .before in
     let at-second-of = at-third-of .before in
-    let at-payload = at-second-of .before in
+    let at-payload2 = at-second-of .before in
+    let at-if3 = at-payload2 .before in
+    let at-payload = at-if3 .before in
     let at-if2 = at-payload .before in
     let at-sort = at-if2 .before in
     let at-if1 = at-sort .before in
@@ -597,8 +623,8 @@ eval-if-returns-3 t c =
     let start = at-first-of .before .before .before in
     follows _ (if-is _ _ _ (start .pre .1) (at-first-of .first-of .ensures) (at-second-of .second-of .ensures) (at-third-of .third-of .ensures))
     (at-eval .eval .ensures) (sym (at-is-stop .is-stop .ensures) ∙ at-if1 .if1 .left)
-    (goes-on (branch-to _ _ _ _ _ _ _ _ _ (at-sort .sort .ensures) (at-if2 .if2 .left) (at-payload .payload .ensures) (at-choose .choose .ensures))
-    (le-refl _) refl (c .eval2 .ensures))
+    (goes-on (branch-to _ _ _ (at-sort .sort .ensures) (at-if2 .if2 .left) (at-payload .payload .ensures) _ _ _ _ _ _ (at-if3 .if3 .left)
+    (at-payload2 .payload2 .ensures) (at-choose .choose .ensures)) (le-refl _) refl (c .eval2 .ensures))
 
 abbrev eval-pair-claims : ℕ → eval-pair-lts.Claims
 eval-pair-claims t = (
@@ -865,11 +891,12 @@ pub +apply+eval+eval-enable+eval-if+eval-pair+eval-post+eval-tail-spec : {M : Ty
     (eval-small-of-requires t)
     (eval-boolean-requires t)
     (eval-first-of-requires t)
-    (eval-number-requires t)
+    (eval-second-of-requires t)
+    (eval-interval-requires t)
     (eval-slice-aggregate-look t)
     (eval-first-of-requires-2 t)
     (eval-look-requires t)
-    (eval-second-of-requires t)
+    (eval-second-of-requires-2 t)
     (eval-function-requires t)
     (eval-eval-if-requires t)
     (eval-eval-enable-requires t)
@@ -910,11 +937,14 @@ pub +apply+eval+eval-enable+eval-if+eval-pair+eval-post+eval-tail-spec : {M : Ty
     (eval-if-stop-requires t)
     (eval-if-returns-2 t)
     (eval-if-payload-requires t)
+    (eval-if-stop-requires-2 t)
+    (eval-if-returns-3 t)
+    (eval-if-payload-requires-2 t)
     (eval-if-second-of-requires t)
     (eval-if-third-of-requires t)
     (eval-if-choose-requires t)
     (eval-if-eval-requires-2 t)
-    (eval-if-returns-3 t))
+    (eval-if-returns-4 t))
     (λ t. eval-pair-lts.spec (eval-pair-claims t)
     (eval-pair-at t)
     eval-pair.Post

@@ -45,7 +45,7 @@ returns c =
     let start = at-lay-frames .before .before .before .before .before .before .before .before in
     lazy-after (start .args .s .now) (start .args .start .now) (start .args .enforce) (start .args .cells .now) (start .args .posts .now)
     (start .args .noted .now) (start .args .calls) (start .args .depth) (start .args .frames .now) (start .pre) (at-lay-frames .lay-frames .ensures) refl
-    (at-mode-of .mode-of .ensures .0) (at-mode-of .mode-of .ensures .1) (at-evaluate .evaluate .ensures) (c .before .before .clear-frames .ensures)
+    (at-mode-of .mode-of .ensures) (at-evaluate .evaluate .ensures) (c .before .before .clear-frames .ensures)
 
 pub lazy-spec : {M : Type 1} → statement M
 lazy-spec =

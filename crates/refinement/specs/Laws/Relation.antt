@@ -9,14 +9,15 @@ use lib.ListN.{getD, length, set, length-set}
 use borrow.Author.Tests.{lt-ltb, le-ltb}
 use Rattle.program.specs.Limits.{maxCells, maxNesting}
 use Rattle.program.specs.Layout.{guardIn}
-use Rattle.program.specs.Terms.{Op, sum, difference, less, Term, boolean, number, variable, function, letrec, call, if, check, enable, sign, test, binary, post}
+use Rattle.program.specs.Terms.{Op, Term, boolean, number, variable, function, letrec, call, if, check, enable, sign, test, binary, post}
 use Rattle.program.specs.Laws.Nesting.{height}
 use Rattle.traces.specs.Traces.{recorded}
-use Rattle.semantics.specs.Values.{Value, bool, num, closure, Env, empty, bind, Log, Budget, budget, Result, ends, stops}
+use Rattle.semantics.specs.Domains.{Domain, Interpretation}
+use Rattle.semantics.specs.Values.{ValueOf, bool, num, closure, EnvOf, empty, bind, Log, Budget, budget, ResultOf, ends, stops}
 use Rattle.semantics.specs.Meaning.{_then_}
 use Rattle.stores.specs.declared.state.Stop.{Stop}
-use Rattle.stores.specs.declared.state.Stop.the-variants.{Check, Stuck, OpenCalls, Calls, Cells, Posts}
-use Rattle.stores.specs.Words.{pick, booleanWord, numberWord, functionWord, stopWord, sortOf, payloadOf, envOf, isStop}
+use Rattle.stores.specs.declared.state.Stop.the-variants.{Check, Stuck, OpenCalls, Calls, Cells, Posts, Undecided}
+use Rattle.stores.specs.Words.{pick, intervalWord, functionWord, stopWord, sortOf, payloadOf, envOf, isStop}
 use Rattle.machine.specs.Table.{wordKind, wordSmall, wordFirst, wordSecond, wordThird, wordAuthority, wordGuard}
 use Rattle.stores.specs.Cells.{behindOf, heldOf}
 use Rattle.machine.specs.Steps.{cellsMade, wrapped}
@@ -24,14 +25,27 @@ use Rattle.machine.specs.Store.{Store as State, Done, doneOf, andThen}
 use Rattle.stores.specs.Stops.{stopCause, stopPlace}
 use Rattle.refinement.specs.Laws.Records.{recordOf}
 use Rattle.refinement.specs.Laws.Cells.{Agree, agree-held, agree-behind}
+use Rattle.refinement.specs.Laws.Codings.{Word, kindNumber, Coding}
 
--- ---- what stays in a run: the words of the terms, the sets that the principals may use, the lent list of posts, the lent record, and the mode
-pub record Fixed : Type 0 where
+-- ---- what stays in a run: what the terms are interpreted in, their words, the sets that the principals may use, the lent list of posts, the lent record, the
+-- mode, and how words stand for the interpretation's numbers and truth values
+pub record Fixed : Type 1 where
+  pub interpretation : Interpretation
   pub terms : List ℕ
   pub may : ℕ → ℕ
   pub posts : List ℕ
   pub trace : List ℕ
   pub mode : ℕ
+  pub coding : Coding (interpretation .domain) mode
+
+abbrev pub Value : Fixed → Type 0
+Value z = ValueOf (z .interpretation .domain)
+
+abbrev pub Env : Fixed → Type 0
+Env z = EnvOf (z .interpretation .domain)
+
+abbrev pub Result : Fixed → Type 0
+Result z = ResultOf (z .interpretation .domain)
 
 -- ---- counters, posts and the record
 
@@ -91,17 +105,12 @@ later-trans p q = record {
 
 -- ---- words
 
--- a word of three parts, with its sort
-pub record Word (sort w : ℕ) : Type 0 where
-  pub sort-is : sortOf w ≡ sort
-  pub small : w < 281474976710656
-
-abbrev pub sortFor : Value → ℕ
+abbrev pub sortFor : {D : Domain} → ValueOf D → ℕ
 sortFor (bool b) = 0
 sortFor (num n) = 1
 sortFor (closure r ty body env) = 2
 
-sort-most : (x : Value) → sortFor x ≤ 2
+sort-most : {D : Domain} (x : ValueOf D) → sortFor x ≤ 2
 sort-most (bool b) = omega arith
 sort-most (num n) = omega arith
 sort-most (closure r ty body env) = omega arith
@@ -116,13 +125,14 @@ pub function-word : (b e : ℕ) → b < 65536 → e < 65536 → Function b e (fu
 function-word b e p q = record { word = record { sort-is = omega arith; small = omega arith }; body-is = omega arith; env-is = omega arith }
 
 -- a stop's word
-stop-range : (x : Stop) → (17 ≤ stopCause x) × (stopCause x ≤ 22)
+stop-range : (x : Stop) → (17 ≤ stopCause x) × (stopCause x ≤ 36)
 stop-range (Check t) = (omega arith, omega arith)
 stop-range (Stuck t) = (omega arith, omega arith)
 stop-range (OpenCalls t) = (omega arith, omega arith)
 stop-range (Calls t) = (omega arith, omega arith)
 stop-range (Cells t) = (omega arith, omega arith)
 stop-range (Posts t) = (omega arith, omega arith)
+stop-range (Undecided t) = (omega arith, omega arith)
 
 stop-parts : (k t : ℕ) → k < 65536 → t < 65536 → (sortOf (stopWord k t) ≡ k) × (payloadOf (stopWord k t) ≡ t)
 stop-parts k t h i = (omega arith, omega arith)
@@ -135,12 +145,6 @@ stop-stops : (x : Stop) → isStop (stopWord (stopCause x) (stopPlace x)) ≡ tr
 stop-stops x = lt-ltb 2 (sortOf (stopWord (stopCause x) (stopPlace x))) (omega (arith, stop-range x))
 
 -- ---- terms
-
--- the number of the kind of an operation on two numbers
-abbrev pub kindNumber : Op → ℕ
-kindNumber sum = 11
-kindNumber difference = 12
-kindNumber less = 13
 
 module _ (z : Fixed) where
   abbrev pub wordAt : (t : ℕ) → ℕ
@@ -167,7 +171,7 @@ module _ (z : Fixed) where
   -- the word of term t stands for a term of the meaning; its children are lower, a sign has the set of its principal, and a post the guard of its channel
   pub data Stands : (t : ℕ) → Term → Type 0 where
     on-boolean : {t : ℕ} {b : Bool} → kind t ≡ 0 → ltb 0 (small t) ≡ b → Stands t (boolean t b)
-    on-number : {t : ℕ} → kind t ≡ 1 → Stands t (number t (first t))
+    on-number : {t n : ℕ} → kind t ≡ 1 → z .coding .Number (intervalWord (first t) (second t)) (z .interpretation .literal t n) → Stands t (number t n)
     on-variable : {t : ℕ} → kind t ≡ 2 → Stands t (variable t (first t))
     on-function : {t ty : ℕ} {a : Term} → kind t ≡ 3 → second t < t → Stands (second t) a → Stands t (function t ty a)
     on-letrec : {t ty : ℕ} {a b : Term} → kind t ≡ 4 → second t < t → third t < t → Stands (second t) a → Stands (third t) b → Stands t (letrec t ty a b)
@@ -189,76 +193,68 @@ module _ (z : Fixed) where
 
   -- ---- a word for a value and a link for an environment, in a store of which the first m cells are made
   mutual
-    pub data Rep (cells : List ℕ) (m : ℕ) : ℕ → Value → Type 0 where
-      rep-bool : {w : ℕ} {b : Bool} → Word 0 w → ltb 0 (payloadOf w) ≡ b → Rep cells m w (bool b)
-      rep-num : {w n : ℕ} → Word 1 w → payloadOf w ≡ n → Rep cells m w (num n)
-      rep-fun : {w ty : ℕ} {c : Term} {E : Env} → Word 2 w → Body (payloadOf w) c → RepEnv cells m (envOf w) E → Rep cells m w (closure false ty c E)
-      rep-rec : {w ty : ℕ} {c : Term} {E : Env} → Word 2 w → Body (payloadOf w) c → 1 ≤ envOf w → envOf w ≤ m → heldOf cells (envOf w) ≡ w
+    pub data Rep (cells : List ℕ) (m : ℕ) : ℕ → Value z → Type 0 where
+      rep-bool : {w : ℕ} {b : z .interpretation .domain .Truth} → z .coding .Truth w b → Rep cells m w (bool b)
+      rep-num : {w : ℕ} {n : z .interpretation .domain .Number} → z .coding .Number w n → Rep cells m w (num n)
+      rep-fun : {w ty : ℕ} {c : Term} {E : Env z} → Word 2 w → Body (payloadOf w) c → RepEnv cells m (envOf w) E → Rep cells m w (closure false ty c E)
+      rep-rec : {w ty : ℕ} {c : Term} {E : Env z} → Word 2 w → Body (payloadOf w) c → 1 ≤ envOf w → envOf w ≤ m → heldOf cells (envOf w) ≡ w
           → RepEnv cells m (behindOf cells (envOf w)) E → Rep cells m w (closure true ty c E)
 
-    pub data RepEnv (cells : List ℕ) (m : ℕ) : ℕ → Env → Type 0 where
+    pub data RepEnv (cells : List ℕ) (m : ℕ) : ℕ → Env z → Type 0 where
       env-none : RepEnv cells m 0 empty
-      env-some : {e : ℕ} {x : Value} {E : Env} → 1 ≤ e → e ≤ m → Rep cells m (heldOf cells e) x → RepEnv cells m (behindOf cells e) E
+      env-some : {e : ℕ} {x : Value z} {E : Env z} → 1 ≤ e → e ≤ m → Rep cells m (heldOf cells e) x → RepEnv cells m (behindOf cells e) E
           → RepEnv cells m e (bind x E)
 
   module _ {l : List ℕ} {m : ℕ} where
-    -- of numbers below their bounds
-    pub boolean-rep : (b : Bool) → Rep l m (booleanWord b) (bool b)
-    boolean-rep true = rep-bool {w = 65536} record { sort-is = refl; small = omega arith } refl
-    boolean-rep false = rep-bool {w = 0} record { sort-is = refl; small = omega arith } refl
-
-    pub number-rep : (n : ℕ) → n < 65536 → Rep l m (numberWord n) (num n)
-    number-rep n h = rep-num {w = numberWord n} {n = n} record { sort-is = omega arith; small = omega arith } (omega arith)
-
-    pub rep-word : {w : ℕ} {x : Value} → Rep l m w x → Word (sortFor x) w
-    rep-word (rep-bool h e) = h
-    rep-word (rep-num h e) = h
+    pub rep-word : {w : ℕ} {x : Value z} → Rep l m w x → Word (sortFor x) w
+    rep-word (rep-bool h) = z .coding .truth-word h
+    rep-word (rep-num h) = z .coding .number-word h
     rep-word (rep-fun h b e) = h
     rep-word (rep-rec h b p q v e) = h
 
-    pub rep-low : {w : ℕ} {x : Value} → Rep l m w x → sortOf w ≤ 2
+    pub rep-low : {w : ℕ} {x : Value z} → Rep l m w x → sortOf w ≤ 2
     rep-low {x = x} r = omega (arith, rep-word r .sort-is, sort-most x)
 
-    pub env-low : {e : ℕ} {E : Env} → RepEnv l m e E → e ≤ m
+    pub env-low : {e : ℕ} {E : Env z} → RepEnv l m e E → e ≤ m
     env-low env-none = omega arith
     env-low (env-some p q v h) = q
 
   -- both stay when cells past the first m are made
   module _ {m k : ℕ} {l l′ : List ℕ} (more : m ≤ k) (a : Agree m l l′) where
     mutual
-      pub rep-later : {w : ℕ} {x : Value} → Rep l m w x → Rep l′ k w x
-      rep-later (rep-bool h e) = rep-bool h e
-      rep-later (rep-num h e) = rep-num h e
+      pub rep-later : {w : ℕ} {x : Value z} → Rep l m w x → Rep l′ k w x
+      rep-later (rep-bool h) = rep-bool h
+      rep-later (rep-num h) = rep-num h
       rep-later (rep-fun h b e) = rep-fun h b (env-later e)
       rep-later (rep-rec {w = w} {E = E} h b p q v e) =
           rep-rec h b p (omega arith) (agree-held a (envOf w) p q ∙ v) (subst (λ x. RepEnv l′ k x E) (sym (agree-behind a (envOf w) p q)) (env-later e))
 
-      pub env-later : {e : ℕ} {x : Env} → RepEnv l m e x → RepEnv l′ k e x
+      pub env-later : {e : ℕ} {x : Env z} → RepEnv l m e x → RepEnv l′ k e x
       env-later env-none = env-none
       env-later (env-some {e = e} {x = y} {E = E} p q v h) =
           env-some p (omega arith) (subst (λ x. Rep l′ k x y) (sym (agree-held a e p q)) (rep-later v))
           (subst (λ x. RepEnv l′ k x E) (sym (agree-behind a e p q)) (env-later h))
 
   -- the same at a state
-  abbrev pub RepAt : State → ℕ → Value → Type 0
+  abbrev pub RepAt : State → ℕ → Value z → Type 0
   RepAt st w x = Rep (st .cells) (cellsMade (st .n)) w x
 
-  abbrev pub EnvAt : State → ℕ → Env → Type 0
+  abbrev pub EnvAt : State → ℕ → Env z → Type 0
   EnvAt st e E = RepEnv (st .cells) (cellsMade (st .n)) e E
 
   -- ---- outcomes
-  pub data Meets (depth : ℕ) (st₀ : State) : Done → Result → Type 0 where
-    valued : {w : ℕ} {x : Value} {st : State} {o : Budget} → RepAt st w x → Balances z st o → Later depth st₀ st → Meets depth st₀ (doneOf w st) (ends x o)
+  pub data Meets (depth : ℕ) (st₀ : State) : Done → Result z → Type 0 where
+    valued : {w : ℕ} {x : Value z} {st : State} {o : Budget} → RepAt st w x → Balances z st o → Later depth st₀ st → Meets depth st₀ (doneOf w st) (ends x o)
     halted : {st : State} {o : Budget} (x : Stop) → stopPlace x < 65536 → Balances z st o → Later depth st₀ st
         → Meets depth st₀ (doneOf (stopWord (stopCause x) (stopPlace x)) st) (stops (stopCause x) (stopPlace x) o)
 
-  pub meets-later : {depth : ℕ} {st₀ st : State} {d : Done} {o : Result} → Later depth st₀ st → Meets depth st d o → Meets depth st₀ d o
+  pub meets-later : {depth : ℕ} {st₀ st : State} {d : Done} {o : Result z} → Later depth st₀ st → Meets depth st d o → Meets depth st₀ d o
   meets-later l (valued r t m) = valued r t (later-trans l m)
   meets-later l (halted x i t m) = halted x i t (later-trans l m)
 
   -- what follows a value
-  pub meets-then : {depth : ℕ} {st₀ : State} {d : Done} {o : Result} (k : ℕ → State → Done) (q : Value → Budget → Result) → Meets depth st₀ d o
-      → ((w : ℕ) (x : Value) (st : State) (r : Budget) → RepAt st w x → Balances z st r → Later depth st₀ st → Meets depth st (k w st) (q x r))
+  pub meets-then : {depth : ℕ} {st₀ : State} {d : Done} {o : Result z} (k : ℕ → State → Done) (q : Value z → Budget → Result z) → Meets depth st₀ d o
+      → ((w : ℕ) (x : Value z) (st : State) (r : Budget) → RepAt st w x → Balances z st r → Later depth st₀ st → Meets depth st (k w st) (q x r))
       → Meets depth st₀ (andThen d k) (o then q)
   unfolding andThen
   meets-then {depth} {st₀} k q (valued {w = w} {x = x} {st = st} {o = o} r t l) h =

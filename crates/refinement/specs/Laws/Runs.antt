@@ -1,12 +1,13 @@
 -- From the relation to what a run tells and leaves.
 use mathlib.Core.Path.{_≡_, refl, sym, ap, _∙_, subst}
 use mathlib.Core.List.{List, [], _∷_, _++_, reverse, reverseAux-eq, append-assoc}
-use Prim.Native.Nat.{ℕ, suc, _+_, _*_, _/_, _-_, _≤_}
+use mathlib.Core.Bool.{false}
+use Prim.Native.Nat.{ℕ, suc, _+_, _*_, _/_, _-_, _<_, _≤_}
 use native.Mathlib.Omega.{arith}
 use lib.ListN.{getD, length, set, drop, length-append, length-reverse}
 use lib.Seq.{take-nil, drop-cons, set-at, getD-at, getD-append-add}
 use Rattle.program.specs.Limits.{maxDepth, maxCells, maxStartFrames}
-use Rattle.program.specs.Layout.{root}
+use Rattle.program.specs.Layout.{authority, root}
 use Rattle.program.specs.Terms.{program}
 use Rattle.program.specs.Records.{CountsOf}
 use Rattle.program.specs.Laws.Readable.{WellFormed}
@@ -14,26 +15,25 @@ use Rattle.program.specs.Laws.Trees.{root-lower}
 use Rattle.program.specs.Laws.Nesting.{program-height}
 use Rattle.program.specs.declared.records.Counts.{Counts}
 use Rattle.traces.specs.Traces.{Event, traceBytes, recorded}
-use Rattle.semantics.specs.Values.{Value, empty, Budget, Result, ends, stops}
+use Rattle.semantics.specs.Domains.{Interpretation}
+use Rattle.semantics.specs.Values.{empty, Budget, ResultOf, ends, stops}
 use Rattle.semantics.specs.Meaning.{Control, plain, traced, eval}
-use Rattle.semantics.specs.Access.{Frame}
-use Rattle.semantics.specs.Runs.{Request, Buffers, sizes, ground-bool, ground-num, ended, initial, outcome, left, counts, inOrder}
+use Rattle.semantics.specs.Access.{Frame, rights, eagerControl}
+use Rattle.semantics.specs.Runs.{Request, Buffers, sizes, OutcomeOf, initial, outcome, left, counts, inOrder}
 use Rattle.semantics.specs.Recording.{decidedIn, withEntries}
 use Rattle.semantics.specs.Laws.Tracing.{forget, forgets, outcome-forgotten, counts-forgotten, posts-forgotten}
-use Rattle.stores.specs.declared.state.Stop.{Stop}
-use Rattle.stores.specs.declared.state.Stop.the-variants.{Check, Stuck, OpenCalls, Calls, Cells, Posts}
-use Rattle.stores.specs.declared.state.Out.the-variants.{Stop as Stopped}
-use Rattle.stores.specs.Words.{payloadOf, envOf, stopWord, outBy, outOf}
-use Rattle.machine.specs.Table.{Decoded}
+use Rattle.stores.specs.Words.{stopWord}
+use Rattle.stores.specs.Access.{pairOf, enforced, lazyMode}
 use Rattle.machine.specs.Steps.{entriesMade, wrapped}
 use Rattle.machine.specs.Store.{Store as State, Done, doneOf, evalAt}
 use Rattle.stores.specs.Stops.{stopCause, stopPlace}
-use Rattle.refinement.specs.Claims.{outcomeOf, countsOf, wrappedCounts, sizesOf, laidOut, startOf, Refined}
-use Rattle.refinement.specs.Laws.Relation.{Fixed, written, length-written, Balances, balance, Later, stop-word, Rep, rep-bool, rep-num, rep-fun, rep-rec, env-none, Meets, valued, halted}
+use Rattle.refinement.specs.Claims.{countsOf, wrappedCounts, sizesOf, laidOut, startOf, RefinedBy}
+use Rattle.refinement.specs.Laws.Codings.{Coding, Telling}
+use Rattle.refinement.specs.Laws.Relation.{Fixed, Value, written, length-written, Balances, balance, Later, stop-word, Rep, rep-bool, rep-num, rep-fun, rep-rec, env-none, Meets, valued, halted}
 use Rattle.refinement.specs.Laws.Steps.{Models}
 use Rattle.refinement.specs.Laws.Simulation.{eval-does}
-use Rattle.refinement.specs.Laws.Controls.{Frames, no-frames, a-frame}
-use Rattle.refinement.specs.Laws.Trees.{fixedOf, program-stands}
+use Rattle.refinement.specs.Laws.Controls.{EagerMode, pair-mode, eager-models, Frames, no-frames, a-frame}
+use Rattle.refinement.specs.Laws.Trees.{fixedOf, Tabled, program-stands}
 
 -- ---- the posts, written over the front of the list
 written-is : (l ps : List ℕ) → length ps ≤ length l → written l ps ≡ reverse ps ++ drop (length ps) l
@@ -61,27 +61,18 @@ module _ (A : ℕ → ℕ) where
       (laid-frames fs behind))
 
 -- ---- what a word tells
-stop-out : (x : Stop) (e : ℕ) → outBy (stopCause x) (stopPlace x) e ≡ Stopped x
-unfolding outBy
-stop-out (Check t) e = refl
-stop-out (Stuck t) e = refl
-stop-out (OpenCalls t) e = refl
-stop-out (Calls t) e = refl
-stop-out (Cells t) e = refl
-stop-out (Posts t) e = refl
-
-module _ (z : Fixed) (n : ℕ) where
-  value-outcome : {l : List ℕ} {m w : ℕ} {x : Value} (o : Budget) → Rep z l m w x → outcomeOf n (outOf w) ≡ outcome n (ends x o)
-  unfolding outBy
-  value-outcome {w = w} o (rep-bool h e) = (λ i. outcomeOf n (outBy (h .sort-is i) (payloadOf w) (envOf w))) ∙ (λ i. ended (ground-bool (e i)))
-  value-outcome {w = w} o (rep-num h e) = (λ i. outcomeOf n (outBy (h .sort-is i) (payloadOf w) (envOf w))) ∙ (λ i. ended (ground-num (e i)))
-  value-outcome {w = w} o (rep-fun h b e) = λ i. outcomeOf n (outBy (h .sort-is i) (payloadOf w) (envOf w))
-  value-outcome {w = w} o (rep-rec h b p q v e) = λ i. outcomeOf n (outBy (h .sort-is i) (payloadOf w) (envOf w))
+module _ (z : Fixed) {tells : (root word : ℕ) → OutcomeOf (z .interpretation .domain)} (T : Telling (z .coding) tells) (n : ℕ) where
+  value-outcome : {l : List ℕ} {m w : ℕ} {x : Value z} (o : Budget) → Rep z l m w x → tells n w ≡ outcome n (ends x o)
+  value-outcome o (rep-bool h) = T .tells-truth n h
+  value-outcome o (rep-num h) = T .tells-number n h
+  value-outcome o (rep-fun h b e) = T .tells-function n h
+  value-outcome o (rep-rec h b p q v e) = T .tells-function n h
 
 -- ---- what a state tells of the budget that it stands for
-module _ (s table : List ℕ) (mode : ℕ) (q : Request) (b : Buffers) (t : List ℕ) where
+module _ (I : Interpretation) {mode : ℕ} (K : Coding (I .domain) mode) {tells : (root word : ℕ) → OutcomeOf (I .domain)} (T : Telling K tells)
+    (s table : List ℕ) (q : Request) (b : Buffers) (t : List ℕ) where
   abbrev run : Fixed
-  run = fixedOf s table (b .posts) t mode
+  run = fixedOf I K s table (b .posts) t
 
   record Agrees (st : State) (u : Budget) : Type 0 where
     counts-agree : countsOf (q .calls) (st .n) ≡ wrappedCounts (counts q (sizes b) u)
@@ -103,8 +94,8 @@ module _ (s table : List ℕ) (mode : ℕ) (q : Request) (b : Buffers) (t : List
         trace-agrees = h .trace-is;
       }
 
-  refined-by : (n : ℕ) {w : ℕ} {st : State} (x : Result) → outcomeOf n (outOf w) ≡ outcome n x → Agrees st (left x)
-      → Refined n q b t (doneOf w st) (forget x) (decidedIn (left x))
+  refined-by : (n : ℕ) {w : ℕ} {st : State} (x : ResultOf (I .domain)) → tells n w ≡ outcome n x → Agrees st (left x)
+      → RefinedBy tells n q b t (doneOf w st) (forget x) (decidedIn (left x))
   refined-by n x e a = record {
     same-outcome = e ∙ outcome-forgotten n x;
     same-counts = a .counts-agree ∙ ap wrappedCounts (counts-forgotten q (sizes b) x);
@@ -114,30 +105,32 @@ module _ (s table : List ℕ) (mode : ℕ) (q : Request) (b : Buffers) (t : List
     same-trace = a .trace-agrees;
   }
 
-  meets-refined : (n : ℕ) {depth : ℕ} {d : Done} {x : Result} → Meets run depth (startOf mode q b t) d x → Refined n q b t d (forget x) (decidedIn (left x))
-  meets-refined n (valued {x = x} {o = o} r h l) = refined-by n (ends x o) (value-outcome run n o r) (agrees h l)
+  meets-refined : (n : ℕ) {depth : ℕ} {d : Done} {x : ResultOf (I .domain)} → Meets run depth (startOf mode q b t) d x
+      → RefinedBy tells n q b t d (forget x) (decidedIn (left x))
+  meets-refined n (valued {x = x} {o = o} r h l) = refined-by n (ends x o) (value-outcome run T n o r) (agrees h l)
   meets-refined n (halted {o = o} x i h l) =
       let w : ℕ = stopWord (stopCause x) (stopPlace x) in
       let v = stop-word x i in
-      refined-by n {w = w} (stops (stopCause x) (stopPlace x) o)
-      ((λ j. outcomeOf n (outBy (v .0 j) (v .1 j) (envOf w))) ∙ (λ j. outcomeOf n (stop-out x (envOf w) j))) (agrees h l)
+      refined-by n {w = w} (stops (stopCause x) (stopPlace x) o) (T .tells-stop n x (v .0) (v .1)) (agrees h l)
 
 -- ---- a whole run, in either style
-module _ (s : List ℕ) (w : WellFormed s) (c : Counts) (h : CountsOf s c) (table : List ℕ) (decoded : Decoded s c table) (q : Request) (b : Buffers)
-    (t : List ℕ) (few : q .depth ≤ maxDepth) (most : length (b .cells) ≤ maxCells) (mode : ℕ) where
-  pub refined : (X : Control) (R : X .State → (acc depth : ℕ) → List ℕ → Type 0) → Models (fixedOf s table (b .posts) t mode) X (q .enforce) R
+module _ (I : Interpretation) {mode : ℕ} (K : Coding (I .domain) mode) {tells : (root word : ℕ) → OutcomeOf (I .domain)} (T : Telling K tells)
+    (s : List ℕ) (w : WellFormed s) (c : Counts) (h : CountsOf s c) (table : List ℕ) (tabled : Tabled I K s c table) (q : Request) (b : Buffers)
+    (t : List ℕ) (few : q .depth ≤ maxDepth) (most : length (b .cells) ≤ maxCells) where
+  pub refined : (X : Control) (R : X .State → (acc depth : ℕ) → List ℕ → Type 0) → Models (fixedOf I K s table (b .posts) t) X (q .enforce) R
       → (acc depth : ℕ) (a : X .State) → depth ≤ maxStartFrames → R a acc depth (b .frames)
-      → Refined (root s) q b t (evalAt table (q .depth) (root s) 0 acc (startOf mode q b t))
-      (eval X (plain (q .enforce)) (q .depth) (program s) a empty (initial q (sizes b)))
-      (decidedIn (left (eval X (traced (q .enforce)) (q .depth) (program s) a empty (initial q (sizes b)))))
+      → RefinedBy tells (root s) q b t (evalAt table (q .depth) (root s) 0 acc (startOf mode q b t))
+      (eval I X (plain (q .enforce)) (q .depth) (program s) a empty (initial q (sizes b)))
+      (decidedIn (left (eval I X (traced (q .enforce)) (q .depth) (program s) a empty (initial q (sizes b)))))
   unfolding traceBytes
   refined X R models acc depth a deep r =
       let none : [] ≡ recorded (length t) [] = sym (take-nil {A = Event} (length t / 4)) in
-      let x = eval X (traced (q .enforce)) (q .depth) (program s) a empty (initial q (sizes b)) in
+      let x = eval I X (traced (q .enforce)) (q .depth) (program s) a empty (initial q (sizes b)) in
       let d = evalAt table (q .depth) (root s) 0 acc (startOf mode q b t) in
-      subst (λ y. Refined (root s) q b t d y (decidedIn (left x))) (forgets X (traced (q .enforce)) (q .depth) (program s) a empty (initial q (sizes b)))
-      (meets-refined s table mode q b t (root s)
-      (eval-does (fixedOf s table (b .posts) t mode) X (q .enforce) R models (q .depth) (program-stands s w c h table decoded (b .posts) t mode)
+      subst (λ y. RefinedBy tells (root s) q b t d y (decidedIn (left x)))
+      (forgets I X (traced (q .enforce)) (q .depth) (program s) a empty (initial q (sizes b)))
+      (meets-refined I K T s table q b t (root s)
+      (eval-does (fixedOf I K s table (b .posts) t) X (q .enforce) R models (q .depth) (program-stands I K s w c h table tabled (b .posts) t)
       (omega (arith, root-lower s w, w .terms-most)) (program-height s w)
       .go 0 empty acc depth a (startOf mode q b t) (initial q (sizes b)) (omega arith) r env-none
       (balance record {
@@ -148,3 +141,13 @@ module _ (s : List ℕ) (w : WellFormed s) (c : Counts) (h : CountsOf s c) (tabl
         list = refl;
         trace-is = λ i. withEntries (none i) t;
       })))
+
+  -- an eager one, that holds any set
+  pub refined-eagerly : (may P : ℕ) → enforced mode ≡ q .enforce → lazyMode mode ≡ false → may < 4294967296 → may ≡ authority s 0
+      → RefinedBy tells (root s) q b t (evalAt table (q .depth) (root s) 0 (pairOf may P) (startOf mode q b t))
+      (eval I (eagerControl (authority s)) (plain (q .enforce)) (q .depth) (program s) (rights 0 P) empty (initial q (sizes b)))
+      (decidedIn (left (eval I (eagerControl (authority s)) (traced (q .enforce)) (q .depth) (program s) (rights 0 P) empty (initial q (sizes b)))))
+  refined-eagerly may P checks style i e =
+      refined (eagerControl (authority s)) (λ a acc d f. EagerMode (authority s) a acc)
+      (eager-models (fixedOf I K s table (b .posts) t) style (q .enforce) checks)
+      (pairOf may P) 0 (rights 0 P) (omega arith) (pair-mode (authority s) 0 may P P e i refl)

@@ -10,23 +10,24 @@ use lib.ListN.{getD}
 use borrow.Author.Tests.{eq-eqb, ne-eqb}
 use Rattle.program.specs.Terms.{Op, sum, difference, less, Term}
 use Rattle.program.specs.Laws.Nesting.{height}
-use Rattle.semantics.specs.Values.{Value, bool, num, closure, lookup, Budget, ends}
+use Rattle.semantics.specs.Values.{bool, num, closure, lookup, Budget, ends}
 use Rattle.semantics.specs.Meaning.{Control, traced, Evaluation, Application, found, tooDeep, evalWith, apply, eval}
 use Rattle.stores.specs.declared.state.Stop.the-variants.{Stuck, OpenCalls}
-use Rattle.stores.specs.Words.{pick, booleanWord, numberWord, functionWord, stopWord, payloadOf}
+use Rattle.stores.specs.Words.{pick, booleanWord, intervalWord, functionWord, stopWord, payloadOf}
 use Rattle.machine.specs.Table.{wordKind, wordSmall, wordFirst, wordSecond, wordAuthority}
 use Rattle.stores.specs.Cells.{lookOf}
 use Rattle.machine.specs.Steps.{cellsMade}
 use Rattle.machine.specs.Store.{Store as State, Done, doneOf, Runs, Applier, Shape, binary, shapeOf, leafOf, binaryS, byShape, begin, step, below, applyAt, evalAt}
-use Rattle.refinement.specs.Laws.Relation.{Fixed, Balances, sortFor, function-word, kindNumber, wordAt, kind, small, first, second, Stands, on-boolean, on-number, on-variable, on-function, on-letrec, on-call, on-if, on-check, on-enable, on-sign, on-test, on-binary, on-post, Body, rep-bool, rep-num, rep-fun, rep-rec, RepAt, EnvAt, boolean-rep, number-rep, rep-word, env-low, Meets}
+use Rattle.refinement.specs.Laws.Codings.{kindNumber}
+use Rattle.refinement.specs.Laws.Relation.{Fixed, Value, Balances, sortFor, function-word, wordAt, kind, small, first, second, Stands, on-boolean, on-number, on-variable, on-function, on-letrec, on-call, on-if, on-check, on-enable, on-sign, on-test, on-binary, on-post, Body, rep-bool, rep-num, rep-fun, rep-rec, RepAt, EnvAt, rep-word, env-low, Meets}
 use Rattle.refinement.specs.Laws.Steps.{look-finds, few-cells, Models, Sim, SimApply, meets-end, meets-stop, meets-found, sim-less, sim-same, sim-call, sim-binary, sim-if, sim-post, sim-test, sim-check, sim-sign, sim-enable, sim-letrec, begin-meets}
 
 leaf-is : (cells : List ℕ) (t x env k : ℕ) → wordKind x ≡ k → leafOf cells t x env
     ≡ pick (eqb k 0) (booleanWord (ltb 0 (wordSmall x)))
-    (pick (eqb k 1) (numberWord (wordFirst x)) (pick (eqb k 2) (lookOf cells t env (wordFirst x)) (functionWord (wordSecond x) env)))
+    (pick (eqb k 1) (intervalWord (wordFirst x) (wordSecond x)) (pick (eqb k 2) (lookOf cells t env (wordFirst x)) (functionWord (wordSecond x) env)))
 unfolding leafOf
 leaf-is cells t x env k e = λ i. pick (eqb (e i) 0) (booleanWord (ltb 0 (wordSmall x)))
-    (pick (eqb (e i) 1) (numberWord (wordFirst x)) (pick (eqb (e i) 2) (lookOf cells t env (wordFirst x)) (functionWord (wordSecond x) env)))
+    (pick (eqb (e i) 1) (intervalWord (wordFirst x) (wordSecond x)) (pick (eqb (e i) 2) (lookOf cells t env (wordFirst x)) (functionWord (wordSecond x) env)))
 
 binary-shape : (op : Op) → shapeOf (kindNumber op) ≡ binary
 unfolding shapeOf
@@ -55,13 +56,13 @@ module _ (terms : List ℕ) (f : Applier) where
   step-is t x e env acc st = λ i. byShape (e i) (below terms f t) f t (getD terms t 0) env acc st
 
 module _ (z : Fixed) (X : Control) (enforce : Bool) (R : X .State → (acc depth : ℕ) → List ℕ → Type 0) (ctl : Models z X enforce R) where
-  abbrev Does : ℕ → Runs → Evaluation X → Type 0
+  abbrev Does : ℕ → Runs → Evaluation (z .interpretation) X → Type 0
   Does h p P = Sim z X R h p P
 
   abbrev under : Applier → (n t : ℕ) → Runs
   under f n t = below (z .terms) f n t
 
-  at-step : (h : ℕ) (f : Applier) (P : Evaluation X) (n t k : ℕ) (x : Shape) → t < n → kind z t ≡ k → shapeOf k ≡ x
+  at-step : (h : ℕ) (f : Applier) (P : Evaluation (z .interpretation) X) (n t k : ℕ) (x : Shape) → t < n → kind z t ≡ k → shapeOf k ≡ x
       → Does h (byShape x (under f t) f t (wordAt z t)) P → Does h (under f n t) P
   at-step h f P n t k x l e g s =
       sim-same z X enforce R ctl h (byShape x (under f t) f t (wordAt z t)) (under f n t) P
@@ -71,18 +72,19 @@ module _ (z : Fixed) (X : Control) (enforce : Bool) (R : X .State → (acc depth
   abbrev leaf : (t x : ℕ) → Runs
   leaf t x env acc st = doneOf (leafOf (st .cells) t x env) st
 
-  leaf-boolean : (h t x : ℕ) (b : Bool) → wordKind x ≡ 0 → ltb 0 (wordSmall x) ≡ b → Does h (leaf t x) (λ a E o. ends (bool b) o)
+  leaf-boolean : (h t x : ℕ) (b : Bool) → wordKind x ≡ 0 → ltb 0 (wordSmall x) ≡ b
+      → Does h (leaf t x) (λ a E o. ends (bool (z .interpretation .domain .truth b)) o)
   leaf-boolean h t x b k e = record {
     go = λ env E acc d a st o w r v y.
-        subst (λ i. Meets z d st (doneOf i st) (ends (bool b) o)) (sym (leaf-is (st .cells) t x env 0 k ∙ (λ i. booleanWord (e i))))
-        (meets-end z (boolean-rep z b) y);
+        subst (λ i. Meets z d st (doneOf i st) (ends (bool (z .interpretation .domain .truth b)) o))
+        (sym (leaf-is (st .cells) t x env 0 k ∙ (λ i. booleanWord (e i)))) (meets-end z (rep-bool (z .coding .truth-coded b)) y);
   }
 
-  leaf-number : (h t x : ℕ) → wordKind x ≡ 1 → Does h (leaf t x) (λ a E o. ends (num (wordFirst x)) o)
-  leaf-number h t x k = record {
+  leaf-number : (h t x : ℕ) (n : z .interpretation .domain .Number) → wordKind x ≡ 1 → z .coding .Number (intervalWord (wordFirst x) (wordSecond x)) n
+      → Does h (leaf t x) (λ a E o. ends (num n) o)
+  leaf-number h t x n k e = record {
     go = λ env E acc d a st o w r v y.
-        subst (λ i. Meets z d st (doneOf i st) (ends (num (wordFirst x)) o)) (sym (leaf-is (st .cells) t x env 1 k))
-        (meets-end z (number-rep z (wordFirst x) (omega arith)) y);
+        subst (λ i. Meets z d st (doneOf i st) (ends (num n) o)) (sym (leaf-is (st .cells) t x env 1 k)) (meets-end z (rep-num e) y);
   }
 
   leaf-variable : (h t x : ℕ) → t < 65536 → wordKind x ≡ 2 → Does h (leaf t x) (λ a E o. found t (lookup E (wordFirst x)) o)
@@ -100,16 +102,17 @@ module _ (z : Fixed) (X : Control) (enforce : Bool) (R : X .State → (acc depth
         (meets-end z (rep-fun (f .word) (subst (λ i. Body z i b) (sym (f .body-is)) g) (subst (λ i. EnvAt z st i E) (sym (f .env-is)) v)) y);
   }
 
-  module _ (g : ℕ) (f : Applier) (F : Application X) (hf : (h : ℕ) → SimApply z X R (g + h) f F) where
+  module _ (g : ℕ) (f : Applier) (F : Application (z .interpretation) X) (hf : (h : ℕ) → SimApply z X R (g + h) f F) where
     -- with room for a term's own height, and g for the calls in it
-    lift : (h k : ℕ) {p : Runs} {P : Evaluation X} → h ≤ k → Does (g + h) p P → Does (g + k) p P
+    lift : (h k : ℕ) {p : Runs} {P : Evaluation (z .interpretation) X} → h ≤ k → Does (g + h) p P → Does (g + k) p P
     lift h k {p} {P} l s = sim-less z X enforce R ctl (g + h) (g + k) p P (omega arith) s
 
     pub sim : {t : ℕ} {x : Term} → Stands z t x → (n : ℕ) → t < n → t < 65536 → height x ≤ 32
-        → Does (g + height x) (under f n t) (evalWith X (traced enforce) F x)
+        → Does (g + height x) (under f n t) (evalWith (z .interpretation) X (traced enforce) F x)
     unfolding evalWith shapeOf
     sim (on-boolean {t = t} {b = b} k e) n l i s = at-step (g + 1) f _ n t 0 _ l k refl (leaf-boolean (g + 1) t (wordAt z t) b k e)
-    sim (on-number {t = t} k) n l i s = at-step (g + 1) f _ n t 1 _ l k refl (leaf-number (g + 1) t (wordAt z t) k)
+    sim (on-number {t = t} {n = m} k e) n l i s =
+        at-step (g + 1) f _ n t 1 _ l k refl (leaf-number (g + 1) t (wordAt z t) (z .interpretation .literal t m) k e)
     sim (on-variable {t = t} k) n l i s = at-step (g + 1) f _ n t 2 _ l k refl (leaf-variable (g + 1) t (wordAt z t) i k)
     sim (on-function {t = t} {ty = ty} {a = a} k p ha) n l i s =
         let h = g + (1 + height a) in
@@ -165,27 +168,30 @@ module _ (z : Fixed) (X : Control) (enforce : Bool) (R : X .State → (acc depth
   bodies k = under (applyAt (z .terms) k) 65536
 
   module _ (t : ℕ) (i : t < 65536) (u d : ℕ) (st : State) (o : Budget) (y : Balances z st o) where
-    open-meets : {x : Value} → RepAt z st u x → Meets z d st (applied t st (doneOf (stopWord 19 t) st) (sortFor x)) (tooDeep t x o)
-    open-meets (rep-bool k e) = meets-stop z (Stuck t) i y
-    open-meets (rep-num k e) = meets-stop z (Stuck t) i y
+    open-meets : {x : Value z} → RepAt z st u x → Meets z d st (applied t st (doneOf (stopWord 19 t) st) (sortFor x)) (tooDeep t x o)
+    open-meets (rep-bool e) = meets-stop z (Stuck t) i y
+    open-meets (rep-num e) = meets-stop z (Stuck t) i y
     open-meets (rep-fun k b e) = meets-stop z (OpenCalls t) i y
     open-meets (rep-rec k b p q v e) = meets-stop z (OpenCalls t) i y
 
-    module _ (k h : ℕ) (hk : (b : ℕ) (x : Term) → b < 65536 → Body z b x → Does h (bodies k b) (evalWith X (traced enforce) (apply X (traced enforce) k) x))
-        (w : ℕ) (v : Value) (acc : ℕ) (a : X .State) (l : d + h ≤ 3248) (r : R a acc d (st .frames)) (rx : RepAt z st w v) where
-      enter-meets : {x : Value} → RepAt z st u x
-          → Meets z d st (applied t st (begin (bodies k) t u w acc st) (sortFor x)) (apply X (traced enforce) (suc k) t x v a o)
+    abbrev bodyOf : (k : ℕ) → Term → Evaluation (z .interpretation) X
+    bodyOf k x = evalWith (z .interpretation) X (traced enforce) (apply (z .interpretation) X (traced enforce) k) x
+
+    module _ (k h : ℕ) (hk : (b : ℕ) (x : Term) → b < 65536 → Body z b x → Does h (bodies k b) (bodyOf k x))
+        (w : ℕ) (v : Value z) (acc : ℕ) (a : X .State) (l : d + h ≤ 3248) (r : R a acc d (st .frames)) (rx : RepAt z st w v) where
+      enter-meets : {x : Value z} → RepAt z st u x
+          → Meets z d st (applied t st (begin (bodies k) t u w acc st) (sortFor x)) (apply (z .interpretation) X (traced enforce) (suc k) t x v a o)
       unfolding apply
-      enter-meets (rep-bool j e) = meets-stop z (Stuck t) i y
-      enter-meets (rep-num j e) = meets-stop z (Stuck t) i y
+      enter-meets (rep-bool e) = meets-stop z (Stuck t) i y
+      enter-meets (rep-num e) = meets-stop z (Stuck t) i y
       enter-meets (rep-fun {ty = ty} {c = x} {E = E} j b e) =
-          begin-meets z X enforce R ctl (bodies k) t u w acc st i h ty false x E v (evalWith X (traced enforce) (apply X (traced enforce) k) x)
+          begin-meets z X enforce R ctl (bodies k) t u w acc st i h ty false x E v (bodyOf k x)
           (hk (payloadOf u) x (omega arith) b) d a l r (rep-fun j b e) rx y
       enter-meets (rep-rec {ty = ty} {c = x} {E = E} j b p q g e) =
-          begin-meets z X enforce R ctl (bodies k) t u w acc st i h ty true x E v (evalWith X (traced enforce) (apply X (traced enforce) k) x)
+          begin-meets z X enforce R ctl (bodies k) t u w acc st i h ty true x E v (bodyOf k x)
           (hk (payloadOf u) x (omega arith) b) d a l r (rep-rec j b p q g e) rx y
 
-  apply-does : (k h : ℕ) → SimApply z X R (32 * k + h) (applyAt (z .terms) k) (apply X (traced enforce) k)
+  apply-does : (k h : ℕ) → SimApply z X R (32 * k + h) (applyAt (z .terms) k) (apply (z .interpretation) X (traced enforce) k)
   unfolding applyAt apply
   apply-does zero h = record {
     go = λ t i u x w y acc d a st o l r ru rx b.
@@ -193,17 +199,18 @@ module _ (z : Fixed) (X : Control) (enforce : Bool) (R : X .State → (acc depth
   }
   apply-does (suc k) h = record {
     go = λ t i u x w y acc d a st o l r ru rx b.
-        subst (λ s. Meets z d st (applied t st (begin (bodies k) t u w acc st) s) (apply X (traced enforce) (suc k) t x y a o)) (sym (rep-word z ru .sort-is))
+        subst (λ s. Meets z d st (applied t st (begin (bodies k) t u w acc st) s) (apply (z .interpretation) X (traced enforce) (suc k) t x y a o))
+        (sym (rep-word z ru .sort-is))
         (enter-meets t i u d st o b k (32 * k + 32)
         (λ c e j q. sim-less z X enforce R ctl (32 * k + height e) (32 * k + 32) _ _ (omega (arith, q .shallow))
-        (sim (32 * k) (applyAt (z .terms) k) (apply X (traced enforce) k) (apply-does k) (q .stands) 65536 j j (q .shallow)))
+        (sim (32 * k) (applyAt (z .terms) k) (apply (z .interpretation) X (traced enforce) k) (apply-does k) (q .stands) 65536 j j (q .shallow)))
         w y acc a (omega arith) r rx ru);
   }
 
   -- a term, with k open calls left: each call and the term itself signs at most 32 times
   pub eval-does : (k : ℕ) {t : ℕ} {x : Term} → Stands z t x → t < 65536 → height x ≤ 32
-      → Does (32 * k + 32) (evalAt (z .terms) k t) (eval X (traced enforce) k x)
+      → Does (32 * k + 32) (evalAt (z .terms) k t) (eval (z .interpretation) X (traced enforce) k x)
   unfolding evalAt eval
   eval-does k {t} {x} h i s =
       sim-less z X enforce R ctl (32 * k + height x) (32 * k + 32) _ _ (omega arith)
-      (sim (32 * k) (applyAt (z .terms) k) (apply X (traced enforce) k) (apply-does k) h 65536 i i s)
+      (sim (32 * k) (applyAt (z .terms) k) (apply (z .interpretation) X (traced enforce) k) (apply-does k) h 65536 i i s)

@@ -14,21 +14,22 @@ use Rattle.program.specs.Limits.{noGuard}
 use Rattle.program.specs.Layout.{guardIn}
 use Rattle.program.specs.Terms.{Op, sum, difference, less, Term}
 use Rattle.traces.specs.Traces.{Event, eventBytes, recorded}
-use Rattle.semantics.specs.Values.{Value, num, closure, Env, bind, lookup, entered, Log, logPost, logSaturated, logDecision, Budget, budget, Result, ends, stops}
-use Rattle.semantics.specs.Meaning.{Control, Evaluation, Application, _then_, choose, found, branch, operate, saturates, countSaturated, compute, postEntry, appendPost, note, postValue, takeCell, beginCall, passes, guardPasses, eventIf}
+use Rattle.semantics.specs.Values.{num, closure, bind, lookup, entered, Log, logPost, logSaturated, logDecision, Budget, budget, ends, stops}
+use Rattle.semantics.specs.Meaning.{Control, Evaluation, Application, _then_, choose, found, decided, branch, operate, countSaturated, compute, appendPost, note, postValue, takeCell, beginCall, passes, guardPasses, eventIf}
 use Rattle.semantics.specs.Recording.{withEntries}
 use Rattle.stores.specs.declared.state.Stop.{Stop}
-use Rattle.stores.specs.declared.state.Stop.the-variants.{Check, Stuck, Calls, Cells, Posts}
-use Rattle.stores.specs.Words.{pick, numberWord, functionWord, stopWord, sortOf, payloadOf, envOf}
+use Rattle.stores.specs.declared.state.Stop.the-variants.{Check, Stuck, Calls, Cells, Posts, Undecided}
+use Rattle.stores.specs.Words.{pick, functionWord, stopWord, sortOf, payloadOf, envOf}
 use Rattle.stores.specs.Cells.{behindOf, walkOf, heldOf, lookOf, cellSet}
 use Rattle.stores.specs.Access.{enforced, grantedOf, allowedOf, signAccess, signFrames, enableAccess, enableFrames, enabledNow, restoreFrames}
 use Rattle.machine.specs.Table.{wordSmall, wordGuard}
-use Rattle.machine.specs.Steps.{callsLeft, cellsMade, postsMade, modeOf, saturatedMade, entriesMade, resultOf, operateOf, saturatesOf, operateSaturates, wrapped, countSaturated as countIn, operateCounters, decisionOf, overwrite, noteCounters, noteBytes, guardPassed, numberDecides, causeOf, postCause, postWord, postCounters, postList}
+use Rattle.machine.specs.Steps.{callsLeft, cellsMade, postsMade, modeOf, saturatedMade, entriesMade, numbersResult, operateOf, operateSaturates, wrapped, countSaturated as countIn, operateCounters, decisionOf, overwrite, noteCounters, noteBytes, guardPassed, numberDecides, causeOf, listedAs, postCause, postWord, postCounters, postList}
 use Rattle.machine.specs.Store.{Store as State, Done, storeOf, doneOf, withFrames, withEntry, andThen, Runs, Applier, hasRoom, ownCell, bound, called, letrecS, callS, branchS, ifS, checkS, testS, signS, restored, enableS, operateDone, binaryS, postDone, postS, begin}
 use Rattle.stores.specs.Stops.{stopCause, stopPlace}
 use Rattle.refinement.specs.Laws.Records.{recordOf, length-record, entry-more, entry-made, full}
 use Rattle.refinement.specs.Laws.Cells.{agree-cell, cell-holds, cell-behind, length-cell}
-use Rattle.refinement.specs.Laws.Relation.{Fixed, length-written, countersOf, Balance, Balances, balance, Kept, kept-refl, Later, later-refl, sortFor, Function, function-word, kindNumber, Body, Rep, rep-bool, rep-num, rep-fun, rep-rec, RepEnv, RepAt, EnvAt, env-none, env-some, boolean-rep, number-rep, rep-word, rep-low, rep-later, env-later, Meets, valued, halted, meets-later, meets-then}
+use Rattle.refinement.specs.Laws.Codings.{kindNumber, numbersSaturate}
+use Rattle.refinement.specs.Laws.Relation.{Fixed, Value, Env, Result, length-written, countersOf, Balance, Balances, balance, Kept, kept-refl, Later, later-refl, sortFor, Function, function-word, Body, Rep, rep-bool, rep-num, rep-fun, rep-rec, RepEnv, RepAt, EnvAt, env-none, env-some, rep-word, rep-low, rep-later, env-later, Meets, valued, halted, meets-later, meets-then}
 
 -- ---- reading a variable
 walk-zero : (cells : List ℕ) (i : ℕ) → walkOf cells 0 i ≡ 0
@@ -56,22 +57,22 @@ later-cell : (depth : ℕ) (st : State) (n : List ℕ) (w e : ℕ) → cellsMade
 later-cell depth st n w e h = record { more = omega arith; old = agree-cell (st .cells) (cellsMade (st .n)) w e; frames = kept-refl depth (st .frames) }
 
 module _ (z : Fixed) where
-  pub data Finds (cells : List ℕ) (m t : ℕ) : ℕ → Option Value → Type 0 where
-    finds-some : {w : ℕ} {x : Value} → Rep z cells m w x → Finds cells m t w (some x)
+  pub data Finds (cells : List ℕ) (m t : ℕ) : ℕ → Option (Value z) → Type 0 where
+    finds-some : {w : ℕ} {x : Value z} → Rep z cells m w x → Finds cells m t w (some x)
     finds-none : Finds cells m t (stopWord 18 t) none
 
-  pub look-finds : (cells : List ℕ) (m t : ℕ) {e : ℕ} {E : Env} → RepEnv z cells m e E → (i : ℕ) → Finds cells m t (lookOf cells t e i) (lookup E i)
+  pub look-finds : (cells : List ℕ) (m t : ℕ) {e : ℕ} {E : Env z} → RepEnv z cells m e E → (i : ℕ) → Finds cells m t (lookOf cells t e i) (lookup E i)
   look-finds cells m t env-none i = subst (λ f. Finds cells m t f none) (sym (look-zero cells t i)) finds-none
   look-finds cells m t (env-some {e = e} {x = x} p q v h) zero = subst (λ f. Finds cells m t f (some x)) (sym (look-first cells t e p)) (finds-some v)
   look-finds cells m t (env-some {e = e} {E = E} p q v h) (suc i) =
       subst (λ f. Finds cells m t f (lookup E i)) (look-next cells t e i) (look-finds cells m t h i)
 
   -- the environment of a new cell
-  module _ (l : List ℕ) (m e : ℕ) (E : Env) (fits : m * 8 + 7 < length l) (h : RepEnv z l m e E) (w : ℕ) where
+  module _ (l : List ℕ) (m e : ℕ) (E : Env z) (fits : m * 8 + 7 < length l) (h : RepEnv z l m e E) (w : ℕ) where
     behind : RepEnv z (cellSet l m w e) (m + 1) (behindOf (cellSet l m w e) (m + 1)) E
     behind = subst (λ i. RepEnv z (cellSet l m w e) (m + 1) i E) (sym (cell-behind l m w e fits)) (env-later z (omega arith) (agree-cell l m w e) h)
 
-    fresh : (x : Value) → Rep z (cellSet l m w e) (m + 1) w x → RepEnv z (cellSet l m w e) (m + 1) (m + 1) (bind x E)
+    fresh : (x : Value z) → Rep z (cellSet l m w e) (m + 1) w x → RepEnv z (cellSet l m w e) (m + 1) (m + 1) (bind x E)
     fresh x r =
         env-some {e = m + 1} (omega arith) (omega arith)
         (subst (λ v. Rep z (cellSet l m w e) (m + 1) v x) (sym (cell-holds l m w e fits (omega (arith, rep-low z r)) (rep-word z r .small))) r) behind
@@ -85,7 +86,7 @@ module _ (z : Fixed) where
         (subst (λ i. RepEnv z (cellSet l m w e) (m + 1) (behindOf (cellSet l m w e) i) E) (sym (f .env-is)) behind))
 
   -- the environment of a body, when its argument is bound
-  entered-env : (l : List ℕ) (m : ℕ) → m * 8 + 7 < length l → (f ty : ℕ) (ag : Bool) (c : Term) (E : Env) (w : ℕ) (y : Value)
+  entered-env : (l : List ℕ) (m : ℕ) → m * 8 + 7 < length l → (f ty : ℕ) (ag : Bool) (c : Term) (E : Env z) (w : ℕ) (y : Value z)
       → Rep z l m f (closure ag ty c E) → Rep z l m w y → RepEnv z (cellSet l m w (envOf f)) (m + 1) (m + 1) (entered ag ty c E y)
   entered-env l m fits f ty false c E w y (rep-fun k b h) r = fresh l m (envOf f) E fits h w y (rep-later z (omega arith) (agree-cell l m w (envOf f)) r)
   entered-env l m fits f ty true c E w y (rep-rec k b p q v h) r =
@@ -155,16 +156,16 @@ module _ (z : Fixed) where
       → Meets z depth st (doneOf (stopWord (stopCause x) (stopPlace x)) st) (stops (stopCause x) (stopPlace x) o)
   meets-stop {depth} {st} x i h = halted x i h (later-refl depth st)
 
-  pub meets-end : {depth : ℕ} {st : State} {o : Budget} {w : ℕ} {x : Value} → RepAt z st w x → Balances z st o → Meets z depth st (doneOf w st) (ends x o)
+  pub meets-end : {depth : ℕ} {st : State} {o : Budget} {w : ℕ} {x : Value z} → RepAt z st w x → Balances z st o → Meets z depth st (doneOf w st) (ends x o)
   meets-end {depth} {st} r h = valued r h (later-refl depth st)
 
-  pub meets-found : {depth : ℕ} {st : State} {o : Budget} {w : ℕ} {x : Option Value} (t : ℕ) → t < 65536 → Finds (st .cells) (cellsMade (st .n)) t w x
+  pub meets-found : {depth : ℕ} {st : State} {o : Budget} {w : ℕ} {x : Option (Value z)} (t : ℕ) → t < 65536 → Finds (st .cells) (cellsMade (st .n)) t w x
       → Balances z st o → Meets z depth st (doneOf w st) (found t x o)
   meets-found t i (finds-some r) h = meets-end r h
   meets-found t i finds-none h = meets-stop (Stuck t) i h
 
   -- a test, both ways
-  meets-pick : {depth : ℕ} {st : State} {o : Budget} (b c : Bool) → b ≡ c → (p q : Done) (P Q : Budget → Result) → Meets z depth st p (P o)
+  meets-pick : {depth : ℕ} {st : State} {o : Budget} (b c : Bool) → b ≡ c → (p q : Done) (P Q : Budget → Result z) → Meets z depth st p (P o)
       → Meets z depth st q (Q o) → Meets z depth st (pick b p q) (choose c P Q o)
   meets-pick {depth} {st} {o} b c e p q P Q hp hq = subst (λ x. Meets z depth st (pick x p q) (choose c P Q o)) (sym e) (go c)
     where
@@ -173,19 +174,11 @@ module _ (z : Fixed) where
       go false = hq
 
   -- an operation on two numbers
-  results : (op : Op) (l : List ℕ) (m a b : ℕ) → a < 65536 → b < 65536 → Rep z l m (resultOf (kindNumber op) a b) (operate op a b)
-  unfolding resultOf
-  results sum l m a b p q =
-      subst (λ k. Rep z l m (numberWord (min (a + b) 65535)) (num k)) {x = min (a + b) 65535} {y = min 65535 (a + b)} (omega arith)
-      (number-rep z (min (a + b) 65535) (omega arith))
-  results difference l m a b p q = number-rep z (a - b) (omega arith)
-  results less l m a b p q = boolean-rep z (ltb a b)
-
-  saturates-is : (op : Op) (a b : ℕ) → saturatesOf (kindNumber op) a b ≡ saturates op a b
-  unfolding saturatesOf
-  saturates-is sum a b = refl
-  saturates-is difference a b = refl
-  saturates-is less a b = refl
+  results : (op : Op) (l : List ℕ) (k : ℕ) {v w : ℕ} {m n : z .interpretation .domain .Number} → z .coding .Number v m → z .coding .Number w n
+      → Rep z l k (numbersResult (z .mode) (kindNumber op) v w) (operate op m n)
+  results sum l k p q = rep-num (z .coding .sum-coded p q)
+  results difference l k p q = rep-num (z .coding .difference-coded p q)
+  results less l k p q = rep-bool (z .coding .less-coded p q)
 
   -- and its result counted, where it is saturated
   abbrev counted : Bool → State → State
@@ -204,7 +197,7 @@ module _ (z : Fixed) where
         trace-is = h .trace-is;
       }
 
-  meets-counted : {depth : ℕ} {st : State} {o : Budget} {w : ℕ} {x : Value} (over : Bool) → RepAt z st w x → Balances z st o
+  meets-counted : {depth : ℕ} {st : State} {o : Budget} {w : ℕ} {x : Value z} (over : Bool) → RepAt z st w x → Balances z st o
       → Meets z depth st (doneOf w (counted over st)) (ends x (countSaturated over o))
   meets-counted false r (balance h) = meets-end r (balance h)
   meets-counted {depth} {st} {w = w} {x = x} true r (balance h) =
@@ -213,50 +206,48 @@ module _ (z : Fixed) where
       record { more = omega arith; old = record { long = refl; same = λ j g. refl }; frames = kept-refl depth (st .frames) }
 
   module _ {depth : ℕ} {st : State} {o : Budget} (t : ℕ) (i : t < 65536) (h : Balances z st o) where
-    meets-branch : {w : ℕ} {x : Value} (p q : Done) (P Q : Budget → Result) → RepAt z st w x
+    meets-branch : {w : ℕ} {x : Value z} (p q : Done) (P Q : Budget → Result z) → RepAt z st w x
         → Meets z depth st p (P o) → Meets z depth st q (Q o) → Meets z depth st (branchS t w p q st) (branch t x P Q o)
     unfolding branchS
     meets-branch {w} {x} p q P Q r hp hq =
-        subst (λ k. Meets z depth st (pick (eqb k 0) (pick (ltb 0 (payloadOf w)) p q) (doneOf (stopWord 18 t) st)) (branch t x P Q o))
-        (sym (rep-word z r .sort-is)) (go r)
+        subst (λ k. Meets z depth st (by (eqb k 0) (eqb (payloadOf w) 2) (ltb 0 (payloadOf w))) (branch t x P Q o)) (sym (rep-word z r .sort-is)) (go r)
       where
-        go : {x : Value} → RepAt z st w x
-            → Meets z depth st (pick (eqb (sortFor x) 0) (pick (ltb 0 (payloadOf w)) p q) (doneOf (stopWord 18 t) st)) (branch t x P Q o)
-        go (rep-bool {b = b} k e) = meets-pick (ltb 0 (payloadOf w)) b e p q P Q hp hq
-        go (rep-num k e) = meets-stop (Stuck t) i h
+        by : (boolean undecided yes : Bool) → Done
+        by a u b = pick a (pick u (doneOf (stopWord 36 t) st) (pick b p q)) (doneOf (stopWord 18 t) st)
+
+        goes-on : (u b : Bool) → Meets z depth st (by true u b) (decided t (pick u none (some b)) P Q o)
+        goes-on true b = meets-stop (Undecided t) i h
+        goes-on false b = meets-pick b b refl p q P Q hp hq
+
+        go : {x : Value z} → RepAt z st w x → Meets z depth st (by (eqb (sortFor x) 0) (eqb (payloadOf w) 2) (ltb 0 (payloadOf w))) (branch t x P Q o)
+        go (rep-bool e) =
+            subst (λ d. Meets z depth st (by true (eqb (payloadOf w) 2) (ltb 0 (payloadOf w))) (decided t d P Q o)) (z .coding .decide-coded e)
+            (goes-on (eqb (payloadOf w) 2) (ltb 0 (payloadOf w)))
+        go (rep-num e) = meets-stop (Stuck t) i h
         go (rep-fun k b e) = meets-stop (Stuck t) i h
         go (rep-rec k b p q v e) = meets-stop (Stuck t) i h
 
-    meets-compute : {v w : ℕ} {x y : Value} (op : Op) → RepAt z st v x → RepAt z st w y
+    meets-compute : {v w : ℕ} {x y : Value z} (op : Op) → RepAt z st v x → RepAt z st w y
         → Meets z depth st (operateDone (kindNumber op) t v w st) (compute t op x y o)
     unfolding operateDone operateOf operateSaturates operateCounters
     meets-compute {v} {w} {x} {y} op r u =
-        subst (λ k. Meets z depth st (by k (sortOf w)) (compute t op x y o)) (sym (rep-word z r .sort-is))
-        (subst (λ k. Meets z depth st (by (sortFor x) k) (compute t op x y o)) (sym (rep-word z u .sort-is)) (go r u))
+        subst (λ n. Meets z depth st (by n (sortOf v) (sortOf w)) (compute t op x y o)) (sym (mode-is h))
+        (subst (λ k. Meets z depth st (by (z .mode) k (sortOf w)) (compute t op x y o)) (sym (rep-word z r .sort-is))
+        (subst (λ k. Meets z depth st (by (z .mode) (sortFor x) k) (compute t op x y o)) (sym (rep-word z u .sort-is)) (go r u)))
       where
-        m : ℕ
-        m = payloadOf v
+        by : (mode j k : ℕ) → Done
+        by n j k = doneOf (pick (eqb j 1) (pick (eqb k 1) (numbersResult n (kindNumber op) v w) (stopWord 18 t)) (stopWord 18 t))
+            (counted (pick (eqb j 1) (pick (eqb k 1) (numbersSaturate n (kindNumber op) v w) false) false) st)
 
-        n : ℕ
-        n = payloadOf w
-
-        by : (j k : ℕ) → Done
-        by j k = doneOf (pick (eqb j 1) (pick (eqb k 1) (resultOf (kindNumber op) m n) (stopWord 18 t)) (stopWord 18 t))
-            (counted (pick (eqb j 1) (pick (eqb k 1) (saturatesOf (kindNumber op) m n) false) false) st)
-
-        result : Meets z depth st (doneOf (resultOf (kindNumber op) m n) (counted (saturatesOf (kindNumber op) m n) st)) (compute t op (num m) (num n) o)
-        result =
-            subst (λ b. Meets z depth st (doneOf (resultOf (kindNumber op) m n) (counted b st)) (compute t op (num m) (num n) o)) (sym (saturates-is op m n))
-            (meets-counted (saturates op m n) (results op (st .cells) (cellsMade (st .n)) m n (omega arith) (omega arith)) h)
-
-        go : {x y : Value} → RepAt z st v x → RepAt z st w y → Meets z depth st (by (sortFor x) (sortFor y)) (compute t op x y o)
-        go (rep-bool k e) u = meets-stop (Stuck t) i h
-        go (rep-num k e) (rep-bool k′ e′) = meets-stop (Stuck t) i h
-        go (rep-num {n = a} k e) (rep-num {n = b} k′ e′) =
-            subst (λ j. Meets z depth st (by 1 1) (compute t op (num j) (num b) o)) e
-            (subst (λ j. Meets z depth st (by 1 1) (compute t op (num m) (num j) o)) e′ result)
-        go (rep-num k e) (rep-fun k′ b e′) = meets-stop (Stuck t) i h
-        go (rep-num k e) (rep-rec k′ b p q g e′) = meets-stop (Stuck t) i h
+        go : {x y : Value z} → RepAt z st v x → RepAt z st w y → Meets z depth st (by (z .mode) (sortFor x) (sortFor y)) (compute t op x y o)
+        go (rep-bool e) u = meets-stop (Stuck t) i h
+        go (rep-num e) (rep-bool e′) = meets-stop (Stuck t) i h
+        go (rep-num {n = a} e) (rep-num {n = b} e′) =
+            let x : Value z = operate op a b in
+            subst (λ c. Meets z depth st (by (z .mode) 1 1) (ends x (countSaturated c o))) (z .coding .saturates-coded op e e′)
+            (meets-counted (numbersSaturate (z .mode) (kindNumber op) v w) (results op (st .cells) (cellsMade (st .n)) e e′) h)
+        go (rep-num e) (rep-fun k′ b e′) = meets-stop (Stuck t) i h
+        go (rep-num e) (rep-rec k′ b p q g e′) = meets-stop (Stuck t) i h
         go (rep-fun k b e) u = meets-stop (Stuck t) i h
         go (rep-rec k b p q g e) u = meets-stop (Stuck t) i h
 
@@ -344,8 +335,7 @@ module _ (z : Fixed) where
   module _ (st : State) (t x w : ℕ) where
     abbrev posted : State
     posted =
-        storeOf (set (st .n) 2 (postsMade (st .n) + 1)) (st .cells) (set (st .posts) (postsMade (st .n)) (postEntry (wordSmall x) (payloadOf w))) (st .frames)
-        (st .noted)
+        storeOf (set (st .n) 2 (postsMade (st .n) + 1)) (st .cells) (set (st .posts) (postsMade (st .n)) (listedAs (z .mode) x w)) (st .frames) (st .noted)
 
     abbrev postBy : (cause : ℕ) → Done
     postBy c = doneOf (pick (eqb c 0) w (stopWord c t))
@@ -354,8 +344,11 @@ module _ (z : Fixed) where
     abbrev room : Bool
     room = ltb (postsMade (st .n)) (length (st .posts))
 
-    posted-tally : {c m d r y : ℕ} {log : Log} → payloadOf w ≡ y → Balance z st c m d (suc r) log
-        → Balance z posted c m d r (logPost (postEntry (wordSmall x) y) log)
+    abbrev listed : z .interpretation .domain .Number → ℕ
+    listed y = z .interpretation .domain .entry (wordSmall x) y
+
+    posted-tally : {c m d r : ℕ} {y : z .interpretation .domain .Number} {log : Log} → z .coding .Number w y → Balance z st c m d (suc r) log
+        → Balance z posted c m d r (logPost (listed y) log)
     posted-tally {log = log} e h =
         let one-more : postsMade (st .n) + 1 ≡ suc (length (log .posts)) = omega (arith, posts-are h) in
         record {
@@ -363,31 +356,31 @@ module _ (z : Fixed) where
           cells = h .cells;
           most = h .most;
           room = omega (arith, h .room);
-          list = λ i. set (h .list i) (posts-are h i) (postEntry (wordSmall x) (e i));
+          list = λ i. set (h .list i) (posts-are h i) (z .coding .entry-coded x e i);
           trace-is = h .trace-is;
         }
 
-    post-number : {depth c m d y : ℕ} {log : Log} (r : ℕ) → t < 65536 → RepAt z st w (num y) → payloadOf w ≡ y → Balance z st c m d r log
+    post-number : {depth c m d : ℕ} {y : z .interpretation .domain .Number} {log : Log} (r : ℕ) → t < 65536 → z .coding .Number w y → Balance z st c m d r log
         → Meets z depth st (postBy (causeOf true true room)) (appendPost t (wordSmall x) y (budget c d r log))
     unfolding causeOf
-    post-number {depth} {c} {m} {d} {y} {log} zero i u v h =
+    post-number {depth} {c} {m} {d} {y} {log} zero i v h =
         let e : length (st .posts) ≤ postsMade (st .n) = omega (arith, posts-are h, long-is h, h .room) in
         subst (λ b. Meets z depth st (postBy (causeOf true true b)) (stops 22 t (budget c d 0 log))) (sym (le-ltb (postsMade (st .n)) (length (st .posts)) e))
         (meets-stop (Posts t) i (balance h))
-    post-number {depth} {c} {m} {d} {y} {log} (suc r) i u v h =
+    post-number {depth} {c} {m} {d} {y} {log} (suc r) i v h =
         let e : postsMade (st .n) < length (st .posts) = omega (arith, posts-are h, long-is h, h .room) in
         let same : cellsMade (posted .n) ≡ cellsMade (st .n) = made-is (posted-tally v h) ∙ sym (made-is h) in
-        subst (λ b. Meets z depth st (postBy (causeOf true true b)) (ends (num y) (budget c d r (logPost (postEntry (wordSmall x) y) log))))
+        subst (λ b. Meets z depth st (postBy (causeOf true true b)) (ends (num y) (budget c d r (logPost (listed y) log))))
         (sym (lt-ltb (postsMade (st .n)) (length (st .posts)) e))
-        (valued {st = posted} (subst (λ k. Rep z (st .cells) k w (num y)) (sym same) u) (balance (posted-tally v h))
+        (valued {st = posted} (rep-num v) (balance (posted-tally v h))
         record { more = omega arith; old = record { long = refl; same = λ j g. refl }; frames = kept-refl depth (st .frames) })
 
     -- a number, whose guard passes or not
-    post-decided : (g : Bool) {depth y : ℕ} {o : Budget} → t < 65536 → RepAt z st w (num y) → payloadOf w ≡ y → Balances z st o
+    post-decided : (g : Bool) {depth : ℕ} {y : z .interpretation .domain .Number} {o : Budget} → t < 65536 → z .coding .Number w y → Balances z st o
         → Meets z depth st (postBy (causeOf true g room)) (choose g (λ o₁. appendPost t (wordSmall x) y o₁) (λ o₁. stops 17 t o₁) o)
     unfolding causeOf
-    post-decided true i u v (balance {r = r} h) = post-number r i u v h
-    post-decided false i u v h = meets-stop (Check t) i h
+    post-decided true i v (balance {r = r} h) = post-number r i v h
+    post-decided false i v h = meets-stop (Check t) i h
 
   -- the same from the state before the guard is noted, if the word is a number's
   module _ (st : State) (t x acc w : ℕ) where
@@ -403,35 +396,33 @@ module _ (z : Fixed) where
         go true = sym (getD-set-other (st .n) 5 2 (entriesMade (st .n) + 1) 0 (λ e. omega (arith, e)))
         go false = refl
 
-    post-is : (k : ℕ) (g : Bool) → sortOf w ≡ k → guardPassed (modeOf (st .n)) acc (st .frames) (wordGuard x) ≡ g
+    post-is : (k : ℕ) (g : Bool) → modeOf (st .n) ≡ z .mode → sortOf w ≡ k → guardPassed (modeOf (st .n)) acc (st .frames) (wordGuard x) ≡ g
         → postDone t x acc w st ≡ postBy (guardedBy k) t x w (causeOf (eqb k 1) g (room (guardedBy k) t x w))
     unfolding postDone postCause postWord postCounters postList
-    post-is k g e f =
-        (λ i. by (guardedBy (e i)) (postsMade (st .n)) (causeOf (eqb (e i) 1) (f i) (ltb (postsMade (st .n)) (length (st .posts)))))
-        ∙ (λ i. by (guardedBy k) (made i) (causeOf (eqb k 1) g (ltb (made i) (length (st .posts)))))
+    post-is k g j e f =
+        (λ i. by (guardedBy (e i)) (j i) (postsMade (st .n)) (causeOf (eqb (e i) 1) (f i) (ltb (postsMade (st .n)) (length (st .posts)))))
+        ∙ (λ i. by (guardedBy k) (z .mode) (made i) (causeOf (eqb k 1) g (ltb (made i) (length (st .posts)))))
       where
-        by : State → (made cause : ℕ) → Done
-        by u m c = doneOf (pick (eqb c 0) w (stopWord c t))
+        by : State → (mode made cause : ℕ) → Done
+        by u n m c = doneOf (pick (eqb c 0) w (stopWord c t))
             (storeOf (pick (eqb c 0) (set (u .n) 2 (postsMade (u .n) + 1)) (u .n)) (st .cells)
-            (pick (eqb c 0) (set (st .posts) m (postEntry (wordSmall x) (payloadOf w))) (st .posts)) (st .frames) (u .noted))
+            (pick (eqb c 0) (set (st .posts) m (listedAs n x w)) (st .posts)) (st .frames) (u .noted))
 
         made : postsMade (st .n) ≡ postsMade (guardedBy k .n)
         made = posts-kept (pick (eqb k 1) (numberDecides (modeOf (st .n)) x) false)
 
-    meets-post : (g : Bool) (n : Option Event) {depth : ℕ} {o : Budget} {y : Value} → guardPassed (modeOf (st .n)) acc (st .frames) (wordGuard x) ≡ g
+    meets-post : (g : Bool) (n : Option Event) {depth : ℕ} {o : Budget} {y : Value z} → guardPassed (modeOf (st .n)) acc (st .frames) (wordGuard x) ≡ g
         → Notes st (guardedBy 1) (note n o) → t < 65536
         → RepAt z st w y → Balances z st o → Meets z depth st (postDone t x acc w st) (postValue t (wordSmall x) g n y o)
     unfolding causeOf noteCounters noteBytes
     meets-post g n {depth} {o} {y} e k i r h =
-        subst (λ d. Meets z depth st d (postValue t (wordSmall x) g n y o)) (sym (post-is (sortFor y) g (rep-word z r .sort-is) e)) (go r)
+        subst (λ d. Meets z depth st d (postValue t (wordSmall x) g n y o)) (sym (post-is (sortFor y) g (mode-is h) (rep-word z r .sort-is) e)) (go r)
       where
-        go : {y : Value} → RepAt z st w y
+        go : {y : Value z} → RepAt z st w y
             → Meets z depth st (postBy (guardedBy (sortFor y)) t x w (causeOf (eqb (sortFor y) 1) g (room (guardedBy (sortFor y)) t x w)))
             (postValue t (wordSmall x) g n y o)
-        go (rep-bool j v) = meets-stop (Stuck t) i h
-        go (rep-num j v) =
-            let l = k .later depth in
-            meets-later z l (post-decided (guardedBy 1) t x w g i (rep-later z (l .more) (l .old) (rep-num j v)) v (k .balances))
+        go (rep-bool v) = meets-stop (Stuck t) i h
+        go (rep-num v) = meets-later z (k .later depth) (post-decided (guardedBy 1) t x w g i v (k .balances))
         go (rep-fun j b v) = meets-stop (Stuck t) i h
         go (rep-rec j b p q u v) = meets-stop (Stuck t) i h
 
@@ -450,12 +441,12 @@ pub record Models (z : Fixed) (X : Control) (enforce : Bool) (R : X .State → (
 
 module _ (z : Fixed) (X : Control) (R : X .State → (acc depth : ℕ) → List ℕ → Type 0) where
   -- a run that does as the meaning's, where h more frames have room
-  pub record Sim (h : ℕ) (p : Runs) (P : Evaluation X) : Type 0 where
-    pub go : (env : ℕ) (E : Env) (acc d : ℕ) (a : X .State) (st : State) (o : Budget) → d + h ≤ 3248 → R a acc d (st .frames)
+  pub record Sim (h : ℕ) (p : Runs) (P : Evaluation (z .interpretation) X) : Type 0 where
+    pub go : (env : ℕ) (E : Env z) (acc d : ℕ) (a : X .State) (st : State) (o : Budget) → d + h ≤ 3248 → R a acc d (st .frames)
         → EnvAt z st env E → Balances z st o → Meets z d st (p env acc st) (P a E o)
 
-  pub record SimApply (h : ℕ) (f : Applier) (F : Application X) : Type 0 where
-    pub go : (t : ℕ) → t < 65536 → (v : ℕ) (x : Value) (w : ℕ) (y : Value) (acc d : ℕ) (a : X .State) (st : State) (o : Budget)
+  pub record SimApply (h : ℕ) (f : Applier) (F : Application (z .interpretation) X) : Type 0 where
+    pub go : (t : ℕ) → t < 65536 → (v : ℕ) (x : Value z) (w : ℕ) (y : Value z) (acc d : ℕ) (a : X .State) (st : State) (o : Budget)
         → d + h ≤ 3248 → R a acc d (st .frames) → RepAt z st v x → RepAt z st w y → Balances z st o → Meets z d st (f t v w acc st) (F t x y a o)
 
 allows : (f b g c : Bool) → b ≡ f → g ≡ c → pick b g true ≡ passes f c
@@ -463,23 +454,24 @@ allows true b g c p q = (λ i. pick (p i) g true) ∙ q
 allows false b g c p q = λ i. pick (p i) g true
 
 module _ (z : Fixed) (X : Control) (enforce : Bool) (R : X .State → (acc depth : ℕ) → List ℕ → Type 0) (ctl : Models z X enforce R) where
-  abbrev Does : ℕ → Runs → Evaluation X → Type 0
+  abbrev Does : ℕ → Runs → Evaluation (z .interpretation) X → Type 0
   Does h p P = Sim z X R h p P
 
-  pub sim-less : (h g : ℕ) (p : Runs) (P : Evaluation X) → h ≤ g → Does h p P → Does g p P
+  pub sim-less : (h g : ℕ) (p : Runs) (P : Evaluation (z .interpretation) X) → h ≤ g → Does h p P → Does g p P
   sim-less h g p P l s = record { go = λ env E acc d a st o w. s .go env E acc d a st o (omega arith) }
 
-  pub sim-same : (h : ℕ) (p q : Runs) (P : Evaluation X) → ((env acc : ℕ) (st : State) → q env acc st ≡ p env acc st) → Does h p P → Does h q P
+  pub sim-same : (h : ℕ) (p q : Runs) (P : Evaluation (z .interpretation) X) → ((env acc : ℕ) (st : State) → q env acc st ≡ p env acc st)
+      → Does h p P → Does h q P
   sim-same h p q P e s = record {
     go = λ env E acc d a st o w r v t. subst (λ y. Meets z d st y (P a E o)) (sym (e env acc st)) (s .go env E acc d a st o w r v t);
   }
 
   -- one run, then another on what it left
-  sim-both : (h : ℕ) (p q : Runs) (P Q : Evaluation X) (k : (v w acc : ℕ) → State → Done) (K : (x y : Value) → X .State → Budget → Result)
-      → Does h p P → Does h q Q
-      → ((v : ℕ) (x : Value) (w : ℕ) (y : Value) (acc d : ℕ) (a : X .State) (st : State) (o : Budget) → d + h ≤ 3248 → R a acc d (st .frames)
+  sim-both : (h : ℕ) (p q : Runs) (P Q : Evaluation (z .interpretation) X) (k : (v w acc : ℕ) → State → Done)
+      (K : (x y : Value z) → X .State → Budget → Result z) → Does h p P → Does h q Q
+      → ((v : ℕ) (x : Value z) (w : ℕ) (y : Value z) (acc d : ℕ) (a : X .State) (st : State) (o : Budget) → d + h ≤ 3248 → R a acc d (st .frames)
       → RepAt z st v x → RepAt z st w y → Balances z st o → Meets z d st (k v w acc st) (K x y a o))
-      → (env : ℕ) (E : Env) (acc d : ℕ) (a : X .State) (st : State) (o : Budget) → d + h ≤ 3248 → R a acc d (st .frames)
+      → (env : ℕ) (E : Env z) (acc d : ℕ) (a : X .State) (st : State) (o : Budget) → d + h ≤ 3248 → R a acc d (st .frames)
       → EnvAt z st env E → Balances z st o
       → Meets z d st (andThen (p env acc st) (λ v st₁. andThen (q env acc st₁) (λ w st₂. k v w acc st₂)))
       (P a E o then λ x o₁. Q a E o₁ then λ y o₂. K x y a o₂)
@@ -490,12 +482,12 @@ module _ (z : Fixed) (X : Control) (enforce : Bool) (R : X .State → (acc depth
       meets-then z _ _ (hq .go env E acc d a st₁ o₁ w r₁ (env-later z (l₁ .more) (l₁ .old) e) t₁)
       (λ u x₂ st₂ o₂ ru t₂ l₂. hk v x u x₂ acc d a st₂ o₂ w (ctl .keeps a acc d _ _ r₁ (l₂ .frames)) (rep-later z (l₂ .more) (l₂ .old) rv) ru t₂))
 
-  pub sim-call : (h t : ℕ) → t < 65536 → (p q : Runs) (P Q : Evaluation X) (f : Applier) (F : Application X) → Does h p P → Does h q Q → SimApply z X R h f F
-      → Does h (callS p q f t) (λ a E o. P a E o then λ v o₁. Q a E o₁ then λ w o₂. F t v w a o₂)
+  pub sim-call : (h t : ℕ) → t < 65536 → (p q : Runs) (P Q : Evaluation (z .interpretation) X) (f : Applier) (F : Application (z .interpretation) X)
+      → Does h p P → Does h q Q → SimApply z X R h f F → Does h (callS p q f t) (λ a E o. P a E o then λ v o₁. Q a E o₁ then λ w o₂. F t v w a o₂)
   unfolding callS
   sim-call h t i p q P Q f F hp hq hf = record { go = sim-both h p q P Q (f t) (λ x y a o. F t x y a o) hp hq (hf .go t i) }
 
-  pub sim-binary : (h t : ℕ) → t < 65536 → (op : Op) (p q : Runs) (P Q : Evaluation X) → Does h p P → Does h q Q
+  pub sim-binary : (h t : ℕ) → t < 65536 → (op : Op) (p q : Runs) (P Q : Evaluation (z .interpretation) X) → Does h p P → Does h q Q
       → Does h (binaryS p q (kindNumber op) t) (λ a E o. P a E o then λ v o₁. Q a E o₁ then λ w o₂. compute t op v w o₂)
   unfolding binaryS
   sim-binary h t i op p q P Q hp hq = record {
@@ -503,7 +495,7 @@ module _ (z : Fixed) (X : Control) (enforce : Bool) (R : X .State → (acc depth
         (λ v x w y acc d a st o l r rv rw′ b. meets-compute z t i b op rv rw′);
   }
 
-  pub sim-if : (h t : ℕ) → t < 65536 → (p q u : Runs) (P Q U : Evaluation X) → Does h p P → Does h q Q → Does h u U
+  pub sim-if : (h t : ℕ) → t < 65536 → (p q u : Runs) (P Q U : Evaluation (z .interpretation) X) → Does h p P → Does h q Q → Does h u U
       → Does h (ifS p q u t) (λ a E o. P a E o then λ v o₁. branch t v (λ o₂. Q a E o₂) (λ o₂. U a E o₂) o₁)
   unfolding ifS
   sim-if h t i p q u P Q U hp hq hu = record {
@@ -520,13 +512,13 @@ module _ (z : Fixed) (X : Control) (enforce : Bool) (R : X .State → (acc depth
   granted-is {a} {acc} {d} {st} p r l y = (λ i. grantedOf (mode-is z y i) acc (st .frames) p) ∙ ctl .grants a acc d (st .frames) p r l
 
   -- a run from where a decision is noted
-  noted-go : (h : ℕ) (q : Runs) (Q : Evaluation X) → Does h q Q → {env acc d : ℕ} {E : Env} {a : X .State} {st st₁ : State} {o : Budget}
+  noted-go : (h : ℕ) (q : Runs) (Q : Evaluation (z .interpretation) X) → Does h q Q → {env acc d : ℕ} {E : Env z} {a : X .State} {st st₁ : State} {o : Budget}
       → d + h ≤ 3248 → R a acc d (st .frames) → EnvAt z st env E → Notes z st st₁ o → Meets z d st (q env acc st₁) (Q a E o)
   noted-go h q Q hq {env} {acc} {d} {E} {a} {st} {st₁} {o} w r e k =
       let l = k .later d in
       meets-later z l (hq .go env E acc d a st₁ o w (ctl .keeps a acc d _ _ r (l .frames)) (env-later z (l .more) (l .old) e) (k .balances))
 
-  pub sim-test : (h p t : ℕ) (q u : Runs) (Q U : Evaluation X) → Does h q Q → Does h u U
+  pub sim-test : (h p t : ℕ) (q u : Runs) (Q U : Evaluation (z .interpretation) X) → Does h q Q → Does h u U
       → Does h (testS q u p t) (λ a E o. choose (X .grants a p) (λ o₁. Q a E o₁) (λ o₁. U a E o₁) (note (eventIf true t (X .grants a) (some p)) o))
   unfolding testS
   sim-test h p t q u Q U hq hu = record {
@@ -551,7 +543,7 @@ module _ (z : Fixed) (X : Control) (enforce : Bool) (R : X .State → (acc depth
       subst (λ b. Notes z st (withEntry b t p acc st) (note (eventIf enforce t (X .grants a) (some p)) o))
       (sym ((λ j. enforced (mode-is z y j)) ∙ ctl .enforces)) (notes z enforce t p acc (X .grants a) (granted-is p r l y) y)
 
-  pub sim-check : (h p t : ℕ) → t < 65536 → (q : Runs) (Q : Evaluation X) → Does h q Q
+  pub sim-check : (h p t : ℕ) → t < 65536 → (q : Runs) (Q : Evaluation (z .interpretation) X) → Does h q Q
       → Does h (checkS q p t)
       (λ a E o. choose (passes enforce (X .grants a p)) (λ o₁. Q a E o₁) (λ o₁. stops 17 t o₁) (note (eventIf enforce t (X .grants a) (some p)) o))
   unfolding checkS
@@ -586,7 +578,7 @@ module _ (z : Fixed) (X : Control) (enforce : Bool) (R : X .State → (acc depth
           (notes z false t (wordGuard x) acc (X .grants a) (granted-is (wordGuard x) r l y) y)
       go false = check-notes t (wordGuard x) r l y
 
-  pub sim-post : (h t x : ℕ) → t < 65536 → (p : Runs) (P : Evaluation X) → Does h p P
+  pub sim-post : (h t x : ℕ) → t < 65536 → (p : Runs) (P : Evaluation (z .interpretation) X) → Does h p P
       → Does h (postS p t x) (λ a E o. P a E o then λ v o₁. postValue t (wordSmall x) (guardPasses enforce (X .grants a) (guardIn (wordGuard x)))
       (eventIf enforce t (X .grants a) (guardIn (wordGuard x))) v o₁)
   unfolding postS
@@ -598,7 +590,7 @@ module _ (z : Fixed) (X : Control) (enforce : Bool) (R : X .State → (acc depth
   }
 
   -- a run on other frames, of which g makes frames that keep the first ones
-  reframed : {depth depth′ : ℕ} {st : State} {f : List ℕ} {x : Done} {o : Result} (g : List ℕ → List ℕ)
+  reframed : {depth depth′ : ℕ} {st : State} {f : List ℕ} {x : Done} {o : Result z} (g : List ℕ → List ℕ)
       → ((f′ : List ℕ) → Kept depth f f′ → Kept depth′ (st .frames) (g f′)) → Meets z depth (withFrames f st) x o
       → Meets z depth′ st (doneOf (x .out) (withFrames (g (x .store .frames)) (x .store))) o
   reframed g k (valued {st = s} v t l) =
@@ -608,7 +600,7 @@ module _ (z : Fixed) (X : Control) (enforce : Bool) (R : X .State → (acc depth
       halted {st = withFrames (g (s .frames)) s} x i (balances-frames z (g (s .frames)) t)
       record { more = l .more; old = record { long = l .old .long; same = l .old .same }; frames = k (s .frames) (l .frames) }
 
-  pub sim-sign : (h n may : ℕ) (q : Runs) (Q : Evaluation X) → may ≡ z .may n → may < 4294967296 → Does h q Q
+  pub sim-sign : (h n may : ℕ) (q : Runs) (Q : Evaluation (z .interpretation) X) → may ≡ z .may n → may < 4294967296 → Does h q Q
       → Does (suc h) (signS q may) (λ a E o. Q (X .signs n a) E o)
   unfolding signS
   sim-sign h n may q Q e i hq = record {
@@ -619,7 +611,7 @@ module _ (z : Fixed) (X : Control) (enforce : Bool) (R : X .State → (acc depth
         (ctl .signed a acc d (st .frames) n may r e i (omega arith)) v (balances-frames z (signFrames (z .mode) acc (st .frames) may) y)));
   }
 
-  pub sim-enable : (h p : ℕ) (q : Runs) (Q : Evaluation X) → Does h q Q → Does h (enableS q p) (λ a E o. Q (X .enables p a) E o)
+  pub sim-enable : (h p : ℕ) (q : Runs) (Q : Evaluation (z .interpretation) X) → Does h q Q → Does h (enableS q p) (λ a E o. Q (X .enables p a) E o)
   unfolding enableS
   sim-enable h p q Q hq = record {
     go = λ env E acc d a st o w r v y.
@@ -631,8 +623,8 @@ module _ (z : Fixed) (X : Control) (enforce : Bool) (R : X .State → (acc depth
   }
 
   -- ---- a run that goes on with a new cell
-  on-cell : (h : ℕ) (p : Runs) (P : Evaluation X) → Does h p P
-      → (E : Env) (acc d : ℕ) (a : X .State) (st : State) (n : List ℕ) (w e : ℕ) {c c′ m k r : ℕ} {log : Log}
+  on-cell : (h : ℕ) (p : Runs) (P : Evaluation (z .interpretation) X) → Does h p P
+      → (E : Env z) (acc d : ℕ) (a : X .State) (st : State) (n : List ℕ) (w e : ℕ) {c c′ m k r : ℕ} {log : Log}
       → d + h ≤ 3248 → R a acc d (st .frames) → Balance z st c m (suc k) r log → n ≡ countersOf z c′ (m + 1) log
       → RepEnv z (cellSet (st .cells) (cellsMade (st .n)) w e) (cellsMade (st .n) + 1) (cellsMade (st .n) + 1) E
       → Meets z d st (p (cellsMade (st .n) + 1) acc (withCell st n w e)) (P a E (budget c′ k r log))
@@ -643,8 +635,9 @@ module _ (z : Fixed) (X : Control) (enforce : Bool) (R : X .State → (acc depth
       (subst (λ m. RepEnv z (cellSet (st .cells) (cellsMade (st .n)) w e) m (cellsMade (st .n) + 1) E) (sym made) v) (balance (cell-tally z st n w e k y)))
 
   -- a recursive function
-  module _ (h t b ty : ℕ) (i : t < 65536) (body : Term) (q : Runs) (Q : Evaluation X) (inside : b < 65536) (k : Body z b body) (hq : Does h q Q)
-      (env : ℕ) (E : Env) (acc d : ℕ) (a : X .State) (st : State) (w : d + h ≤ 3248) (r : R a acc d (st .frames)) (v : EnvAt z st env E) where
+  module _ (h t b ty : ℕ) (i : t < 65536) (body : Term) (q : Runs) (Q : Evaluation (z .interpretation) X) (inside : b < 65536) (k : Body z b body)
+      (hq : Does h q Q) (env : ℕ) (E : Env z) (acc d : ℕ) (a : X .State) (st : State) (w : d + h ≤ 3248)
+      (r : R a acc d (st .frames)) (v : EnvAt z st env E) where
     letrec-is : (room : Bool) (own : ℕ) → hasRoom st ≡ room → ownCell st ≡ own
         → letrecS q b t env acc st ≡ pick room (q own acc (bound (functionWord b own) env st)) (doneOf (stopWord 21 t) st)
     unfolding letrecS
@@ -662,7 +655,7 @@ module _ (z : Fixed) (X : Control) (enforce : Bool) (R : X .State → (acc depth
         (fresh-again z (st .cells) (cellsMade (st .n)) env E (fits-is z y) v f b ty body
         (function-word b own inside (omega (arith, few-cells z (balance y)))) k))
 
-  pub sim-letrec : (h t b ty : ℕ) → t < 65536 → (body : Term) (q : Runs) (Q : Evaluation X) → b < 65536 → Body z b body → Does h q Q
+  pub sim-letrec : (h t b ty : ℕ) → t < 65536 → (body : Term) (q : Runs) (Q : Evaluation (z .interpretation) X) → b < 65536 → Body z b body → Does h q Q
       → Does h (letrecS q b t) (λ a E o. takeCell t (λ o₁. Q a (bind (closure true ty body E) E) o₁) o)
   sim-letrec h t b ty i body q Q l k hq = record { go = λ env E acc d a st o w r v y. letrec-meets h t b ty i body q Q l k hq env E acc d a st w r v y }
 
@@ -674,8 +667,9 @@ module _ (z : Fixed) (X : Control) (enforce : Bool) (R : X .State → (acc depth
     begin-is p q own x y e =
         λ j. pick (x j) (doneOf (stopWord 20 t) st) (pick (y j) (ev (payloadOf f) (e j) acc (called w (envOf f) st)) (doneOf (stopWord 21 t) st))
 
-    module _ (i : t < 65536) (h ty : ℕ) (ag : Bool) (body : Term) (E : Env) (y : Value) (Q : Evaluation X) (hq : Does h (ev (payloadOf f)) Q)
-        (d : ℕ) (a : X .State) (l : d + h ≤ 3248) (r : R a acc d (st .frames)) (rf : RepAt z st f (closure ag ty body E)) (rx : RepAt z st w y) where
+    module _ (i : t < 65536) (h ty : ℕ) (ag : Bool) (body : Term) (E : Env z) (y : Value z) (Q : Evaluation (z .interpretation) X)
+        (hq : Does h (ev (payloadOf f)) Q) (d : ℕ) (a : X .State) (l : d + h ≤ 3248) (r : R a acc d (st .frames))
+        (rf : RepAt z st f (closure ag ty body E)) (rx : RepAt z st w y) where
       pub begin-meets : {o : Budget} → Balances z st o → Meets z d st (begin ev t f w acc st) (beginCall t (λ o₁. Q a (entered ag ty body E y) o₁) o)
       begin-meets (balance {c = zero} {d = c} {r = u} {log = log} b) =
           subst (λ x. Meets z d st x (stops 20 t (budget 0 c u log)))

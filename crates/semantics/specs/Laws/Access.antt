@@ -9,6 +9,7 @@ use Rattle.privileges.specs.Sets.{has, meet, union, insert}
 use Rattle.privileges.specs.Laws.{has-none, has-meet, has-union, has-insert}
 use Rattle.program.specs.Terms.{Term, sign}
 use Rattle.program.specs.Laws.Trees.{every-any, Signed, signed}
+use Rattle.semantics.specs.Domains.{standard}
 use Rattle.semantics.specs.Values.{Env, Budget}
 use Rattle.semantics.specs.Meaning.{Mode, evalWith, eval}
 use Rattle.semantics.specs.Access.{Frame, frame, chk, privs, enableFirst, lazyControl, Rights, rights, addAuthorised, eagerControl}
@@ -92,7 +93,7 @@ eager-lazy-simulation A = record {
 
 -- At a sign only the granted set matters, so an empty stack is covered too.
 pub eager-lazy : (A : ℕ → ℕ) (M : Mode) (depth : ℕ) (c : Term) → Signed c → (r : Rights) (fs : List Frame) → ((p : ℕ) → has p (r .granted) ≡ chk A fs p)
-    → (e : Env) (u : Budget) → eval (eagerControl A) M depth c r e u ≡ eval (lazyControl A) M depth c fs e u
+    → (e : Env) (u : Budget) → eval standard (eagerControl A) M depth c r e u ≡ eval standard (lazyControl A) M depth c fs e u
 unfolding eval evalWith eager-lazy-simulation
 eager-lazy A M k (sign at n c) signed r fs h e u =
     agree All (eagerControl A) (lazyControl A) (eager-lazy-simulation A) M k c (every-any all-named c) (rights n (meet (r .granted) (A n)))

@@ -1,12 +1,13 @@
 -- The relational lemma: two access controls whose related states stay related and grant the same of every privilege that is named give a term the same
--- result, with every budget, checks in force or passed over, and the same list of decisions with it. Named are the privileges of the checks, tests and guards of the term and of the bodies in its
--- environment; an enable names none. 003's Lemma 5.3 is the instance of two eager states that differ in one privilege.
+-- result, with every budget, checks in force or passed over, and the same list of decisions with it. Named are the privileges of the checks, tests and guards
+-- of the term and of the bodies in its environment; an enable names none. 003's Lemma 5.3 is the instance of two eager states that differ in one privilege.
 use mathlib.Core.Bool.{Bool, true, false}
 use mathlib.Core.Option.{Option, none, some}
 use mathlib.Core.Path.{_≡_, refl, subst}
 use Prim.Native.Nat.{ℕ, zero, suc}
 use Rattle.program.specs.Terms.{Term, boolean, number, variable, function, letrec, call, if, check, enable, sign, test, binary, post, Every}
 use Rattle.semantics.specs.Names.{namedBy}
+use Rattle.semantics.specs.Domains.{standard}
 use Rattle.semantics.specs.Values.{Value, bool, num, closure, Env, bind, entered, Budget, Result, ends, stops}
 use Rattle.semantics.specs.Meaning.{Control, Mode, _then_, choose, branch, compute, note, postValue, takeCell, beginCall, passes, guardPasses, eventIf, listsChecks, Evaluation, Application, evalWith, apply, eval}
 use Rattle.semantics.specs.Laws.Bodies.{EveryBody, EveryBodyIn, Bodies, bodies-end, entered-bodies, BodiesAll, eval-bodies, apply-bodies}
@@ -35,11 +36,11 @@ module _ (P : ℕ → Type 0) (X Y : Control) (R : Simulation P X Y) (M : Mode) 
   abbrev Q : Term → Type 0
   Q = NamesOnly P
 
-  abbrev SameApplication : Application X → Application Y → Type 0
+  abbrev SameApplication : Application standard X → Application standard Y → Type 0
   SameApplication f g = (at : ℕ) (v w : Value) → EveryBody Q v → EveryBody Q w → (s : X .State) (t : Y .State) → R .related s t → (u : Budget)
       → f at v w s u ≡ g at v w t u
 
-  abbrev SameEvaluation : Evaluation X → Evaluation Y → Type 0
+  abbrev SameEvaluation : Evaluation standard X → Evaluation standard Y → Type 0
   SameEvaluation f g = (s : X .State) (t : Y .State) → R .related s t → (e : Env) → EveryBodyIn Q e → (u : Budget) → f s e u ≡ g t e u
 
   -- a guard passes in both or in neither
@@ -55,8 +56,8 @@ module _ (P : ℕ → Type 0) (X Y : Control) (R : Simulation P X Y) (M : Mode) 
   same-event true at s t r none n = refl
   same-event false at s t r g n = refl
 
-  module _ (f : Application X) (g : Application Y) (h : SameApplication f g) (a : BodiesAll Q X M f) where
-    eval-agree : (c : Term) → Every Q c → SameEvaluation (evalWith X M f c) (evalWith Y M g c)
+  module _ (f : Application standard X) (g : Application standard Y) (h : SameApplication f g) (a : BodiesAll Q X M f) where
+    eval-agree : (c : Term) → Every Q c → SameEvaluation (evalWith standard X M f c) (evalWith standard Y M g c)
     unfolding evalWith
     eval-agree (boolean at b) n s t r e d u = refl
     eval-agree (number at k) n s t r e d u = refl
@@ -84,16 +85,16 @@ module _ (P : ℕ → Type 0) (X Y : Control) (R : Simulation P X Y) (M : Mode) 
     eval-agree (post at ch q c) n s t r e d u =
         λ i. eval-agree c (n .1) s t r e d u i then λ v u₁. postValue at ch (same-guard s t r q (n .0) i) (same-event (listsChecks M) at s t r q (n .0) i) v u₁
 
-  apply-agree : (k : ℕ) → SameApplication (apply X M k) (apply Y M k)
+  apply-agree : (k : ℕ) → SameApplication (apply standard X M k) (apply standard Y M k)
   unfolding apply
   apply-agree zero at v w hv hw s t r u = refl
   apply-agree (suc k) at (closure z ty body env) w hv hw s t r u =
-      λ i. beginCall at (λ u₁. eval-agree (apply X M k) (apply Y M k) (apply-agree k) (apply-bodies Q X M k) body (hv .0) s t r
+      λ i. beginCall at (λ u₁. eval-agree (apply standard X M k) (apply standard Y M k) (apply-agree k) (apply-bodies Q X M k) body (hv .0) s t r
       (entered z ty body env w) (entered-bodies Q z ty body env w (hv .0) (hv .1) hw) u₁ i) u
   apply-agree (suc k) at (bool b) w hv hw s t r u = refl
   apply-agree (suc k) at (num m) w hv hw s t r u = refl
 
   pub agree : (depth : ℕ) (c : Term) → Every Q c → (s : X .State) (t : Y .State) → R .related s t → (e : Env) → EveryBodyIn Q e → (u : Budget)
-      → eval X M depth c s e u ≡ eval Y M depth c t e u
+      → eval standard X M depth c s e u ≡ eval standard Y M depth c t e u
   unfolding eval
-  agree k c = eval-agree (apply X M k) (apply Y M k) (apply-agree k) (apply-bodies Q X M k) c
+  agree k c = eval-agree (apply standard X M k) (apply standard Y M k) (apply-agree k) (apply-bodies Q X M k) c

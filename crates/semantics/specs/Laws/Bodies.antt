@@ -5,6 +5,7 @@ use Prim.Native.Nat.{ℕ, zero, suc}
 use Rattle.program.specs.Terms.{Op, sum, difference, less, Term, boolean, number, variable, function, letrec, call, if, check, enable, sign, test, binary, post, Every}
 use Rattle.program.specs.Laws.Trees.{every-any}
 use Rattle.traces.specs.Traces.{Event}
+use Rattle.semantics.specs.Domains.{standard}
 use Rattle.semantics.specs.Values.{Value, bool, num, closure, Env, empty, bind, lookup, entered, Budget, budget, Result, ends, stops}
 use Rattle.semantics.specs.Meaning.{Control, Mode, _then_, choose, found, branch, operate, compute, appendPost, note, postValue, takeCell, beginCall, tooDeep, enter, passes, eventIf, listsChecks, Application, evalWith, apply, eval}
 
@@ -105,11 +106,11 @@ module _ (Q : Term → Type 0) where
 
   -- ---- evaluations
   module _ (X : Control) (M : Mode) where
-    abbrev pub BodiesAll : Application X → Type 0
+    abbrev pub BodiesAll : Application standard X → Type 0
     BodiesAll f = (at : ℕ) (v w : Value) (st : X .State) (u : Budget) → EveryBody v → EveryBody w → Bodies (f at v w st u)
 
-    pub eval-bodies : (f : Application X) → BodiesAll f → (c : Term) → Every Q c → (st : X .State) (e : Env) (u : Budget) → EveryBodyIn e
-        → Bodies (evalWith X M f c st e u)
+    pub eval-bodies : (f : Application standard X) → BodiesAll f → (c : Term) → Every Q c → (st : X .State) (e : Env) (u : Budget) → EveryBodyIn e
+        → Bodies (evalWith standard X M f c st e u)
     unfolding evalWith
     eval-bodies f a (boolean at b) k st e u h = bodies-end tt
     eval-bodies f a (number at n) k st e u h = bodies-end tt
@@ -137,12 +138,12 @@ module _ (Q : Term → Type 0) where
     eval-bodies f a (post at ch g c) k st e u h =
         bodies-then _ _ (eval-bodies f a c (k .1) st e u h) (λ v w hv. bodies-post at ch _ _ v w)
 
-    pub apply-bodies : (k : ℕ) → BodiesAll (apply X M k)
+    pub apply-bodies : (k : ℕ) → BodiesAll (apply standard X M k)
     unfolding apply
     apply-bodies zero at v w st u hv hw = bodies-deep at v u
     apply-bodies (suc k) at v w st u hv hw =
-        bodies-enter at v w _ (λ body e x kb he. eval-bodies (apply X M k) (apply-bodies k) body kb st e x he) u hv hw
+        bodies-enter at v w _ (λ body e x kb he. eval-bodies (apply standard X M k) (apply-bodies k) body kb st e x he) u hv hw
 
-    pub bodies : (depth : ℕ) (c : Term) → Every Q c → (st : X .State) (e : Env) (u : Budget) → EveryBodyIn e → Bodies (eval X M depth c st e u)
+    pub bodies : (depth : ℕ) (c : Term) → Every Q c → (st : X .State) (e : Env) (u : Budget) → EveryBodyIn e → Bodies (eval standard X M depth c st e u)
     unfolding eval
-    bodies k c h st e u g = eval-bodies (apply X M k) (apply-bodies k) c h st e u g
+    bodies k c h st e u g = eval-bodies (apply standard X M k) (apply-bodies k) c h st e u g

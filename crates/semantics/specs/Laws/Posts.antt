@@ -14,8 +14,9 @@ use Rattle.program.specs.Laws.Readable.{WellFormed}
 use Rattle.program.specs.Laws.Trees.{Below, below, root-lower}
 use Rattle.program.specs.Laws.Guards.{channel-in}
 use Rattle.traces.specs.Traces.{Event}
+use Rattle.semantics.specs.Domains.{standard, postEntry}
 use Rattle.semantics.specs.Values.{Value, bool, num, closure, Env, empty, bind, lookup, entered, logPost, Budget, budget, Result, ends, stops}
-use Rattle.semantics.specs.Meaning.{Control, Mode, _then_, choose, found, branch, operate, compute, postEntry, appendPost, note, postValue, takeCell, beginCall, tooDeep, enter, passes, guardPasses, eventIf, listsChecks, Application, evalWith, apply, eval}
+use Rattle.semantics.specs.Meaning.{Control, Mode, _then_, choose, found, branch, operate, compute, appendPost, note, postValue, takeCell, beginCall, tooDeep, enter, passes, guardPasses, eventIf, listsChecks, Application, evalWith, apply, eval}
 use Rattle.semantics.specs.Access.{privs, lazyControl, rights, eagerControl}
 use Rattle.semantics.specs.Runs.{Runner, eager, lazy, Request, Sizes, stack, initial, evaluationIn, Ground, ended, stopped, outcome, left, inOrder}
 use Rattle.semantics.specs.Recording.{decidedIn}
@@ -159,11 +160,11 @@ module _ (R E : ℕ → Type 0) (D : (at p : ℕ) → Type 0) where
 
   -- ---- evaluations
   module _ (X : Control) (M : Mode) where
-    abbrev KeptAll : Application X → Type 0
+    abbrev KeptAll : Application standard X → Type 0
     KeptAll f = (at : ℕ) (v w : Value) (st : X .State) (u : Budget) → Held v → Held w → Logged u → Kept (f at v w st u)
 
-    eval-kept : (f : Application X) → KeptAll f → (c : Term) → Keeps c → (st : X .State) (e : Env) (u : Budget) → HeldIn e → Logged u
-        → Kept (evalWith X M f c st e u)
+    eval-kept : (f : Application standard X) → KeptAll f → (c : Term) → Keeps c → (st : X .State) (e : Env) (u : Budget) → HeldIn e → Logged u
+        → Kept (evalWith standard X M f c st e u)
     unfolding evalWith
     eval-kept f a (boolean at b) k st e u h p = kept-end tt p
     eval-kept f a (number at n) k st e u h p = kept-end k p
@@ -195,15 +196,15 @@ module _ (R E : ℕ → Type 0) (D : (at p : ℕ) → Type 0) where
         (λ v w hv q. kept-value at ch (guardPasses (M .enforce) (X .grants st) g) (eventIf (listsChecks M) at (X .grants st) g) v w
         (guard-fails (M .enforce) (X .grants st) g at (k .0)) (k .1) hv q (logged-noted (listsChecks M) at (X .grants st) g (λ x z. k .0 x z .1) w q))
 
-    apply-kept : (k : ℕ) → KeptAll (apply X M k)
+    apply-kept : (k : ℕ) → KeptAll (apply standard X M k)
     unfolding apply
     apply-kept zero at v w st u hv hw p = kept-deep at v u p
     apply-kept (suc k) at v w st u hv hw p =
-        kept-enter at v w _ (λ body e x kb he q. eval-kept (apply X M k) (apply-kept k) body kb st e x he q) u hv hw p
+        kept-enter at v w _ (λ body e x kb he q. eval-kept (apply standard X M k) (apply-kept k) body kb st e x he q) u hv hw p
 
-    kept : (depth : ℕ) (c : Term) → Keeps c → (st : X .State) (u : Budget) → Logged u → Kept (eval X M depth c st empty u)
+    kept : (depth : ℕ) (c : Term) → Keeps c → (st : X .State) (u : Budget) → Logged u → Kept (eval standard X M depth c st empty u)
     unfolding eval
-    kept k c h st u p = eval-kept (apply X M k) (apply-kept k) c h st empty u tt p
+    kept k c h st u p = eval-kept (apply standard X M k) (apply-kept k) c h st empty u tt p
 
 -- ---- the program of a readable sheet
 

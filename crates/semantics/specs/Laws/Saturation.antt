@@ -15,8 +15,9 @@ use Rattle.program.specs.Laws.Readable.{WellFormed}
 use Rattle.program.specs.Laws.Trees.{every-here}
 use Rattle.program.specs.Laws.Sizes.{sizes-most}
 use Rattle.traces.specs.Traces.{Event}
+use Rattle.semantics.specs.Domains.{standard, saturates}
 use Rattle.semantics.specs.Values.{Value, bool, num, closure, Env, empty, bind, lookup, entered, Log, logSaturated, Budget, budget, Result, ends, stops}
-use Rattle.semantics.specs.Meaning.{Control, Mode, _then_, choose, found, branch, saturates, compute, appendPost, note, postValue, takeCell, beginCall, tooDeep, enter, passes, eventIf, listsChecks, Application, evalWith, apply, eval}
+use Rattle.semantics.specs.Meaning.{Control, Mode, _then_, choose, found, branch, compute, appendPost, note, postValue, takeCell, beginCall, tooDeep, enter, passes, eventIf, listsChecks, Application, evalWith, apply, eval}
 use Rattle.semantics.specs.Access.{privs, lazyControl, rights, eagerControl}
 use Rattle.semantics.specs.Runs.{Runner, eager, lazy, Request, Sizes, stack, initial, evaluationIn, left}
 use Rattle.semantics.specs.Laws.Bodies.{EveryBody, EveryBodyIn, Bodies, bodies-end, entered-bodies, BodiesAll, eval-bodies, apply-bodies}
@@ -114,12 +115,12 @@ module _ (M : ℕ) where
 
   -- ---- evaluations
   module _ (X : Control) (mode : Mode) where
-    abbrev WithinAll : Application X → Type 0
+    abbrev WithinAll : Application standard X → Type 0
     WithinAll f = (at : ℕ) (v w : Value) (st : X .State) (u : Budget) → EveryBody Small v → EveryBody Small w → Within 0 u (f at v w st u)
 
-    module _ (f : Application X) (a : BodiesAll Small X mode f) (g : WithinAll f) where
+    module _ (f : Application standard X) (a : BodiesAll Small X mode f) (g : WithinAll f) where
       eval-within : (c : Term) → Every Small c → (st : X .State) (e : Env) (u : Budget) → EveryBodyIn Small e
-          → Within (size c) u (evalWith X mode f c st e u)
+          → Within (size c) u (evalWith standard X mode f c st e u)
       unfolding evalWith
       eval-within (boolean at b) k st e u h = within-none 1 u refl
       eval-within (number at n) k st e u h = within-none 1 u refl
@@ -163,17 +164,17 @@ module _ (M : ℕ) where
           (within-then (size c) 1 u _ _ (eval-within c (k .1) st e u h) (eval-bodies Small X mode f a c (k .1) st e u h)
           (λ v w hv. within-post at ch _ _ v w))
 
-    apply-within : (k : ℕ) → WithinAll (apply X mode k)
+    apply-within : (k : ℕ) → WithinAll (apply standard X mode k)
     unfolding apply
     apply-within zero at v w st u hv hw = within-deep 0 at v u
     apply-within (suc k) at v w st u hv hw =
         within-enter at v w _
-        (λ body e x kb he. eval-within (apply X mode k) (apply-bodies Small X mode k) (apply-within k) body kb st e x he) u hv hw
+        (λ body e x kb he. eval-within (apply standard X mode k) (apply-bodies Small X mode k) (apply-within k) body kb st e x he) u hv hw
 
     within : (depth : ℕ) (c : Term) → Every Small c → (st : X .State) (e : Env) (u : Budget) → EveryBodyIn Small e
-        → Within (size c) u (eval X mode depth c st e u)
+        → Within (size c) u (eval standard X mode depth c st e u)
     unfolding eval
-    within k c h st e u b = eval-within (apply X mode k) (apply-bodies Small X mode k) (apply-within k) c h st e u b
+    within k c h st e u b = eval-within (apply standard X mode k) (apply-bodies Small X mode k) (apply-within k) c h st e u b
 
 -- ---- the program of a readable sheet
 abbrev pub listedIn : Budget → ℕ

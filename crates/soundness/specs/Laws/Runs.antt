@@ -18,10 +18,11 @@ use Rattle.program.specs.Laws.Readable.{WellFormed}
 use Rattle.program.specs.Laws.Trees.{program-signed, program-standard}
 use Rattle.typing.specs.Verdicts.{SheetDerives}
 use Rattle.typing.specs.Laws.Subtyping.{sub-isFun}
+use Rattle.semantics.specs.Domains.{Domain, standard}
 use Rattle.semantics.specs.Values.{bool, num, closure, empty, emptyLog, Budget, budget, Result, ends, stops}
 use Rattle.semantics.specs.Meaning.{Mode, plain, eval}
 use Rattle.semantics.specs.Access.{privs, rights, eagerControl}
-use Rattle.semantics.specs.Runs.{Runner, eager, lazy, Request, Buffers, Sizes, sizes, stack, known, framesOk, runConditions, initial, evaluationIn, evaluation, Course, rejected, started, ran, outcome, left, counts, answerOf, inOrder, postsMade, buffersAfter, After}
+use Rattle.semantics.specs.Runs.{Runner, eager, lazy, Request, Buffers, Sizes, sizes, stack, known, framesOk, runConditions, initial, evaluationIn, evaluation, CourseOf, rejected, started, ran, outcome, left, counts, answerOf, inOrder, postsMade, buffersAfter, AfterOf}
 use Rattle.semantics.specs.Laws.Access.{privs-chk, eager-lazy}
 use Rattle.soundness.specs.Claims.{GrantsSet, SameLimits, Comparable, postsOf, SameRun, Proper}
 use Rattle.soundness.specs.Laws.Safety.{Base, Safe, Alike, checks-removed}
@@ -29,7 +30,7 @@ use Rattle.soundness.specs.Laws.Safety.{Base, Safe, Alike, checks-remove
 -- the eager evaluation of a request, in any mode; and from another start
 abbrev pub eagerlyFrom : List ℕ → (start : List ℕ) → Request → Sizes → Mode → Result
 eagerlyFrom s start q z M =
-    eval (eagerControl (authority s)) M (q .depth) (program s) (rights 0 (privs (authority s) (stack start))) empty (initial q z)
+    eval standard (eagerControl (authority s)) M (q .depth) (program s) (rights 0 (privs (authority s) (stack start))) empty (initial q z)
 
 abbrev pub eagerly : List ℕ → Request → Sizes → Mode → Result
 eagerly s q z M = eagerlyFrom s (q .start) q z M
@@ -38,7 +39,7 @@ eagerly s q z M = eagerlyFrom s (q .start) q z M
 pub same-limited : (s : List ℕ) (x y : Request) (b d : Buffers) → SameLimits x y b d → (start : List ℕ) (M : Mode)
     → eagerlyFrom s start x (sizes b) M ≡ eagerlyFrom s start y (sizes d) M
 same-limited s x y b d c start M = λ i.
-    eval (eagerControl (authority s)) M (c .same-depth i) (program s) (rights 0 (privs (authority s) (stack start))) empty
+    eval standard (eagerControl (authority s)) M (c .same-depth i) (program s) (rights 0 (privs (authority s) (stack start))) empty
     (budget (c .same-calls i) (c .same-cells i / 8) (c .same-posts i) emptyLog)
 
 -- ---- comparable requests
@@ -58,11 +59,11 @@ module _ (s : List ℕ) (x y : Request) (b d : Buffers) (c : Comparable x y b d)
       same-limited s x y b d (c .limits) (x .start) M ∙ λ i. eagerlyFrom s (c .same-start i) y (sizes d) M
 
 -- ---- the same results are told alike
-abbrev whole : (root : ℕ) → Request → Buffers → Course → After
+abbrev whole : {D : Domain} (root : ℕ) → Request → Buffers → CourseOf D → AfterOf D
 whole r q b x = record { answer = answerOf r q (sizes b) x; buffers = buffersAfter (q .runner) b x }
 
 -- the posts made are the first entries of the list, as many as are told
-pub posts-listed : (r : ℕ) (q : Request) (b : Buffers) (x : Course) → postsOf (whole r q b x) ≡ postsMade x
+pub posts-listed : {D : Domain} (r : ℕ) (q : Request) (b : Buffers) (x : CourseOf D) → postsOf (whole r q b x) ≡ postsMade x
 posts-listed r q b (rejected c p) = refl
 posts-listed r q b (started x) = go (left x)
   where

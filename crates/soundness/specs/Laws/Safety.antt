@@ -16,6 +16,7 @@ use Rattle.typing.specs.Subtyping.{Subtype, sub-same, Wider}
 use Rattle.typing.specs.Rules.{bound, removeAuthorised, postNeeds, resultType, current, Derives, d-boolean, d-number, d-variable, d-function, d-letrec, d-call, d-if, d-test, d-check, d-enable, d-sign, d-binary, d-post, d-widen}
 use Rattle.typing.specs.Laws.Variants.{guard-needed}
 use Rattle.typing.specs.Laws.Subtyping.{sub-trans, sub-base, sub-isFun, sub-arg, sub-res, sub-latent, wider-bounds}
+use Rattle.semantics.specs.Domains.{standard}
 use Rattle.semantics.specs.Values.{Value, bool, num, closure, Env, empty, bind, lookup, entered, Budget, budget, Result, ends, stops}
 use Rattle.semantics.specs.Meaning.{plain, _then_, choose, found, branch, operate, compute, appendPost, postValue, takeCell, beginCall, tooDeep, enter, guardPasses, Evaluation, Application, evalWith, apply, eval}
 use Rattle.semantics.specs.Access.{rights, addAuthorised, eagerControl}
@@ -199,22 +200,22 @@ module _ (T : Types) (A : ℕ → ℕ) (base : Base T) where
       (λ y. alike-end (operate op x y) (resultType op) _ (operate-type op x y)) w hw) v hv
 
   -- ---- evaluations: one with checks in force, one with checks passed over
-  abbrev AlikeApplication : Application (eagerControl A) → Application (eagerControl A) → Type 0
+  abbrev AlikeApplication : Application standard (eagerControl A) → Application standard (eagerControl A) → Type 0
   AlikeApplication f g = (at φ : ℕ) (v w : Value) → T .isFun φ ≡ true → HasType v φ → HasType w (T .arg φ)
       → (n P : ℕ) → T .latent φ ⊆ P → (u : Budget) → Alike (T .res φ) (f at v w (rights n P) u) (g at v w (rights n P) u)
 
-  abbrev pub AlikeEvaluation : (Γ : List ℕ) (n τ N : ℕ) → Evaluation (eagerControl A) → Evaluation (eagerControl A) → Type 0
+  abbrev pub AlikeEvaluation : (Γ : List ℕ) (n τ N : ℕ) → Evaluation standard (eagerControl A) → Evaluation standard (eagerControl A) → Type 0
   AlikeEvaluation Γ n τ N f g = (e : Env) → Holds e Γ → (P : ℕ) → N ⊆ P → (u : Budget) → Alike τ (f (rights n P) e u) (g (rights n P) e u)
 
-  module _ (f g : Application (eagerControl A)) (alike-app : AlikeApplication f g) where
-    abbrev checked : Term → Evaluation (eagerControl A)
-    checked = evalWith (eagerControl A) (plain true) f
+  module _ (f g : Application standard (eagerControl A)) (alike-app : AlikeApplication f g) where
+    abbrev checked : Term → Evaluation standard (eagerControl A)
+    checked = evalWith standard (eagerControl A) (plain true) f
 
-    abbrev skipped : Term → Evaluation (eagerControl A)
-    skipped = evalWith (eagerControl A) (plain false) g
+    abbrev skipped : Term → Evaluation standard (eagerControl A)
+    skipped = evalWith standard (eagerControl A) (plain false) g
 
     eval-alike : {Γ : List ℕ} {n : ℕ} {c : Term} {τ N : ℕ} → Derives current T A Γ n c τ N → Standard T c
-        → AlikeEvaluation Γ n τ N (evalWith (eagerControl A) (plain true) f c) (evalWith (eagerControl A) (plain false) g c)
+        → AlikeEvaluation Γ n τ N (evalWith standard (eagerControl A) (plain true) f c) (evalWith standard (eagerControl A) (plain false) g c)
     unfolding evalWith
     eval-alike (d-boolean {b = b}) w e he P hP u = alike-end (bool b) 0 u refl
     eval-alike (d-number {k = k}) w e he P hP u = alike-end (num k) 1 u refl
@@ -268,22 +269,23 @@ module _ (T : Types) (A : ℕ → ℕ) (base : Base T) where
       (hw, (record { Γ = h .Γ; N = h .N; function = h .function; holds = h .holds; derives = h .derives; within = h .within; standard = h .standard; below = sub-same }, h .holds))
   enter-holds false ty body env φ h w hw = (hw, h .holds)
 
-  apply-alike : (k : ℕ) → AlikeApplication (apply (eagerControl A) (plain true) k) (apply (eagerControl A) (plain false) k)
+  apply-alike : (k : ℕ) → AlikeApplication (apply standard (eagerControl A) (plain true) k) (apply standard (eagerControl A) (plain false) k)
   unfolding apply
   apply-alike zero at φ v w hf hv hw n P hP u =
       closure-only (λ v. Alike (T .res φ) (tooDeep at v u) (tooDeep at v u)) φ hf (λ r ty body env h. alike-stop 19 at (T .res φ) u (omega arith)) v hv
   apply-alike (suc k) at φ v w hf hv hw n P hP u =
       closure-only
       (λ v. Alike (T .res φ)
-      (enter at v w (λ body e u₁. evalWith (eagerControl A) (plain true) (apply (eagerControl A) (plain true) k) body (rights n P) e u₁) u)
-      (enter at v w (λ body e u₁. evalWith (eagerControl A) (plain false) (apply (eagerControl A) (plain false) k) body (rights n P) e u₁) u)) φ hf
+      (enter at v w (λ body e u₁. evalWith standard (eagerControl A) (plain true) (apply standard (eagerControl A) (plain true) k) body (rights n P) e u₁) u)
+      (enter at v w (λ body e u₁. evalWith standard (eagerControl A) (plain false) (apply standard (eagerControl A) (plain false) k) body (rights n P) e u₁) u))
+      φ hf
       (λ r ty body env h. alike-begin (T .res φ) at _ _
       (λ u₁. alike-widen _ _ (sub-res T (h .below))
-      (eval-alike (apply (eagerControl A) (plain true) k) (apply (eagerControl A) (plain false) k) (apply-alike k) (h .derives n) (h .standard)
-      (entered r ty body env w) (enter-holds r ty body env φ h w (widen w hw (sub-arg T (h .below))))
+      (eval-alike (apply standard (eagerControl A) (plain true) k) (apply standard (eagerControl A) (plain false) k) (apply-alike k) (h .derives n)
+      (h .standard) (entered r ty body env w) (enter-holds r ty body env φ h w (widen w hw (sub-arg T (h .below))))
       P (⊆-trans (h .within) (⊆-trans (sub-latent T (h .below)) hP)) u₁)) u) v hv
 
   pub checks-removed : (depth : ℕ) {Γ : List ℕ} {n : ℕ} {c : Term} {τ N : ℕ} → Derives current T A Γ n c τ N → Standard T c
-      → AlikeEvaluation Γ n τ N (eval (eagerControl A) (plain true) depth c) (eval (eagerControl A) (plain false) depth c)
+      → AlikeEvaluation Γ n τ N (eval standard (eagerControl A) (plain true) depth c) (eval standard (eagerControl A) (plain false) depth c)
   unfolding eval
-  checks-removed k d w = eval-alike (apply (eagerControl A) (plain true) k) (apply (eagerControl A) (plain false) k) (apply-alike k) d w
+  checks-removed k d w = eval-alike (apply standard (eagerControl A) (plain true) k) (apply standard (eagerControl A) (plain false) k) (apply-alike k) d w

@@ -1,8 +1,9 @@
-//! Evaluation: causes 17 to 22.
+//! Evaluation: causes 17 to 22, and 36.
 
 use super::authority::Authority;
+use super::domain::Domain;
 use super::request::{Checks, Request};
-use super::{Outcome, Recorded, Run, Stop};
+use super::{Outcome, Plain, Stop};
 use crate::record::{Entry, Recorder};
 use crate::refusal::Cause;
 use crate::set::Privilege;
@@ -10,15 +11,18 @@ use crate::sheet::{ChannelId, Sheet, Term, TermId};
 
 const CELL_BYTES: usize = 8;
 
+/// A value of a run whose booleans are `B` and whose numbers are `N`.
 #[derive(Clone, Copy)]
-pub enum Value {
-    Bool(bool),
-    Number(u16),
+enum Value<B, N> {
+    Bool(B),
+    Number(N),
     Function(Closure),
 }
 
+type ValueIn<D> = Value<<D as Domain>::Bool, <D as Domain>::Number>;
+
 #[derive(Clone, Copy)]
-pub struct Closure {
+struct Closure {
     body: TermId,
     bindings: Bindings,
 }
@@ -29,30 +33,42 @@ type CellId = u16;
 
 /// A binding. Cells are never freed within a run, so that closures may keep
 /// hold of them.
-struct Cell {
-    value: Value,
+struct Cell<V> {
+    value: V,
     outside: Bindings,
 }
 
-pub struct Machine<'a, A> {
+pub struct Machine<'a, A, D: Domain> {
     sheet: &'a Sheet,
     request: &'a Request<'a>,
     authority: A,
-    cells: Vec<Cell>,
+    domain: D,
+    cells: Vec<Cell<ValueIn<D>>>,
     max_cells: usize,
     posts: &'a mut [u32],
     record: Recorder<'a>,
     posts_made: usize,
     calls_made: u32,
     open_calls: u32,
-    held: u32,
 }
 
-impl<'a, A: Authority> Machine<'a, A> {
+/// How a run went, whatever its numbers are.
+pub struct Finished<D: Domain> {
+    pub outcome: Outcome<Plain<D::Bool, D::Number>>,
+    pub calls: u32,
+    pub cells: u32,
+    pub posts: u32,
+    /// Of the record.
+    pub entries: usize,
+    pub domain: D,
+}
+
+impl<'a, A: Authority, D: Domain> Machine<'a, A, D> {
     pub fn new(
         sheet: &'a Sheet,
         request: &'a Request,
         authority: A,
+        domain: D,
         cell_bytes: usize,
         posts: &'a mut [u32],
         record: &'a mut [u8],
@@ -61,6 +77,7 @@ impl<'a, A: Authority> Machine<'a, A> {
             sheet,
             request,
             authority,
+            domain,
             cells: Vec::new(),
             max_cells: cell_bytes / CELL_BYTES,
             posts,
@@ -68,31 +85,35 @@ impl<'a, A: Authority> Machine<'a, A> {
             posts_made: 0,
             calls_made: 0,
             open_calls: 0,
-            held: 0,
         }
     }
 
-    pub fn run(&mut self) -> Result<Value, Stop> {
-        self.eval(self.sheet.root(), None)
-    }
-
-    /// The whole answer of a run that came to `outcome`.
-    pub fn tell(&self, outcome: Outcome) -> Recorded {
-        let run = Run {
+    /// Runs the sheet. A root that gives a function is stuck.
+    pub fn run(mut self) -> Finished<D> {
+        let root = self.sheet.root();
+        let outcome = match self.eval(root, None) {
+            Ok(Value::Bool(value)) => Outcome::End(Plain::Bool(value)),
+            Ok(Value::Number(value)) => Outcome::End(Plain::Number(value)),
+            Ok(Value::Function(_)) => Outcome::Stop(Stop {
+                cause: Cause::Stuck,
+                term: root,
+            }),
+            Err(stop) => Outcome::Stop(stop),
+        };
+        Finished {
             outcome,
             calls: self.calls_made,
             cells: self.cells.len() as u32,
             posts: self.posts_made as u32,
-            held: self.held,
-        };
-        let entries = self.record.entries();
-        Recorded { run, entries }
+            entries: self.record.entries(),
+            domain: self.domain,
+        }
     }
 
-    fn eval(&mut self, id: TermId, bindings: Bindings) -> Result<Value, Stop> {
+    fn eval(&mut self, id: TermId, bindings: Bindings) -> Result<ValueIn<D>, Stop> {
         match self.sheet.term(id) {
-            Term::Bool(value) => Ok(Value::Bool(value)),
-            Term::Number(value) => Ok(Value::Number(value)),
+            Term::Bool(value) => Ok(Value::Bool(self.domain.boolean(value))),
+            Term::Number(written) => Ok(Value::Number(self.domain.number(id, written))),
             Term::Variable(index) => self.variable(id, index, bindings),
             Term::Function { body, .. } => Ok(Value::Function(Closure { body, bindings })),
             Term::Letrec { body, rest, .. } => {
@@ -104,11 +125,16 @@ impl<'a, A: Authority> Machine<'a, A> {
                 let argument = self.eval(argument, bindings)?;
                 self.call(id, function, argument)
             }
-            Term::If { condition, yes, no } => match self.eval(condition, bindings)? {
-                Value::Bool(true) => self.eval(yes, bindings),
-                Value::Bool(false) => self.eval(no, bindings),
-                Value::Number(_) | Value::Function(_) => stop(Cause::Stuck, id),
-            },
+            Term::If { condition, yes, no } => {
+                let Value::Bool(condition) = self.eval(condition, bindings)? else {
+                    return stop(Cause::Stuck, id);
+                };
+                match self.domain.choose(condition) {
+                    Some(true) => self.eval(yes, bindings),
+                    Some(false) => self.eval(no, bindings),
+                    None => stop(Cause::Undecided, id),
+                }
+            }
             Term::Check { privilege, inner } => {
                 self.check(id, privilege)?;
                 self.eval(inner, bindings)
@@ -127,15 +153,15 @@ impl<'a, A: Authority> Machine<'a, A> {
             }
             Term::Sum(left, right) => {
                 let (left, right) = self.numbers(id, left, right, bindings)?;
-                Ok(self.hold(i32::from(left) + i32::from(right)))
+                Ok(Value::Number(self.domain.sum(left, right)))
             }
             Term::Difference(left, right) => {
                 let (left, right) = self.numbers(id, left, right, bindings)?;
-                Ok(self.hold(i32::from(left) - i32::from(right)))
+                Ok(Value::Number(self.domain.difference(left, right)))
             }
             Term::Less(left, right) => {
                 let (left, right) = self.numbers(id, left, right, bindings)?;
-                Ok(Value::Bool(left < right))
+                Ok(Value::Bool(self.domain.less(left, right)))
             }
             Term::Post { channel, inner } => match self.eval(inner, bindings)? {
                 Value::Number(number) => self.post(id, channel, number),
@@ -149,13 +175,13 @@ impl<'a, A: Authority> Machine<'a, A> {
         inner: TermId,
         bindings: Bindings,
         before: A::Before,
-    ) -> Result<Value, Stop> {
+    ) -> Result<ValueIn<D>, Stop> {
         let value = self.eval(inner, bindings)?;
         self.authority.restore(before);
         Ok(value)
     }
 
-    fn variable(&self, id: TermId, index: u16, mut bindings: Bindings) -> Result<Value, Stop> {
+    fn variable(&self, id: TermId, index: u16, mut bindings: Bindings) -> Result<ValueIn<D>, Stop> {
         let mut index = index;
         while let Some(cell) = bindings {
             let cell = &self.cells[usize::from(cell)];
@@ -170,7 +196,12 @@ impl<'a, A: Authority> Machine<'a, A> {
 
     /// Runs the body in the caller's authority: only the bindings are those
     /// of the place where the function was made.
-    fn call(&mut self, id: TermId, function: Value, argument: Value) -> Result<Value, Stop> {
+    fn call(
+        &mut self,
+        id: TermId,
+        function: ValueIn<D>,
+        argument: ValueIn<D>,
+    ) -> Result<ValueIn<D>, Stop> {
         let Value::Function(closure) = function else {
             return stop(Cause::Stuck, id);
         };
@@ -203,7 +234,7 @@ impl<'a, A: Authority> Machine<'a, A> {
         self.bind(id, Value::Function(closure), outside)
     }
 
-    fn bind(&mut self, id: TermId, value: Value, outside: Bindings) -> Result<Bindings, Stop> {
+    fn bind(&mut self, id: TermId, value: ValueIn<D>, outside: Bindings) -> Result<Bindings, Stop> {
         if self.cells.len() >= self.max_cells {
             return stop(Cause::NoCell, id);
         }
@@ -219,21 +250,13 @@ impl<'a, A: Authority> Machine<'a, A> {
         left: TermId,
         right: TermId,
         bindings: Bindings,
-    ) -> Result<(u16, u16), Stop> {
+    ) -> Result<(D::Number, D::Number), Stop> {
         let left = self.eval(left, bindings)?;
         let right = self.eval(right, bindings)?;
         match (left, right) {
             (Value::Number(left), Value::Number(right)) => Ok((left, right)),
             _ => stop(Cause::Stuck, id),
         }
-    }
-
-    /// A sum's or a difference's number. An exact result past a limit is held
-    /// there, and counted; one that just reaches it isn't.
-    fn hold(&mut self, exact: i32) -> Value {
-        let number = exact.clamp(0, u16::MAX.into());
-        self.held += u32::from(number != exact);
-        Value::Number(number as u16)
     }
 
     /// Whether a check or a guard lets the run go on: it always does where
@@ -262,22 +285,22 @@ impl<'a, A: Authority> Machine<'a, A> {
     }
 
     /// The guard is asked before a place for the post.
-    fn post(&mut self, id: TermId, channel: ChannelId, number: u16) -> Result<Value, Stop> {
+    fn post(
+        &mut self,
+        id: TermId,
+        channel: ChannelId,
+        number: D::Number,
+    ) -> Result<ValueIn<D>, Stop> {
         if let Some(privilege) = self.sheet.guard(channel) {
             self.check(id, privilege)?;
         }
         let Some(place) = self.posts.get_mut(self.posts_made) else {
             return stop(Cause::NoPost, id);
         };
-        *place = entry(channel, number);
+        *place = self.domain.entry(channel, number);
         self.posts_made += 1;
         Ok(Value::Number(number))
     }
-}
-
-/// What stands in the list for a post.
-fn entry(channel: ChannelId, number: u16) -> u32 {
-    u32::from(channel) * 65_536 + u32::from(number)
 }
 
 fn stop<T>(cause: Cause, term: TermId) -> Result<T, Stop> {

@@ -1,16 +1,20 @@
-//! Runs of a sheet: causes 14 to 22.
+//! Runs of a sheet: causes 14 to 22, 35 and 36.
 //!
 //! One machine evaluates terms; the eager and the lazy runner differ only in
-//! the [`Authority`](authority::Authority) that tells it what is granted.
+//! the [`Authority`](authority::Authority) that tells it what is granted, and
+//! runs over ranges only in the [`Domain`](domain::Domain) of its numbers.
 
 mod authority;
+mod domain;
 mod eager;
 mod frame;
 mod lazy;
 mod machine;
+mod ranges;
 mod request;
 
 pub use frame::{granted_by, start_frames, Frame};
+pub use ranges::{Range, Truth};
 pub use request::{
     Checks, Request, FRAME_NUMBERS, MAX_CALLS, MAX_CELL_BYTES, MAX_OPEN_CALLS, MAX_POSTS,
 };
@@ -19,7 +23,9 @@ use crate::decode::decode;
 use crate::refusal::{Cause, Refusal};
 use crate::sheet::{Sheet, TermId};
 use authority::Authority;
-use machine::{Machine, Value};
+use domain::Numbers;
+use machine::Machine;
+use ranges::Ranges;
 use request::Lent;
 
 /// A run that was started, and how it went.
@@ -40,17 +46,27 @@ pub struct Recorded {
     pub entries: usize,
 }
 
+/// A run over ranges that was started, and how it went (W14). "Held results
+/// aren't counted."
 #[derive(Clone, Copy, Debug, PartialEq, Eq)]
-pub enum Outcome {
-    End(Plain),
+pub struct RangeRun {
+    pub outcome: Outcome<Plain<Truth, Range>>,
+    pub calls: u32,
+    pub cells: u32,
+    pub posts: u32,
+}
+
+#[derive(Clone, Copy, Debug, PartialEq, Eq)]
+pub enum Outcome<V = Plain> {
+    End(V),
     Stop(Stop),
 }
 
 /// A value that a run can end with.
 #[derive(Clone, Copy, Debug, PartialEq, Eq)]
-pub enum Plain {
-    Bool(bool),
-    Number(u16),
+pub enum Plain<B = bool, N = u16> {
+    Bool(B),
+    Number(N),
 }
 
 #[derive(Clone, Copy, Debug, PartialEq, Eq)]
@@ -127,6 +143,37 @@ pub fn record_lazy(
     Ok(recorded)
 }
 
+/// Runs a sheet of version 1 as [`run_eager`] does, with a range for each number
+/// term: `pairs` has them in term order, two numbers each. A post is listed as
+/// lowest × 65,536 + highest.
+pub fn run_ranges(
+    bytes: &[u8],
+    pairs: &[u16],
+    request: &Request,
+    cells: &mut [u8],
+    posts: &mut [u32],
+) -> Result<RangeRun, Refusal> {
+    let sheet = decode(bytes)?;
+    let lent = Lent {
+        cell_bytes: cells.len(),
+        posts: posts.len(),
+        frame_numbers: None,
+    };
+    let start = request.admit(&sheet, lent)?;
+    let ranges = Ranges::of(&sheet, pairs)?;
+    let authority = eager::Granted::new(&sheet, &start);
+    let length = cells.len();
+    let machine = Machine::new(&sheet, request, authority, ranges, length, posts, &mut []);
+    let finished = machine.run();
+    cells.fill(0);
+    Ok(RangeRun {
+        outcome: finished.outcome,
+        calls: finished.calls,
+        cells: finished.cells,
+        posts: finished.posts,
+    })
+}
+
 /// Runs an admitted request. Cells and frames live in vectors here: of the
 /// lent stores only the length matters, and that they are left all zero.
 fn run(
@@ -137,24 +184,19 @@ fn run(
     posts: &mut [u32],
     record: &mut [u8],
 ) -> Recorded {
-    let mut machine = Machine::new(sheet, request, authority, cells.len(), posts, record);
-    let outcome = match machine.run() {
-        Ok(value) => end(value, sheet.root()),
-        Err(stop) => Outcome::Stop(stop),
-    };
-    let recorded = machine.tell(outcome);
+    let numbers = Numbers::default();
+    let length = cells.len();
+    let machine = Machine::new(sheet, request, authority, numbers, length, posts, record);
+    let finished = machine.run();
     cells.fill(0);
-    recorded
-}
-
-/// A root that gives a function is stuck.
-fn end(value: Value, root: TermId) -> Outcome {
-    match value {
-        Value::Bool(value) => Outcome::End(Plain::Bool(value)),
-        Value::Number(value) => Outcome::End(Plain::Number(value)),
-        Value::Function(_) => Outcome::Stop(Stop {
-            cause: Cause::Stuck,
-            term: root,
-        }),
+    Recorded {
+        run: Run {
+            outcome: finished.outcome,
+            calls: finished.calls,
+            cells: finished.cells,
+            posts: finished.posts,
+            held: finished.domain.held,
+        },
+        entries: finished.entries,
     }
 }

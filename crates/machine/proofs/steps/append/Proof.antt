@@ -1,9 +1,8 @@
 -- A post gives and leaves what the definition says in each of its three ends: stuck, not made for another cause, or made.
 use native.Mathlib.Omega.{arith}
 use borrow.Author.Needs.{needs}
-use mathlib.Core.Path.{_∙_, ap₂}
 use lib.ListN.{length}
-use Rattle.machine.specs.Steps.{postsMade, entryOf}
+use Rattle.machine.specs.Steps.{postsMade}
 use Rattle.machine.proofs.StepLaws.{cause-byte, cause-room, post-stuck, post-stopped, post-done}
 use Rattle.machine.proofs.steps.append.Statement.{statement}
 use Rattle.machine.proofs.steps.append.Tie as tie
@@ -46,43 +45,40 @@ returns-2 c =
     post-stopped _ _ _ _ _ _ _ _ (at-sort .sort .ensures) (at-if1 .if1 .left) (at-guard-passes .guard-passes .ensures) (c .before .before .cause-of .ensures)
     (c .before .if2 .taken) (c .stop2 .ensures)
 
-small-of-requires : tie.Need-small-of-requires
-small-of-requires c κs = search needs
+element-copy-out-listed : tie.Need-element-copy-out-listed
+element-copy-out-listed c = search needs
 
-payload-requires : tie.Need-payload-requires
-payload-requires c κs = search needs
-
-entry-requires : tie.Need-entry-requires
-entry-requires c κs = search needs
+listed-requires : tie.Need-listed-requires
+listed-requires c κs = search needs
 
 mul-posts : tie.Need-mul-posts
 mul-posts c =
-    let at-cause-of = c .before .before .before .before in
+    let at-cause-of = c .before .before .before in
     let start = at-cause-of .before .before .before .before .before .before .before .before .before .before .before .before .before .before .before in
     omega (
       arith,
       cause-room _ (postsMade (start .args .n .now)) (length (start .args .posts .now)) (at-cause-of .cause-of .ensures)
-          (c .before .before .before .if2 .left),
+          (c .before .before .if2 .left),
     )
 
 slice-write-posts : tie.Need-slice-write-posts
 slice-write-posts c =
-    let at-cause-of = c .before .before .before .before in
+    let at-cause-of = c .before .before .before in
     let start = at-cause-of .before .before .before .before .before .before .before .before .before .before .before .before .before .before .before in
     omega (
       arith,
       cause-room _ (postsMade (start .args .n .now)) (length (start .args .posts .now)) (at-cause-of .cause-of .ensures)
-          (c .before .before .before .if2 .left),
+          (c .before .before .if2 .left),
     )
 
 add-n : tie.Need-add-n
 add-n c =
-    let at-cause-of = c .before .before .before .before in
+    let at-cause-of = c .before .before .before in
     let start = at-cause-of .before .before .before .before .before .before .before .before .before .before .before .before .before .before .before in
     omega (
       arith,
       cause-room _ (postsMade (start .args .n .now)) (length (start .args .posts .now)) (at-cause-of .cause-of .ensures)
-          (c .before .before .before .if2 .left),
+          (c .before .before .if2 .left),
     )
 
 element-write-n : tie.Need-element-write-n
@@ -99,12 +95,12 @@ same-length-5 c = search needs
 
 returns-3 : tie.Need-returns-3
 returns-3 c =
-    let at-cause-of = c .before .before .before .before in
+    let at-cause-of = c .before .before .before in
     let at-guard-passes = at-cause-of .before .before .before .before .before in
     let at-if1 = at-guard-passes .before .before .before .before .before in
     let at-sort = at-if1 .before in
     post-done _ _ _ _ _ _ _ _ (at-sort .sort .ensures) (at-if1 .if1 .left) (at-guard-passes .guard-passes .ensures) (at-cause-of .cause-of .ensures)
-    (c .before .before .before .if2 .left) (c .entry .ensures ∙ ap₂ entryOf (c .before .before .small-of .ensures) (c .before .payload .ensures))
+    (c .before .before .if2 .left) (c .listed .ensures)
 
 pub append-spec : {M : Type 1} → statement M
 append-spec =
@@ -121,9 +117,8 @@ append-spec =
     same-length
     same-length-2
     returns-2
-    small-of-requires
-    payload-requires
-    entry-requires
+    element-copy-out-listed
+    listed-requires
     mul-posts
     slice-write-posts
     add-n

@@ -1,8 +1,8 @@
--- A law for each end: an operand that is no number, a sum that fits or is saturated, a difference that fits or is saturated, a comparison.
+-- A law for each end: an operand that is no number, two intervals, a sum that fits or is saturated, a difference that fits or is saturated, a comparison.
 use native.Mathlib.Omega.{arith}
 use borrow.Author.Needs.{needs}
 use mathlib.Core.Path.{sym, _∙_}
-use Rattle.machine.proofs.StepLaws.{operate-left, operate-right, sum-fits, sum-over, difference-fits, difference-under, less-is}
+use Rattle.machine.proofs.StepLaws.{operate-left, operate-right, operate-intervals, sum-fits, sum-over, difference-fits, difference-under, less-is}
 use Rattle.machine.proofs.steps.operate.Statement.{statement}
 use Rattle.machine.proofs.steps.operate.Tie as tie
 
@@ -27,14 +27,33 @@ returns-2 c =
     operate-right _ _ _ _ _ (sym (at-sort .sort .ensures) ∙ c .before .before .before .if1 .left)
     (λ e. c .before .if2 .taken (c .before .before .sort2 .ensures ∙ e)) (c .stop2 .ensures)
 
+element-copy-out-intervals : tie.Need-element-copy-out-intervals
+element-copy-out-intervals c = search needs
+
+intervals-requires : tie.Need-intervals-requires
+intervals-requires c κs = search needs
+
+operate-intervals-requires : tie.Need-operate-intervals-requires
+operate-intervals-requires c κs = search needs
+
+returns-3 : tie.Need-returns-3
+returns-3 c =
+    let at-intervals = c .before .before in
+    let at-if2 = at-intervals .before .before in
+    let at-sort2 = at-if2 .before in
+    let at-if1 = at-sort2 .before in
+    let at-sort = at-if1 .before in
+    operate-intervals _ _ _ _ _ (sym (at-sort .sort .ensures) ∙ at-if1 .if1 .left) (sym (at-sort2 .sort2 .ensures) ∙ at-if2 .if2 .left)
+    (at-intervals .intervals .ensures) (c .before .if3 .taken) (c .operate-intervals .ensures)
+
 payload-requires : tie.Need-payload-requires
 payload-requires c κs = search needs
 
 payload-requires-2 : tie.Need-payload-requires-2
 payload-requires-2 c κs = search needs
 
-sub-if4 : tie.Need-sub-if4
-sub-if4 c = search needs
+sub-if5 : tie.Need-sub-if5
+sub-if5 c = search needs
 
 add-number : tie.Need-add-number
 add-number c = search needs
@@ -42,75 +61,83 @@ add-number c = search needs
 number-requires : tie.Need-number-requires
 number-requires c κs = search needs
 
-returns-3 : tie.Need-returns-3
-returns-3 c =
+returns-4 : tie.Need-returns-4
+returns-4 c =
     let at-payload = c .before .before .before .before in
-    let at-if2 = at-payload .before in
+    let at-if3 = at-payload .before in
+    let at-intervals = at-if3 .before in
+    let at-if2 = at-intervals .before .before in
     let at-sort2 = at-if2 .before in
     let at-if1 = at-sort2 .before in
     let at-sort = at-if1 .before in
-    sum-fits _ _ _ _ _ (sym (at-sort .sort .ensures) ∙ at-if1 .if1 .left) (sym (at-sort2 .sort2 .ensures) ∙ at-if2 .if2 .left) (at-payload .payload .ensures)
-    (c .before .before .before .payload2 .ensures) (c .before .before .if3 .taken) (omega (arith, c .before .if4 .taken))
+    sum-fits _ _ _ _ _ (sym (at-sort .sort .ensures) ∙ at-if1 .if1 .left) (sym (at-sort2 .sort2 .ensures) ∙ at-if2 .if2 .left) (at-intervals .intervals .ensures) (at-if3 .if3 .left) (at-payload .payload .ensures)
+    (c .before .before .before .payload2 .ensures) (c .before .before .if4 .taken) (omega (arith, c .before .if5 .taken))
     (omega (arith, at-payload .payload .ensures)) (c .number .ensures)
 
 saturate-requires : tie.Need-saturate-requires
 saturate-requires c κs = search needs
 
-returns-4 : tie.Need-returns-4
-returns-4 c =
+returns-5 : tie.Need-returns-5
+returns-5 c =
     let at-payload2 = c .before .before .before .before in
     let at-payload = at-payload2 .before in
-    let at-if2 = at-payload .before in
+    let at-if3 = at-payload .before in
+    let at-intervals = at-if3 .before in
+    let at-if2 = at-intervals .before .before in
     let at-sort2 = at-if2 .before in
     let at-if1 = at-sort2 .before in
     let at-sort = at-if1 .before in
-    sum-over _ _ _ _ _ (sym (at-sort .sort .ensures) ∙ at-if1 .if1 .left) (sym (at-sort2 .sort2 .ensures) ∙ at-if2 .if2 .left) (at-payload .payload .ensures)
-    (at-payload2 .payload2 .ensures) (c .before .before .before .if3 .taken) (c .before .before .if4 .left) (omega (arith, at-payload .payload .ensures))
+    sum-over _ _ _ _ _ (sym (at-sort .sort .ensures) ∙ at-if1 .if1 .left) (sym (at-sort2 .sort2 .ensures) ∙ at-if2 .if2 .left) (at-intervals .intervals .ensures) (at-if3 .if3 .left) (at-payload .payload .ensures)
+    (at-payload2 .payload2 .ensures) (c .before .before .before .if4 .taken) (c .before .before .if5 .left) (omega (arith, at-payload .payload .ensures))
     (c .saturate .ensures .0) (c .saturate .ensures .1)
 
 number-requires-2 : tie.Need-number-requires-2
 number-requires-2 c κs = search needs
 
-returns-5 : tie.Need-returns-5
-returns-5 c =
+returns-6 : tie.Need-returns-6
+returns-6 c =
     let at-payload2 = c .before .before .before .before in
     let at-payload = at-payload2 .before in
-    let at-if2 = at-payload .before in
+    let at-if3 = at-payload .before in
+    let at-intervals = at-if3 .before in
+    let at-if2 = at-intervals .before .before in
     let at-sort2 = at-if2 .before in
     let at-if1 = at-sort2 .before in
     let at-sort = at-if1 .before in
-    difference-fits _ _ _ _ _ (sym (at-sort .sort .ensures) ∙ at-if1 .if1 .left) (sym (at-sort2 .sort2 .ensures) ∙ at-if2 .if2 .left)
-    (at-payload .payload .ensures) (at-payload2 .payload2 .ensures) (c .before .before .before .if3 .left) (c .before .before .if5 .taken)
-    (c .before .if6 .taken) (c .number2 .ensures)
+    difference-fits _ _ _ _ _ (sym (at-sort .sort .ensures) ∙ at-if1 .if1 .left) (sym (at-sort2 .sort2 .ensures) ∙ at-if2 .if2 .left) (at-intervals .intervals .ensures) (at-if3 .if3 .left) (at-payload .payload .ensures) (at-payload2 .payload2 .ensures) (c .before .before .before .if4 .left) (c .before .before .if6 .taken)
+    (c .before .if7 .taken) (c .number2 .ensures)
 
 saturate-requires-2 : tie.Need-saturate-requires-2
 saturate-requires-2 c κs = search needs
 
-returns-6 : tie.Need-returns-6
-returns-6 c =
-    let at-if3 = c .before .before .before .before in
-    let at-payload2 = at-if3 .before in
+returns-7 : tie.Need-returns-7
+returns-7 c =
+    let at-if4 = c .before .before .before .before in
+    let at-payload2 = at-if4 .before in
     let at-payload = at-payload2 .before in
-    let at-if2 = at-payload .before in
+    let at-if3 = at-payload .before in
+    let at-intervals = at-if3 .before in
+    let at-if2 = at-intervals .before .before in
     let at-sort2 = at-if2 .before in
     let at-if1 = at-sort2 .before in
     let at-sort = at-if1 .before in
-    difference-under _ _ _ _ _ (sym (at-sort .sort .ensures) ∙ at-if1 .if1 .left) (sym (at-sort2 .sort2 .ensures) ∙ at-if2 .if2 .left)
-    (at-payload .payload .ensures) (at-payload2 .payload2 .ensures) (at-if3 .if3 .left) (c .before .before .before .if5 .taken) (c .before .before .if6 .left)
+    difference-under _ _ _ _ _ (sym (at-sort .sort .ensures) ∙ at-if1 .if1 .left) (sym (at-sort2 .sort2 .ensures) ∙ at-if2 .if2 .left) (at-intervals .intervals .ensures) (at-if3 .if3 .left) (at-payload .payload .ensures) (at-payload2 .payload2 .ensures) (at-if4 .if4 .left) (c .before .before .before .if6 .taken) (c .before .before .if7 .left)
     (c .saturate2 .ensures .0) (c .saturate2 .ensures .1)
 
 boolean-requires : tie.Need-boolean-requires
 boolean-requires c κs = search needs
 
-returns-7 : tie.Need-returns-7
-returns-7 c =
+returns-8 : tie.Need-returns-8
+returns-8 c =
     let at-payload = c .before .before .before .before in
-    let at-if2 = at-payload .before in
+    let at-if3 = at-payload .before in
+    let at-intervals = at-if3 .before in
+    let at-if2 = at-intervals .before .before in
     let at-sort2 = at-if2 .before in
     let at-if1 = at-sort2 .before in
     let at-sort = at-if1 .before in
-    less-is _ _ _ _ _ (sym (at-sort .sort .ensures) ∙ at-if1 .if1 .left) (sym (at-sort2 .sort2 .ensures) ∙ at-if2 .if2 .left) (at-payload .payload .ensures)
-    (c .before .before .before .payload2 .ensures) (c .before .before .if3 .left) (c .before .if5 .left) (c .boolean .ensures)
+    less-is _ _ _ _ _ (sym (at-sort .sort .ensures) ∙ at-if1 .if1 .left) (sym (at-sort2 .sort2 .ensures) ∙ at-if2 .if2 .left) (at-intervals .intervals .ensures) (at-if3 .if3 .left) (at-payload .payload .ensures)
+    (c .before .before .before .payload2 .ensures) (c .before .before .if4 .left) (c .before .if6 .left) (c .boolean .ensures)
 
 pub operate-spec : {M : Type 1} → statement M
 operate-spec =
@@ -122,17 +149,21 @@ operate-spec =
     sort-requires-2
     stop-requires-2
     returns-2
+    element-copy-out-intervals
+    intervals-requires
+    operate-intervals-requires
+    returns-3
     payload-requires
     payload-requires-2
-    sub-if4
+    sub-if5
     add-number
     number-requires
-    returns-3
-    saturate-requires
     returns-4
-    number-requires-2
+    saturate-requires
     returns-5
-    saturate-requires-2
+    number-requires-2
     returns-6
+    saturate-requires-2
+    returns-7
     boolean-requires
-    returns-7)
+    returns-8)

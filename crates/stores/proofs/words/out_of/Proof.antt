@@ -48,8 +48,12 @@ unfolding outBy
 returns-8 c = out-by _ (c .before .sort .ensures) (c .before .before .payload .ensures) refl 21 (c .match .keys8)
 
 returns-9 : tie.Need-returns-9
-returns-9 c = let r = c .match .rest in out-other _ (c .before .sort .ensures) (c .before .before .payload .ensures) (r .0 .0 .0 .0 .0 .0 .0 .1)
-    (r .0 .0 .0 .0 .0 .0 .1) (r .0 .0 .0 .0 .0 .1) (r .0 .0 .0 .0 .1) (r .0 .0 .0 .1) (r .0 .0 .1) (r .0 .1) (r .1)
+unfolding outBy
+returns-9 c = out-by _ (c .before .sort .ensures) (c .before .before .payload .ensures) refl 22 (c .match .keys9)
+
+returns-10 : tie.Need-returns-10
+returns-10 c = let r = c .match .rest in out-other _ (c .before .sort .ensures) (c .before .before .payload .ensures) (r .0 .0 .0 .0 .0 .0 .0 .0 .1)
+    (r .0 .0 .0 .0 .0 .0 .0 .1) (r .0 .0 .0 .0 .0 .0 .1) (r .0 .0 .0 .0 .0 .1) (r .0 .0 .0 .0 .1) (r .0 .0 .0 .1) (r .0 .0 .1) (r .0 .1) (r .1)
 
 pub out-of-spec : {M : Type 1} → statement M
 out-of-spec =
@@ -66,4 +70,5 @@ out-of-spec =
     returns-6
     returns-7
     returns-8
-    returns-9)
+    returns-9
+    returns-10)

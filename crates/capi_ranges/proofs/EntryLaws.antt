@@ -1,0 +1,64 @@
+-- What the entry for a run over ranges leaves, from the promises of the functions that it calls.
+use mathlib.Core.Bool.{cond}
+use mathlib.Core.List.{List, [], _∷_, _++_}
+use mathlib.Core.Path.{_≡_, sym, ap, _∙_}
+use Prim.Native.Nat.{ℕ, _+_, _*_, _<_, _≤_}
+use lib.ListN.{length, drop}
+use borrow.Author.Tests.{lt-ltb, le-ltb}
+use Rattle.semantics.specs.Runs.{Request, Buffers, ground-bool, ground-num, ended, stopped}
+use Rattle.intervals.specs.Intervals.{interval}
+use Rattle.intervals.specs.Runs.{rangeRun}
+use Rattle.intervals.specs.Theorems.{range-few, range-uncounted}
+use Rattle.interp.specs.Answers.{countsModel, buffersOf}
+use Rattle.interp.specs.declared.answer.Made.{Made}
+use Rattle.numbers.specs.Codes.{CodeIs}
+use Rattle.numbers.specs.declared.Code.{Code}
+use Rattle.ranges.specs.Answers.{truthOf, outcomeModel, rangeModel, afterRange}
+use Rattle.ranges.specs.declared.answer.Truth.{Truth}
+use Rattle.ranges.specs.declared.answer.RangeRun.{RangeRun}
+use Rattle.ranges.specs.declared.answer.RangeRun.the-variants.{Refused, Ran}
+use Rattle.replies.specs.Replies as replies
+use Rattle.replies.specs.Replies.{leftAll}
+use Rattle.replies.specs.Internal.{replyOf, withCounts}
+use Rattle.replies.specs.Laws.{in-place}
+use Rattle.replies.specs.declared.Reply.{Reply}
+use Rattle.capi_ranges.specs.Entries.{truthNumber, rangeFinished, rangeReply, rangeLeft, rangeCall}
+use Rattle.capi_ranges.specs.Internal.{Uncounted, Tellable}
+
+-- ---- the numbers of an outcome, of which the last is 0
+module _ (m : Made) (h : Uncounted m) where
+  uncounted : (status c p k v : ℕ) → withCounts status c p k v m
+      ≡ record { status = status; numbers = c ∷ p ∷ k ∷ v ∷ m .calls ∷ m .cells ∷ m .posts ∷ 0 ∷ [] }
+  uncounted status c p k v = λ i. record { status = status; numbers = c ∷ p ∷ k ∷ v ∷ m .calls ∷ m .cells ∷ m .posts ∷ h .none-saturated i ∷ [] }
+
+  pub stopped-as : {r : replies.Reply} {x : Code} (cause term : ℕ) → r ≡ withCounts 1 (x .cause) (x .place) 0 0 m → CodeIs cause term x
+      → r ≡ rangeFinished (stopped cause term) (countsModel m)
+  stopped-as cause term e k = e ∙ (λ i. withCounts 1 (k .cause-is i) (k .place-is i) 0 0 m) ∙ uncounted 1 cause term 0 0
+
+  pub ended-truth : {r : replies.Reply} (t : Truth) {n : ℕ} → n ≡ truthNumber (truthOf t) → r ≡ withCounts 0 0 0 0 n m
+      → r ≡ rangeFinished (ended (ground-bool (truthOf t))) (countsModel m)
+  ended-truth t p e = e ∙ (λ i. withCounts 0 0 0 0 (p i) m) ∙ uncounted 0 0 0 0 (truthNumber (truthOf t))
+
+  pub ended-range : {r : replies.Reply} (lowest highest : ℕ) → r ≡ withCounts 0 0 0 1 (lowest * 65536 + highest) m
+      → r ≡ rangeFinished (ended (ground-num (interval lowest highest))) (countsModel m)
+  ended-range lowest highest e = e ∙ uncounted 0 0 0 1 (lowest * 65536 + highest)
+
+-- ---- the entry
+module _ (s ps : List ℕ) (q : Request) (b : Buffers) where
+  pub away : (answer : List ℕ) → length answer < 8 → leftAll 3 answer b ≡ rangeCall answer b (rangeRun s ps q b)
+  away answer h = λ i. cond (sym (lt-ltb (length answer) 8 h) i) (leftAll 3 answer b) (rangeLeft answer (rangeRun s ps q b))
+
+  pub tellable : (r : RangeRun) → rangeModel r ≡ rangeRun s ps q b .answer → Tellable r
+  tellable (Refused f) e = tt
+  tellable (Ran o m) e = record {
+    few = range-few s ps q b (outcomeModel o) (countsModel m) (sym e);
+    none-saturated = range-uncounted s ps q b (outcomeModel o) (countsModel m) (sym e);
+  }
+
+  pub given : (answer : List ℕ) → 8 ≤ length answer → (r : RangeRun) {cells posts : List ℕ} → afterRange r cells posts ≡ rangeRun s ps q b
+      → {x : Reply} → replyOf x ≡ rangeReply (rangeModel r) → {status : ℕ} {after : List ℕ} → (status ≡ x .status) × (after ≡ x .numbers ++ drop 8 answer)
+      → leftAll status after (buffersOf cells posts []) ≡ rangeCall answer b (rangeRun s ps q b)
+  given answer h r {cells} {posts} p e put =
+      (λ i. record { reply = in-place answer h e put i; buffers = buffersOf cells posts [] })
+      ∙ ap (rangeLeft answer) p
+      ∙ (λ i. cond (sym (le-ltb (length answer) 8 h) i) (leftAll 3 answer b) (rangeLeft answer (rangeRun s ps q b)))

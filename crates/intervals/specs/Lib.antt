@@ -1,0 +1,10 @@
+pub mod Intervals
+pub mod Pairs
+pub mod Runs
+pub mod Choosing
+pub mod Cases
+pub mod ChoosingCases
+pub mod Claims
+pub mod Laws
+pub mod Theorems
+pub mod SheetTheorems

@@ -1,0 +1,80 @@
+-- n is the count below t, which a number term adds to (counted-yes). The terms that are left, count - t, fall.
+use native.Mathlib.Omega.{arith}
+use mathlib.Core.Logic.{⊎-elim}
+use mathlib.Core.Path.{_≡_, refl, sym, _∙_}
+use Prim.Native.Nat.{_≤_, _-_}
+use Rattle.program.specs.Layout.{terms as termsOf}
+use Rattle.intervals.specs.Pairs.{numbersBelow}
+use Rattle.ranges.proofs.PairLaws.{counted-yes, counted-no, counted-all, counted-most}
+use Rattle.ranges.proofs.pairs.count_numbers.Statement.{statement}
+use Rattle.ranges.proofs.pairs.count_numbers.Tie as tie
+
+abbrev Inv-loop : tie.InvT-loop
+Inv-loop s c count n₀ t₀ n t = (t ≤ count) × (n ≡ numbersBelow s t)
+
+abbrev μ-loop : tie.MeasureT-loop
+μ-loop s c count n₀ t₀ n t = count - t
+
+loop-holds : tie.Need-loop-holds Inv-loop μ-loop
+loop-holds c = (omega arith, refl)
+
+is-number-requires : tie.Need-is-number-requires Inv-loop μ-loop
+is-number-requires c κs =
+    let start = c .before .before .before in
+    record { well-formed = start .pre .0; counts-are = start .pre .1; inside = omega (arith, c .loop-test .taken, start .pre .1 .terms-are) }
+
+add-n : tie.Need-add-n Inv-loop μ-loop
+add-n c =
+    let at-loop = c .before .before .before in
+    let start = at-loop .before .before in
+    omega (
+      arith,
+      at-loop .loop .inv .1,
+      counted-most (start .args .s .now) (at-loop .loop .t),
+      c .before .before .loop-test .taken,
+      start .pre .1 .terms-are,
+      start .pre .0 .terms-most,
+    )
+
+add-t : tie.Need-add-t Inv-loop μ-loop
+add-t c =
+    let start = c .before .before .before .before .before in
+    omega (arith, start .pre .1 .terms-are, start .pre .0 .terms-most)
+
+loop-less : tie.Need-loop-less Inv-loop μ-loop
+loop-less c =
+    let start = c .before .before .before .before .before in
+    omega (arith, start .pre .1 .terms-are, start .pre .0 .terms-most)
+
+loop-again : tie.Need-loop-again Inv-loop μ-loop
+loop-again c =
+    let at-is-number = c .before in
+    let at-loop = at-is-number .before .before in
+    let start = at-loop .before .before in (
+      omega arith,
+      ⊎-elim (λ w. counted-yes (start .args .s .now) (at-loop .loop .t) (at-loop .loop .inv .1)
+          (sym (w .0 .taken) ∙ at-is-number .is-number .ensures) (w .1))
+          (λ w. counted-no (start .args .s .now) (at-loop .loop .t) (at-loop .loop .inv .1) (sym (w .0 .left) ∙ at-is-number .is-number .ensures) (w .1))
+          (c .if1 .came),
+    )
+
+returns : tie.Need-returns Inv-loop μ-loop
+returns c =
+    let at-loop = c .before in
+    let start = at-loop .before .before in
+    counted-all (start .args .s .now) (at-loop .loop .t) (termsOf (start .args .s .now)) (at-loop .loop .inv .1)
+    (omega (arith, at-loop .loop .inv .0, c .loop-test .left, start .pre .1 .terms-are))
+
+pub count-numbers-spec : {M : Type 1} → statement M
+count-numbers-spec =
+    tie.close
+    (tie.spec
+    Inv-loop
+    μ-loop
+    loop-holds
+    is-number-requires
+    add-n
+    add-t
+    loop-less
+    loop-again
+    returns)

@@ -1,0 +1,166 @@
+// An eager run whose number terms are known within limits, on any bytes, pairs, start stack, limits and buffers.
+ghost use mathlib.Core.Bool.{true};
+ghost use mathlib.Core.List.{[]};
+ghost use mathlib.Core.Path.{_≡_};
+ghost use lib.ListN.{length};
+ghost use Rattle.semantics.specs.Runs.{eager as eagerRunner};
+ghost use Rattle.intervals.specs.Pairs.{pairsOk};
+ghost use Rattle.intervals.specs.Runs.{rangeRun};
+ghost use Rattle.refinement.specs.Claims.{decidedBy, rangeOutcomeOf};
+ghost use Rattle.interp.specs.Answers.{requestOf, buffersOf};
+ghost use Rattle.interp.specs.Internal.{Cleared};
+ghost use Rattle.ranges.specs.Answers.{truthOf, outcomeModel, afterRange};
+
+pub mod answer;
+pub mod pairs;
+
+use answer::Outcome;
+use answer::RangeRun;
+use answer::Refusal;
+use answer::Truth;
+use answer::Value;
+use interp::admission::admit;
+use interp::answer::Admission;
+use interp::evaluation::evaluate_words;
+use interp::start::start_access;
+use machine::table::decode_terms;
+use pairs::lay_pairs;
+use pairs::pairs_ok;
+use program::limits::TERM_PLACES;
+use program::records::Counts;
+use stores::access::interval_mode;
+use stores::state::Out;
+use stores::state::Stop;
+use stores::words::env;
+use stores::words::out_of;
+use stores::words::payload;
+
+// What a boolean's payload says.
+fn truth_of(payload: u16) -> Truth
+    ensures { λ r. ⌜ truthOf r ≡ decidedBy payload ⌝ }
+{
+    if payload == 2 {
+        return Truth::Undecided;
+    }
+    if 0 < payload {
+        return Truth::Yes;
+    }
+    Truth::No
+}
+
+// A root that gives a function is stuck.
+fn outcome_of(root: u16, word: u64) -> Outcome
+    ensures { λ r. ⌜ outcomeModel r ≡ rangeOutcomeOf root word ⌝ }
+{
+    let out = out_of(word);
+    match out {
+        Out::Stop(x) => Outcome::Stop(x),
+        Out::Val(v) => match v {
+            stores::state::Value::Bool(b) => { Outcome::End(Value::Truth(truth_of(payload(word)))) }
+            stores::state::Value::Num(n) => Outcome::End(Value::Interval {
+                lowest: payload(word),
+                highest: env(word),
+            }),
+            stores::state::Value::Fun { body, env } => Outcome::Stop(Stop::Stuck(root)),
+        },
+    }
+}
+
+// Decodes the terms, gives the number terms their pairs, evaluates the root and tells the outcome. Neither a frame store nor a record is looked at.
+fn evaluate(
+    s: &[u8],
+    c: Counts,
+    pairs: &[u16],
+    start: &[u32],
+    calls: u32,
+    depth: u32,
+    enforce: bool,
+    cells: &mut [u8],
+    posts: &mut [u32],
+) -> RangeRun
+    requires { ⌜ Cleared (now s) (now start) (length (now cells)) (length (now posts)) true calls depth c ⌝ }
+    requires { ⌜ pairsOk (now s) (now pairs) ≡ true ⌝ }
+    ensures { λ r. ⌜ afterRange r (now (cells .exit)) (now (posts .exit))
+        ≡ rangeRun (now (s .entry)) (now (pairs .entry)) (requestOf eagerRunner enforce (now (start .entry)) calls depth)
+        (buffersOf (now (cells .entry)) (now (posts .entry)) []) ⌝ }
+{
+    let root = c.terms - 1;
+    let mut terms = [0; TERM_PLACES];
+    decode_terms(s, c, &mut terms);
+    lay_pairs(s, c, pairs, &mut terms);
+    let acc = start_access(s, start);
+    let mut frames = [0; 1];
+    let mut none = [0; 0];
+    let t = evaluate_words(
+        &terms,
+        root,
+        cells,
+        posts,
+        &mut frames,
+        &mut none,
+        interval_mode(enforce),
+        acc,
+        calls,
+        depth,
+    );
+    let made = t.made;
+    RangeRun::Ran {
+        outcome: outcome_of(root, t.word),
+        made: made,
+    }
+}
+
+// 35, then the run.
+fn run_admitted(
+    s: &[u8],
+    c: Counts,
+    pairs: &[u16],
+    start: &[u32],
+    calls: u32,
+    depth: u32,
+    enforce: bool,
+    cells: &mut [u8],
+    posts: &mut [u32],
+) -> RangeRun
+    requires { ⌜ Cleared (now s) (now start) (length (now cells)) (length (now posts)) true calls depth c ⌝ }
+    ensures { λ r. ⌜ afterRange r (now (cells .exit)) (now (posts .exit))
+        ≡ rangeRun (now (s .entry)) (now (pairs .entry)) (requestOf eagerRunner enforce (now (start .entry)) calls depth)
+        (buffersOf (now (cells .entry)) (now (posts .entry)) []) ⌝ }
+{
+    if !pairs_ok(s, c, pairs) {
+        return RangeRun::Refused(Refusal::Pairs);
+    }
+    evaluate(s, c, pairs, start, calls, depth, enforce, cells, posts)
+}
+
+// A run over ranges: a pair of numbers, lowest and highest, for each number term of a version 1 sheet, in term order.
+pub fn run(
+    sheet: &[u8],
+    pairs: &[u16],
+    start: &[u32],
+    calls: u32,
+    depth: u32,
+    enforce: bool,
+    cells: &mut [u8],
+    posts: &mut [u32],
+) -> RangeRun
+    ensures { λ r. ⌜ afterRange r (now (cells .exit)) (now (posts .exit))
+        ≡ rangeRun (now (sheet .entry)) (now (pairs .entry)) (requestOf eagerRunner enforce (now (start .entry)) calls depth)
+        (buffersOf (now (cells .entry)) (now (posts .entry)) []) ⌝ }
+{
+    let a = admit(sheet, start, cells.len(), posts.len(), true, calls, depth);
+    match a {
+        Admission::Refused(f) => RangeRun::Refused(Refusal::Run(f)),
+        Admission::Admitted(c) => run_admitted(
+            sheet,
+            c,
+            pairs,
+            start,
+            calls,
+            depth,
+            enforce,
+            cells,
+            posts,
+        ),
+    }
+}

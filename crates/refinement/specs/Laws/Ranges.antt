@@ -1,0 +1,137 @@
+-- How words stand for ranges and for truth values that may be undecided: a word has the lowest number as its payload and the highest in its upper half, and
+-- the payload 2 is undecided.
+use mathlib.Core.Bool.{Bool, true, false, cond}
+use mathlib.Core.List.{List}
+use mathlib.Core.Option.{Option, none, some}
+use mathlib.Core.Path.{_≡_, refl, sym, _∙_, subst}
+use Prim.Native.Nat.{ℕ, _+_, _-_, _<_, min}
+use native.Mathlib.Omega.{arith}
+use lib.Dec.{leb, ltb}
+use lib.ListN.{getD}
+use Rattle.program.specs.Terms.{Op}
+use Rattle.program.specs.declared.records.Counts.{Counts}
+use Rattle.semantics.specs.Runs.{ended, ground-bool, stopped}
+use Rattle.intervals.specs.Intervals.{Interval, sumOf, differenceOf, lessOf, rangeEntry, intervals}
+use Rattle.intervals.specs.Pairs.{pairOf, ranged}
+use Rattle.stores.specs.declared.state.Stop.{Stop}
+use Rattle.stores.specs.declared.state.Stop.the-variants.{Check, Stuck, OpenCalls, Calls, Cells, Posts, Undecided}
+use Rattle.stores.specs.Words.{pick, booleanWord, intervalWord, undecidedWord, payloadOf, envOf, outBy}
+use Rattle.stores.specs.Access.{intervalMode}
+use Rattle.stores.specs.Stops.{stopCause, stopPlace}
+use Rattle.machine.specs.Table.{wordSmall, wordFirst, wordSecond}
+use Rattle.machine.specs.Steps.{resultOf, saturatesOf, lessOf as lessWord, intervalResult, numbersResult, entryOf, listedAs}
+use Rattle.refinement.specs.Claims.{decidedBy, rangeOutcomeBy, rangeOutcomeOf, IntervalTable}
+use Rattle.refinement.specs.Laws.Codings.{Word, kindNumber, numbersSaturate, Coding, Telling}
+use Rattle.refinement.specs.Laws.Trees.{Tabled}
+
+pub record RangeNumber (w : ℕ) (n : Interval) : Type 0 where
+  pub word : Word 1 w
+  pub lowest-is : payloadOf w ≡ n .low
+  pub highest-is : envOf w ≡ n .high
+
+pub record RangeTruth (w : ℕ) (b : Option Bool) : Type 0 where
+  pub word : Word 0 w
+  pub decided-is : decidedBy (payloadOf w) ≡ b
+
+pub number-range : (l h : ℕ) (n : Interval) → l < 65536 → h < 65536 → l ≡ n .low → h ≡ n .high → RangeNumber (intervalWord l h) n
+number-range l h n p q e f =
+    let word : Word 1 (intervalWord l h) = record { sort-is = omega arith; small = omega arith } in
+    let low : payloadOf (intervalWord l h) ≡ l = omega arith in
+    let high : envOf (intervalWord l h) ≡ h = omega arith in
+    record { word = word; lowest-is = low ∙ e; highest-is = high ∙ f }
+
+pub truth-range : (b : Bool) → RangeTruth (booleanWord b) (some b)
+truth-range true = record { word = record { sort-is = refl; small = omega arith }; decided-is = refl }
+truth-range false = record { word = record { sort-is = refl; small = omega arith }; decided-is = refl }
+
+-- what two tests come to
+tests-range : (p q : Bool) → RangeTruth (pick p (booleanWord true) (pick q (booleanWord false) undecidedWord)) (cond p (some true) (cond q (some false) none))
+tests-range true q = truth-range true
+tests-range false true = truth-range false
+tests-range false false = record { word = record { sort-is = refl; small = omega arith }; decided-is = refl }
+
+sum-same : (a b m n : ℕ) → a ≡ m → b ≡ n → min (a + b) 65535 ≡ min 65535 (m + n)
+sum-same a b m n p q = omega arith
+
+module _ (mode : ℕ) (ranges : intervalMode mode ≡ true) where
+  result-range : (k v w : ℕ) → numbersResult mode k v w ≡ intervalResult k (payloadOf v) (envOf v) (payloadOf w) (envOf w)
+  unfolding numbersResult
+  result-range k v w = λ i. pick (ranges i) (intervalResult k (payloadOf v) (envOf v) (payloadOf w) (envOf w)) (resultOf k (payloadOf v) (payloadOf w))
+
+  module _ {v w : ℕ} {m n : Interval} (p : RangeNumber v m) (q : RangeNumber w n) where
+    pub sum-range : RangeNumber (numbersResult mode 11 v w) (sumOf m n)
+    unfolding intervalResult
+    sum-range =
+        subst (λ r. RangeNumber r (sumOf m n)) (sym (result-range 11 v w))
+        (number-range (min (payloadOf v + payloadOf w) 65535) (min (envOf v + envOf w) 65535) (sumOf m n) (omega arith) (omega arith)
+        (sum-same (payloadOf v) (payloadOf w) (m .low) (n .low) (p .lowest-is) (q .lowest-is))
+        (sum-same (envOf v) (envOf w) (m .high) (n .high) (p .highest-is) (q .highest-is)))
+
+    pub difference-range : RangeNumber (numbersResult mode 12 v w) (differenceOf m n)
+    unfolding intervalResult
+    difference-range =
+        subst (λ r. RangeNumber r (differenceOf m n)) (sym (result-range 12 v w))
+        (number-range (payloadOf v - envOf w) (envOf v - payloadOf w) (differenceOf m n) (omega arith) (omega arith)
+        (λ i. p .lowest-is i - q .highest-is i) (λ i. p .highest-is i - q .lowest-is i))
+
+    pub less-range : RangeTruth (numbersResult mode 13 v w) (lessOf m n)
+    unfolding intervalResult lessWord
+    less-range =
+        subst (λ r. RangeTruth r (lessOf m n)) (sym (result-range 13 v w))
+        (subst (RangeTruth (lessWord (payloadOf v) (envOf v) (payloadOf w) (envOf w)))
+        (λ i. cond (ltb (p .highest-is i) (q .lowest-is i)) (some true) (cond (leb (q .highest-is i) (p .lowest-is i)) (some false) none))
+        (tests-range (ltb (envOf v) (payloadOf w)) (leb (envOf w) (payloadOf v))))
+
+  pub counted-range : (op : Op) (v w : ℕ) → numbersSaturate mode (kindNumber op) v w ≡ false
+  counted-range op v w = λ i. pick (ranges i) false (saturatesOf (kindNumber op) (payloadOf v) (payloadOf w))
+
+  pub entry-range : (x : ℕ) {w : ℕ} {n : Interval} → RangeNumber w n → listedAs mode x w ≡ rangeEntry n
+  unfolding listedAs
+  entry-range x {w} h = λ i. pick (ranges i) (entryOf (h .lowest-is i) (h .highest-is i)) (entryOf (wordSmall x) (payloadOf w))
+
+  unfoldable pub rangeCoding : Coding intervals mode
+  rangeCoding = record {
+    Number = RangeNumber;
+    Truth = RangeTruth;
+    number-word = λ h. h .word;
+    truth-word = λ h. h .word;
+    truth-coded = truth-range;
+    decide-coded = λ h. h .decided-is;
+    sum-coded = λ p q. sum-range p q;
+    difference-coded = λ p q. difference-range p q;
+    less-coded = λ p q. less-range p q;
+    saturates-coded = λ op {v} {w} p q. counted-range op v w;
+    entry-coded = λ x h. entry-range x h;
+  }
+
+  -- ---- what a word tells
+  stop-told : (r : ℕ) (x : Stop) (e : ℕ) → rangeOutcomeBy r (stopCause x) (stopPlace x) e ≡ stopped (stopCause x) (stopPlace x)
+  unfolding rangeOutcomeBy outBy
+  stop-told r (Check t) e = refl
+  stop-told r (Stuck t) e = refl
+  stop-told r (OpenCalls t) e = refl
+  stop-told r (Calls t) e = refl
+  stop-told r (Cells t) e = refl
+  stop-told r (Posts t) e = refl
+  stop-told r (Undecided t) e = refl
+
+  pub range-telling : Telling rangeCoding rangeOutcomeOf
+  unfolding rangeOutcomeBy outBy rangeCoding
+  range-telling = record {
+    tells-truth = λ r {w} h.
+        (λ i. rangeOutcomeBy r (h .word .sort-is i) (payloadOf w) (envOf w)) ∙ (λ i. ended (ground-bool (h .decided-is i)));
+    tells-number = λ r {w} {n} h. λ i. rangeOutcomeBy r (h .word .sort-is i) (h .lowest-is i) (h .highest-is i);
+    tells-function = λ r {w} h. λ i. rangeOutcomeBy r (h .sort-is i) (payloadOf w) (envOf w);
+    tells-stop = λ r x {w} p q. (λ i. rangeOutcomeBy r (p i) (q i) (envOf w)) ∙ stop-told r x (envOf w);
+  }
+
+  -- ---- the words with the pairs
+  pub range-tabled : {s : List ℕ} {c : Counts} {pairs table : List ℕ} → IntervalTable s c pairs table → Tabled (ranged s pairs) rangeCoding s c table
+  unfolding rangeCoding
+  range-tabled {s} {c} {pairs} {table} h = record {
+    others = h .others;
+    number-kind = h .kind-is;
+    number-coded = λ t l e.
+        number-range (wordFirst (getD table t 0)) (wordSecond (getD table t 0)) (pairOf s pairs t) (omega arith) (omega arith)
+        (h .lowest-is t l e) (h .highest-is t l e);
+  }
