@@ -1,6 +1,7 @@
-/* Sovzedal: rule sheets decoded, type-checked and run, with or without their checks; the smallest faulty piece of one that is refused; why a sheet needs a
- * privilege, and whether it names one; the lean form of a sheet; a block of registers for a controller that has sheets run; four lines on which jobs wait
- * to be run in turn; records of what runs decide, a unit's held against the office's; and runs over ranges, of numbers that are known within limits.
+/* Sovzedal: rule sheets decoded, type-checked and run, with or without their checks; the smallest faulty piece of one that is refused; the type and needs
+ * of a single term; why a sheet needs a privilege, and whether it names one; the lean form of a sheet; a block of registers for a controller that has
+ * sheets run; four lines on which jobs wait to be run in turn; records of what runs decide, a unit's held against the office's; and runs over ranges, of
+ * numbers that are known within limits.
  *
  * For x86-64. Link libsovzedal.a (README.md, "Embed it", has the command that writes it). Of the C library it needs memcpy and memset alone: no heap,
  * no system call, no global state, so that calls on buffers of their own may be made from several threads. A run recurses: SOVZEDAL_STACK bytes of
@@ -17,9 +18,10 @@
  * Every function returns
  *   SOVZEDAL_OK       0  the sheet is readable, or accepted, or the run ended; or the register was read or written; or the job was added; or the
  *                        privilege is explained, or not needed; or the lean sheet is written; or it is told whether the sheet names the privilege;
- *                        or the smallest faulty piece of a refused sheet is told, or that there is none; or two records were compared;
+ *                        or the smallest faulty piece of a refused sheet is told, or that there is none; or a term's type and needs are told; or two
+ *                        records were compared;
  *   SOVZEDAL_STOPPED  1  the run was stopped, for one of the causes 17 to 22, or 36 over ranges;
- *   SOVZEDAL_REFUSED  2  refused, for one of the causes 1 to 16 and 24 to 35, or 23 for an address: every buffer but `answer` is as it was (but
+ *   SOVZEDAL_REFUSED  2  refused, for one of the causes 1 to 16, 24 to 35 and 37, or 23 for an address: every buffer but `answer` is as it was (but
  *                        `lines` has given up a job that was served);
  *   SOVZEDAL_SHORT    3  `answer` or `chain` has fewer entries than are written, `block` is not of 16 bytes or `lines` not of 102 numbers, or `unit`
  *                        or `office` is longer than SOVZEDAL_MAX_RECORD bytes: nothing was done and nothing written anywhere;
@@ -44,6 +46,7 @@
  *   Entry 8 of a run that records is how many entries were recorded (RECORDED), 0 of a refused one; the first 8 are those of the run without a record.
  *   Of a smallest faulty piece entry 2 is the number of its fault, entry 3 the term, entry 4 how many terms there are in it, entry 5 where its record begins
  *   in the sheet and entry 6 how many bytes that has (FAULT, TERM, COUNT, OFFSET, BYTES); the others are zero, and all are where there is no piece.
+ *   Of a term entry 2 is its type, entry 3 the principal that it stands under and entry 7 its needs (TYPE, PRINCIPAL, NEEDS); the others are zero.
  *   Of two records that were compared entry 2 tells whether they fit, 1 or 0, and entry 3 a number of entries (FITS, ENTRIES); the others are zero.
  *   Of a run over ranges the value of entry 3 is a range, as in its list of posts, or 0, 1 or SOVZEDAL_UNDECIDED of a boolean; entry 7 is zero.
  *
@@ -68,7 +71,7 @@ extern "C" {
 /* The version of this interface, and the latest format that it reads: sheets of format 1 are read, too. Before version 2 of the interface, lists of posts
  * had entries of 16 bits; before 2.2, entry 7 of a run's answer was zero. */
 #define SOVZEDAL_VERSION_MAJOR 2
-#define SOVZEDAL_VERSION_MINOR 6
+#define SOVZEDAL_VERSION_MINOR 7
 #define SOVZEDAL_FORMAT 2
 
 /* What a function returns. */
@@ -84,7 +87,7 @@ enum {
 enum {
     SOVZEDAL_AT_CAUSE = 0,
     SOVZEDAL_AT_PLACE = 1,
-    SOVZEDAL_AT_TYPE = 2,        /* of the root, or of an end's value: SOVZEDAL_BOOLEAN or SOVZEDAL_NUMBER */
+    SOVZEDAL_AT_TYPE = 2,        /* of the root, or of an end's value: SOVZEDAL_BOOLEAN or SOVZEDAL_NUMBER; of a term, any type of the sheet */
     SOVZEDAL_AT_INTERRUPT = 2,   /* of a block: 1 if its interrupt is raised after the access, else 0 */
     SOVZEDAL_AT_NAMED = 2,       /* 1 if a privilege is named, else 0 */
     SOVZEDAL_AT_FITS = 2,        /* of two records: 1 if the unit's entries occur in the office's, else 0 */
@@ -93,6 +96,7 @@ enum {
     SOVZEDAL_AT_TERMS = 3,       /* of a readable or accepted sheet */
     SOVZEDAL_AT_LENGTH = 3,      /* of a chain, in terms, 0 if the privilege is not needed; of a lean sheet, in bytes */
     SOVZEDAL_AT_TERM = 3,        /* the lowest term that names a privilege, 0 if none does; or that of a smallest faulty piece */
+    SOVZEDAL_AT_PRINCIPAL = 3,   /* that a term stands under, 0 of the root */
     SOVZEDAL_AT_ENTRIES = 3,     /* of two records: how many are missing, or the first entry up to which they do not occur */
     SOVZEDAL_AT_CALLS = 4,       /* of a run */
     SOVZEDAL_AT_PRINCIPALS = 4,  /* of a readable sheet */
@@ -102,7 +106,7 @@ enum {
     SOVZEDAL_AT_OFFSET = 5,      /* of a smallest faulty piece: where its record begins in the sheet, in bytes; 0 if there is no piece */
     SOVZEDAL_AT_POSTS = 6,       /* of a run */
     SOVZEDAL_AT_BYTES = 6,       /* of a smallest faulty piece: how many bytes its record has: 8, or 0 if there is no piece */
-    SOVZEDAL_AT_NEEDS = 7,       /* of an accepted sheet */
+    SOVZEDAL_AT_NEEDS = 7,       /* of an accepted sheet, or of a term */
     SOVZEDAL_AT_HELD = 7,        /* of a run: its sums and differences that were held at a limit */
     SOVZEDAL_AT_LINE = 8,        /* of a job that was served */
     SOVZEDAL_AT_RECORDED = 8     /* of a run that records: how many entries */
@@ -122,7 +126,7 @@ enum {
  * refuse, 14 to 16 of a request to run one; 17 to 22 are stops; 23 is told of an address that a block does not have, 27 to 29 of a job that no line
  * takes, and 28 also of one whose turn comes when its part is no longer in the store; 30 is told of a privilege above 31; 32 is told of a sheet that has
  * no lean form, and 33 of a buffer that is too short for it; 34 is told of a record that is none; 35 is told of the pairs of a run over ranges, and 36
- * is a stop of such a run. */
+ * is a stop of such a run; 37 is told of a number that no term has. */
 enum {
     SOVZEDAL_CUT_SHORT = 1,
     SOVZEDAL_WRONG_TAG = 2,
@@ -159,7 +163,8 @@ enum {
     SOVZEDAL_NO_ROOM = 33,
     SOVZEDAL_RECORD = 34,
     SOVZEDAL_RANGES = 35,
-    SOVZEDAL_UNDECIDED_CONDITION = 36
+    SOVZEDAL_UNDECIDED_CONDITION = 36,
+    SOVZEDAL_NO_TERM = 37
 };
 
 enum {
@@ -235,7 +240,8 @@ static inline const char *sovzedal_cause_text(uint32_t cause)
         "guard",
         "no lean form", "no room",
         "record",
-        "ranges", "undecided condition"
+        "ranges", "undecided condition",
+        "no such term"
     };
     return cause < sizeof texts / sizeof texts[0] ? texts[cause] : "unknown";
 }
@@ -291,6 +297,20 @@ uint32_t sovzedal_typecheck(const uint8_t *sheet, size_t sheet_len,
  * Refusals: 1 to 8, then 31, as of sovzedal_decode. */
 uint32_t sovzedal_piece(const uint8_t *sheet, size_t sheet_len,
                         uint32_t *answer, size_t answer_len);
+
+/* The type and the least needs of one term of a sheet, accepted or not, where it stands: in the bindings and under the principal that it has in the sheet,
+ * whatever is faulty elsewhere, as of sovzedal_piece. Of an accepted sheet every term has them, and those of the root are what sovzedal_typecheck tells.
+ *   sheet, sheet_len    the sheet and its length in bytes; only read
+ *   term                the term's number, from 0; the root is the last
+ *   answer, answer_len  the list for the answer and its length in entries. Entry SOVZEDAL_AT_TYPE is the term's type, by its number in the sheet's table,
+ *                       entry SOVZEDAL_AT_NEEDS its needs and entry SOVZEDAL_AT_PRINCIPAL the principal of the nearest sign around it. There is none
+ *                       around the root, and 0 is told
+ * Each call decodes the sheet, looks for the term from the root on and judges it with all that is in it.
+ * Refusals, in this order: 1 to 8, then 31, as of sovzedal_decode; 37, of a number past the last term, with the place 0; 9 to 12 and 24 to 26 of a term that
+ * the rules refuse where it stands, with the place of the first fault in it, which is the term or one in it. 13 is not told: the root may be of any type. */
+uint32_t sovzedal_term(const uint8_t *sheet, size_t sheet_len,
+                       uint32_t term,
+                       uint32_t *answer, size_t answer_len);
 
 /* Why an accepted sheet needs a privilege: a chain of terms from the root, each a child of the one before and with the privilege among its own needs,
  * down to the cause. That is a check of the privilege, a post on a channel that it guards, or a call or letrec whose latent set holds it: the set of the

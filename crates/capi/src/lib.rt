@@ -14,6 +14,8 @@ ghost use Rattle.capi_names.specs.Entries.{namesReply};
 ghost use Rattle.capi_compare.specs.Entries.{compareCall};
 ghost use Rattle.capi_record.specs.Entries.{recordCall, leftRecord};
 ghost use Rattle.capi_piece.specs.Entries.{pieceReply};
+ghost use Rattle.subterms.specs.Judging.{judging};
+ghost use Rattle.capi_term.specs.Entries.{termReply};
 ghost use Rattle.intervals.specs.Runs.{rangeRun};
 ghost use Rattle.capi_ranges.specs.Entries.{rangeCall};
 ghost use Rattle.capi.specs.Blocks.{blockRead, leftBlock, blockWrite};
@@ -326,4 +328,12 @@ pub extern "C" fn sovzedal_piece(sheet: &[u8], answer: &mut [u32]) -> u32
     ensures { λ r. ⌜ left r (now (answer .exit)) ≡ replied (now (answer .entry)) (pieceReply (now (sheet .entry))) ⌝ }
 {
     capi_piece::piece(sheet, answer)
+}
+
+// The judgement of one term of a sheet, where it stands.
+#[no_mangle]
+pub extern "C" fn sovzedal_term(sheet: &[u8], term: u32, answer: &mut [u32]) -> u32
+    ensures { λ r. ⌜ left r (now (answer .exit)) ≡ replied (now (answer .entry)) (termReply (judging (now (sheet .entry)) term)) ⌝ }
+{
+    capi_term::term(sheet, term, answer)
 }

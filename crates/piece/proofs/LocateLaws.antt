@@ -23,10 +23,11 @@ use Rattle.rules.specs.declared.bindings.Bindings.{Bindings}
 use Rattle.checker.proofs.VerdictLaws.{root-ready}
 use Rattle.places.specs.Internal.{present, childAt}
 use Rattle.subterms.specs.Smallest.{subterms, Refused, smallestOf, Piece, told, ifReadable, pieceOf, recordLength, recordOf}
+use Rattle.subterms.specs.Laws.Subterms.{subtermsIn}
 use Rattle.subterms.specs.Theorems.{record-inside, place-most, length-most}
 use Rattle.subterms.specs.declared.answer.Piece.the-variants.{Smallest, NoPiece, Unreadable}
 use Rattle.piece.specs.Answers.{LocatedAs}
-use Rattle.piece.specs.Internal.{candidateModel, subtermsIn, Visitable, VisitedAs, pieceIn}
+use Rattle.piece.specs.Internal.{candidateModel, Visitable, VisitedAs, pieceIn}
 use Rattle.piece.specs.declared.Located.{Located}
 use Rattle.piece.specs.declared.candidates.Candidate.{Candidate}
 use Rattle.piece.specs.declared.candidates.Candidate.the-variants as candidate

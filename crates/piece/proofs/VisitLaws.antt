@@ -1,11 +1,11 @@
 -- What is found of a term from what is found of its children: the counts add up, and the smallest refused term is one of theirs or, where they have none, the
 -- term itself. Assumes nothing.
-use mathlib.Core.Bool.{Bool, true, false, cond}
+use mathlib.Core.Bool.{true, false}
 use mathlib.Core.List.{List, _∷_, _++_}
 use mathlib.Core.Logic.{⊎-elim}
 use mathlib.Core.Option.{Option, none, some, Option·none-ne-some}
 use mathlib.Core.Path.{_≡_, refl, sym, ap, _∙_, subst}
-use Prim.Native.Nat.{ℕ, suc, _+_, _<_, _≤_}
+use Prim.Native.Nat.{ℕ, _+_, _<_, _≤_}
 use native.Mathlib.Omega.{arith}
 use Rattle.program.specs.Limits.{maxTerms}
 use Rattle.program.specs.Layout.{Types, authority, typesOf}
@@ -23,9 +23,10 @@ use Rattle.places.specs.Internal.{placedAt, ReadyPlace, childrenOf, childrenAt,
 use Rattle.places.specs.declared.Place.{Place}
 use Rattle.places.specs.declared.Child.{Child}
 use Rattle.subterms.specs.Smallest.{subterms, Refused, refusedAs, smaller, refusedAt, smallestOf}
+use Rattle.subterms.specs.Laws.Subterms.{subtermsIn}
 use Rattle.subterms.specs.Laws.Order.{smaller-one, smaller-none, passed, smallest-append}
 use Rattle.subterms.specs.Laws.Pieces.{listed-count}
-use Rattle.piece.specs.Internal.{ownOf, orOwn, judgementOf, Judgeable, sizeIn, subtermsIn, VisitedAs, ConcludedFrom}
+use Rattle.piece.specs.Internal.{ownOf, orOwn, judgementOf, Judgeable, sizeIn, VisitedAs, ConcludedFrom}
 use Rattle.piece.specs.declared.candidates.Candidate.the-variants.{Nothing}
 use Rattle.piece.specs.declared.visit.Visited.{Visited}
 
@@ -116,20 +117,6 @@ module _ (T : Types) (A : ℕ → ℕ) where
 refused-own : (c : Term) (t n : ℕ) (j : Judgement) → numberOf c ≡ t → size c ≡ n → refusedAs c j ≡ ownOf t n j
 refused-own c t n (typed τ N) e f = refl
 refused-own c t n (fault cause at) e f = λ i. some (record { term = e i; count = f i; cause = cause; place = at })
-
--- ---- what falls: the number of a term that is there
-abbrev pub fuel : Child → ℕ
-fuel y = cond (y .present) (suc (y .place .term)) 0
-
-pub child-falls : {s : List ℕ} {c : Counts} (x y : Child) {due : Option Placed} → x .present ≡ true → Reached s c (x .place .term) y due → fuel y < fuel x
-child-falls {s} {c} x y {due} e r = go (y .present) refl
-  where
-    there : fuel x ≡ suc (x .place .term)
-    there = ap (λ (b : Bool). cond b (suc (x .place .term)) 0) e
-
-    go : (b : Bool) → y .present ≡ b → cond b (suc (y .place .term)) 0 < fuel x
-    go true f = omega (arith, there, r .lower f)
-    go false f = omega (arith, there)
 
 -- ---- no child
 pub nothing-found : (s : List ℕ) (y : Child) {l : List ℕ} → y .present ≡ false → Known (typesOf s) l

@@ -4,7 +4,7 @@ use mathlib.Core.List.{List, []}
 use mathlib.Core.Option.{Option, none, some}
 use mathlib.Core.Path.{_≡_}
 use Prim.Native.Nat.{ℕ, _+_}
-use Rattle.program.specs.Layout.{Types, authority, typesOf}
+use Rattle.program.specs.Layout.{authority, typesOf}
 use Rattle.program.specs.Terms.{program, size}
 use Rattle.program.specs.declared.records.Counts.{Counts}
 use Rattle.typing.specs.Places.{Placed, placed}
@@ -18,6 +18,7 @@ use Rattle.places.specs.declared.Place.{Place}
 use Rattle.places.specs.declared.Child.{Child}
 use Rattle.subterms.specs.Smallest.{subterms, Refused, smaller, smallestOf, Piece, told}
 use Rattle.subterms.specs.Claims.{judgementAt}
+use Rattle.subterms.specs.Laws.Subterms.{subtermsIn}
 use Rattle.piece.specs.declared.candidates.Candidate.{Candidate}
 use Rattle.piece.specs.declared.candidates.Candidate.the-variants as candidate
 use Rattle.piece.specs.declared.candidates.Candidate.the-variants.{Nothing}
@@ -58,10 +59,6 @@ pub record Judgeable (s : List ℕ) (c : Counts) (l : List ℕ) (at : Place) (i 
 abbrev pub sizeIn : Option Placed → ℕ
 sizeIn none = 0
 sizeIn (some (placed Γ n c)) = size c
-
-abbrev pub subtermsIn : Types → Option Placed → List Placed
-subtermsIn T none = []
-subtermsIn T (some (placed Γ n c)) = subterms T Γ n c
 
 pub record Visitable (s : List ℕ) (c : Counts) (l : List ℕ) (y : Child) : Type 0 where
   pub ready : y .present ≡ true → ReadyPlace s c (y .place)

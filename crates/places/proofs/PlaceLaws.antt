@@ -1,5 +1,5 @@
--- The children of a term, from its record: which there are, where each stands, and what judging it asks. Assumes nothing.
-use mathlib.Core.Bool.{true, false, true≢false}
+-- The children of a term, from its record: which there are, where each stands, and what judging it asks; each has a lower number. Assumes nothing.
+use mathlib.Core.Bool.{Bool, true, false, cond, true≢false}
 use mathlib.Core.List.{List, _∷_}
 use mathlib.Core.Logic.{⊎-elim}
 use mathlib.Core.Option.{Option, none, some}
@@ -187,3 +187,17 @@ module _ {s : List ℕ} {c : Counts} {t : ℕ} {b : Bindings} {n : ℕ} (R : Rea
       and (λ e. absurd (n6 e)) and gone third f refl and gone third f refl and gone third f refl and gone third f refl and gone third f refl
       and gone third f refl and gone third f refl and gone third f refl and all)
       (omega arith) (omega (arith, most))
+
+-- ---- what falls: the number of a term that is there
+abbrev pub fuel : Child → ℕ
+fuel y = cond (y .present) (suc (y .place .term)) 0
+
+pub child-falls : {s : List ℕ} {c : Counts} (x y : Child) {due : Option Placed} → x .present ≡ true → Reached s c (x .place .term) y due → fuel y < fuel x
+child-falls {s} {c} x y {due} e r = go (y .present) refl
+  where
+    there : fuel x ≡ suc (x .place .term)
+    there = ap (λ (b : Bool). cond b (suc (x .place .term)) 0) e
+
+    go : (b : Bool) → y .present ≡ b → cond b (suc (y .place .term)) 0 < fuel x
+    go true f = omega (arith, there, r .lower f)
+    go false f = omega (arith, there)

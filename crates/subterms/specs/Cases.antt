@@ -1,5 +1,5 @@
--- Smallest faulty pieces by computation from the bytes of sheets, each beside the verdict, which tells the first fault. A(0) = {1}, A(1) is empty, and type 2
--- is a function from numbers to numbers whose latent set is empty.
+-- Smallest faulty pieces by computation from the bytes of sheets, each beside the verdict, which tells the first fault, and judgements of single terms. A(0) =
+-- {1}, A(1) is empty, and type 2 is a function from numbers to numbers whose latent set is empty.
 use mathlib.Core.List.{List, [], _∷_, map}
 use mathlib.Core.Path.{_≡_, refl}
 use Prim.Native.Nat.{ℕ, _*_}
@@ -11,6 +11,7 @@ use Rattle.typing.specs.Rules.{removeAuthorised}
 use Rattle.typing.specs.Checking.{infer}
 use Rattle.typing.specs.Verdicts.{Verdict, accepted, rejected, verdict}
 use Rattle.subterms.specs.Smallest.{refusedAt, smallestOf, Piece, smallest, no-piece, unreadable, pieceOf, recordOf}
+use Rattle.subterms.specs.Judging.{withNumber, JudgedTerm, typed-under, refused, judging}
 
 abbrev sheet : (terms : ℕ) (records : List ℕ) → List ℕ
 sheet n records =
@@ -113,3 +114,38 @@ cases =
 pub worked : map observed cases ≡ map due cases
 unfolding cases pieceOf smallestOf refusedAt verdict decoding screen tell infer subtype subtypeIn wider removeAuthorised has meet union insert remove subset
 worked = refl
+
+-- a row: a sheet, a term's number, and what is told of it
+pub data TermCase : Type 0 where
+  of-term : (sheet : List ℕ) (t : ℕ) → JudgedTerm → TermCase
+
+abbrev pub dueTerm : TermCase → JudgedTerm
+dueTerm (of-term s t j) = j
+
+abbrev pub observedTerm : TermCase → JudgedTerm
+observedTerm (of-term s t j) = judging s t
+
+unfoldable pub termCases : List TermCase
+termCases =
+    -- the check needs its privilege, and enable takes it away for principal 0
+    of-term (signed 0) 1 (typed-under 0 1 2)
+    ∷ of-term (signed 0) 2 (typed-under 0 1 0)
+    -- the principal is that of the nearest sign above: 1 may not enable, and its sign is refused
+    ∷ of-term (signed 1) 2 (typed-under 1 1 2)
+    ∷ of-term (signed 1) 3 (refused 11 3)
+    ∷ of-term (signed 1) 4 (refused 11 3)
+    -- past the last term
+    ∷ of-term (signed 0) 5 (refused 37 0)
+    -- a variable has the type that is bound where it stands
+    ∷ of-term called 0 (typed-under 0 1 0)
+    ∷ of-term called 3 (refused 24 3)
+    ∷ of-term called 7 (typed-under 0 1 0)
+    ∷ of-term later 4 (refused 9 4)
+    -- a root of a function type has one, and 13 is no judgement of a term
+    ∷ of-term returned 3 (typed-under 0 2 0)
+    -- a sheet that is not readable
+    ∷ of-term [] 0 (refused 1 0) ∷ []
+
+pub terms-worked : map observedTerm termCases ≡ map dueTerm termCases
+unfolding termCases judging withNumber decoding screen tell infer subtype subtypeIn wider removeAuthorised has meet union insert remove subset
+terms-worked = refl

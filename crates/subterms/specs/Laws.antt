@@ -4,3 +4,4 @@ pub mod Subterms
 pub mod Judgements
 pub mod Pieces
 pub mod Standing
+pub mod Numbers

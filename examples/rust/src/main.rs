@@ -16,7 +16,7 @@ use std::process::ExitCode;
 use std::{env, fs};
 
 /// The headings of docs/REFUSALS.md, by their numbers.
-const CAUSES: [&str; 37] = [
+const CAUSES: [&str; 38] = [
     "none",
     "cut short",
     "wrong tag",
@@ -54,6 +54,7 @@ const CAUSES: [&str; 37] = [
     "record",
     "ranges",
     "undecided condition",
+    "no such term",
 ];
 
 fn main() -> ExitCode {

@@ -26,8 +26,8 @@ pub struct RunArguments<'a> {
 
 /// Each function returns 0 (readable, accepted, ended, a register read or
 /// written, a job added, a need explained, a lean sheet written, told whether a
-/// privilege is named or which piece is the smallest faulty one, or two records
-/// compared), 1 (stopped), 2 (refused), 3
+/// privilege is named, which piece is the smallest faulty one or what the rules
+/// say of a term, or two records compared), 1 (stopped), 2 (refused), 3
 /// (`answer` is shorter than [`ANSWER_NUMBERS`], [`SERVE_NUMBERS`] or
 /// [`RECORD_NUMBERS`], `block` isn't of 16 bytes, `lines` not of 102 numbers or
 /// `chain` is shorter than [`CHAIN_NUMBERS`]; a record longer than a `u32` can
@@ -85,6 +85,8 @@ pub trait Implementation {
     fn names(sheet: &[u8], privilege: u32, answer: &mut [u32]) -> u32;
 
     fn piece(sheet: &[u8], answer: &mut [u32]) -> u32;
+
+    fn term(sheet: &[u8], term: u32, answer: &mut [u32]) -> u32;
 
     fn compare(unit: &[u8], office: &[u8], answer: &mut [u32]) -> u32;
 

@@ -137,6 +137,14 @@ mod c {
             answer_len: usize,
         ) -> u32;
 
+        pub fn sovzedal_term(
+            sheet: *const u8,
+            sheet_len: usize,
+            term: u32,
+            answer: *mut u32,
+            answer_len: usize,
+        ) -> u32;
+
         pub fn sovzedal_compare(
             unit: *const u8,
             unit_len: usize,
@@ -411,6 +419,18 @@ impl Implementation for Library {
             c::sovzedal_piece(
                 sheet.as_ptr(),
                 sheet.len(),
+                answer.as_mut_ptr(),
+                answer.len(),
+            )
+        }
+    }
+
+    fn term(sheet: &[u8], term: u32, answer: &mut [u32]) -> u32 {
+        unsafe {
+            c::sovzedal_term(
+                sheet.as_ptr(),
+                sheet.len(),
+                term,
                 answer.as_mut_ptr(),
                 answer.len(),
             )

@@ -5,7 +5,7 @@ use crate::implementation::{ANSWER_NUMBERS, RECORD_NUMBERS, SERVE_NUMBERS};
 use sheets::lines::Job;
 use sovzedal_reference::lines::{self, Lines, Served, State};
 use sovzedal_reference::registers::{Block, Loaded, BLOCK_BYTES};
-use sovzedal_reference::{compare, decode, erase, explain, names, piece, typecheck};
+use sovzedal_reference::{compare, decode, erase, explain, judge_term, names, piece, typecheck};
 use sovzedal_reference::{record_eager, record_lazy, run_eager, run_lazy, run_ranges};
 use sovzedal_reference::{Checks, Recorded, Refusal, Reply, Request, CHAIN_TERMS};
 
@@ -157,6 +157,10 @@ impl Implementation for Reference {
 
     fn piece(sheet: &[u8], answer: &mut [u32]) -> u32 {
         reply_with(answer, || piece(sheet))
+    }
+
+    fn term(sheet: &[u8], term: u32, answer: &mut [u32]) -> u32 {
+        reply_with(answer, || judge_term(sheet, term))
     }
 
     fn compare(unit: &[u8], office: &[u8], answer: &mut [u32]) -> u32 {

@@ -10,6 +10,7 @@ use crate::refusal::Refusal;
 use crate::registers::Block;
 use crate::run::{Outcome, Plain, Range, RangeRun, Run, Stop, Truth};
 use crate::sheet::Sheet;
+use crate::term::TermJudgement;
 
 /// What a C function returns and the eight numbers that it writes.
 #[derive(Clone, Copy, Debug, PartialEq, Eq)]
@@ -107,6 +108,20 @@ impl From<Option<Piece>> for Reply {
             answer[5] = piece.record.start as u32;
             answer[6] = piece.record.len() as u32;
         }
+        Reply {
+            status: DONE,
+            answer,
+        }
+    }
+}
+
+/// Of the root, where nobody signs, the principal is told as 0.
+impl From<TermJudgement> for Reply {
+    fn from(judgement: TermJudgement) -> Self {
+        let mut answer = [0; 8];
+        answer[2] = u32::from(judgement.ty);
+        answer[3] = judgement.principal.map_or(0, u32::from);
+        answer[7] = judgement.needs.bits();
         Reply {
             status: DONE,
             answer,

@@ -3,14 +3,14 @@
 //! This crate follows the contract's words and nothing else, so that it can be
 //! compared with the proved library. It reads a sheet into a tree
 //! ([`decode`]), judges it ([`typecheck`]), finds the smallest faulty piece of
-//! one that is refused ([`piece`]), tells where a need comes from ([`explain`])
-//! and which privileges it names ([`names`]), makes it lean ([`erase`]) and
-//! interprets it ([`run_eager`], [`run_lazy`]), and has it run by a block of
-//! [`registers`] or in turn with others that wait on four [`lines`]. A run may
-//! record what it decides ([`record_eager`], [`record_lazy`]), and a unit's
-//! record is held against the office's ([`compare`]). A run may also know its
-//! numbers within limits alone ([`run_ranges`]). Where the words leave a choice,
-//! `READINGS.md` names it.
+//! one that is refused ([`piece`]), judges single terms ([`judge_term`]), tells
+//! where a need comes from ([`explain`]) and which privileges it names
+//! ([`names`]), makes it lean ([`erase`]) and interprets it ([`run_eager`],
+//! [`run_lazy`]), and has it run by a block of [`registers`] or in turn with
+//! others that wait on four [`lines`]. A run may record what it decides
+//! ([`record_eager`], [`record_lazy`]), and a unit's record is held against the
+//! office's ([`compare`]). A run may also know its numbers within limits alone
+//! ([`run_ranges`]). Where the words leave a choice, `READINGS.md` names it.
 
 mod answer;
 mod compare;
@@ -22,6 +22,7 @@ mod judge;
 pub mod lines;
 mod names;
 mod piece;
+mod places;
 mod record;
 mod refusal;
 pub mod registers;
@@ -29,6 +30,7 @@ mod report;
 mod run;
 mod set;
 mod sheet;
+mod term;
 
 pub use answer::Reply;
 pub use compare::{compare, Comparison};
@@ -51,3 +53,4 @@ pub use set::{Privilege, Set};
 pub use sheet::{
     ChannelId, FunctionType, Guards, PrincipalId, Sheet, Term, TermId, Type, TypeId, CHANNELS,
 };
+pub use term::{judge_term, TermJudgement};

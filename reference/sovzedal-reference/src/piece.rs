@@ -2,10 +2,9 @@
 //! the least to look at.
 
 use crate::decode::{decode, record_place};
-use crate::judge::judge_alone;
+use crate::places::{places, Place};
 use crate::refusal::{Cause, Refusal};
-use crate::set::Set;
-use crate::sheet::{Sheet, Term, TermId, TypeId};
+use crate::sheet::{Sheet, TermId};
 use std::ops::Range;
 
 #[derive(Clone, Debug, PartialEq, Eq)]
@@ -36,71 +35,15 @@ pub fn piece(bytes: &[u8]) -> Result<Option<Piece>, Refusal> {
     let all = places(&sheet);
     let refused = all.iter().filter_map(|place| {
         let Place { term, .. } = *place;
-        let judged = judge_alone(&sheet, term, &place.bindings, place.signer);
         Some(Piece {
             term,
             count: count(&sheet, term),
-            fault: judged.err()?.cause,
+            fault: place.judge(&sheet).err()?.cause,
             record: record_place(&sheet, term),
         })
     });
     // "the fewest terms in it", "ties to the lowest number"
     Ok(refused.min_by_key(|piece| (piece.count, piece.term)))
-}
-
-/// A term, and "the bindings and … the principal it has in the sheet".
-struct Place {
-    term: TermId,
-    /// The types of the variables in scope, the nearest last.
-    bindings: Vec<TypeId>,
-    /// What the signing principal may use.
-    signer: Set,
-}
-
-/// All terms where they stand, each after the one that it is a child of.
-fn places(sheet: &Sheet) -> Vec<Place> {
-    // The root is a sign, so the signer given here is never asked.
-    let mut places = vec![Place {
-        term: sheet.root(),
-        bindings: Vec::new(),
-        signer: Set::EMPTY,
-    }];
-    let mut looked_at = 0;
-    while let Some(place) = places.get(looked_at) {
-        let children = children(sheet, place);
-        places.extend(children);
-        looked_at += 1;
-    }
-    places
-}
-
-/// A body has the declared argument before the bindings around it, and a
-/// binder's the declared function behind the argument; so has the rest. Below a
-/// sign its principal signs.
-fn children(sheet: &Sheet, place: &Place) -> Vec<Place> {
-    let child = |term, more: &[TypeId], signer| Place {
-        term,
-        bindings: [&place.bindings, more].concat(),
-        signer,
-    };
-    let argument = |ty| match sheet.function_type(ty) {
-        Some(function) => function.argument,
-        None => unreachable!("a decoded function or binder has a function type"),
-    };
-    match sheet.term(place.term) {
-        Term::Function { ty, body } => vec![child(body, &[argument(ty)], place.signer)],
-        Term::Letrec { ty, body, rest } => vec![
-            child(body, &[ty, argument(ty)], place.signer),
-            child(rest, &[ty], place.signer),
-        ],
-        Term::Sign { principal, inner } => vec![child(inner, &[], sheet.authorised(principal))],
-        other => {
-            let children = other.children();
-            children
-                .map(|term| child(term, &[], place.signer))
-                .collect()
-        }
-    }
 }
 
 /// How many terms there are in a term, itself counted.

@@ -3,8 +3,8 @@
 /// Every cause of a refusal (1 to 16, 23 for an address of the register block,
 /// 24 to 26, 27 to 29 for a job of the four lines, 30 for a privilege that is
 /// asked about, 31, 32 and 33 for a sheet that is to be made lean, 34 for a
-/// record that is compared, 35 for the pairs of a run over ranges) or a stop (17
-/// to 22, and 36 in a run over ranges).
+/// record that is compared, 35 for the pairs of a run over ranges, 37 for a term
+/// that is asked about) or a stop (17 to 22, and 36 in a run over ranges).
 #[derive(Clone, Copy, Debug, PartialEq, Eq)]
 #[repr(u32)]
 pub enum Cause {
@@ -45,6 +45,7 @@ pub enum Cause {
     Record = 34,
     Ranges = 35,
     Undecided = 36,
+    NoTerm = 37,
 }
 
 impl Cause {
@@ -66,8 +67,8 @@ impl Cause {
     }
 }
 
-/// A sheet, a request, an address, a job, a privilege, a buffer, a record or
-/// pairs were turned back.
+/// A sheet, a request, an address, a job, a privilege, a buffer, a record, pairs
+/// or a term's number were turned back.
 #[derive(Clone, Copy, Debug, PartialEq, Eq)]
 pub struct Refusal {
     pub cause: Cause,

@@ -9,6 +9,7 @@ use sheets::extremes::longest;
 use sheets::ranges::{numbers_of, with_numbers};
 use sheets::smallest::{all, Smallest};
 use sheets::tree;
+use sovzedal_reference::judge_term;
 use sovzedal_reference::lines::{Job, Lent, Lines, STATE_NUMBERS};
 use sovzedal_reference::registers::{at, status, Block, BLOCK_BYTES, RUN};
 use sovzedal_reference::{compare, decode, erase, explain, names, piece, report, run_eager};
@@ -273,6 +274,30 @@ fn the_refusal_of_a_privilege_is_that_of_the_call_shown() {
     assert_eq!(names(&sheet, 31), Ok(Naming::Unnamed));
 }
 
+/// 37 is told of a readable sheet, which is shown with the call.
+#[test]
+fn the_refusal_of_a_term_is_that_of_the_call_shown() {
+    let path = repository().join("docs/REFUSALS.md");
+    if !path.exists() {
+        return;
+    }
+    let shown = read(&path);
+    let section = section(&shown, "37").expect("a section for 37");
+    let sheet = bytes(block(section, "hex").expect("a sheet"));
+    let terms = decode(&sheet).expect("a readable sheet").terms.len() as u32;
+    let call = format!(
+        "sovzedal_term(sheet, {}, {terms}, answer, 8);\n",
+        sheet.len()
+    );
+    assert_eq!(block(section, "c"), Some(&*call));
+    let refusal = judge_term(&sheet, terms).expect_err("a refusal");
+    assert_eq!(refusal.cause, Cause::NoTerm);
+    assert_eq!(block(section, "text"), Some(&*refused(refusal)));
+    for term in 0..terms {
+        assert!(judge_term(&sheet, term).is_ok());
+    }
+}
+
 /// 32 and 33 are told of accepted sheets, too. The buffer for 33 is a byte too
 /// short.
 #[test]
@@ -395,6 +420,7 @@ fn the_header_has_the_same_numbers() {
         ("RECORD", Cause::Record),
         ("RANGES", Cause::Ranges),
         ("UNDECIDED_CONDITION", Cause::Undecided),
+        ("NO_TERM", Cause::NoTerm),
     ];
     for (name, cause) in causes {
         assert_eq!(number(name), u64::from(cause.number()), "{name}");

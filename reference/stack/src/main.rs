@@ -2,8 +2,8 @@
 //! made from as deep as nesting allows, through terms of one kind; what such a
 //! run uses with fewer open calls, with a record, over ranges, by a write to a
 //! register block, and as a job of the four lines; and what it takes to explain
-//! a need, to make a sheet lean, to tell whether it names a privilege and to
-//! find its smallest faulty piece.
+//! a need, to make a sheet lean, to tell whether it names a privilege, to find
+//! its smallest faulty piece and to judge its terms one by one.
 
 mod paint;
 
@@ -122,6 +122,14 @@ fn main() {
             "{name:12}{:12}{:24}",
             used_to_find::<Library>(&sheet),
             used_to_find::<Reference>(&sheet)
+        );
+    }
+    println!("judging every term by itself");
+    for (name, sheet) in judged() {
+        println!(
+            "{name:12}{:12}{:24}",
+            used_to_judge::<Library>(&sheet),
+            used_to_judge::<Reference>(&sheet)
         );
     }
 }
@@ -280,6 +288,18 @@ fn used_to_find<I: Implementation>(sheet: &[u8]) -> usize {
     })
 }
 
+/// The most for any term, one that there isn't among them.
+fn used_to_judge<I: Implementation>(sheet: &[u8]) -> usize {
+    let mut answer = [0; ANSWER_NUMBERS];
+    I::decode(sheet, &mut answer);
+    let [_, _, _, terms, ..] = answer;
+    paint::stack_used(|| {
+        for term in 0..=terms {
+            I::term(sheet, term, &mut answer);
+        }
+    })
+}
+
 #[cfg(test)]
 mod tests {
     use super::*;
@@ -368,6 +388,18 @@ mod tests {
         let deep = judged().map(|(_, sheet)| sheet);
         for sheet in through.iter().chain(&deep) {
             let used = used_to_find::<Library>(sheet);
+            assert!(used <= base, "{used}, {base} are allowed");
+        }
+    }
+
+    /// And so does this.
+    #[test]
+    fn terms_are_judged_within_what_a_run_without_calls_may_use() {
+        let base = header("SOVZEDAL_STACK_BASE ");
+        let through = KINDS.map(endless_through);
+        let deep = judged().map(|(_, sheet)| sheet);
+        for sheet in through.iter().chain(&deep) {
+            let used = used_to_judge::<Library>(sheet);
             assert!(used <= base, "{used}, {base} are allowed");
         }
     }

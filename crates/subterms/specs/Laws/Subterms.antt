@@ -1,6 +1,7 @@
 -- The terms that are listed are those that stand in the term, each where it stands, and none of them has more terms in it.
 use mathlib.Core.List.{List, [], _∷_, _++_}
 use mathlib.Core.Logic.{_⊎_, inl, inr, ⊎-elim}
+use mathlib.Core.Option.{Option, none, some}
 use mathlib.Core.Path.{_≡_, refl}
 use Prim.Native.Nat.{ℕ, _<_, _≤_}
 use native.Mathlib.Omega.{arith}
@@ -11,6 +12,11 @@ use Rattle.typing.specs.Places.{Placed, placed, childrenIn, Among, among-first,
 use Rattle.typing.specs.Laws.Places.{EachOf}
 use Rattle.typing.specs.Faults.{Within, here, in-function, in-letrec-body, in-letrec-rest, in-call-function, in-call-argument, in-if-condition, in-if-yes, in-if-no, in-check, in-enable, in-sign, in-test-yes, in-test-no, in-left, in-right, in-post}
 use Rattle.subterms.specs.Smallest.{subterms}
+
+-- the terms in one that may be absent
+abbrev pub subtermsIn : Types → Option Placed → List Placed
+subtermsIn T none = []
+subtermsIn T (some (placed Γ n c)) = subterms T Γ n c
 
 -- ---- two lists, one after the other
 left : {x : Placed} {l : List Placed} (m : List Placed) → Among x l → Among x (l ++ m)

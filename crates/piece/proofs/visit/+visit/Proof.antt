@@ -3,7 +3,8 @@
 -- one more; an absent child has 0.
 use native.Mathlib.Omega.{arith}
 use borrow.Author.Tests.{not-true, not-false}
-use Rattle.piece.proofs.VisitLaws.{fuel, child-falls, nothing-found, judgeable, counts-fit, found-there, there}
+use Rattle.places.proofs.PlaceLaws.{fuel, child-falls}
+use Rattle.piece.proofs.VisitLaws.{nothing-found, judgeable, counts-fit, found-there, there}
 use Prim.Native.Nat.{ℕ, _<_}
 use borrow.Fn.Kinds.{In}
 use borrow.Fn.PlainCycle.{Measures, is, falls, and}

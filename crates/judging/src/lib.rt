@@ -1,0 +1,67 @@
+// The judgement of one term of a sheet, in the bindings and under the principal that it has there.
+mod find;
+
+use crate::find::find;
+use checker::infer::infer;
+use places::Place;
+use places::present;
+use program::answer::Decoded;
+use program::records::Counts;
+use rules::bindings::Bindings;
+use rules::known::KNOWN_WORDS;
+use rules::known::Known;
+use subterms::answer::Judged;
+use typing::answer::Inferred;
+ghost use mathlib.Core.Path.{_≡_};
+ghost use Rattle.rules.specs.Inference.{Sheet};
+ghost use Rattle.places.specs.Internal.{ReadyPlace};
+ghost use Rattle.subterms.specs.Judging.{judging};
+ghost use Rattle.subterms.specs.Answers.{judgedModel};
+ghost use Rattle.judging.specs.Internal.{judgedIn, judgedAt};
+
+// The type and needs of the term with a number and the principal that it stands under, on any bytes; or its first fault; no such term; or the reader's
+// refusal.
+pub fn judge(sheet: &[u8], term: u32) -> Judged
+    ensures { λ r. ⌜ judgedModel r ≡ judging (now (sheet .entry)) term ⌝ }
+{
+    let d = decoder::decode(sheet);
+    match d {
+        Decoded::Refused(f) => Judged::Unreadable(f),
+        Decoded::Readable(c) => judge_readable(sheet, c, term),
+    }
+}
+
+// The same of a readable sheet with its counts. The root is a sign, so that the principal named here is never looked at.
+fn judge_readable(s: &[u8], c: Counts, term: u32) -> Judged
+    requires { ⌜ Sheet (now s) c ⌝ }
+    ensures { λ r. ⌜ judgedModel r ≡ judgedIn (now (s .entry)) term ⌝ }
+{
+    let none = Bindings {
+        types: [0; 32],
+        len: 0,
+    };
+    let root = present(c.terms - 1, none, 0);
+    let found = find(s, c, root, term);
+    if !found.present {
+        return Judged::NoTerm;
+    }
+    let at = found.place;
+    judge_at(s, c, at)
+}
+
+// What the rules say of the term at a place.
+fn judge_at(s: &[u8], c: Counts, at: Place) -> Judged
+    requires { ⌜ ReadyPlace (now s) c at ⌝ }
+    ensures { λ r. ⌜ judgedModel r ≡ judgedAt (now (s .entry)) at ⌝ }
+{
+    let mut known: Known = [0; KNOWN_WORDS];
+    let j = infer(s, c, &mut known, at.term, at.bindings, at.principal);
+    match j {
+        Inferred::Typed { ty, needs } => Judged::Typed {
+            principal: at.principal,
+            ty: ty,
+            needs: needs,
+        },
+        Inferred::Faulty(f) => Judged::Faulty(f),
+    }
+}
