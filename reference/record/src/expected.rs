@@ -14,14 +14,14 @@ pub fn lines(vector: &Vector) -> String {
     [
         line("decode", decode(sheet).into(), &[]),
         line("typecheck", typecheck(sheet).into(), &[]),
-        eager("eager", vector, Checks::InForce),
-        eager("eager-skip", vector, Checks::PassedOver),
-        recorded_eager("eager-record", vector, Checks::InForce),
-        recorded_eager("eager-record-skip", vector, Checks::PassedOver),
-        lazy("lazy", vector, Checks::InForce),
-        lazy("lazy-skip", vector, Checks::PassedOver),
-        recorded_lazy("lazy-record", vector, Checks::InForce),
-        recorded_lazy("lazy-record-skip", vector, Checks::PassedOver),
+        eager("eager", vector, Checks::Enforced),
+        eager("eager-skip", vector, Checks::Skipped),
+        recorded_eager("eager-record", vector, Checks::Enforced),
+        recorded_eager("eager-record-skip", vector, Checks::Skipped),
+        lazy("lazy", vector, Checks::Enforced),
+        lazy("lazy-skip", vector, Checks::Skipped),
+        recorded_lazy("lazy-record", vector, Checks::Enforced),
+        recorded_lazy("lazy-record-skip", vector, Checks::Skipped),
     ]
     .concat()
 }

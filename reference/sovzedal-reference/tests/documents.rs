@@ -9,7 +9,7 @@ use sheets::extremes::longest;
 use sheets::ranges::{numbers_of, with_numbers};
 use sheets::smallest::{all, Smallest};
 use sheets::tree;
-use sovzedal_reference::judge_term;
+use sovzedal_reference::infer_term;
 use sovzedal_reference::lines::{Job, Lent, Lines, STATE_NUMBERS};
 use sovzedal_reference::registers::{at, status, Block, BLOCK_BYTES, RUN};
 use sovzedal_reference::{compare, decode, erase, explain, names, piece, report, run_eager};
@@ -266,9 +266,9 @@ fn the_refusal_of_a_privilege_is_that_of_the_call_shown() {
     }
     // So it is with the call that is shown after it.
     let (_, rest) = section.split_once(call).expect("what follows the call");
-    let asked = format!("sovzedal_names(sheet, {}, 32, answer, 8);\n", sheet.len());
-    assert_eq!(block(rest, "c"), Some(&*asked));
-    let (_, rest) = rest.split_once(&asked).expect("what follows that call");
+    let query = format!("sovzedal_names(sheet, {}, 32, answer, 8);\n", sheet.len());
+    assert_eq!(block(rest, "c"), Some(&*query));
+    let (_, rest) = rest.split_once(&query).expect("what follows that call");
     let refusal = names(&sheet, 32).expect_err("a refusal");
     assert_eq!(block(rest, "text"), Some(&*refused(refusal)));
     assert_eq!(names(&sheet, 31), Ok(Naming::Unnamed));
@@ -290,11 +290,11 @@ fn the_refusal_of_a_term_is_that_of_the_call_shown() {
         sheet.len()
     );
     assert_eq!(block(section, "c"), Some(&*call));
-    let refusal = judge_term(&sheet, terms).expect_err("a refusal");
+    let refusal = infer_term(&sheet, terms).expect_err("a refusal");
     assert_eq!(refusal.cause, Cause::NoTerm);
     assert_eq!(block(section, "text"), Some(&*refused(refusal)));
     for term in 0..terms {
-        assert!(judge_term(&sheet, term).is_ok());
+        assert!(infer_term(&sheet, term).is_ok());
     }
 }
 
@@ -803,13 +803,13 @@ fn the_runs_over_ranges_are_those_of_the_calls_shown() {
         let (pairs, call) = calls.split_once(" };\n\n").expect("pairs");
         let pairs = pairs.strip_prefix("uint16_t pairs[] = { ").expect("pairs");
         let pairs: Vec<u16> = pairs.split(", ").map(|it| it.parse().unwrap()).collect();
-        let asked = format!(
+        let query = format!(
             "sovzedal_run_ranges(sheet, {}, pairs, {}, start, 0, {MAX_CALLS}, {MAX_OPEN_CALLS}, 1, \
              cells, {MAX_CELL_BYTES}, posts, {MAX_POSTS}, answer, 8);\n",
             sheet.len(),
             pairs.len()
         );
-        assert_eq!(call, asked);
+        assert_eq!(call, query);
         let reply = Reply::from(over_ranges(&sheet, &pairs).0);
         assert_eq!(reply.answer[0], cause.number());
         assert_eq!(block(section, "text"), Some(&*in_words(reply)));
@@ -1035,14 +1035,14 @@ fn told(case: &Smallest) -> String {
 }
 
 fn run(case: &Smallest) -> String {
-    let asked = &case.request;
+    let query = &case.request;
     let request = Request {
-        start: &asked.start,
-        calls: asked.calls,
-        open_calls: asked.open_calls,
-        checks: Checks::InForce,
+        start: &query.start,
+        calls: query.calls,
+        open_calls: query.open_calls,
+        checks: Checks::Enforced,
     };
-    let (mut cells, mut posts) = (vec![0; asked.cell_bytes], vec![0; asked.posts]);
+    let (mut cells, mut posts) = (vec![0; query.cell_bytes], vec![0; query.posts]);
     let run = run_eager(&case.sheet, &request, &mut cells, &mut posts);
     in_words(run.into())
 }

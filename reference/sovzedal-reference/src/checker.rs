@@ -75,7 +75,7 @@ impl Accepted {
 
 fn accepted_by(rules: Rules, bytes: &[u8]) -> Result<Accepted, Refusal> {
     let sheet = decode(bytes)?;
-    let mut judge = Judge {
+    let mut checker = Checker {
         rules,
         sheet: &sheet,
         bindings: Vec::new(),
@@ -83,11 +83,11 @@ fn accepted_by(rules: Rules, bytes: &[u8]) -> Result<Accepted, Refusal> {
     };
     let root = sheet.root();
     // The root is a sign, so the signer given here is never asked.
-    let Judgement { ty, .. } = judge.judge(root, Set::EMPTY)?;
+    let Judgement { ty, .. } = checker.infer(root, Set::EMPTY)?;
     if ty != Type::BOOL && ty != Type::NUMBER {
         return Err(Cause::RootType.at(root));
     }
-    let judgements = judge.judgements;
+    let judgements = checker.judgements;
     Ok(Accepted { sheet, judgements })
 }
 
@@ -102,22 +102,22 @@ impl Judgement {
 
 /// What the rules say of one term alone, in these bindings, the nearest last, and
 /// under a principal who may use this.
-pub(crate) fn judge_alone(
+pub(crate) fn infer_alone(
     sheet: &Sheet,
     id: TermId,
     bindings: &[TypeId],
     signer: Set,
 ) -> Result<Judgement, Refusal> {
-    let mut judge = Judge {
+    let mut checker = Checker {
         rules: Rules::Today,
         sheet,
         bindings: bindings.to_vec(),
         judgements: vec![None; sheet.terms.len()],
     };
-    judge.judge(id, signer)
+    checker.infer(id, signer)
 }
 
-struct Judge<'a> {
+struct Checker<'a> {
     rules: Rules,
     sheet: &'a Sheet,
     /// The types of the variables in scope, the nearest last.
@@ -126,16 +126,16 @@ struct Judge<'a> {
     judgements: Vec<Option<Judgement>>,
 }
 
-impl Judge<'_> {
+impl Checker<'_> {
     /// Judges the children in order and then the term itself. `signer` is
     /// what the signing principal may use.
-    fn judge(&mut self, id: TermId, signer: Set) -> Result<Judgement, Refusal> {
-        let judgement = self.judge_kind(id, signer)?;
+    fn infer(&mut self, id: TermId, signer: Set) -> Result<Judgement, Refusal> {
+        let judgement = self.infer_kind(id, signer)?;
         self.judgements[usize::from(id)] = Some(judgement);
         Ok(judgement)
     }
 
-    fn judge_kind(&mut self, id: TermId, signer: Set) -> Result<Judgement, Refusal> {
+    fn infer_kind(&mut self, id: TermId, signer: Set) -> Result<Judgement, Refusal> {
         match self.sheet.term(id) {
             Term::Bool(_) => Ok(Judgement::needing_nothing(Type::BOOL)),
             Term::Number(_) => Ok(Judgement::needing_nothing(Type::NUMBER)),
@@ -144,9 +144,9 @@ impl Judge<'_> {
             Term::Letrec { ty, body, rest } => self.letrec(id, ty, body, rest, signer),
             Term::Call { function, argument } => self.call(id, function, argument, signer),
             Term::If { condition, yes, no } => {
-                let condition = self.judge(condition, signer)?;
-                let yes = self.judge(yes, signer)?;
-                let no = self.judge(no, signer)?;
+                let condition = self.infer(condition, signer)?;
+                let yes = self.infer(yes, signer)?;
+                let no = self.infer(no, signer)?;
                 require_type(id, condition.ty == Type::BOOL)?;
                 Ok(Judgement {
                     ty: self.wider(id, yes.ty, no.ty)?,
@@ -154,8 +154,8 @@ impl Judge<'_> {
                 })
             }
             Term::Test { privilege, yes, no } => {
-                let yes = self.judge(yes, signer)?;
-                let no = self.judge(no, signer)?;
+                let yes = self.infer(yes, signer)?;
+                let no = self.infer(no, signer)?;
                 // The yes-branch runs only where the privilege is granted.
                 // Unlike an enable, that doesn't ask who signs.
                 Ok(Judgement {
@@ -164,14 +164,14 @@ impl Judge<'_> {
                 })
             }
             Term::Check { privilege, inner } => {
-                let inner = self.judge(inner, signer)?;
+                let inner = self.infer(inner, signer)?;
                 Ok(Judgement {
                     needs: inner.needs.with(privilege),
                     ..inner
                 })
             }
             Term::Enable { privilege, inner } => {
-                let inner = self.judge(inner, signer)?;
+                let inner = self.infer(inner, signer)?;
                 if !signer.contains(privilege) {
                     return Ok(inner);
                 }
@@ -182,7 +182,7 @@ impl Judge<'_> {
             }
             Term::Sign { principal, inner } => {
                 let signer = self.sheet.authorised(principal);
-                let inner = self.judge(inner, signer)?;
+                let inner = self.infer(inner, signer)?;
                 require(inner.needs.is_within(signer), Cause::SignNeeds, id)?;
                 Ok(inner)
             }
@@ -219,7 +219,7 @@ impl Judge<'_> {
         signer: Set,
     ) -> Result<Judgement, Refusal> {
         let function = self.expect_function(ty);
-        let body = self.judge_under(&[function.argument], body, signer)?;
+        let body = self.infer_under(&[function.argument], body, signer)?;
         require_body(id, body, function)?;
         Ok(Judgement::needing_nothing(ty))
     }
@@ -233,8 +233,8 @@ impl Judge<'_> {
         signer: Set,
     ) -> Result<Judgement, Refusal> {
         let function = self.expect_function(ty);
-        let body = self.judge_under(&[ty, function.argument], body, signer)?;
-        let rest = self.judge_under(&[ty], rest, signer)?;
+        let body = self.infer_under(&[ty, function.argument], body, signer)?;
+        let rest = self.infer_under(&[ty], rest, signer)?;
         require_body(id, body, function)?;
         Ok(Judgement {
             needs: function.latent.union(rest.needs),
@@ -249,8 +249,8 @@ impl Judge<'_> {
         argument: TermId,
         signer: Set,
     ) -> Result<Judgement, Refusal> {
-        let callee = self.judge(function, signer)?;
-        let argument = self.judge(argument, signer)?;
+        let callee = self.infer(function, signer)?;
+        let argument = self.infer(argument, signer)?;
         let Some(function) = self.sheet.function_type(callee.ty) else {
             return Err(self.type_fault(Cause::NotAFunction).at(id));
         };
@@ -295,7 +295,7 @@ impl Judge<'_> {
         let mut all_numbers = true;
         let mut needs = Set::EMPTY;
         for &operand in operands {
-            let operand = self.judge(operand, signer)?;
+            let operand = self.infer(operand, signer)?;
             all_numbers &= operand.ty == Type::NUMBER;
             needs = needs.union(operand.needs);
         }
@@ -304,7 +304,7 @@ impl Judge<'_> {
     }
 
     /// Judges a term with more variables in scope, the nearest last.
-    fn judge_under(
+    fn infer_under(
         &mut self,
         bindings: &[TypeId],
         id: TermId,
@@ -312,7 +312,7 @@ impl Judge<'_> {
     ) -> Result<Judgement, Refusal> {
         let outside = self.bindings.len();
         self.bindings.extend_from_slice(bindings);
-        let judgement = self.judge(id, signer);
+        let judgement = self.infer(id, signer);
         self.bindings.truncate(outside);
         judgement
     }

@@ -18,14 +18,14 @@ pub enum Entry {
 
 /// What is asked of an entry. Decoding and judging use the sheet alone.
 #[derive(Clone, Debug)]
-pub struct Asked<'a> {
+pub struct Query<'a> {
     pub entry: Entry,
     pub sheet: &'a [u8],
     pub request: &'a Request,
     pub enforce: u32,
 }
 
-impl Asked<'_> {
+impl Query<'_> {
     /// Puts the question and gives the returned number.
     pub fn of<I: Implementation>(&self, buffers: &mut Buffers) -> u32 {
         let arguments = RunArguments {
