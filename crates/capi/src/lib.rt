@@ -5,7 +5,7 @@ ghost use Rattle.semantics.specs.Runs.{eager as eagerRunner, lazy as lazyRunner
 ghost use Rattle.semantics.specs.Recording.{recording};
 ghost use Rattle.interp.specs.Answers.{requestOf, buffersOf};
 ghost use Rattle.replies.specs.Replies.{decodeReply, typecheckReply, replied, called, enforces, left, leftAll};
-ghost use Rattle.lines.specs.Answers.{jobOf};
+ghost use Rattle.queues.specs.Answers.{jobOf};
 ghost use Rattle.capi_lines.specs.Entries.{linesAdd, leftAdd, linesServe, leftServe};
 ghost use Rattle.capi_explain.specs.Entries.{explainCall, leftExplain};
 ghost use Rattle.capi_lean.specs.Entries.{eraseCall, leftErase};

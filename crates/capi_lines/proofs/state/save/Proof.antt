@@ -6,7 +6,7 @@ use mathlib.Core.List.{_++_}
 use mathlib.Core.Path.{_≡_, refl, sym, ap, _∙_}
 use Prim.Native.Nat.{ℕ, _-_, _≤_}
 use lib.ListN.{set, take, drop}
-use Rattle.lines.specs.Answers.{linesModel}
+use Rattle.queues.specs.Answers.{linesModel}
 use Rattle.replies.specs.Laws.{written-length, written-more, written-over}
 use Rattle.capi_lines.specs.States.{stateNumbers, stateWritten}
 use Rattle.capi_lines.proofs.StateLaws.{written-size, written-at}
