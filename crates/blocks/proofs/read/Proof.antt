@@ -1,9 +1,9 @@
 -- `read` refuses an address above 15 (absent-read) and gives the byte at any other (inside-read).
 use borrow.Author.Needs.{needs}
 use mathlib.Core.Path.{sym}
-use Rattle.registers.specs.Theorems.{absent-read, inside-read}
-use Rattle.registers.proofs.read.Statement.{statement}
-use Rattle.registers.proofs.read.Tie as tie
+use Rattle.blocks.specs.Theorems.{absent-read, inside-read}
+use Rattle.blocks.proofs.read.Statement.{statement}
+use Rattle.blocks.proofs.read.Tie as tie
 
 returns : tie.Need-returns
 returns c =

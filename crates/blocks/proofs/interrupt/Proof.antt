@@ -1,8 +1,8 @@
 -- The operation on bytes is the definition's: `&` gives the bits that both have, and none is zero.
 use borrow.Author.Needs.{needs}
 use Rattle.privileges.specs.Sets.{meet}
-use Rattle.registers.proofs.interrupt.Statement.{statement}
-use Rattle.registers.proofs.interrupt.Tie as tie
+use Rattle.blocks.proofs.interrupt.Statement.{statement}
+use Rattle.blocks.proofs.interrupt.Tie as tie
 
 element-copy-out-result : tie.Need-element-copy-out-result
 element-copy-out-result c = search needs

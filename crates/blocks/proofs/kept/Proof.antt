@@ -5,9 +5,9 @@ use mathlib.Core.Bool.{Bool}
 use mathlib.Core.Path.{_∙_, sym, ap}
 use borrow.Author.Tests.{leb-true}
 use Rattle.privileges.specs.Booleans.{and-right}
-use Rattle.registers.specs.Internal.{keptOf}
-use Rattle.registers.proofs.kept.Statement.{statement}
-use Rattle.registers.proofs.kept.Tie as tie
+use Rattle.blocks.specs.Internal.{keptOf}
+use Rattle.blocks.proofs.kept.Statement.{statement}
+use Rattle.blocks.proofs.kept.Tie as tie
 
 stored-requires : tie.Need-stored-requires
 stored-requires c κs =

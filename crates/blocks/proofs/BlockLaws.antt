@@ -11,9 +11,9 @@ use lib.Seq.{drop-cons}
 use Rattle.privileges.specs.Sets.{has, meet}
 use Rattle.privileges.specs.Laws.{has-meet, has-xor, has-ext}
 use Rattle.program.specs.Bytes.{byte}
-use Rattle.registers.specs.Block.{RunRegisters, without, withFlag, afterRun}
-use Rattle.registers.specs.Laws.{has-without}
-use Rattle.registers.specs.Internal.{setPair}
+use Rattle.blocks.specs.Block.{RunRegisters, without, withFlag, afterRun}
+use Rattle.blocks.specs.Laws.{has-without}
+use Rattle.blocks.specs.Internal.{setPair}
 
 -- ---- bits
 -- the complement of a byte flips its bits

@@ -13,7 +13,7 @@ use borrow.Author.Tests.{le-leb, lt-leb, ne-eqb}
 use Rattle.privileges.specs.Sets.{isOne, has, meet}
 use Rattle.privileges.specs.Booleans.{and-both}
 use Rattle.privileges.specs.Laws.{has-none, has-meet, has-union, has-xor, has-one, has-ext}
-use Rattle.registers.specs.Block.{without, withFlag, isKept, Register, command, status, kept, fixed, absent, registerAt}
+use Rattle.blocks.specs.Block.{without, withFlag, isKept, Register, command, status, kept, fixed, absent, registerAt}
 
 -- ---- bits
 less : (a b : Bool) → (a && not (a && b) || not a && (a && b)) ≡ (a && not b)

@@ -2,10 +2,10 @@
 ghost use mathlib.Core.Path.{_≡_};
 ghost use Prim.Native.Nat.{_<_};
 ghost use lib.ListN.{set};
-ghost use Rattle.registers.specs.Block.{without as withoutOf, withFlag as withFlagOf, afterRun};
-ghost use Rattle.registers.specs.Internal.{registersModel, setPair};
+ghost use Rattle.blocks.specs.Block.{without as withoutOf, withFlag as withFlagOf, afterRun};
+ghost use Rattle.blocks.specs.Internal.{registersModel, setPair};
 use crate::block::Block;
-use crate::outcome::RunRegisters;
+use crate::block::RunRegisters;
 
 // The bits of a byte that are not among these.
 pub fn without(status: u8, bits: u8) -> u8

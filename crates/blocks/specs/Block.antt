@@ -1,15 +1,12 @@
--- The register block: 02, W2. A block is a list of 16 bytes, any of them.
-use mathlib.Core.Bool.{Bool, true, false, not, cond, _&&_}
+-- The register block by itself: 02, W2. A block is a list of 16 bytes, any of them. What a write does, which may run a sheet, is in `registers`, Writes.
+use mathlib.Core.Bool.{Bool, not, cond, _&&_}
 use mathlib.Core.List.{List, [], _∷_}
 use Prim.Native.Nat.{ℕ, _/_, _%_, _^_}
 use lib.Bits.{bitAnd, bitXor}
 use lib.Dec.{leb, eqb}
-use lib.ListN.{set}
 use Rattle.privileges.specs.Sets.{meet, union}
-use Rattle.program.specs.Limits.{maxCells, maxPosts}
 use Rattle.program.specs.Bytes.{byte, word16}
-use Rattle.semantics.specs.Runs.{Buffers, Ground, ground-bool, ground-num, ended, stopped, Answer, refused, ran, zeros, After}
-use Rattle.largest.specs.Largest.{request, isLargest, lentRun}
+use Rattle.semantics.specs.Runs.{Ground, ground-bool, ground-num, ended, stopped, Answer, refused, ran, zeros}
 
 -- "The block has 16, zero at first"
 abbrev pub newBlock : List ℕ
@@ -17,16 +14,9 @@ newBlock = zeros 16
 
 -- ---- a run
 
--- "with 100 open calls and the largest buffers, which are lent"
-abbrev pub areLargest : Buffers → Bool
-areLargest b = isLargest maxCells (b .cells) && isLargest maxPosts (b .posts)
-
 -- "4 and 5 calls allowance"
 abbrev pub allowance : (block : List ℕ) → ℕ
 allowance block = word16 block 4
-
-abbrev pub blockRun : (block s : List ℕ) → Buffers → After
-blockRun block s b = lentRun (areLargest b) s (request (allowance block)) b
 
 -- what an answer puts into the status and into 2 and 6 to 11
 pub record RunRegisters : Type 0 where
@@ -88,23 +78,6 @@ readOf b a = cond (leb a 15) (read-byte (byte b a)) (read-refused 23 0)
 abbrev pub raised : (block : List ℕ) → Bool
 raised b = not (eqb (meet (byte b 1) (byte b 3)) 0)
 
--- what a write answers, and what it leaves
-pub record Written : Type 0 where
-  pub access : Access
-  pub block : List ℕ
-  pub buffers : Buffers
-
-abbrev pub done : (block : List ℕ) → Buffers → Written
-done block b = record { access = access-done; block = block; buffers = b }
-
-abbrev pub ranOn : (block : List ℕ) → After → Written
-ranOn block a = done (afterRun block (registersOf (a .answer))) (a .buffers)
-
--- "Writing 1 to command runs the loaded sheet"; "Other command values … change nothing"
-abbrev pub commanded : (isOne : Bool) (block s : List ℕ) → Buffers → Written
-commanded true block s b = ranOn block (blockRun block s b)
-commanded false block s b = done block b
-
 -- "3 to 5 keep what is written."
 abbrev pub isKept : (address : ℕ) → Bool
 isKept a = leb 3 a && leb a 5
@@ -115,14 +88,3 @@ pub data Register : Type 0 where
 
 abbrev pub registerAt : (address : ℕ) → Register
 registerAt a = cond (eqb a 0) command (cond (eqb a 1) status (cond (leb a 15) (cond (isKept a) kept fixed) absent))
-
--- "Writing status clears the bits written as one."; "writes to 2 and 6 to 15 change nothing"; 23 "leaves the block"
-abbrev pub writeTo : Register → (block : List ℕ) (address value : ℕ) (s : List ℕ) → Buffers → Written
-writeTo command block a v s b = commanded (eqb v 1) block s b
-writeTo status block a v s b = done (set block 1 (without (byte block 1) v)) b
-writeTo kept block a v s b = done (set block a v) b
-writeTo fixed block a v s b = done block b
-writeTo absent block a v s b = record { access = access-refused 23 0; block = block; buffers = b }
-
-abbrev pub writeOf : (block : List ℕ) (address value : ℕ) (s : List ℕ) → Buffers → Written
-writeOf block a v s b = writeTo (registerAt a) block a v s b

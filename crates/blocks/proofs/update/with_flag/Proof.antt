@@ -4,9 +4,9 @@ use mathlib.Core.Path.{ap}
 use Prim.Native.Nat.{ℕ}
 use lib.Bits.{bitOr}
 use Rattle.privileges.specs.Sets.{union}
-use Rattle.registers.specs.Block.{withFlag}
-use Rattle.registers.proofs.update.with_flag.Statement.{statement}
-use Rattle.registers.proofs.update.with_flag.Tie as tie
+use Rattle.blocks.specs.Block.{withFlag}
+use Rattle.blocks.proofs.update.with_flag.Statement.{statement}
+use Rattle.blocks.proofs.update.with_flag.Tie as tie
 
 without-requires : tie.Need-without-requires
 without-requires c κs = search needs

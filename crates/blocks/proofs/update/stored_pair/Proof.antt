@@ -4,8 +4,8 @@ use mathlib.Core.Path.{_∙_, ap}
 use mathlib.Core.List.{List}
 use Prim.Native.Nat.{ℕ, _+_, _%_}
 use lib.ListN.{set}
-use Rattle.registers.proofs.update.stored_pair.Statement.{statement}
-use Rattle.registers.proofs.update.stored_pair.Tie as tie
+use Rattle.blocks.proofs.update.stored_pair.Statement.{statement}
+use Rattle.blocks.proofs.update.stored_pair.Tie as tie
 
 cast-stored : tie.Need-cast-stored
 cast-stored c = search needs
