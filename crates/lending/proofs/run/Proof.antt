@@ -1,10 +1,10 @@
 -- The frames come back as the result. The record comes back from the call as what it was lent as, since the evaluator keeps its name.
 use borrow.Author.Needs.{needs}
 use mathlib.Core.Path.{refl, sym, ap}
 use Rattle.evaluator.specs.Contracts.{Names}
-use Rattle.evaluator.proofs.ContractLaws.{renamed, same-noted}
-use Rattle.evaluator.proofs.entry.run.Statement.{statement}
-use Rattle.evaluator.proofs.entry.run.Tie as tie
+use Rattle.lending.proofs.LentLaws.{renamed, same-noted}
+use Rattle.lending.proofs.run.Statement.{statement}
+use Rattle.lending.proofs.run.Tie as tie
 
 lend-noted-requires : tie.Need-lend-noted-requires
 lend-noted-requires c κs = search needs

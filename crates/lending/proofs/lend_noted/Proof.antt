@@ -1,10 +1,10 @@
 -- The record comes back as the result. The posts come back from the call as what they were lent as, since the evaluator keeps their name.
 use borrow.Author.Needs.{needs}
 use mathlib.Core.Path.{refl, sym, ap}
 use Rattle.evaluator.specs.Contracts.{Names}
-use Rattle.evaluator.proofs.ContractLaws.{renamed, same-posts}
-use Rattle.evaluator.proofs.entry.lend_noted.Statement.{statement}
-use Rattle.evaluator.proofs.entry.lend_noted.Tie as tie
+use Rattle.lending.proofs.LentLaws.{renamed, same-posts}
+use Rattle.lending.proofs.lend_noted.Statement.{statement}
+use Rattle.lending.proofs.lend_noted.Tie as tie
 
 lend-posts-requires : tie.Need-lend-posts-requires
 lend-posts-requires c κs = search needs

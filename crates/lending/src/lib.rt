@@ -1,8 +1,8 @@
 // The evaluator on lent slices. Each function here keeps one of the four in a local and lends that on, so that the evaluator gets references to
 // slices. A slice that is lent so is spent, and comes back as the result.
 ghost use Rattle.machine.specs.Store.{evalAt};
 ghost use Rattle.evaluator.specs.Contracts.{Table, Evaluated};
-use crate::eval;
+use evaluator::eval;
 use program::limits::TERM_PLACES;
 
 fn lend_cells<'a>(

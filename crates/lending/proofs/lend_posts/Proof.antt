@@ -1,10 +1,11 @@
 -- The posts come back as the result. The cells come back from the call as what they were lent as, since the evaluator keeps their name.
 use borrow.Author.Needs.{needs}
 use mathlib.Core.Path.{refl, sym, ap}
 use Rattle.evaluator.specs.Contracts.{Names}
-use Rattle.evaluator.proofs.ContractLaws.{renamed, same-cells}
-use Rattle.evaluator.proofs.entry.lend_posts.Statement.{statement}
-use Rattle.evaluator.proofs.entry.lend_posts.Tie as tie
+use Rattle.evaluator.proofs.ContractLaws.{same-cells}
+use Rattle.lending.proofs.LentLaws.{renamed}
+use Rattle.lending.proofs.lend_posts.Statement.{statement}
+use Rattle.lending.proofs.lend_posts.Tie as tie
 
 lend-cells-requires : tie.Need-lend-cells-requires
 lend-cells-requires c κs = search needs
