@@ -25,14 +25,6 @@ const MAX_SHORT_CALLS: u32 = 100;
 
 const CHECKS: [Checks; 2] = [Checks::Enforced, Checks::Skipped];
 
-const WRONG: [Wrong; 5] = [
-    Wrong::HalfAPair,
-    Wrong::Fewer,
-    Wrong::More,
-    Wrong::NumbersForPairs,
-    Wrong::Crossed,
-];
-
 const WAYS: [(Runner, Checks); 4] = [
     (Runner::Eager, Checks::Enforced),
     (Runner::Eager, Checks::Skipped),
@@ -283,7 +275,7 @@ fn random_short_ranging(rng: &mut Rng, sheet: &[u8], world: &World, checks: Chec
         let right = random_pairs(rng, sheet);
         let wrong = match rng.percent(17) {
             true => {
-                let way = rng.pick(&WRONG);
+                let way = rng.pick(&Wrong::ALL);
                 wrong_pairs(rng, &right, way)
             }
             false => None,

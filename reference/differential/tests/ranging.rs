@@ -31,14 +31,6 @@ const UNDECIDED: u32 = 36;
 /// Pairs that aren't those of the sheet's numbers.
 const PAIRS: u32 = 35;
 
-const WRONG: [Wrong; 5] = [
-    Wrong::HalfAPair,
-    Wrong::Fewer,
-    Wrong::More,
-    Wrong::NumbersForPairs,
-    Wrong::Crossed,
-];
-
 /// What has to happen, beside each refusal and stop.
 const EXPECTED: [&str; 22] = [
     "a short answer",
@@ -102,7 +94,7 @@ fn both_answer_alike_and_hold_the_plain_runs() {
     let refusals = refusals.map(|cause| format!("refused, {cause}"));
     let stops = (17..=22).chain([UNDECIDED]);
     let stops = stops.map(|cause| format!("stopped, {cause}"));
-    let wrong = WRONG.map(|wrong| format!("{wrong:?}, {PAIRS}"));
+    let wrong = Wrong::ALL.map(|wrong| format!("{wrong:?}, {PAIRS}"));
     let before = [8, 31, 14, 15, 16].map(|cause| format!("wrong pairs, {cause} before {PAIRS}"));
     let expected = EXPECTED.map(String::from).into_iter();
     let expected = expected.chain(refusals).chain(stops);
@@ -143,7 +135,7 @@ fn the_largest_runs_are_alike() {
 fn random_pairs(rng: &mut Rng, sheet: &[u8]) -> (Vec<u16>, Option<Wrong>) {
     let right = ranges::random_pairs(rng, sheet);
     if rng.percent(15) {
-        let wrong = rng.pick(&WRONG);
+        let wrong = rng.pick(&Wrong::ALL);
         if let Some(pairs) = ranges::wrong_pairs(rng, &right, wrong) {
             return (pairs, Some(wrong));
         }
