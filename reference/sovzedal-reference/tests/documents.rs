@@ -549,6 +549,58 @@ fn the_frame_is_explained_by_its_chain() {
     assert_eq!(verdict.needs, Set::EMPTY);
 }
 
+/// Terms of the frame have the types and needs that the readme prints.
+#[test]
+fn the_frame_has_the_judgements_shown() {
+    let directory = repository().join("examples");
+    if !directory.exists() {
+        return;
+    }
+    let frame = bytes(&read(&directory.join("frame.hex")));
+    let shown = read(&directory.join("README.md"));
+    let (_, rest) = section(&shown, "Pieces")
+        .expect("a section")
+        .split_once("`frame.hex`")
+        .expect("a word about the frame");
+    let print = block(rest, "text").expect("a print");
+    let mut lines = print.lines();
+    assert!(typecheck(&frame).is_ok() && piece(&frame) == Ok(None));
+    assert_eq!(lines.next(), Some("accepted"));
+    assert_eq!(lines.next(), Some("no piece"));
+    assert!(lines.clone().count() > 0);
+    are_judgements_of(&frame, lines);
+    let gate = repository().join(".ci/examples");
+    assert!(!gate.exists() || read(&gate).contains(print));
+}
+
+/// Each after the term's number.
+fn are_judgements_of<'a>(sheet: &[u8], lines: impl Iterator<Item = &'a str>) {
+    for line in lines {
+        let rest = line.strip_prefix("term ").expect("a term");
+        let (number, judgement) = rest.split_once(": ").expect("a judgement");
+        is_judgement_of(sheet, number.parse().expect("a number"), judgement);
+    }
+}
+
+/// A cause is also told by a word, which the header has.
+fn is_judgement_of(sheet: &[u8], number: u32, printed: &str) {
+    let (begin, end) = match infer_term(sheet, number) {
+        Ok(told) => {
+            let principal = told.principal.unwrap_or(0);
+            let (ty, needs) = (told.ty, told.needs.bits());
+            let begin = format!("type {ty}, needs {needs:08X}, principal {principal}");
+            (begin, String::new())
+        }
+        Err(Refusal { cause, place }) => {
+            let begin = format!("refused, {} (", cause.number());
+            (begin, format!(") at {place}"))
+        }
+    };
+    let word = printed.strip_prefix(&begin).expect(&begin);
+    let word = word.strip_suffix(&end).expect(&end);
+    assert_eq!(word.is_empty(), end.is_empty(), "{printed}");
+}
+
 /// The draft's smallest faulty piece is the one that the readme prints, with the
 /// records of its terms, and mended as the readme says the next one is told, and
 /// in the end none.
@@ -572,16 +624,18 @@ fn the_draft_has_the_piece_shown() {
         told.term,
         told.count
     );
-    let records = print.strip_prefix(&begin).expect(&begin);
-    assert_eq!(records.lines().count(), told.count);
-    for line in records.lines() {
+    let mut lines = print.strip_prefix(&begin).expect(&begin).lines();
+    for line in lines.by_ref().take(told.count) {
         let (number, rest) = line.trim_start().split_once(": ").expect("a term");
-        let (_, record) = rest.split_once(", ").expect("its kind");
+        let (_, rest) = rest.split_once(", ").expect("its kind");
+        let (record, judgement) = rest.split_once(": ").expect("its record");
         let number: TermId = number.parse().expect("a number");
         let below = 8 * usize::from(told.term - number);
         let place = told.record.start - below..told.record.end - below;
         assert_eq!(bytes(record), draft[place], "the record of {number}");
+        is_judgement_of(&draft, number.into(), judgement);
     }
+    are_judgements_of(&draft, lines);
     the_gate_asks_for_the_print_of("Pieces");
 
     let record = |number: TermId| told.record.start - 8 * usize::from(told.term - number);
