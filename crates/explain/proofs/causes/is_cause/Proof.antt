@@ -17,7 +17,7 @@ has-latent-requires c κs =
 infer-requires : tie.Need-infer-requires
 infer-requires c κs =
     let start = c .before .before .before .before in
-    (call-ready (start .pre .ready) (c .before .before .term .ensures) (c .before .match .keys2), start .pre .known)
+    record { ready = call-ready (start .pre .ready) (c .before .before .term .ensures) (c .before .match .keys2); known = start .pre .known }
 
 enum-known-j : tie.Need-enum-known-j
 enum-known-j c = search needs
