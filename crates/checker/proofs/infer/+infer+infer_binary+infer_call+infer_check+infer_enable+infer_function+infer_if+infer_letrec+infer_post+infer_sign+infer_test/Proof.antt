@@ -819,7 +819,10 @@ infer-test-infer-requires-2 t c κs =
 infer-test-tested-requires : (t : ℕ) → infer-test-lts.Need-tested-requires (infer-test-claims t) (infer-test-at t) infer-test.Post
 infer-test-tested-requires t c κs =
     let start = c .before .before .before .before .before .before .before .before .before in
-    (record { sheet = start .pre .1 .at .ready .sheet; known = c .before .infer2 .ensures .known }, test-privilege (start .pre .1 .at) (start .pre .1 .kind-is))
+    record {
+      judging = record { sheet = start .pre .1 .at .ready .sheet; known = c .before .infer2 .ensures .known };
+      privilege = test-privilege (start .pre .1 .at) (start .pre .1 .kind-is);
+    }
 
 infer-test-returns-2 : (t : ℕ) → infer-test-lts.Need-returns-2 (infer-test-claims t) (infer-test-at t) infer-test.Post
 infer-test-returns-2 t c =
