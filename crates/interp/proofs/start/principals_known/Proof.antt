@@ -31,7 +31,8 @@ returns : tie.Need-returns Inv-loop μ-loop
 returns c =
     let at-loop = c .before .before .before in
     let start = at-loop .before in
-    unknown-here (start .args .count) (start .args .start .now) _ (omega (arith, start .pre .even, at-loop .loop .inv .even, c .before .before .loop-test .taken))
+    unknown-here (start .args .count) (start .args .start .now) _
+    (omega (arith, start .pre .even, at-loop .loop .inv .even, c .before .before .loop-test .taken))
     (c .if1 .taken) ∙ sym (at-loop .loop .inv .rest-is)
 
 add-i : tie.Need-add-i Inv-loop μ-loop

@@ -18,7 +18,8 @@ shape-of-requires c κs = search needs
 returns : tie.Need-returns
 returns c =
     let start = c .before .before .before in
-    shape-is (start .args .s .now) (start .args .c) (start .args .t) (start .pre .laid) (start .pre .inside) (c .before .table-term .ensures) (c .shape-of .ensures)
+    shape-is (start .args .s .now) (start .args .c) (start .args .t) (start .pre .laid) (start .pre .inside) (c .before .table-term .ensures)
+    (c .shape-of .ensures)
 
 pub shape-at-spec : {M : Type 1} → statement M
 shape-at-spec = tie.close (tie.spec table-term-requires shape-of-requires returns)
