@@ -30,6 +30,12 @@ use Rattle.report.specs.declared.draft.Draft.{Draft}
 abbrev whole : Fate → Buffers → List ℕ → Report
 whole f b t = record { fate = f; buffers = b; text = t }
 
+-- the first i of n bytes are copied to the front of a text, which keeps its length and its other bytes
+pub record Copied (bytes old new : List ℕ) (n i : ℕ) : Type 0 where
+  pub below : i ≤ n
+  pub long : length new ≡ length old
+  pub copied : new ≡ take i bytes ++ drop i old
+
 -- the array of a draft has 224 bytes
 module _ (d : Draft) (t : List ℕ) (size : length (d .bytes) ≡ 224) (room : d .len ≤ 224) where
   held-length : length (held d) ≡ d .len
