@@ -53,7 +53,8 @@ loop-again c =
     let start = at-loop .before .before in (
       omega (arith, at-loop-test .loop-test .taken),
       ap (set (at-loop .loop .state) (at-loop .loop .i))
-          (c .number-at .ensures ∙ sym (written-at (linesModel (start .args .q)) (at-loop .loop .i) (at-loop-test .loop-test .taken))) ∙ written-more stateNumbers
+          (c .number-at .ensures ∙ sym (written-at (linesModel (start .args .q)) (at-loop .loop .i) (at-loop-test .loop-test .taken)))
+          ∙ written-more stateNumbers
           (stateWritten (linesModel (start .args .q))) (start .args .state .now) (at-loop .loop .i) (written-size (linesModel (start .args .q)))
           (omega (arith, start .pre)) (at-loop-test .loop-test .taken) (at-loop .loop .inv .1),
     )

@@ -77,8 +77,9 @@ returns c =
     let at-loop = c .before in
     let at-size = at-loop .before .before in
     let start = at-size .before in
-    one-less (start .args .t1) (at-size .size .result) (at-size .size .ensures) (at-loop .loop .i)
-    (sized-by _ (start .args .t1 .jobs) 8 (start .good .0 .1 .1 .0 .1 .0 .1)) (start .pre) (at-loop .loop .inv .0) (c .loop-test .left) (at-loop .loop .inv .1) _
+    let eight = sized-by _ (start .args .t1 .jobs) 8 (start .good .0 .1 .1 .0 .1 .0 .1) in
+    one-less (start .args .t1) (at-size .size .result) (at-size .size .ensures) (at-loop .loop .i) eight (start .pre) (at-loop .loop .inv .0)
+    (c .loop-test .left) (at-loop .loop .inv .1) _
 
 pub dequeue-spec : {M : Type 1} → statement M
 dequeue-spec =
