@@ -22,14 +22,14 @@ pub fn print() {
     ];
     for (name, sheet) in sheets {
         let terms = decode(&sheet).expect("a readable sheet");
-        for term in [0, found_last(&terms), terms.root()] {
+        for term in [0, last_in_tree(&terms), terms.root()] {
             print_line(name, &sheet, term.into());
         }
     }
 }
 
-/// Behind all others: the last child of the last child, down from the root.
-fn found_last(sheet: &Sheet) -> TermId {
+/// The last child of the last child, down from the root.
+fn last_in_tree(sheet: &Sheet) -> TermId {
     let mut term = sheet.root();
     while let Some(child) = sheet.term(term).children().last() {
         term = child;
