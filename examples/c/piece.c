@@ -1,16 +1,22 @@
 /* Says of the sheet in a .hex file, where the rules refuse it, which is its
  * smallest faulty piece: the least to look at. Its terms are printed with their
- * records, each below the one that it is a child of.
+ * records, each below the one that it is a child of, and with what the rules say
+ * of them where they stand. Then the terms that are asked for by their numbers
+ * are judged in the same way, whether the sheet is accepted or not.
  *
- *     piece FILE
+ *     piece FILE [TERM...]
  *
- * The exit status is 0 if there is no piece, 1 if there is one or the sheet is
- * not readable, and 2 if the file could not be read.
+ * The exit status is 0 if there is no piece and each term asked for has a type,
+ * 1 if there is one, a term has none or the sheet is not readable, and 2 if the
+ * file could not be read.
  */
 #include <inttypes.h>
 #include <stdio.h>
+#include <stdlib.h>
 
 #include "hex.h"
+
+static size_t sheet_len;
 
 static uint32_t answer[SOVZEDAL_ANSWER];
 
@@ -34,6 +40,19 @@ static void print_refusal(void)
            cause, sovzedal_cause_text(cause), answer[SOVZEDAL_AT_PLACE]);
 }
 
+/* Prints the type and needs of a term where it stands and the principal that it
+ * is under, or its first fault. Returns 0, or 1 if there is no type to tell. */
+static int print_judgement(uint32_t term)
+{
+    if (sovzedal_term(sheet, sheet_len, term, answer, SOVZEDAL_ANSWER) != SOVZEDAL_OK) {
+        print_refusal();
+        return 1;
+    }
+    printf("type %" PRIu32 ", needs %08" PRIX32 ", principal %" PRIu32 "\n",
+           answer[SOVZEDAL_AT_TYPE], answer[SOVZEDAL_AT_NEEDS], answer[SOVZEDAL_AT_PRINCIPAL]);
+    return 0;
+}
+
 /* Prints a term and all that are in it. `record` is its record in the sheet, in
  * which the records of lower terms stand before it, as many bytes each. */
 static void print_term(uint32_t term, const uint8_t *record, uint32_t bytes, int indent)
@@ -45,7 +64,8 @@ static void print_term(uint32_t term, const uint8_t *record, uint32_t bytes, int
     for (part = 0; part < 3; part++) {
         printf(" %02X%02X", record[2 + 2 * part], record[3 + 2 * part]);
     }
-    printf("\n");
+    printf(": ");
+    print_judgement(term);
     for (part = 0; part < 3; part++) {
         if (kinds[record[0]].children >> part & 1) {
             uint32_t child = 256u * record[2 + 2 * part] + record[3 + 2 * part];
@@ -54,25 +74,17 @@ static void print_term(uint32_t term, const uint8_t *record, uint32_t bytes, int
     }
 }
 
-int main(int argc, char **argv)
+/* Returns 0 if there is no piece, else 1. */
+static int print_piece(void)
 {
     uint32_t fault;
-    long sheet_len;
 
-    if (argc != 2) {
-        fprintf(stderr, "usage: piece FILE\n");
-        return 2;
-    }
-    sheet_len = load_sheet(argv[1]);
-    if (sheet_len < 0) {
-        return 2;
-    }
-    if (sovzedal_typecheck(sheet, (size_t)sheet_len, answer, SOVZEDAL_ANSWER) == SOVZEDAL_OK) {
+    if (sovzedal_typecheck(sheet, sheet_len, answer, SOVZEDAL_ANSWER) == SOVZEDAL_OK) {
         printf("accepted\n");
     } else {
         print_refusal();
     }
-    if (sovzedal_piece(sheet, (size_t)sheet_len, answer, SOVZEDAL_ANSWER) != SOVZEDAL_OK) {
+    if (sovzedal_piece(sheet, sheet_len, answer, SOVZEDAL_ANSWER) != SOVZEDAL_OK) {
         return 1;
     }
     fault = answer[SOVZEDAL_AT_FAULT];
@@ -85,4 +97,28 @@ int main(int argc, char **argv)
     print_term(answer[SOVZEDAL_AT_TERM], sheet + answer[SOVZEDAL_AT_OFFSET],
                answer[SOVZEDAL_AT_BYTES], 2);
     return 1;
+}
+
+int main(int argc, char **argv)
+{
+    long length;
+    int status, argument;
+
+    if (argc < 2) {
+        fprintf(stderr, "usage: piece FILE [TERM...]\n");
+        return 2;
+    }
+    length = load_sheet(argv[1]);
+    if (length < 0) {
+        return 2;
+    }
+    sheet_len = (size_t)length;
+    status = print_piece();
+    for (argument = 2; argument < argc; argument++) {
+        uint32_t term = (uint32_t)strtoul(argv[argument], NULL, 10);
+
+        printf("term %" PRIu32 ": ", term);
+        status |= print_judgement(term);
+    }
+    return status;
 }

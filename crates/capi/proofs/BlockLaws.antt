@@ -7,9 +7,11 @@ use lib.ListN.{length, drop}
 use mir.Val.{boolByte}
 use Rattle.semantics.specs.Runs.{Buffers}
 use Rattle.interp.specs.Answers.{buffersOf}
-use Rattle.registers.specs.Block.{Reading, readOf, raised, writeOf}
-use Rattle.registers.specs.Answers.{accessModel, writtenModel}
-use Rattle.registers.specs.declared.block.Written.{Written}
+use Rattle.blocks.specs.Block.{Reading, readOf, raised}
+use Rattle.blocks.specs.Answers.{accessModel}
+use Rattle.registers.specs.Writes.{writeOf}
+use Rattle.registers.specs.Answers.{writtenModel}
+use Rattle.registers.specs.declared.Written.{Written}
 use Rattle.replies.specs.Replies as replies
 use Rattle.replies.specs.Replies.{unfit, written, notDone, left}
 use Rattle.replies.specs.Laws.{fit}

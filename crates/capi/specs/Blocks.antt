@@ -3,7 +3,8 @@ use mathlib.Core.Bool.{Bool, cond}
 use mathlib.Core.List.{List, [], _∷_}
 use Prim.Native.Nat.{ℕ}
 use Rattle.semantics.specs.Runs.{Buffers}
-use Rattle.registers.specs.Block.{Reading, read-byte, read-refused, Access, access-done, access-refused, Written, readOf, raised, writeOf}
+use Rattle.blocks.specs.Block.{Reading, read-byte, read-refused, Access, access-done, access-refused, readOf, raised}
+use Rattle.registers.specs.Writes.{Written, writeOf}
 use Rattle.replies.specs.Replies.{Reply, bit, unfit, written, notDone, left}
 
 -- a cause and its place, whether the interrupt is raised after the access, and the byte read; a run's own answer stands in the block

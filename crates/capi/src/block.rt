@@ -1,12 +1,12 @@
 // A register block between a caller's list of bytes and the block by value, and the replies to its accesses.
 ghost use mathlib.Core.Path.{_≡_};
 ghost use lib.ListN.{length};
-ghost use Rattle.registers.specs.Answers.{readModel, accessModel};
+ghost use Rattle.blocks.specs.Answers.{readModel, accessModel};
 ghost use Rattle.capi.specs.Blocks.{accessed as accessedOf, readReply, accessReply};
 ghost use Rattle.replies.specs.Internal.{replyOf};
-use registers::block::Access;
-use registers::block::Block;
-use registers::block::Read;
+use blocks::block::Access;
+use blocks::block::Block;
+use blocks::block::Read;
 use replies::Reply;
 
 pub fn load(block: &[u8]) -> Block

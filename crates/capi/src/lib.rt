@@ -5,7 +5,7 @@ ghost use Rattle.semantics.specs.Runs.{eager as eagerRunner, lazy as lazyRunner
 ghost use Rattle.semantics.specs.Recording.{recording};
 ghost use Rattle.interp.specs.Answers.{requestOf, buffersOf};
 ghost use Rattle.replies.specs.Replies.{decodeReply, typecheckReply, replied, called, enforces, left, leftAll};
-ghost use Rattle.lines.specs.Answers.{jobOf};
+ghost use Rattle.queues.specs.Answers.{jobOf};
 ghost use Rattle.capi_lines.specs.Entries.{linesAdd, leftAdd, linesServe, leftServe};
 ghost use Rattle.capi_explain.specs.Entries.{explainCall, leftExplain};
 ghost use Rattle.capi_lean.specs.Entries.{eraseCall, leftErase};
@@ -218,8 +218,8 @@ pub extern "C" fn sovzedal_block_read(block: &[u8], address: u32, answer: &mut [
         return 3;
     }
     let b = load(block);
-    let x = registers::read(b, address);
-    put(of_read(x, registers::interrupt(b)), answer)
+    let x = blocks::read(b, address);
+    put(of_read(x, blocks::interrupt(b)), answer)
 }
 
 // A write to a register; 1 to the command runs the sheet, in the largest buffers.
@@ -248,7 +248,7 @@ pub extern "C" fn sovzedal_block_write(
     let b = w.block;
     let access = w.access;
     save(b, block);
-    put(of_access(access, registers::interrupt(b)), answer)
+    put(of_access(access, blocks::interrupt(b)), answer)
 }
 
 // A job for one of the four lines. Their state is a list of 102 numbers.

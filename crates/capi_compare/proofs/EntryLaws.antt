@@ -20,7 +20,7 @@ use Rattle.capi_compare.specs.Entries.{comparisonReply, long, compareCal
 use Rattle.capi_compare.specs.Internal.{Told}
 
 module _ (u o answer : List ℕ) where
-  -- ---- a record is too long
+  -- ---- a record is too long: it has more bytes than the largest number of 32 bits tells
   pub long-unit : 4294967295 < length u → left 3 answer ≡ compareCall u o answer
   long-unit h = λ i. cond (sym (lt-ltb 4294967295 (length u) h) i || long o) (notDone answer) (replied answer (comparisonReply (comparison u o)))
 

@@ -12,16 +12,18 @@ use Rattle.replies.specs.Replies.{unfit, writtenNine, left}
 use Rattle.replies.specs.Internal.{replyOf}
 use Rattle.replies.specs.Laws.{fit, in-place, run-eight, in-nine}
 use Rattle.replies.specs.declared.Reply.{Reply}
-use Rattle.lines.specs.Queues as queues
-use Rattle.lines.specs.Queues.{Job, State, addOf, Told, idle, told, serveOf}
-use Rattle.lines.specs.Answers.{linesModel, additionModel, addedModel, answerModel, servedModel}
+use Rattle.queues.specs.Queues.{Job, State, addOf}
+use Rattle.lines.specs.Serving as serving
+use Rattle.lines.specs.Serving.{Told, idle, told, serveOf}
+use Rattle.queues.specs.Answers.{linesModel, additionModel, addedModel}
+use Rattle.lines.specs.Answers.{answerModel, servedModel}
 use Rattle.lines.specs.Theorems.{served-few}
-use Rattle.lines.specs.declared.state.Lines.{Lines}
-use Rattle.lines.specs.declared.state.Addition.{Addition}
-use Rattle.lines.specs.declared.state.Added.{Added}
-use Rattle.lines.specs.declared.state.Answer as answers
-use Rattle.lines.specs.declared.state.Answer.the-variants.{Idle, Outside, Run}
-use Rattle.lines.specs.declared.state.Served.{Served}
+use Rattle.queues.specs.declared.state.Lines.{Lines}
+use Rattle.queues.specs.declared.state.Addition.{Addition}
+use Rattle.queues.specs.declared.state.Added.{Added}
+use Rattle.lines.specs.declared.answer.Answer as answers
+use Rattle.lines.specs.declared.answer.Answer.the-variants.{Idle, Outside, Run}
+use Rattle.lines.specs.declared.answer.Served.{Served}
 use Rattle.capi_lines.specs.States.{stateNumbers, stateRead, stateWritten}
 use Rattle.capi_lines.specs.Entries.{addReply, leftAdd, stateAfter, addLeft, linesAdd, serveReply, leftServe, servedState, serveLeft, linesServe}
 use Rattle.capi_lines.specs.Internal.{SmallAnswer}
@@ -85,4 +87,4 @@ module _ (s : State) (store : List ℕ) (b : Buffers) where
   few (Run (Ran o m)) e = served-few s store b (outcomeModel o) (countsModel m) (sym e)
 
   pub small-answer : (r : Served) {cells posts : List ℕ} → servedModel r cells posts ≡ serveOf s store b → SmallAnswer (r .answer)
-  small-answer r e = few (r .answer) (ap (λ (x : queues.Served). x .answer) e)
+  small-answer r e = few (r .answer) (ap (λ (x : serving.Served). x .answer) e)

@@ -7,14 +7,14 @@ use native.Mathlib.Nat.{add-zero}
 use native.Mathlib.Omega.{arith}
 use lib.ListN.{length, getD, take}
 use borrow.Author.Tests.{lt-ltb, le-ltb}
-use Rattle.lines.specs.Queues as queues
-use Rattle.lines.specs.Queues.{maxLines, State, queueAt}
-use Rattle.lines.specs.Answers.{noJob, jobModel, queueModel, linesModel}
-use Rattle.lines.specs.Internal.{SizeIs}
-use Rattle.lines.specs.Laws.{none, queue-is}
-use Rattle.lines.specs.declared.state.Job.{Job}
-use Rattle.lines.specs.declared.state.Queue.{Queue}
-use Rattle.lines.specs.declared.state.Lines.{Lines}
+use Rattle.queues.specs.Queues as queues
+use Rattle.queues.specs.Queues.{maxLines, State, queueAt}
+use Rattle.queues.specs.Answers.{noJob, jobModel, queueModel, linesModel}
+use Rattle.queues.specs.Internal.{SizeIs}
+use Rattle.queues.specs.Laws.{none, queue-is}
+use Rattle.queues.specs.declared.state.Job.{Job}
+use Rattle.queues.specs.declared.state.Queue.{Queue}
+use Rattle.queues.specs.declared.state.Lines.{Lines}
 use Rattle.capi_lines.specs.States.{stateNumbers, maxAllowance, jobRead, queueRead, stateRead, jobPart, jobNumber, numberAt, tabulate, stateWritten}
 
 -- ---- reading

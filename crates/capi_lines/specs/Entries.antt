@@ -5,7 +5,8 @@ use Prim.Native.Nat.{ℕ}
 use Rattle.program.specs.Screening.{Screening, clear, found}
 use Rattle.semantics.specs.Runs.{Buffers}
 use Rattle.replies.specs.Replies.{Reply, refusal, runReply, unfit, written, writtenNine, notDone, left}
-use Rattle.lines.specs.Queues.{Job, State, Added, addOf, Told, idle, told, Served, serveOf}
+use Rattle.queues.specs.Queues.{Job, State, Added, addOf}
+use Rattle.lines.specs.Serving.{Told, idle, told, Served, serveOf}
 use Rattle.capi_lines.specs.States.{stateNumbers, stateRead, stateWritten}
 
 -- ---- a job is added

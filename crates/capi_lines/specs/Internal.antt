@@ -3,8 +3,8 @@ use mathlib.Core.List.{[], _∷_}
 use Prim.Native.Nat.{ℕ}
 use Rattle.replies.specs.Replies.{Reply}
 use Rattle.replies.specs.Internal.{Small}
-use Rattle.lines.specs.declared.state.Answer.{Answer}
-use Rattle.lines.specs.declared.state.Answer.the-variants.{Idle, Outside, Run}
+use Rattle.lines.specs.declared.answer.Answer.{Answer}
+use Rattle.lines.specs.declared.answer.Answer.the-variants.{Idle, Outside, Run}
 
 -- a status with a cause
 abbrev pub numbered : (status cause : ℕ) → Reply

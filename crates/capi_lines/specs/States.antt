@@ -6,8 +6,8 @@ use mathlib.Core.List.{List, [], _∷_}
 use Prim.Native.Nat.{ℕ, zero, suc, _+_, _-_, _*_, _/_, _%_, min}
 use lib.Dec.{ltb}
 use lib.ListN.{length, getD, take}
-use Rattle.lines.specs.Queues.{maxLines, Job, State, queueAt}
-use Rattle.lines.specs.Answers.{noJob}
+use Rattle.queues.specs.Queues.{maxLines, Job, State, queueAt}
+use Rattle.queues.specs.Answers.{noJob}
 
 abbrev pub stateNumbers : ℕ
 stateNumbers = 102

@@ -7,8 +7,8 @@ use Prim.Native.Nat.{ℕ, zero, suc, _+_, _%_, _<_, _≤_, min}
 use native.Mathlib.Omega.{arith}
 use lib.Dec.{eqb}
 use lib.ListN.{length, getD, take, replicate}
-use Rattle.lines.specs.Queues.{maxLines, maxJobs, Job, State, start, queueAt, addOf}
-use Rattle.lines.specs.Answers.{noJob}
+use Rattle.queues.specs.Queues.{maxLines, maxJobs, Job, State, start, queueAt, addOf}
+use Rattle.queues.specs.Answers.{noJob}
 use Rattle.program.specs.Screening.{Screening, clear, found}
 use Rattle.lines.specs.Sessions.{Operation, add, serve, stepped, session, only, accepted, addedBy, addedIn, servedIn, Sound}
 use Rattle.lines.specs.Theorems.{start-sound, session-sound, in-order}

@@ -2,7 +2,7 @@
 ghost use mathlib.Core.List.{[]};
 ghost use mathlib.Core.Path.{_≡_};
 ghost use Rattle.interp.specs.Answers.{buffersOf};
-ghost use Rattle.lines.specs.Answers.{jobOf};
+ghost use Rattle.queues.specs.Answers.{jobOf};
 ghost use Rattle.capi_lines.specs.Entries.{linesAdd, leftAdd, linesServe, leftServe};
 
 pub mod reply;
@@ -36,7 +36,7 @@ pub fn add(
         return 3;
     }
     let old = load(state);
-    let r = lines::add(old, line, offset, length, calls, store);
+    let r = queues::add(old, line, offset, length, calls, store);
     let x = r.answer;
     let q = r.lines;
     keep_added(x, q, state);

@@ -1,11 +1,12 @@
 // The replies of the two entries. specs/Entries.antt says what each holds.
 ghost use mathlib.Core.Path.{_≡_};
 ghost use Rattle.replies.specs.Internal.{replyOf};
-ghost use Rattle.lines.specs.Answers.{additionModel, answerModel};
+ghost use Rattle.queues.specs.Answers.{additionModel};
+ghost use Rattle.lines.specs.Answers.{answerModel};
 ghost use Rattle.capi_lines.specs.Entries.{addReply, serveReply};
 ghost use Rattle.capi_lines.specs.Internal.{numbered, SmallAnswer};
-use lines::state::Addition;
-use lines::state::Answer;
+use lines::answer::Answer;
+use queues::state::Addition;
 use replies::Reply;
 use replies::of_run;
 

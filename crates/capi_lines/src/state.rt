@@ -2,18 +2,19 @@
 ghost use mathlib.Core.Path.{_≡_};
 ghost use Prim.Native.Nat.{_+_, _<_, _≤_, min as least};
 ghost use lib.ListN.{length, getD};
-ghost use Rattle.lines.specs.Queues.{maxLines};
-ghost use Rattle.lines.specs.Answers.{jobModel, queueModel, linesModel, additionModel, answerModel};
+ghost use Rattle.queues.specs.Queues.{maxLines};
+ghost use Rattle.queues.specs.Answers.{jobModel, queueModel, linesModel, additionModel};
+ghost use Rattle.lines.specs.Answers.{answerModel};
 ghost use Rattle.capi_lines.specs.States.{stateNumbers, maxAllowance, jobRead, queueRead, stateRead, jobPart, jobNumber, numberAt, stateWritten};
 ghost use Rattle.capi_lines.specs.Entries.{stateAfter, servedState};
-use lines::queue::job_at;
-use lines::queue::size;
-use lines::state::Addition;
-use lines::state::Answer;
-use lines::state::Job;
-use lines::state::Lines;
-use lines::state::MAX_LINES;
-use lines::state::Queue;
+use lines::answer::Answer;
+use queues::queue::job_at;
+use queues::queue::size;
+use queues::state::Addition;
+use queues::state::Job;
+use queues::state::Lines;
+use queues::state::MAX_LINES;
+use queues::state::Queue;
 
 pub const STATE_NUMBERS: usize = 102;
 

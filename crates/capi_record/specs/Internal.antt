@@ -1,5 +1,7 @@
 -- What the contract of an internal function says; no reader of an entry's promise needs it.
-use Prim.Native.Nat.{_<_}
+use mathlib.Core.List.{List}
+use Prim.Native.Nat.{ℕ, _<_, _≤_}
+use lib.ListN.{length}
 use Rattle.replies.specs.Internal.{Small}
 use Rattle.interp.specs.declared.answer.RecordedRun.{RecordedRun}
 
@@ -7,3 +9,8 @@ use Rattle.interp.specs.declared.answer.RecordedRun.{RecordedRun}
 pub record Tellable (r : RecordedRun) : Type 0 where
   pub counts-small : Small (r .run)
   pub entries-small : r .entries < 4294967296
+
+-- and there is room for the nine numbers of an answer
+pub record TellableIn (r : RecordedRun) (answer : List ℕ) : Type 0 where
+  pub tellable : Tellable r
+  pub room : 9 ≤ length answer

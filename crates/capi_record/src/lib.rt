@@ -1,22 +1,19 @@
 // Runs with a record, for C: the entries go into lent bytes, and their number follows the eight of a run. include/sovzedal.h documents each argument.
 ghost use mathlib.Core.List.{[]};
 ghost use mathlib.Core.Path.{_≡_};
-ghost use Prim.Native.Nat.{_≤_};
-ghost use lib.ListN.{length};
 ghost use Rattle.semantics.specs.Runs.{eager as eagerRunner, lazy as lazyRunner};
 ghost use Rattle.semantics.specs.Recording.{recording};
 ghost use Rattle.interp.specs.Answers.{runModel, requestOf, buffersOf};
 ghost use Rattle.replies.specs.Replies.{runReply, writtenNine, enforces, left};
 ghost use Rattle.capi_record.specs.Entries.{recordCall, leftRecord};
-ghost use Rattle.capi_record.specs.Internal.{Tellable};
+ghost use Rattle.capi_record.specs.Internal.{TellableIn};
 use interp::answer::RecordedRun;
 use replies::of_run;
 use replies::put;
 
 // Writes the nine numbers and gives the status.
 fn tell(r: RecordedRun, answer: &mut [u32]) -> u32
-    requires { ⌜ Tellable r ⌝ }
-    requires { ⌜ 9 ≤ length (now answer) ⌝ }
+    requires { ⌜ TellableIn r (now answer) ⌝ }
     ensures { λ status. ⌜ left status (now (answer .exit)) ≡ writtenNine (runReply (runModel (r .run))) (r .entries) (now (answer .entry)) ⌝ }
 {
     let run = r.run;

@@ -16,7 +16,7 @@ use Rattle.program.specs.Layout.{principals, termAt, channels, guardByte, guard
 use Rattle.program.specs.Formats.{Kind, Boolean, Number, Variable, Function, Letrec, Call, If, Check, Enable, Sign, Test, Sum, Difference, Less, Post, kindOf, format}
 use Rattle.program.specs.Terms.{node, tree}
 use Rattle.program.specs.Decoding.{partOk}
-use Rattle.program.specs.Records.{termAtByte, typeRecord, authorityRecord, guardRecord}
+use Rattle.program.specs.Records.{termAtByte, termRecord, typeRecord, authorityRecord, guardRecord}
 use Rattle.program.specs.declared.records.Counts.{Counts}
 use Rattle.program.specs.declared.records.TermRecord.{TermRecord}
 use Rattle.program.specs.declared.records.TypeRecord.{TypeRecord}
@@ -28,7 +28,7 @@ use Rattle.typing.specs.Rules.{removeAuthorised}
 use Rattle.typing.specs.Checking.{Judgement, typed, _next_, require, bodyFits, infer}
 use Rattle.rules.specs.Inference.{inferredModel, context, room, roomAt, termJudgement, Ready}
 use Rattle.rules.specs.Steps.{Pushed, leafStep, checkStep, enableStep, signStep, postStep, GuardByte, testStep, ifStep, binaryStep, bodyStep, functionStep, letrecStep, callStep, resultOf}
-use Rattle.checker.specs.Internal.{ReadyAt}
+use Rattle.checker.specs.Internal.{ReadyTerm, ReadyAt}
 use Rattle.typing.specs.declared.answer.Inferred.{Inferred}
 use Rattle.typing.specs.declared.answer.Inferred.the-variants.{Typed}
 use Rattle.rules.specs.declared.bindings.Bindings.{Bindings}
@@ -58,6 +58,11 @@ module _ (k : ℕ → ℕ → Judgement) {J G : Judgement} (q : G ≡ (J next k)
 
 ends : (f : Judgement → Judgement) {J G j r : Judgement} → j ≡ J → G ≡ f J → r ≡ f j → r ≡ G
 ends f p q h = h ∙ ap f p ∙ sym q
+
+-- a term that can be judged, once its record has been read
+pub read-at : {s : List ℕ} {c : Counts} {l : List ℕ} {t : ℕ} {b : Bindings} {n : ℕ} {x : TermRecord}
+    → ReadyTerm s c l t b n → x ≡ termRecord s c t → ReadyAt s c l t b n x
+read-at r e = record { ready = r .ready; known = r .known; record-is = e }
 
 -- what a child asks, and that it is lower
 pub record Child (s : List ℕ) (c : Counts) (t y : ℕ) (b : Bindings) (n : ℕ) : Type 0 where

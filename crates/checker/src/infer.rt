@@ -10,17 +10,12 @@ use rules::bindings::push;
 use rules::known::Known;
 use rules::steps;
 use typing::answer::Inferred;
-ghost use mathlib.Core.Path.{_≡_};
-ghost use Prim.Native.Nat.{_<_, _≤_};
-ghost use Rattle.program.specs.Layout.{typesOf};
-ghost use Rattle.rules.specs.Inference.{context, Ready};
-ghost use Rattle.rules.specs.Known.{Known as KnownOf};
-ghost use Rattle.checker.specs.Internal.{ReadyAt, Judged};
+ghost use Rattle.rules.specs.Inference.{context};
+ghost use Rattle.checker.specs.Internal.{ReadyTerm, ReadyKind, ReadyBinary, Judged};
 
 // The type and needs of term t under the bindings b and the principal n, or its first fault. What is known of the sheet's types is handed on.
 pub fn infer(s: &[u8], c: Counts, known: &mut Known, t: u16, b: Bindings, n: u8) -> Inferred
-    requires { ⌜ Ready (now s) c t b n ⌝ }
-    requires { ⌜ KnownOf (typesOf (now s)) (now known) ⌝ }
+    requires { ⌜ ReadyTerm (now s) c (now known) t b n ⌝ }
     ensures { λ r. ⌜ Judged (now (s .entry)) (context b) n t r (now (known .exit)) ⌝ }
 {
     let x = table_term(s, c, t);
@@ -49,8 +44,7 @@ fn infer_function(
     b: Bindings,
     n: u8,
 ) -> Inferred
-    requires { ⌜ ReadyAt (now s) c (now known) t b n x ⌝ }
-    requires { ⌜ x .kind ≡ 3 ⌝ }
+    requires { ⌜ ReadyKind (now s) c (now known) t b n x 3 ⌝ }
     ensures { λ r. ⌜ Judged (now (s .entry)) (context b) n t r (now (known .exit)) ⌝ }
 {
     let f = type_record(s, c, x.first);
@@ -68,8 +62,7 @@ fn infer_letrec(
     b: Bindings,
     n: u8,
 ) -> Inferred
-    requires { ⌜ ReadyAt (now s) c (now known) t b n x ⌝ }
-    requires { ⌜ x .kind ≡ 4 ⌝ }
+    requires { ⌜ ReadyKind (now s) c (now known) t b n x 4 ⌝ }
     ensures { λ r. ⌜ Judged (now (s .entry)) (context b) n t r (now (known .exit)) ⌝ }
 {
     let f = type_record(s, c, x.first);
@@ -92,8 +85,7 @@ fn infer_call(
     b: Bindings,
     n: u8,
 ) -> Inferred
-    requires { ⌜ ReadyAt (now s) c (now known) t b n x ⌝ }
-    requires { ⌜ x .kind ≡ 5 ⌝ }
+    requires { ⌜ ReadyKind (now s) c (now known) t b n x 5 ⌝ }
     ensures { λ r. ⌜ Judged (now (s .entry)) (context b) n t r (now (known .exit)) ⌝ }
 {
     let j = infer(s, c, known, x.first, b, n);
@@ -113,8 +105,7 @@ fn infer_if(
     b: Bindings,
     n: u8,
 ) -> Inferred
-    requires { ⌜ ReadyAt (now s) c (now known) t b n x ⌝ }
-    requires { ⌜ x .kind ≡ 6 ⌝ }
+    requires { ⌜ ReadyKind (now s) c (now known) t b n x 6 ⌝ }
     ensures { λ r. ⌜ Judged (now (s .entry)) (context b) n t r (now (known .exit)) ⌝ }
 {
     let i = infer(s, c, known, x.first, b, n);
@@ -142,8 +133,7 @@ fn infer_check(
     b: Bindings,
     n: u8,
 ) -> Inferred
-    requires { ⌜ ReadyAt (now s) c (now known) t b n x ⌝ }
-    requires { ⌜ x .kind ≡ 7 ⌝ }
+    requires { ⌜ ReadyKind (now s) c (now known) t b n x 7 ⌝ }
     ensures { λ r. ⌜ Judged (now (s .entry)) (context b) n t r (now (known .exit)) ⌝ }
 {
     let j = infer(s, c, known, x.first, b, n);
@@ -159,8 +149,7 @@ fn infer_enable(
     b: Bindings,
     n: u8,
 ) -> Inferred
-    requires { ⌜ ReadyAt (now s) c (now known) t b n x ⌝ }
-    requires { ⌜ x .kind ≡ 8 ⌝ }
+    requires { ⌜ ReadyKind (now s) c (now known) t b n x 8 ⌝ }
     ensures { λ r. ⌜ Judged (now (s .entry)) (context b) n t r (now (known .exit)) ⌝ }
 {
     let j = infer(s, c, known, x.first, b, n);
@@ -178,8 +167,7 @@ fn infer_sign(
     b: Bindings,
     n: u8,
 ) -> Inferred
-    requires { ⌜ ReadyAt (now s) c (now known) t b n x ⌝ }
-    requires { ⌜ x .kind ≡ 9 ⌝ }
+    requires { ⌜ ReadyKind (now s) c (now known) t b n x 9 ⌝ }
     ensures { λ r. ⌜ Judged (now (s .entry)) (context b) n t r (now (known .exit)) ⌝ }
 {
     let j = infer(s, c, known, x.first, b, x.small);
@@ -196,8 +184,7 @@ fn infer_test(
     b: Bindings,
     n: u8,
 ) -> Inferred
-    requires { ⌜ ReadyAt (now s) c (now known) t b n x ⌝ }
-    requires { ⌜ x .kind ≡ 10 ⌝ }
+    requires { ⌜ ReadyKind (now s) c (now known) t b n x 10 ⌝ }
     ensures { λ r. ⌜ Judged (now (s .entry)) (context b) n t r (now (known .exit)) ⌝ }
 {
     let j = infer(s, c, known, x.first, b, n);
@@ -217,8 +204,7 @@ fn infer_binary(
     b: Bindings,
     n: u8,
 ) -> Inferred
-    requires { ⌜ ReadyAt (now s) c (now known) t b n x ⌝ }
-    requires { ⌜ (11 ≤ x .kind) × (x .kind < 14) ⌝ }
+    requires { ⌜ ReadyBinary (now s) c (now known) t b n x ⌝ }
     ensures { λ r. ⌜ Judged (now (s .entry)) (context b) n t r (now (known .exit)) ⌝ }
 {
     let j = infer(s, c, known, x.first, b, n);
@@ -240,8 +226,7 @@ fn infer_post(
     b: Bindings,
     n: u8,
 ) -> Inferred
-    requires { ⌜ ReadyAt (now s) c (now known) t b n x ⌝ }
-    requires { ⌜ x .kind ≡ 14 ⌝ }
+    requires { ⌜ ReadyKind (now s) c (now known) t b n x 14 ⌝ }
     ensures { λ r. ⌜ Judged (now (s .entry)) (context b) n t r (now (known .exit)) ⌝ }
 {
     let j = infer(s, c, known, x.first, b, n);

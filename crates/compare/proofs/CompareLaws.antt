@@ -15,7 +15,7 @@ use Rattle.traces.specs.Comparing.{sameEvent, refused, fits, diverges, compared
 use Rattle.traces.specs.Laws.Subsequences.{same-true, same-self}
 use Rattle.traces.specs.Laws.Greedy.{placed, placed-none, placed-room, compared-fits, compared-diverges}
 use Rattle.traces.specs.Laws.Records.{trace-length, well-formed-true, trace-next, well-formed-next, whole-entry, decision-at}
-use Rattle.compare.specs.Internal.{EntryAt, placedEntries}
+use Rattle.compare.specs.Internal.{EntryAt, TwoFormed, placedEntries}
 
 -- ---- equal entries
 decision-one : (d e : ℕ) → d ≤ 1 → e ≤ 1 → eqb d 1 ≡ eqb e 1 → d ≡ e
@@ -120,15 +120,15 @@ module _ (u o : List ℕ) where
       (λ k. placed (trace (drop i u)) (trace ((ap (λ (n : ℕ). drop n o) e ∙ drop-length o) k))) ∙ placed-none (trace (drop i u)) in
       omega (arith, x, p .so-far)
 
-  module _ (wu : wellFormed u ≡ true) (wo : wellFormed o ≡ true) (i j : ℕ) (p : Placing u o i j) (more : i ≡ length u → ⊥) (inside : j < length o) where
+  module _ (f : TwoFormed u o) (i j : ℕ) (p : Placing u o i j) (more : i ≡ length u → ⊥) (inside : j < length o) where
     left : i < length u
     left = omega (arith, more, p .within .0)
 
     pub unit-entry : EntryAt u i
-    unit-entry = record { inside = whole-entry u wu i (p .fourth .0) left; decision = decision-at u wu i (p .fourth .0) left }
+    unit-entry = record { inside = whole-entry u (f .of-unit) i (p .fourth .0) left; decision = decision-at u (f .of-unit) i (p .fourth .0) left }
 
     pub office-entry : EntryAt o j
-    office-entry = record { inside = whole-entry o wo j (p .fourth .1) inside; decision = decision-at o wo j (p .fourth .1) inside }
+    office-entry = record { inside = whole-entry o (f .of-office) j (p .fourth .1) inside; decision = decision-at o (f .of-office) j (p .fourth .1) inside }
 
     step : (b : Bool) → sameEvent (eventAt u i) (eventAt o j) ≡ b → placed (trace (drop i u)) (trace (drop j o))
         ≡ cond b (suc (placed (trace (drop (i + 4) u)) (trace (drop (j + 4) o)))) (placed (eventAt u i ∷ trace (drop (i + 4) u)) (trace (drop (j + 4) o)))

@@ -1,11 +1,10 @@
 // The unit's record held against the office's: each of the unit's entries is placed at the first of the office's entries behind the one before that equals
 // it. specs/Answers.antt has the paper's number of each case.
-ghost use mathlib.Core.Bool.{true};
 ghost use mathlib.Core.Path.{_≡_};
 ghost use Rattle.traces.specs.Traces.{eventAt, wellFormed};
 ghost use Rattle.traces.specs.Comparing.{sameEvent, comparison};
 ghost use Rattle.compare.specs.Answers.{comparisonModel};
-ghost use Rattle.compare.specs.Internal.{EntryAt, placedEntries};
+ghost use Rattle.compare.specs.Internal.{TwoEntries, TwoFormed, placedEntries};
 
 pub mod answer;
 
@@ -50,7 +49,7 @@ fn well_formed(s: &[u8]) -> bool
 
 // How many of the unit's entries can be placed, from the first on.
 fn place(unit: &[u8], office: &[u8]) -> usize
-    requires { ⌜ (wellFormed (now unit) ≡ true) × (wellFormed (now office) ≡ true) ⌝ }
+    requires { ⌜ TwoFormed (now unit) (now office) ⌝ }
     ensures { λ r. ⌜ r ≡ placedEntries (now (unit .entry)) (now (office .entry)) ⌝ }
 {
     let mut i = 0;
@@ -69,7 +68,7 @@ fn place(unit: &[u8], office: &[u8]) -> usize
 
 // Whether the entries at two places are equal: events are if their bytes are.
 fn same(unit: &[u8], i: usize, office: &[u8], j: usize) -> bool
-    requires { ⌜ EntryAt (now unit) i × EntryAt (now office) j ⌝ }
+    requires { ⌜ TwoEntries (now unit) i (now office) j ⌝ }
     ensures { λ r. ⌜ r ≡ sameEvent (eventAt (now (unit .entry)) i) (eventAt (now (office .entry)) j) ⌝ }
 {
     if unit[i] != office[j] {

@@ -10,6 +10,7 @@ use lib.ListN.{getD, length, set}
 use lib.Seq.{getD-set-same, getD-set-other}
 use borrow.Author.Tests.{leb-true, leb-false, le-leb, lt-leb, eqb-true, eqb-false, eq-eqb, ne-eqb}
 use Rattle.privileges.specs.Booleans.{and-left, and-right}
+use Rattle.program.specs.Limits.{maxTerms}
 use Rattle.program.specs.Tests.{orElse}
 use Rattle.program.specs.Layout.{terms, root}
 use Rattle.program.specs.Screening.{onward, lowest}
@@ -25,6 +26,12 @@ leb-iff a b c d f g = go (leb a b) refl
     go : (v : Bool) → leb a b ≡ v → leb a b ≡ leb c d
     go true e = e ∙ sym (le-leb c d (f (leb-true a b e)))
     go false e = e ∙ sym (lt-leb c d (g (leb-false a b e)))
+
+-- the list has room for every term, and their nesting from t on
+pub record NestedFrom (l d : List ℕ) (n t : ℕ) : Type 0 where
+  pub below : t < n
+  pub room : length d ≡ maxTerms
+  pub nested : Nested l d n t
 
 pub nested-root : (l d : List ℕ) (n : ℕ) → 1 ≤ n → n ≤ length d → Nested l (set d (n - 1) 1) n (n - 1)
 nested-root l d n h g = record { each = each′ }

@@ -9,6 +9,7 @@ use lib.Dec.{eqb}
 use lib.ListN.{getD, length, set, replicate, getD-replicate}
 use lib.Seq.{getD-set-same, getD-set-other}
 use borrow.Author.Tests.{eqb-true, eqb-false, eq-eqb, ne-eqb}
+use Rattle.program.specs.Limits.{maxTerms}
 use Rattle.program.specs.Layout.{terms, termAt, root, kindByte, first, second, third}
 use Rattle.program.specs.Formats.{Part, isChild, Kind, Boolean, Number, Variable, Function, Letrec, Call, If, Check, Enable, Sign, Test, Sum, Difference, Less, Post, kindOf, format}
 use Rattle.program.specs.Decoding.{formatAt, termOk, counts, timesIn, timesBelow, isSign, signedBody, placedOk, parent}
@@ -210,6 +211,13 @@ module _ (s : List ℕ) (T : TermsOk s) where
           record { above = omega (arith, q, child-lower x t (omega arith) z); inside = omega (arith, q) }
 
 -- ---- what the list of parents holds
+-- it has room for every term, and what the first t of all n terms note
+pub record Noted (s l : List ℕ) (n t : ℕ) : Type 0 where
+  pub below : t ≤ n
+  pub all : n ≡ terms s
+  pub room : length l ≡ maxTerms
+  pub links : Links s l t
+
 pub links-none : (s : List ℕ) → Links s (replicate 1024 0) 0
 links-none s = record { each = λ x h. getD-replicate 1024 x 0 0 h }
 

@@ -161,7 +161,8 @@ erasures =
     ∷ erasing [] [] (refused 1 0) [] ∷ []
 
 pub erased-cases : map toldOf erasures ≡ map dueOf erasures
-unfolding erasures toldOf erasure leanSheet heads head keptType newTypes newType keptTerm innerIn inner newTerms newTerm untested erasable keptBelow gather verdict decoding screen tell infer subtype subtypeIn wider removeAuthorised has meet union insert remove subset
+unfolding erasures toldOf erasure leanSheet heads head keptType newTypes newType keptTerm innerIn inner newTerms newTerm untested erasable keptBelow
+    gather verdict decoding screen tell infer subtype subtypeIn wider removeAuthorised has meet union insert remove subset
 erased-cases = refl
 
 -- ---- both sheets, judged and run: "accepted with type unchanged and no needs"; "a stop tells the old term's new number"
@@ -183,7 +184,8 @@ bothSheets =
     ++ both nestedLean (request [] maxCalls 1) (ran (stopped 19 6) (counted 1 1 0)) []
 
 computed : map (observedBy largest) bothSheets ≡ map due bothSheets
-unfolding bothSheets observedBy verdict decoding screen tell infer subtype subtypeIn wider removeAuthorised course eval apply evalWith addAuthorised has meet union insert remove subset
+unfolding bothSheets observedBy verdict decoding screen tell infer subtype subtypeIn wider removeAuthorised course eval apply evalWith addAuthorised
+    has meet union insert remove subset
 computed = refl
 
 -- with buffers of the largest lengths, whatever they hold

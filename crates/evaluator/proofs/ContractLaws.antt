@@ -33,10 +33,6 @@ module _ {run : Store → Done} {n : List ℕ} {c p f o : RefT (List ℕ)} where
         → Evaluated run₂ n₂ c₂ p₂ f₂ o₂ r n₁ c₁ p₁ f₁ o₁ → Evaluated run n c p f o r n₁ c₁ p₁ f₁ o₁
     goes-on e l s h = record { done = h .done ∙ sym e; calls = omega (arith, l, h .calls); names = h .names ∙ s }
 
-    pub goes-on-same : {n₂ : List ℕ} {c₂ p₂ f₂ o₂ : RefT (List ℕ)} → stateOf n₂ c₂ p₂ f₂ o₂ ≡ stateOf n c p f o → namesOf c₂ p₂ f₂ o₂ ≡ namesOf c p f o
-        → run (stateOf n c p f o) ≡ run₂ (stateOf n c p f o) → Evaluated run₂ n₂ c₂ p₂ f₂ o₂ r n₁ c₁ p₁ f₁ o₁ → Evaluated run n c p f o r n₁ c₁ p₁ f₁ o₁
-    goes-on-same s k e h = goes-on (e ∙ ap run₂ (sym s)) (omega (arith, ap (λ (st : Store). callsLeft (st .n)) s)) k h
-
     module _ (k : ℕ → Store → Done) (is : (st : Store) → run st ≡ andThen (run₂ st) k) (h : Evaluated run₂ n c p f o r n₁ c₁ p₁ f₁ o₁) where
       pub stays : isStop r ≡ true → Evaluated run n c p f o r n₁ c₁ p₁ f₁ o₁
       unfolding andThen
@@ -51,23 +47,6 @@ module _ {run : Store → Done} {n : List ℕ} {c p f o : RefT (List ℕ)} where
         names = g .names ∙ h .names;
       }
 
--- the same run on slices that were lent on under other names: they came with the same lists and are back with the same lists
-pub renamed : {run : Store → Done} {r : ℕ} {n n′ : List ℕ} {c p f o c′ p′ f′ o′ c₀ p₀ f₀ o₀ c₁ p₁ f₁ o₁ : RefT (List ℕ)}
-    → stateOf n c₀ p₀ f₀ o₀ ≡ stateOf n c p f o
-    → stateOf n′ c₁ p₁ f₁ o₁ ≡ stateOf n′ c′ p′ f′ o′ → namesOf c₁ p₁ f₁ o₁ ≡ namesOf c₀ p₀ f₀ o₀ → Evaluated run n c p f o r n′ c′ p′ f′ o′
-    → Evaluated run n c₀ p₀ f₀ o₀ r n′ c₁ p₁ f₁ o₁
-renamed {run} {r} a b k e = record { done = ap (λ (st : Store). doneOf r st) b ∙ e .done ∙ ap run (sym a); calls = e .calls; names = k }
-
--- a word that another one is
-pub ends-in : {g w : ℕ} {n : List ℕ} {c p f o : RefT (List ℕ)} → w ≡ g → Evaluated (λ st. doneOf g st) n c p f o w n c p f o
-ends-in {n = n} {c = c} {p = p} {f = f} {o = o} e = ends (ap (λ (w : ℕ). doneOf w (stateOf n c p f o)) (sym e))
-
 -- a state with one list as it was
 pub same-cells : (n p f o : List ℕ) {l l′ : List ℕ} → l′ ≡ l → storeOf n l′ p f o ≡ storeOf n l p f o
 same-cells n p f o e = ap (λ (l : List ℕ). storeOf n l p f o) e
-
-pub same-posts : (n c f o : List ℕ) {l l′ : List ℕ} → l′ ≡ l → storeOf n c l′ f o ≡ storeOf n c l f o
-same-posts n c f o e = ap (λ (l : List ℕ). storeOf n c l f o) e
-
-pub same-noted : (n c p f : List ℕ) {l l′ : List ℕ} → l′ ≡ l → storeOf n c p f l′ ≡ storeOf n c p f l
-same-noted n c p f e = ap (λ (l : List ℕ). storeOf n c p f l) e

@@ -56,6 +56,6 @@ pub record Evaluated (run : Store → Done) (n : List ℕ) (cells posts frames n
   pub names : namesOf cells′ posts′ frames′ noted′ ≡ namesOf cells posts frames noted
 
 -- What falls at each call of the cycle: a call left is worth more than any term's number, which has 16 bits, and a term's number twice as much as the
--- step from `eval` to the function of its shape.
+-- step from `eval` to the function of its shape. 131076 is 2 * 65536 + 4: two for each number of 16 bits, and room for the steps.
 abbrev pub workLeft : (n : List ℕ) (t step : ℕ) → ℕ
 workLeft n t step = callsLeft n * 131076 + t * 2 + step

@@ -4,9 +4,6 @@
 // as references to the slices, so that no call copies one. What few terms look at comes last among the parameters: the first six are in registers.
 ghost use Rattle.machine.specs.Store.{if, enable, post, evalAt, applyAt};
 ghost use Rattle.evaluator.specs.Contracts.{Table, Node, Tail, Pair, Evaluated};
-
-pub mod entry;
-
 use machine::enter::enter;
 use machine::steps::append;
 use machine::steps::choose;

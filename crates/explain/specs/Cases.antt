@@ -109,5 +109,6 @@ cases =
     ∷ asking [] 32 (refused 1 0) ∷ []
 
 pub worked : map observed cases ≡ map due cases
-unfolding cases explanation verdict decoding screen tell infer subtype subtypeIn wider removeAuthorised has meet union insert remove subset chainOf chain next followed isCause needs
+unfolding cases explanation verdict decoding screen tell infer subtype subtypeIn wider removeAuthorised has meet union insert remove subset chainOf
+    chain next followed isCause needs
 worked = refl

@@ -19,6 +19,12 @@ use Rattle.places.specs.Internal.{placedAt, ReadyPlace, Children, childrenOf, c
 use Rattle.places.specs.declared.Place.{Place}
 use Rattle.places.specs.declared.Child.{Child}
 
+-- a function type of a readable sheet, and a privilege
+pub record FunctionType (s : List ℕ) (c : Counts) (t p : ℕ) : Type 0 where
+  pub sheet : Sheet s c
+  pub is-function : typesOf s .isFun t ≡ true
+  pub privilege : p < 32
+
 -- ---- the children that may be followed for privilege p: the first child of a test of p is its yes-branch
 abbrev pub followedOf : Types → (A : ℕ → ℕ) → (p : ℕ) → Placed → Children
 followedOf T A p (placed Γ n c) = record {

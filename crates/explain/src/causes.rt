@@ -7,20 +7,15 @@ use places::Place;
 use program::records::Counts;
 use rules::known::Known;
 use typing::answer::Inferred;
-ghost use mathlib.Core.Bool.{true};
 ghost use mathlib.Core.Path.{_≡_};
-ghost use Prim.Native.Nat.{_<_};
 ghost use Rattle.privileges.specs.Sets.{has};
 ghost use Rattle.program.specs.Layout.{typesOf};
-ghost use Rattle.rules.specs.Inference.{Sheet};
 ghost use Rattle.rules.specs.Known.{Answered};
-ghost use Rattle.explain.specs.Internal.{causeAt, Following};
+ghost use Rattle.explain.specs.Internal.{FunctionType, causeAt, Following};
 
 // Whether the latent set of a function type has privilege p.
 fn has_latent(s: &[u8], c: Counts, ty: u16, p: u8) -> bool
-    requires { ⌜ Sheet (now s) c ⌝ }
-    requires { ⌜ typesOf (now s) .isFun ty ≡ true ⌝ }
-    requires { ⌜ p < 32 ⌝ }
+    requires { ⌜ FunctionType (now s) c ty p ⌝ }
     ensures { λ r. ⌜ r ≡ has p (typesOf (now (s .entry)) .latent ty) ⌝ }
 {
     let f = type_record(s, c, ty);

@@ -7,6 +7,7 @@ use lib.Dec.{leb}
 use lib.ListN.{length}
 use borrow.Author.Tests.{leb-true, eqb-true}
 use Rattle.privileges.specs.Booleans.{and-left, and-right}
+use Rattle.program.specs.Limits.{maxStart, maxCells, maxPosts, maxCalls, maxDepth}
 use Rattle.program.specs.Layout.{principals}
 use Rattle.program.specs.Records.{CountsOf}
 use Rattle.program.specs.Screening.{Condition, Screening, found, tell, screen, unless}
@@ -42,7 +43,7 @@ module _ (s start : List ℕ) (cells posts : ℕ) (frames : Bool) (calls depth :
 
   -- ---- a readable one
   module _ (r : Readable s) {c : Counts} (k : CountsOf s c) {a b d : Bool} (at-start : a ≡ startRight (c .principals) start)
-      (of-buffers : b ≡ (leb cells 65536 && leb posts 256 && frames)) (of-limits : d ≡ (leb calls 4096 && leb depth 100)) where
+      (of-buffers : b ≡ (leb cells maxCells && leb posts maxPosts && frames)) (of-limits : d ≡ (leb calls maxCalls && leb depth maxDepth)) where
     start-is : startRight (principals s) start ≡ a
     start-is = sym (at-start ∙ ap (λ (n : ℕ). startRight n start) (k .principals-are))
 
@@ -66,18 +67,18 @@ module _ (s start : List ℕ) (cells posts : ℕ) (frames : Bool) (calls depth :
     unfolding screen tell
     admitted e f g =
         let start-right : startRight (principals s) start ≡ true = start-is ∙ e in
-        let buffers-right : (leb cells 65536 && leb posts 256 && frames) ≡ true = sym of-buffers ∙ f in
-        let limits-right : (leb calls 4096 && leb depth 100) ≡ true = sym of-limits ∙ g in
+        let buffers-right : (leb cells maxCells && leb posts maxPosts && frames) ≡ true = sym of-buffers ∙ f in
+        let limits-right : (leb calls maxCalls && leb depth maxDepth) ≡ true = sym of-limits ∙ g in
         record {
           none-found = answered-by ∙ (λ i. screen (callers (e i) (f i) (g i)));
           well-formed = well-formed s r;
           counts-are = k;
           whole = record {
-            few = leb-true (length start) 32 (search (and-left, and-right));
+            few = leb-true (length start) maxStart (search (and-left, and-right));
             even = eqb-true (length start % 2) 0 (search (and-left, and-right));
           };
           all-known = search (and-left, and-right);
-          cells-most = leb-true cells 65536 (search (and-left, and-right));
+          cells-most = leb-true cells maxCells (search (and-left, and-right));
           frames-right = search (and-left, and-right);
-          depth-most = leb-true depth 100 (search (and-left, and-right));
+          depth-most = leb-true depth maxDepth (search (and-left, and-right));
         }

@@ -27,6 +27,12 @@ pub stack-end : (l : List ℕ) (i : ℕ) → length l ≤ i → stack (drop i l)
 stack-end l i h = ap stack (drop-of-length-le l {i = i} h)
 
 -- ---- known principals
+-- the principals of the frames before place i are known, so that the frames from i on decide as the whole stack
+pub record KnownBefore (count : ℕ) (l : List ℕ) (i : ℕ) : Type 0 where
+  pub even : i % 2 ≡ 0
+  pub below : i ≤ length l
+  pub rest-is : known count (stack l) ≡ known count (stack (drop i l))
+
 module _ (count : ℕ) (l : List ℕ) (i : ℕ) where
   pub unknown-here : i + 1 < length l → count ≤ at l i → false ≡ known count (stack (drop i l))
   unknown-here h u = rw (stack-frame l i h, le-ltb (at l i) count u) refl
@@ -44,6 +50,12 @@ stack-before l j h k =
     stack-frame l (j - 2) (omega (arith, h, k)) ∙ ap (λ (n : ℕ). frame (at l (j - 2)) (at l (j - 2 + 1)) ∷ stack (drop n l)) e
 
 -- ---- the granted set
+-- the set is what the frames from place i on grant
+pub record GrantedFrom (A : ℕ → ℕ) (l : List ℕ) (set i : ℕ) : Type 0 where
+  pub even : i % 2 ≡ 0
+  pub below : i ≤ length l
+  pub set-is : set ≡ privs A (stack (drop i l))
+
 module _ (A : ℕ → ℕ) (l : List ℕ) where
   pub grants-none : 0 ≡ privs A (stack (drop (length l) l))
   grants-none = ap (privs A) (sym (stack-end l (length l) (omega arith)))
@@ -53,6 +65,13 @@ module _ (A : ℕ → ℕ) (l : List ℕ) where
   grants-more j h k e = ap (λ (x : ℕ). meet (A (at l (j - 2))) (union (at l (j - 2 + 1)) x)) e ∙ sym (ap (privs A) (stack-before l j h k))
 
 -- ---- the frame store
+-- the frames from place i on are laid into the store f, before place n; g is the store then
+pub record LaidFrom (A : ℕ → ℕ) (l f g : List ℕ) (n i : ℕ) : Type 0 where
+  pub even : i % 2 ≡ 0
+  pub place : i + n ≡ length l
+  pub room : length g ≡ length f
+  pub laid : g ≡ laidOut A (stack (drop i l)) ++ drop n f
+
 two-set : (L f : List ℕ) (n a b : ℕ) → length L ≡ n → n + 2 ≤ length f → set (set (L ++ drop n f) n a) (n + 1) b ≡ (L ++ (a ∷ b ∷ [])) ++ drop (n + 2) f
 two-set L [] n a b e h = absurd (omega (arith, h))
 two-set [] (x ∷ []) zero a b e h = absurd (omega (arith, h))

@@ -9,7 +9,7 @@ use Rattle.program.specs.Limits.{maxStart, maxCells, maxPosts, maxCalls, maxDep
 use Rattle.program.specs.Layout.{principals}
 use Rattle.program.specs.Records.{CountsOf, authorityRecord}
 use Rattle.program.specs.Screening.{Condition, clear, found, screen, unless}
-use Rattle.program.specs.Decoding.{decodingConditions}
+use Rattle.program.specs.Decoding.{Readable, decodingConditions}
 use Rattle.program.specs.Laws.Readable.{WellFormed}
 use Rattle.program.specs.declared.records.Counts.{Counts}
 use Rattle.semantics.specs.Access.{privs}
@@ -28,6 +28,17 @@ use Rattle.interp.specs.declared.answer.Refusal.{Refusal}
 use Rattle.interp.specs.declared.answer.Run.the-variants.{Refused as Rejected}
 use Rattle.interp.specs.declared.answer.RecordedRun.{RecordedRun}
 use Rattle.interp.specs.declared.answer.Tally.{Tally}
+
+-- ---- the sheet
+-- a sheet that is read, with its counts, as the decoder tells it
+pub record ReadSheet (s : List ℕ) (c : Counts) : Type 0 where
+  pub readable : Readable s
+  pub counts-are : CountsOf s c
+
+-- and as the evaluator needs it
+pub record FormedSheet (s : List ℕ) (c : Counts) : Type 0 where
+  pub well-formed : WellFormed s
+  pub counts-are : CountsOf s c
 
 -- ---- the start stack
 -- at most 16 frames, none of them half

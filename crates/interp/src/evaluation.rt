@@ -27,7 +27,7 @@ pub fn evaluate_words(
     let allowed = calls as usize;
     let mut n = [allowed, 0, 0, mode, 0, 0];
     let mut word = 0;
-    evaluator::entry::run(
+    lending::run(
         terms,
         cells,
         posts,

@@ -7,11 +7,9 @@ ghost use lib.ListN.{length};
 ghost use Rattle.semantics.specs.Runs.{eager as eagerRunner, lazy as lazyRunner, run};
 ghost use Rattle.semantics.specs.Recording.{recording};
 ghost use Rattle.program.specs.Limits.{frameNumbers};
-ghost use Rattle.program.specs.Records.{CountsOf};
-ghost use Rattle.program.specs.Laws.Readable.{WellFormed};
 ghost use Rattle.refinement.specs.Claims.{outcomeOf};
 ghost use Rattle.interp.specs.Answers.{outcomeModel, requestOf, buffersOf, after, afterRecording};
-ghost use Rattle.interp.specs.Internal.{Cleared, turnedBack, Evaluated};
+ghost use Rattle.interp.specs.Internal.{FormedSheet, Cleared, turnedBack, Evaluated};
 
 pub mod admission;
 pub mod answer;
@@ -73,8 +71,7 @@ fn evaluate(
     calls: u32,
     depth: u32,
 ) -> RecordedRun
-    requires { ⌜ WellFormed (now s) ⌝ }
-    requires { ⌜ CountsOf (now s) c ⌝ }
+    requires { ⌜ FormedSheet (now s) c ⌝ }
     ensures { λ r. ⌜ Evaluated (now (s .entry)) c mode acc calls depth (buffersOf (now (cells .entry)) (now (posts .entry)) (now (frames .entry)))
         (now (noted .entry)) r (buffersOf (now (cells .exit)) (now (posts .exit)) (now (frames .exit))) (now (noted .exit)) ⌝ }
 {

@@ -3,7 +3,7 @@ use mathlib.Core.Bool.{Bool, true, false, cond, true≢false}
 use mathlib.Core.List.{List, _∷_, _++_}
 use mathlib.Core.Option.{Option, none, some}
 use mathlib.Core.Path.{_≡_, refl, sym, ap, _∙_}
-use Prim.Native.Nat.{ℕ}
+use Prim.Native.Nat.{ℕ, _<_}
 use lib.Dec.{eqb}
 use borrow.Author.Tests.{eq-eqb, ne-eqb}
 use Rattle.program.specs.Layout.{Types, typesOf}
@@ -17,7 +17,7 @@ use Rattle.places.specs.declared.Child.{Child}
 use Rattle.subterms.specs.Smallest.{subterms}
 use Rattle.subterms.specs.Judging.{withNumber}
 use Rattle.subterms.specs.Laws.Subterms.{subtermsIn}
-use Rattle.subterms.specs.Laws.Numbers.{firstOf, firstOf-none, firstOf-assoc, number-append}
+use Rattle.subterms.specs.Laws.Numbers.{firstOf, firstOf-none, firstOf-assoc, number-append, number-above}
 use Rattle.judging.specs.Internal.{Searchable, FoundAs}
 
 -- ---- a term and its children by their position
@@ -102,6 +102,15 @@ module _ (s : List ℕ) (t : ℕ) (y : Child) (e : y .present ≡ true) where
   number-is b q =
       ap (λ (o : Option Placed). withNumber t (subtermsIn (typesOf s) o)) (there s y e) ∙ number-in (typesOf s) t Γ n here
       ∙ λ i. cond ((ap (λ (k : ℕ). eqb k t) (tree-number s (y .place .term)) ∙ q) i) (some (placedAt s (y .place))) (below (typesOf s) t Γ n here)
+
+  -- what is sought has a higher number
+  pub found-above : {c : Counts} {r : Child} → Searchable s c y → y .place .term < t → r .present ≡ false → FoundAs s c t (childAt s y) r
+  found-above {r = r} h l a = record {
+    is = not-there s r a
+        ∙ sym (ap (λ (o : Option Placed). withNumber t (subtermsIn (typesOf s) o)) (there s y e)
+        ∙ number-above s (h e .sheet .well-formed) Γ n (y .place .term) t (h e .inside) l);
+    ready = λ f. absurd (true≢false (sym f ∙ a));
+  }
 
   pub found-here : {c : Counts} → Searchable s c y → y .place .term ≡ t → FoundAs s c t (childAt s y) y
   found-here h q = record { is = there s y e ∙ sym (number-is true (eq-eqb (y .place .term) t q)); ready = h }

@@ -1,5 +1,6 @@
-// The place of a term in a sheet, by its number: the terms are looked through from the root on.
+// The place of a term in a sheet, by its number: the terms are looked through from the root on, but for what stands in a term with a lower number.
 use places::Child;
+use places::absent;
 use places::first_child;
 use places::second_child;
 use places::third_child;
@@ -16,8 +17,13 @@ pub fn find(s: &[u8], c: Counts, y: Child, t: u32) -> Child
         return y;
     }
     let at = y.place;
-    if at.term as u32 == t {
+    let n = at.term as u32;
+    if n == t {
         return y;
+    }
+    // What stands in a term has a lower number.
+    if n < t {
+        return absent(at);
     }
     let first = first_child(s, c, at);
     let i = find(s, c, first, t);

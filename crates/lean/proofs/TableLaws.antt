@@ -42,6 +42,14 @@ pub count-none : (keep : ℕ → Bool) → 0 ≡ keptBelow keep 0
 count-none keep = sym (kept-none keep)
 
 -- ---- a loop over a table
+-- it has room for so many entries, and has the new numbers of the first t of all n; count of these are kept
+pub record Numbered (keep : ℕ → Bool) (new : ℕ → ℕ) (all places : ℕ) (l : List ℕ) (n count t : ℕ) : Type 0 where
+  pub below : t ≤ n
+  pub all-are : n ≡ all
+  pub room : length l ≡ places
+  pub count-is : count ≡ keptBelow keep t
+  pub table : Table new l t
+
 pub within : {t n m : ℕ} → t < n → n ≡ m → t < m
 within h e = omega arith
 

@@ -2,7 +2,7 @@
 use mathlib.Core.Bool.{Bool, true, false, not, _&&_}
 use mathlib.Core.List.{List}
 use mathlib.Core.Path.{_≡_, refl, sym, ap, _∙_}
-use Prim.Native.Nat.{ℕ, zero, suc, _+_, _<_}
+use Prim.Native.Nat.{ℕ, zero, suc, _+_, _<_, _≤_}
 use native.Mathlib.Decide.{decLt}
 use native.Mathlib.Omega.{arith}
 use lib.Dec.{leb, eqb}
@@ -50,6 +50,12 @@ module _ {s : List ℕ} {c : Counts} (S : Sheet s c) {t : ℕ} (l : t < terms s)
     own-number h k = k ∙ sym (term-kept s (S .well-formed) t (kept-here h))
 
 -- ---- tests
+-- of the first t of all n terms none is a test
+pub record NoTestBelow (s : List ℕ) (n t : ℕ) : Type 0 where
+  pub below : t ≤ n
+  pub all-are : n ≡ terms s
+  pub none-yet : untested s t ≡ true
+
 module _ (s : List ℕ) where
   pub untested-none : untested s 0 ≡ true
   unfolding untested

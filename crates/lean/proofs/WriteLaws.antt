@@ -83,6 +83,12 @@ pub record Gathered (keep : ℕ → Bool) (bytes : ℕ → List ℕ) (b : List �
   pub count-is : count ≡ keptBelow keep t
   pub list-is : x ≡ over b at (gather keep bytes t)
 
+-- the same of the first `next` of all n records
+pub record Written (keep : ℕ → Bool) (bytes : ℕ → List ℕ) (all : ℕ) (b : List ℕ) (at n next count : ℕ) (x : List ℕ) : Type 0 where
+  pub below : next ≤ n
+  pub all-are : n ≡ all
+  pub gathered : Gathered keep bytes b at next count x
+
 pub gathered-none : (keep : ℕ → Bool) (bytes : ℕ → List ℕ) (b : List ℕ) (at : ℕ) → Gathered keep bytes b at 0 0 b
 unfolding gather
 gathered-none keep bytes b at = record { count-is = count-none keep; list-is = over-none b at }

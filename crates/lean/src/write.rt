@@ -1,13 +1,13 @@
 // The lean sheet's bytes, written into the buffer one part after the other.
 ghost use mathlib.Core.List.{_∷_, _++_};
 ghost use mathlib.Core.Path.{_≡_};
-ghost use Prim.Native.Nat.{_+_, _*_, _≤_};
+ghost use Prim.Native.Nat.{_+_, _≤_};
 ghost use lib.ListN.{length, drop};
 ghost use lib.Seq.{paste};
 ghost use Rattle.program.specs.Layout.{types as typesOf, terms as termsOf};
 ghost use Rattle.erasure.specs.Kept.{gather};
-ghost use Rattle.erasure.specs.Lean.{keptType, newTypes, keptTerm, newTerms, bytes16, typeBytes, termBytes, leanSheet};
-ghost use Rattle.lean.specs.Internal.{over, TypesReady, TermsReady, SheetReady};
+ghost use Rattle.erasure.specs.Lean.{keptType, keptTerm, bytes16, typeBytes, termBytes, leanSheet};
+ghost use Rattle.lean.specs.Internal.{over, Puttable, TypesPuttable, TermsPuttable, SheetPuttable};
 use crate::records::term_bytes;
 use crate::records::type_bytes;
 use crate::terms::TermNumbers;
@@ -20,8 +20,7 @@ use program::records::Counts;
 
 // Writes the first n bytes of a list at a place of the buffer.
 fn put(buffer: &mut [u8], at: usize, from: &[u8], n: usize)
-    requires { ⌜ at + n ≤ length (now buffer) ⌝ }
-    requires { ⌜ n ≤ length (now from) ⌝ }
+    requires { ⌜ Puttable (now buffer) at (now from) n ⌝ }
     ensures { λ _. ⌜ now (buffer .exit) ≡ paste (now (buffer .entry)) at (now (from .entry)) n ⌝ }
 {
     let mut i = 0;
@@ -42,8 +41,7 @@ fn put_head(buffer: &mut [u8], at: usize, tag: u8, size: u16)
 
 // Writes the records of the types that are kept. A type is kept if its new number is the count of those written before it.
 fn put_types(s: &[u8], c: Counts, types: &[u16; TYPE_PLACES], buffer: &mut [u8], at: usize)
-    requires { ⌜ TypesReady (now s) c (now types) ⌝ }
-    requires { ⌜ at + 10 * newTypes (now s) ≤ length (now buffer) ⌝ }
+    requires { ⌜ TypesPuttable (now s) c (now types) (now buffer) at ⌝ }
     ensures { λ _. ⌜ now (buffer .exit)
         ≡ over (now (buffer .entry)) at (gather (keptType (now (s .entry))) (typeBytes (now (s .entry))) (typesOf (now (s .entry)))) ⌝ }
 {
@@ -71,8 +69,7 @@ fn put_terms(
     buffer: &mut [u8],
     at: usize,
 )
-    requires { ⌜ TermsReady (now s) c (now types) (now terms) ⌝ }
-    requires { ⌜ at + 8 * newTerms (now s) ≤ length (now buffer) ⌝ }
+    requires { ⌜ TermsPuttable (now s) c (now types) (now terms) (now buffer) at ⌝ }
     ensures { λ _. ⌜ now (buffer .exit)
         ≡ over (now (buffer .entry)) at (gather (keptTerm (now (s .entry))) (termBytes (now (s .entry))) (termsOf (now (s .entry)))) ⌝ }
 {
@@ -93,8 +90,7 @@ fn put_terms(
 
 // Writes the whole lean sheet to the front of the buffer, which has room for it: version and principals as they are, then the types and the terms.
 pub fn put_sheet(s: &[u8], c: Counts, y: TypeNumbers, m: TermNumbers, buffer: &mut [u8])
-    requires { ⌜ SheetReady (now s) c y m ⌝ }
-    requires { ⌜ length (leanSheet (now s)) ≤ length (now buffer) ⌝ }
+    requires { ⌜ SheetPuttable (now s) c y m (now buffer) ⌝ }
     ensures { λ _. ⌜ now (buffer .exit) ≡ leanSheet (now (s .entry)) ++ drop (length (leanSheet (now (s .entry)))) (now (buffer .entry)) ⌝ }
 {
     let types = y.numbers;

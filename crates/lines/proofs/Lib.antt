@@ -1,5 +1,3 @@
 pub mod ListLaws
-pub mod QueueLaws
-pub mod LineLaws
 pub mod RunLaws
 pub mod ServeLaws

@@ -20,7 +20,8 @@ use Rattle.interp.specs.declared.answer.Refusal.the-variants.{Unreadable, Buffe
 use Rattle.interp.specs.declared.answer.Run.{Run}
 use Rattle.interp.specs.declared.answer.Run.the-variants.{Refused}
 use Rattle.largest.specs.Largest.{request, lentRun}
-use Rattle.lines.specs.Queues.{Job, partOf, behind, jobRun}
+use Rattle.queues.specs.Queues.{Job, partOf}
+use Rattle.lines.specs.Serving.{behind, jobRun}
 use Rattle.lines.proofs.ListLaws.{take-least, drop-least}
 use Rattle.largest.specs.Theorems.{unreadable-first, other-length, same-run}
 

@@ -1,7 +1,7 @@
 -- A serve, from the promises of what it calls to the state, the answer and the buffers that 02 asks for.
 use mathlib.Core.Bool.{Bool, true, false, not}
 use mathlib.Core.List.{List, [], _∷_}
-use mathlib.Core.Path.{_≡_, refl, sym, ap, _∙_}
+use mathlib.Core.Path.{_≡_, refl, sym, ap, _∙_, subst}
 use Prim.Native.Nat.{ℕ, _+_, _^_, _<_, _≤_}
 use native.Mathlib.Nat.{add-zero}
 use native.Mathlib.Omega.{arith}
@@ -10,17 +10,36 @@ use borrow.Author.Tests.{not-true}
 use Rattle.program.specs.Limits.{maxCells}
 use Rattle.semantics.specs.Runs.{Buffers, Answer, refused, After}
 use Rattle.interp.specs.Answers.{buffersOf, runModel, outcomeModel, countsModel, after}
+use Rattle.interp.specs.declared.answer.Refusal.{Refusal}
+use Rattle.interp.specs.declared.answer.Outcome.{Outcome}
+use Rattle.interp.specs.declared.answer.Made.{Made}
 use Rattle.interp.specs.declared.answer.Run.{Run}
 use Rattle.interp.specs.declared.answer.Run.the-variants.{Refused, Ran}
 use Rattle.largest.specs.Largest.{request, isLargest}
-use Rattle.lines.specs.Queues.{maxLines, Job, State, inside, Turn, nobody, serves, turnAt, turnOf, partOf, restFrom, jobRun, jobAfter, postsOf, dequeued, idle, told, Served, servedAs, serveTurn, serveOf}
-use Rattle.lines.specs.Answers.{jobModel, queueModel, linesModel}
-use Rattle.lines.specs.Internal.{hasJob, Next, Movable}
+use Rattle.queues.specs.Queues.{maxLines, Job, State, inside, Turn, nobody, serves, turnAt, turnOf, partOf, dequeued}
+use Rattle.lines.specs.Serving.{restFrom, jobRun, jobAfter, postsOf, idle, told, Served, servedAs, serveTurn, serveOf}
+use Rattle.queues.specs.Answers.{jobModel, queueModel, linesModel}
+use Rattle.queues.specs.Internal.{hasJob, Next}
+use Rattle.lines.specs.Internal.{Movable}
 use Rattle.largest.specs.Theorems.{lent-posts}
-use Rattle.lines.specs.declared.state.Lines.{Lines}
-use Rattle.lines.specs.declared.queue.Taken.{Taken}
-use Rattle.lines.specs.Laws.{none, queue-is}
+use Rattle.queues.specs.declared.state.Lines.{Lines}
+use Rattle.queues.specs.declared.queue.Taken.{Taken}
+use Rattle.queues.specs.Laws.{none, queue-is}
 
+-- ---- the place moves
+-- what is required of a run's posts, once it is known that it was not refused
+pub made-room : (q : Lines) (l : ℕ) (x : Run) {o : Outcome} {m : Made} → Movable q l x → x ≡ Ran o m → q .place + m .posts < 2 ^ 64
+made-room q l x h e = subst (λ (r : Run). q .place + postsOf (runModel r) < 2 ^ 64) e (h .room)
+
+-- by the posts that the run made
+module _ (s : State) (l : ℕ) (rest : List Job) (place : ℕ) {x : Run} {s′ : State} where
+  pub by-refused : {f : Refusal} → x ≡ Refused f → s′ ≡ dequeued s l rest place → s′ ≡ dequeued s l rest (place + postsOf (runModel x))
+  by-refused e h = h ∙ ap (dequeued s l rest) (sym (ap (λ (r : Run). place + postsOf (runModel r)) e ∙ add-zero place))
+
+  pub by-ran : {o : Outcome} {m : Made} → x ≡ Ran o m → s′ ≡ dequeued s l rest (place + m .posts) → s′ ≡ dequeued s l rest (place + postsOf (runModel x))
+  by-ran e h = h ∙ ap (dequeued s l rest) (sym (ap (λ (r : Run). place + postsOf (runModel r)) e))
+
+-- ---- a serve
 module _ (q : Lines) (l : ℕ) (next : Next q l) (store cells posts : List ℕ) where
   abbrev S : State
   S = linesModel q

@@ -1,62 +1,18 @@
--- A session by computation: line 1 has two jobs, line 3 one of no bytes. Lines 1, 3 and 1 have their turns; then nobody.
-use mathlib.Core.List.{List, [], _∷_, _++_}
+-- Serves by computation: line 1 has two jobs, line 3 one of no bytes (`queues`, Cases). Lines 1, 3 and 1 have their turns; then nobody.
+use mathlib.Core.List.{List, [], _∷_}
 use mathlib.Core.Path.{_≡_, refl}
 use Prim.Native.Nat.{ℕ}
 use Rattle.privileges.specs.Sets.{has, meet, union, insert, remove, subset}
 use Rattle.program.specs.Limits.{maxCells}
-use Rattle.program.specs.Screening.{Screening, clear, found, tell, screen}
+use Rattle.program.specs.Screening.{tell, screen}
 use Rattle.semantics.specs.Meaning.{evalWith, apply, eval}
 use Rattle.semantics.specs.Access.{addAuthorised}
 use Rattle.semantics.specs.Runs.{Buffers, ground-num, ended, stopped, refused, ran, zeros, course, run}
 use Rattle.interp.specs.Answers.{buffersOf}
 use Rattle.largest.specs.Largest.{lentRun}
-use Rattle.lines.specs.Queues.{Job, State, start, addOf, turnFrom, Told, idle, told, Served, serveOf}
-use Rattle.lines.specs.Answers.{jobOf}
-
--- 01's sheet of 78 bytes, which posts 7 and ends in it
-abbrev sheet : List ℕ
-sheet =
-    1 ∷ 0 ∷ 2 ∷ 0 ∷ 1
-    ∷ 2 ∷ 0 ∷ 4 ∷ 0 ∷ 0 ∷ 0 ∷ 2
-    ∷ 3 ∷ 0 ∷ 20
-    ∷ 0 ∷ 0 ∷ 0 ∷ 0 ∷ 0 ∷ 0 ∷ 0 ∷ 0 ∷ 0 ∷ 0
-    ∷ 1 ∷ 0 ∷ 0 ∷ 0 ∷ 0 ∷ 0 ∷ 0 ∷ 0 ∷ 0 ∷ 0
-    ∷ 4 ∷ 0 ∷ 40
-    ∷ 1 ∷ 0 ∷ 0 ∷ 7 ∷ 0 ∷ 0 ∷ 0 ∷ 0
-    ∷ 14 ∷ 0 ∷ 0 ∷ 0 ∷ 0 ∷ 0 ∷ 0 ∷ 0
-    ∷ 7 ∷ 1 ∷ 0 ∷ 1 ∷ 0 ∷ 0 ∷ 0 ∷ 0
-    ∷ 8 ∷ 1 ∷ 0 ∷ 2 ∷ 0 ∷ 0 ∷ 0 ∷ 0
-    ∷ 9 ∷ 0 ∷ 0 ∷ 3 ∷ 0 ∷ 0 ∷ 0 ∷ 0 ∷ []
-
--- a store with a byte before the sheet
-abbrev store : List ℕ
-store = 255 ∷ sheet
-
-abbrev whole : Job
-whole = jobOf 1 78 0
-
--- no bytes, at the store's very end
-abbrev empty : Job
-empty = jobOf 79 0 0
-
-abbrev beyond : Job
-beyond = jobOf 2 78 0
-
-abbrev waiting : State
-waiting = record { queues = [] ∷ (whole ∷ whole ∷ []) ∷ [] ∷ (empty ∷ []) ∷ []; turn = 0; place = 0 }
-
-pub adds : addOf (addOf (addOf start 1 whole store .state) 3 empty store .state) 1 whole store ≡ record { answer = clear; state = waiting }
-unfolding addOf screen tell
-adds = refl
-
--- "tested in that order"
-pub no-line : addOf waiting 4 beyond store .answer ≡ found 27 0
-unfolding addOf screen tell
-no-line = refl
-
-pub outside : addOf waiting 0 beyond store .answer ≡ found 28 0
-unfolding addOf screen tell
-outside = refl
+use Rattle.queues.specs.Queues.{State, start, turnFrom}
+use Rattle.lines.specs.Serving.{Told, idle, told, Served, serveOf}
+use Rattle.queues.specs.Cases.{store, whole, empty, waiting}
 
 abbrev lent : (posts : List ℕ) → Buffers
 lent posts = buffersOf (zeros maxCells) posts []
@@ -121,15 +77,3 @@ many-places = (refl, refl)
 pub nobody-waits : serveOf start store (lent []) .answer ≡ idle
 unfolding serveOf turnFrom lentRun run screen tell course eval apply evalWith addAuthorised has meet union insert remove subset
 nobody-waits = refl
-
--- "tested in that order": a part outside the store for a line whose queue is full is 28
-abbrev full : State
-full = record {
-  queues = (whole ∷ whole ∷ whole ∷ whole ∷ whole ∷ whole ∷ whole ∷ whole ∷ []) ∷ [] ∷ [] ∷ [] ∷ [];
-  turn = 0;
-  place = 0;
-}
-
-pub outside-first : (addOf full 0 beyond store .answer ≡ found 28 0) × (addOf full 0 whole store .answer ≡ found 29 0)
-unfolding addOf screen tell
-outside-first = (refl, refl)

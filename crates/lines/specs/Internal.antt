@@ -1,30 +1,10 @@
--- What the contracts of the lines' own functions say. No reader of the public promises needs this file.
-use mathlib.Core.Bool.{Bool, true, false}
-use mathlib.Core.List.{List, [], _∷_}
-use mathlib.Core.Path.{_≡_}
-use Prim.Native.Nat.{ℕ, _+_, _^_, _<_, _≤_}
-use lib.ListN.{length}
+-- What the contract of `passed` asks for. No reader of the public promises needs this file.
+use Prim.Native.Nat.{ℕ, _+_, _^_, _<_}
 use Rattle.interp.specs.Answers.{runModel}
 use Rattle.interp.specs.declared.answer.Run.{Run}
-use Rattle.lines.specs.Queues.{maxLines, maxJobs, Job, queueAt, nobody, turnAt, turnOf, postsOf}
-use Rattle.lines.specs.Answers.{jobModel, queueModel, linesModel}
-use Rattle.lines.specs.declared.state.Queue.{Queue}
-use Rattle.lines.specs.declared.state.Lines.{Lines}
-use Rattle.lines.specs.declared.queue.Taken.{Taken}
-
-abbrev pub hasJob : List Job → Bool
-hasJob [] = false
-hasJob (j ∷ js) = true
-
-pub record SizeIs (q : Queue) (n : ℕ) : Type 0 where
-  pub size-is : n ≡ length (queueModel q)
-  pub most : n ≤ maxJobs
-
--- the line that is served, or 4
-pub record Next (q : Lines) (line : ℕ) : Type 0 where
-  pub has-job : line < maxLines → hasJob (queueAt (linesModel q) line) ≡ true
-  pub turn-is : line < maxLines → turnOf (linesModel q) ≡ turnAt line (queueAt (linesModel q) line) (λ _. nobody)
-  pub or-nobody : maxLines ≤ line → turnOf (linesModel q) ≡ nobody
+use Rattle.queues.specs.Queues.{maxLines}
+use Rattle.queues.specs.declared.state.Lines.{Lines}
+use Rattle.lines.specs.Serving.{postsOf}
 
 -- a line, and a place that has room for the posts of a run behind it
 pub record Movable (q : Lines) (line : ℕ) (r : Run) : Type 0 where

@@ -1,7 +1,6 @@
-pub mod Queues
+pub mod Serving
 pub mod Answers
 pub mod Internal
-pub mod Laws
 pub mod Sessions
 pub mod Theorems
 pub mod Cases

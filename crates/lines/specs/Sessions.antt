@@ -7,7 +7,8 @@ use lib.Dec.{eqb}
 use lib.ListN.{length}
 use Rattle.program.specs.Screening.{Screening, clear, found}
 use Rattle.semantics.specs.Runs.{Buffers}
-use Rattle.lines.specs.Queues.{maxLines, maxJobs, Job, State, queueAt, addOf, Turn, nobody, serves, turnOf, serveOf}
+use Rattle.queues.specs.Queues.{maxLines, maxJobs, Job, State, queueAt, addOf, Turn, nobody, serves, turnOf}
+use Rattle.lines.specs.Serving.{serveOf}
 
 pub data Operation : Type 0 where
   add : (line : ℕ) → Job → (store : List ℕ) → Operation

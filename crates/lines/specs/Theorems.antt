@@ -21,7 +21,8 @@ use Rattle.semantics.specs.Theorems.{Few}
 use Rattle.largest.specs.Largest.{request, isLargest, lentRun}
 use Rattle.lines.specs.Sessions.{Operation, add, serve, stepped, session, servesIn, only, accepted, addedBy, inTurn, servedBy, addedIn, servedIn, Sound}
 use Rattle.largest.specs.Theorems.{lent-few, lent-untouched, lent-lengths}
-use Rattle.lines.specs.Queues.{maxLines, maxJobs, Job, State, start, queueAt, addConditions, enqueued, addedTo, addOf, inside, Turn, nobody, serves, turnAt, nextLine, turnFrom, turnOf, partOf, restFrom, behind, jobRun, jobAfter, postsOf, Told, idle, told, Served, servedAs, serveTurn, serveOf}
+use Rattle.queues.specs.Queues.{maxLines, maxJobs, Job, State, start, queueAt, addConditions, enqueued, addedTo, addOf, inside, Turn, nobody, serves, turnAt, nextLine, turnFrom, turnOf, partOf}
+use Rattle.lines.specs.Serving.{restFrom, behind, jobRun, jobAfter, postsOf, Told, idle, told, Served, servedAs, serveTurn, serveOf}
 
 -- ---- states that the entries make
 none-waits : (l : ℕ) → queueAt start l ≡ []

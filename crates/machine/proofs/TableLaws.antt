@@ -38,6 +38,7 @@ module _ {s : List ℕ} {c : Counts} {t : ℕ} {x : TermRecord} (q : x ≡ termR
       → Holds s c t (x .kind + 256 * x .small + 65536 * x .first + 4294967296 * a)
   post-holds {a} e p h = own-holds a (omega arith) (λ n. n .no-post e) (λ k. absurd (omega (arith, e, k))) (λ k. (h, p))
 
+  -- second and third have 16 bits each, from bit 32 and from bit 48 on
   pub plain-holds : (x .kind ≡ 9 → ⊥) → (x .kind ≡ 14 → ⊥) → x .second < 65536 → x .third < 65536
       → Holds s c t (x .kind + 256 * x .small + 65536 * x .first + 4294967296 * x .second + 281474976710656 * x .third)
   plain-holds n m second third = let same = ap (λ (y : TermRecord). y .kind) q in record {

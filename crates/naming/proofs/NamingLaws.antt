@@ -133,6 +133,12 @@ module _ (s : List ℕ) (p : ℕ) where
   abbrev pub Seeking : (t : ℕ) → Type 0
   Seeking t = firstNaming s p ≡ lowest other t (terms s - t)
 
+  -- none of the first t of all n terms names it
+  pub record NotNamedBelow (n t : ℕ) : Type 0 where
+    pub below : t ≤ n
+    pub all-are : n ≡ terms s
+    pub seeking : Seeking t
+
   pub seek-start : Seeking 0
   seek-start = lowest-starts other (terms s)
 

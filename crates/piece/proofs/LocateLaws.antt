@@ -82,6 +82,7 @@ module _ {s : List ℕ} {c : Counts} (S : Sheet s c) (b : Bindings) (none-bound 
 
 -- ---- the record
 module _ (s : List ℕ) {r : Located} (h : LocatedAs s (pieceOf s) r) where
+  -- a place of at most 65,535, and eight bytes
   pub ends-near : r .at + r .len ≤ 65543
   ends-near = omega (arith, h .at-is, h .len-is, place-most s, length-most s)
 

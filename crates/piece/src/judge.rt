@@ -10,10 +10,9 @@ use rules::known::Known;
 use rules::steps;
 use typing::answer::Inferred;
 ghost use mathlib.Core.Path.{_≡_};
-ghost use Prim.Native.Nat.{_<_};
 ghost use Rattle.program.specs.Layout.{typesOf};
 ghost use Rattle.rules.specs.Inference.{inferredModel};
-ghost use Rattle.rules.specs.Known.{Judging, Answered};
+ghost use Rattle.rules.specs.Known.{Judging, Testing, Answered};
 ghost use Rattle.rules.specs.Steps.{letrecStep, callStep, ifStep, testStep, binaryStep, resultOf};
 ghost use Rattle.typing.specs.Checking.{_next_};
 ghost use Rattle.piece.specs.Internal.{Judgeable, judgementOf};
@@ -69,8 +68,7 @@ fn branches(
 
 // Of a test of privilege p: the judgements of the branches.
 fn test(s: &[u8], c: Counts, known: &mut Known, p: u8, t: u16, i: Inferred, j: Inferred) -> Inferred
-    requires { ⌜ Judging (now s) c (now known) ⌝ }
-    requires { ⌜ p < 32 ⌝ }
+    requires { ⌜ Testing (now s) c (now known) p ⌝ }
     ensures { λ r. ⌜ Answered (typesOf (now (s .entry))) (inferredModel r)
         (inferredModel i next λ τ N. testStep (typesOf (now (s .entry))) p t τ N (inferredModel j)) (now (known .exit)) ⌝ }
 {

@@ -116,6 +116,12 @@ module _ (s ps : List ℕ) where
 range-word : {i : Interval} {l h : ℕ} → l < 65536 → h < 65536 → l ≡ i .low → h ≡ i .high → RangeWord i (intervalWord l h)
 range-word p q e f = record { kind-is = omega arith; lowest-is = omega arith ∙ e; highest-is = omega arith ∙ f }
 
+-- of the first t of so many terms the number terms, n in all, have their pairs
+pub record LaidBelow (s ps old new : List ℕ) (count n t : ℕ) : Type 0 where
+  pub below : t ≤ count
+  pub count-is : n ≡ numbersBelow s t
+  pub laid : Laid s ps t old new
+
 pub laid-none : (s ps l : List ℕ) → Laid s ps 0 l l
 laid-none s ps l = record { long = refl; numbers = λ u h. absurd (omega arith); others = λ u h. refl }
 

@@ -9,8 +9,14 @@ use Rattle.program.specs.Records.{CountsOf}
 use Rattle.program.specs.Laws.Readable.{WellFormed}
 use Rattle.program.specs.declared.records.Counts.{Counts}
 use Rattle.intervals.specs.Intervals.{Interval}
-use Rattle.intervals.specs.Pairs.{isNumber, numbersBelow, pairOf}
+use Rattle.intervals.specs.Pairs.{isNumber, numbersBelow, pairOf, pairsOk}
+use Rattle.interp.specs.Internal.{Cleared}
 use Rattle.machine.specs.Table.{wordKind, wordFirst, wordSecond, Decoded}
+
+-- a run that is admitted, with pairs that are right
+pub record PairedRun (s pairs start : List ℕ) (cells posts calls depth : ℕ) (c : Counts) : Type 0 where
+  pub cleared : Cleared s start cells posts true calls depth c
+  pub pairs-ok : pairsOk s pairs ≡ true
 
 -- a readable sheet with its counts, and a term
 pub record TermOf (s : List ℕ) (c : Counts) (t : ℕ) : Type 0 where

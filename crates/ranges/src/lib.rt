@@ -4,12 +4,12 @@ ghost use mathlib.Core.List.{[]};
 ghost use mathlib.Core.Path.{_≡_};
 ghost use lib.ListN.{length};
 ghost use Rattle.semantics.specs.Runs.{eager as eagerRunner};
-ghost use Rattle.intervals.specs.Pairs.{pairsOk};
 ghost use Rattle.intervals.specs.Runs.{rangeRun};
 ghost use Rattle.refinement.specs.Claims.{decidedBy, rangeOutcomeOf};
 ghost use Rattle.interp.specs.Answers.{requestOf, buffersOf};
 ghost use Rattle.interp.specs.Internal.{Cleared};
 ghost use Rattle.ranges.specs.Answers.{truthOf, outcomeModel, afterRange};
+ghost use Rattle.ranges.specs.Internal.{PairedRun};
 
 pub mod answer;
 pub mod pairs;
@@ -78,8 +78,7 @@ fn evaluate(
     cells: &mut [u8],
     posts: &mut [u32],
 ) -> RangeRun
-    requires { ⌜ Cleared (now s) (now start) (length (now cells)) (length (now posts)) true calls depth c ⌝ }
-    requires { ⌜ pairsOk (now s) (now pairs) ≡ true ⌝ }
+    requires { ⌜ PairedRun (now s) (now pairs) (now start) (length (now cells)) (length (now posts)) calls depth c ⌝ }
     ensures { λ r. ⌜ afterRange r (now (cells .exit)) (now (posts .exit))
         ≡ rangeRun (now (s .entry)) (now (pairs .entry)) (requestOf eagerRunner enforce (now (start .entry)) calls depth)
         (buffersOf (now (cells .entry)) (now (posts .entry)) []) ⌝ }

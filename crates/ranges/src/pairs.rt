@@ -3,9 +3,8 @@ ghost use mathlib.Core.Path.{_≡_};
 ghost use Prim.Native.Nat.{_*_, _≤_};
 ghost use lib.ListN.{length};
 ghost use Rattle.program.specs.Layout.{terms as termsOf};
-ghost use Rattle.program.specs.Records.{CountsOf};
-ghost use Rattle.program.specs.Laws.Readable.{WellFormed};
 ghost use Rattle.intervals.specs.Pairs.{isNumber, numbersBelow, ordered as orderedPairs, pairsOk};
+ghost use Rattle.interp.specs.Internal.{FormedSheet};
 ghost use Rattle.ranges.specs.Internal.{TermOf, Layable, Laid};
 use program::limits::TERM_PLACES;
 use program::records::Counts;
@@ -21,8 +20,7 @@ fn is_number(s: &[u8], c: Counts, t: u16) -> bool
 
 // How many terms are numbers.
 fn count_numbers(s: &[u8], c: Counts) -> u16
-    requires { ⌜ WellFormed (now s) ⌝ }
-    requires { ⌜ CountsOf (now s) c ⌝ }
+    requires { ⌜ FormedSheet (now s) c ⌝ }
     ensures { λ r. ⌜ r ≡ numbersBelow (now (s .entry)) (termsOf (now (s .entry))) ⌝ }
 {
     let count = c.terms;
@@ -55,8 +53,7 @@ fn ordered(pairs: &[u16], count: u16) -> bool
 
 // Whether the sheet has version 1, and a pair in order for each of its number terms.
 pub fn pairs_ok(s: &[u8], c: Counts, pairs: &[u16]) -> bool
-    requires { ⌜ WellFormed (now s) ⌝ }
-    requires { ⌜ CountsOf (now s) c ⌝ }
+    requires { ⌜ FormedSheet (now s) c ⌝ }
     ensures { λ r. ⌜ r ≡ pairsOk (now (s .entry)) (now (pairs .entry)) ⌝ }
 {
     if accessors::be16(s, 3) != 1 {

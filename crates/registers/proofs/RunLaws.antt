@@ -8,15 +8,8 @@ use lib.ListN.{set}
 use mir.Val.{boolByte}
 use borrow.Author.Tests.{eq-eqb, ne-eqb}
 use Rattle.program.specs.Bytes.{byte}
-use Rattle.program.specs.Decoding.{decoding}
-use Rattle.program.specs.Answers.{decodedModel}
-use Rattle.program.specs.declared.answer.Refusal.{Refusal}
-use Rattle.program.specs.declared.answer.Decoded.{Decoded}
-use Rattle.program.specs.declared.answer.Decoded.the-variants.{Readable, Refused as Unread}
-use Rattle.program.specs.declared.records.Counts.{Counts}
-use Rattle.semantics.specs.Runs.{Buffers, ran, After, run}
+use Rattle.semantics.specs.Runs.{Buffers, ran, After}
 use Rattle.interp.specs.Answers.{refusalCause, refusalPlace, runModel, outcomeModel, countsModel, buffersOf, after}
-use Rattle.interp.specs.declared.answer.Refusal.the-variants.{Unreadable, Buffers as BadBuffers}
 use Rattle.interp.specs.declared.answer.Run.{Run}
 use Rattle.interp.specs.declared.answer.Run.the-variants.{Refused, Ran}
 use Rattle.interp.specs.declared.answer.Refusal as refusals
@@ -31,10 +24,11 @@ use Rattle.numbers.specs.Codes.{CodeIs}
 use Rattle.numbers.specs.declared.Code.{Code}
 use Rattle.largest.specs.Largest.{request, lentRun}
 use Rattle.largest.specs.Theorems.{lent-few}
-use Rattle.registers.specs.Block.{areLargest, allowance, registersOf, without, afterRun, Written, done, ranOn, commanded, isKept, Register, kept, fixed, writeTo, writeOf}
-use Rattle.registers.specs.Block as blocks
-use Rattle.registers.specs.Laws.{at-inside}
-use Rattle.registers.specs.Internal.{endRegisters, FewCalls, keptOf}
+use Rattle.blocks.specs.Block.{allowance, RunRegisters, registersOf, without, afterRun, isKept, Register, kept, fixed}
+use Rattle.blocks.specs.Laws.{at-inside}
+use Rattle.blocks.specs.Internal.{keptOf}
+use Rattle.registers.specs.Writes.{areLargest, Written, done, ranOn, commanded, writeTo, writeOf}
+use Rattle.registers.specs.Internal.{endRegisters, FewCalls}
 
 -- its calls
 pub few-calls : (s : List ℕ) (calls : ℕ) (cells posts : List ℕ) (right : Bool) (x : Run) (cells′ posts′ : List ℕ)
@@ -51,18 +45,18 @@ module _ (m : Made) where
       (λ i. record { flag = 2; cause = k .cause-is i; value = 0; calls = m .calls; place = k .place-is i })
       ∙ sym (ap (λ (o : Outcome). registersOf (ran (outcomeModel o) (countsModel m))) e)
 
-  abbrev endsIn : Value → blocks.RunRegisters
+  abbrev endsIn : Value → RunRegisters
   endsIn v = registersOf (ran (outcomeModel (End v)) (countsModel m))
 
   by-bool : (b : Bool) → endRegisters (boolByte b) (m .calls) ≡ endsIn (VBool b)
   by-bool true = refl
   by-bool false = refl
 
-  pub bool-registers : {o : Outcome} {b : Bool} {t : blocks.RunRegisters} → o ≡ End (VBool b) → t ≡ endRegisters (boolByte b) (m .calls)
+  pub bool-registers : {o : Outcome} {b : Bool} {t : RunRegisters} → o ≡ End (VBool b) → t ≡ endRegisters (boolByte b) (m .calls)
       → t ≡ registersOf (ran (outcomeModel o) (countsModel m))
   bool-registers {b = b} e h = h ∙ by-bool b ∙ sym (ap (λ (o : Outcome). registersOf (ran (outcomeModel o) (countsModel m))) e)
 
-  pub num-registers : {o : Outcome} {n : ℕ} {t : blocks.RunRegisters} → o ≡ End (Num n) → t ≡ endRegisters n (m .calls) → t
+  pub num-registers : {o : Outcome} {n : ℕ} {t : RunRegisters} → o ≡ End (Num n) → t ≡ endRegisters n (m .calls) → t
       ≡ registersOf (ran (outcomeModel o) (countsModel m))
   num-registers e h = h ∙ sym (ap (λ (o : Outcome). registersOf (ran (outcomeModel o) (countsModel m))) e)
 
@@ -79,7 +73,7 @@ module _ (block s cells posts : List ℕ) (v : ℕ) where
   pub not-run : (v ≡ 1 → ⊥) → done block B ≡ commanded (eqb v 1) block s B
   not-run ne = sym (ap (λ (x : Bool). commanded x block s B) (ne-eqb v 1 ne))
 
-  pub has-run : v ≡ 1 → (x : Run) {calls : ℕ} {cells′ posts′ : List ℕ} {t : blocks.RunRegisters} {block′ : List ℕ} → calls ≡ allowance block
+  pub has-run : v ≡ 1 → (x : Run) {calls : ℕ} {cells′ posts′ : List ℕ} {t : RunRegisters} {block′ : List ℕ} → calls ≡ allowance block
       → after x cells′ posts′ [] ≡ lentRun (areLargest B) s (request calls) B → t ≡ registersOf (runModel x) → block′ ≡ afterRun block t
       → done block′ (buffersOf cells′ posts′ []) ≡ commanded (eqb v 1) block s B
   has-run e x {cells′ = cells′} {posts′ = posts′} f g h k =

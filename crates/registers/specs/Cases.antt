@@ -11,7 +11,8 @@ use Rattle.semantics.specs.Access.{addAuthorised}
 use Rattle.semantics.specs.Runs.{Buffers, zeros, course, run}
 use Rattle.interp.specs.Answers.{buffersOf}
 use Rattle.largest.specs.Largest.{lentRun}
-use Rattle.registers.specs.Block.{newBlock, without, withFlag, raised, writeOf}
+use Rattle.blocks.specs.Block.{newBlock, without, withFlag, raised}
+use Rattle.registers.specs.Writes.{writeOf}
 
 abbrev sheet : List ℕ
 sheet =

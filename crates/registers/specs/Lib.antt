@@ -1,6 +1,5 @@
-pub mod Block
+pub mod Writes
 pub mod Answers
 pub mod Internal
-pub mod Laws
 pub mod Theorems
 pub mod Cases

@@ -1,49 +1,28 @@
-// A controller's register block: 16 bytes by value, and its four accesses. specs/Block.antt has the paper's words.
+// A write to a controller's register block, which may run the loaded sheet. specs/Writes.antt has the paper's words.
 ghost use mathlib.Core.List.{[]};
 ghost use mathlib.Core.Path.{_≡_};
 ghost use Prim.Native.Nat.{_+_, _*_};
 ghost use lib.Dec.{eqb};
 ghost use Rattle.interp.specs.Answers.{buffersOf};
-ghost use Rattle.registers.specs.Block.{newBlock, raised, readOf, commanded, isKept, writeOf};
-ghost use Rattle.registers.specs.Answers.{readModel, writtenModel};
-ghost use Rattle.registers.specs.Internal.{keptOf};
+ghost use Rattle.registers.specs.Writes.{commanded, writeOf};
+ghost use Rattle.registers.specs.Answers.{writtenModel};
 
-pub mod block;
 mod outcome;
-mod update;
 
-use block::Access;
-use block::Block;
-use block::Read;
-use block::Written;
+use blocks::block::Access;
+use blocks::block::Block;
+use blocks::kept;
+use blocks::update::after_run;
+use blocks::update::stored;
+use blocks::update::without;
 use outcome::of_run;
 use program::limits::MAX_CELLS;
 use program::limits::MAX_POSTS;
-use update::after_run;
-use update::stored;
-use update::without;
 
-pub fn new_block() -> Block
-    ensures { λ r. ⌜ r .bytes ≡ newBlock ⌝ }
-{
-    Block { bytes: [0; 16] }
-}
-
-pub fn read(b: Block, address: u32) -> Read
-    ensures { λ r. ⌜ readModel r ≡ readOf (b .bytes) address ⌝ }
-{
-    if 15 < address {
-        return Read::Refused;
-    }
-    let at = address as usize;
-    Read::Byte(b.bytes[at])
-}
-
-// Whether status and mask share a bit.
-pub fn interrupt(b: Block) -> bool
-    ensures { λ r. ⌜ r ≡ raised (b .bytes) ⌝ }
-{
-    b.bytes[1] & b.bytes[3] != 0
+// The answer of a write, and the block as it leaves it.
+pub struct Written {
+    pub access: Access,
+    pub block: Block,
 }
 
 // A pair's number, from its highest byte and the other.
@@ -70,17 +49,6 @@ fn command(b: Block, value: u8, sheet: &[u8], cells: &mut [u8], posts: &mut [u32
     Written {
         access: Access::Done,
         block: after_run(b, of_run(r)),
-    }
-}
-
-// A write to 2 to 15: of these 3 to 5 keep what is written.
-fn kept(b: Block, address: u32, value: u8) -> Block
-    ensures { λ r. ⌜ r .bytes ≡ keptOf (isKept address) (b .bytes) address value ⌝ }
-{
-    if (3 <= address) & (address <= 5) {
-        stored(b, address as usize, value)
-    } else {
-        b
     }
 }
 

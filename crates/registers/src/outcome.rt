@@ -4,21 +4,14 @@ ghost use Prim.Native.Nat.{_≤_};
 ghost use Rattle.program.specs.Limits.{maxCalls};
 ghost use Rattle.semantics.specs.Runs.{ran};
 ghost use Rattle.interp.specs.Answers.{outcomeModel, countsModel, runModel};
-ghost use Rattle.registers.specs.Block.{registersOf};
-ghost use Rattle.registers.specs.Internal.{registersModel, endRegisters, FewCalls};
+ghost use Rattle.blocks.specs.Block.{registersOf};
+ghost use Rattle.blocks.specs.Internal.{registersModel};
+ghost use Rattle.registers.specs.Internal.{endRegisters, FewCalls};
+use blocks::block::RunRegisters;
 use interp::answer::Made;
 use interp::answer::Outcome;
 use interp::answer::Run;
 use interp::answer::Value;
-
-// The status bit by its worth, and the registers 2 and 6 to 11.
-pub struct RunRegisters {
-    pub flag: u8,
-    pub cause: u8,
-    pub value: u16,
-    pub calls: u16,
-    pub place: u16,
-}
 
 fn ended(value: u16, calls: u16) -> RunRegisters
     ensures { λ r. ⌜ registersModel r ≡ endRegisters value calls ⌝ }

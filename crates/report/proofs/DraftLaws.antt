@@ -70,7 +70,7 @@ pub followed : {d u r : Draft} {x : ℕ} (n : ℕ) → 10 ≤ n → n < 2 ^ 64 �
 followed {d = d} {u = u} {r = r} n g h p e q = subst (λ (xs : List ℕ). Appended d xs (length xs) r) (sym (tenth n g h))
     (chained _ (omega (arith, length-append (decimal (n / 10)) (digit (n % 10) ∷ []))) p (subst (λ (y : ℕ). Appended u (y ∷ []) 1 r) e q))
 
--- there is room for the last digit
+-- there is room for the last digit: the array has 224 bytes, and a number takes at most 20
 pub fits-more : {d u : Draft} (n : ℕ) → 10 ≤ n → n < 2 ^ 64 → d .len + 20 ≤ 224 → Appended d (decimal (n / 10)) (length (decimal (n / 10))) u → u .len < 224
 fits-more n g h room p =
     omega (arith, p .len-most, decimal-most n, ap length (tenth n g h), length-append (decimal (n / 10)) (digit (n % 10) ∷ []))

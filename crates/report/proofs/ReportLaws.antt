@@ -30,6 +30,13 @@ use Rattle.report.specs.declared.draft.Draft.{Draft}
 abbrev whole : Fate → Buffers → List ℕ → Report
 whole f b t = record { fate = f; buffers = b; text = t }
 
+-- the first i of n bytes are copied to the front of a text, which keeps its length and its other bytes
+pub record Copied (bytes old new : List ℕ) (n i : ℕ) : Type 0 where
+  pub below : i ≤ n
+  pub long : length new ≡ length old
+  pub copied : new ≡ take i bytes ++ drop i old
+
+-- the array of a draft has 224 bytes
 module _ (d : Draft) (t : List ℕ) (size : length (d .bytes) ≡ 224) (room : d .len ≤ 224) where
   held-length : length (held d) ≡ d .len
   held-length = length-take-le (d .len) (d .bytes) (omega arith)
@@ -58,6 +65,7 @@ module _ (s : List ℕ) (terms type needs : ℕ) (b : Buffers) (cells posts : Li
   reported-by z e = ap (λ (y : Run). ofRun (acceptance terms type needs) (runModel y)) (sym e)
       ∙ ap (λ (a : After). ofRun (acceptance terms type needs) (a .answer)) h
 
+  -- 53 bytes at most, as `refusal` tells
   pub refused-reported : {f : Refusal} {n : Code} {r : Draft} → x ≡ Refused f → CodeIs (refusalCause f) (refusalPlace f) n
       → Holds (refusal (n .cause) (n .place)) 53 r → RunReported s terms type needs b (buffersOf cells posts []) r
   refused-reported {f = f} e k p = record {
@@ -66,6 +74,7 @@ module _ (s : List ℕ) (terms type needs : ℕ) (b : Buffers) (cells posts : Li
     buffers-are = ap (λ (a : After). a .buffers) h;
   }
 
+  -- 209 bytes at most, as `accepted` tells
   pub ran-reported : {o : Outcome} {m : Made} {r : Draft} → x ≡ Ran o m
       → Holds (acceptance terms type needs ++ line (outcomeText (outcomeModel o) ++ countsText (countsModel m))) 209 r
       → RunReported s terms type needs b (buffersOf cells posts []) r

@@ -30,7 +30,8 @@ sheet =
     ∷ 9 ∷ 0 ∷ 0 ∷ 3 ∷ 0 ∷ 0 ∷ 0 ∷ 0 ∷ []
 
 pub prints : printed sheet ≡ ascii "terms 5\nneeds 00000000\ntype num\nend num 7 calls 0 cells 0 posts 1 held 0\n"
-unfolding printed decimal decimalIn hexadecimal verdict decoding screen tell infer subtype subtypeIn wider removeAuthorised course eval apply evalWith addAuthorised has meet union insert remove subset
+unfolding printed decimal decimalIn hexadecimal verdict decoding screen tell infer subtype subtypeIn wider removeAuthorised course eval apply evalWith
+    addAuthorised has meet union insert remove subset
 prints = refl
 
 -- ---- other sheets: one principal, types 0 and 1, and so many bytes of terms
@@ -50,7 +51,8 @@ pub stops : printed (sheetOf 2 32
     ∷ 7 ∷ 1 ∷ 0 ∷ 1 ∷ 0 ∷ 0 ∷ 0 ∷ 0
     ∷ 9 ∷ 0 ∷ 0 ∷ 2 ∷ 0 ∷ 0 ∷ 0 ∷ 0 ∷ []))
     ≡ ascii "terms 4\nneeds 00000002\ntype num\nstop 17 at 2 calls 0 cells 0 posts 0 held 0\n"
-unfolding printed decimal decimalIn hexadecimal verdict decoding screen tell infer subtype subtypeIn wider removeAuthorised course eval apply evalWith addAuthorised has meet union insert remove subset
+unfolding printed decimal decimalIn hexadecimal verdict decoding screen tell infer subtype subtypeIn wider removeAuthorised course eval apply evalWith
+    addAuthorised has meet union insert remove subset
 stops = refl
 
 -- "With A(0) empty: refused 11 at 4"
@@ -61,13 +63,15 @@ pub refuses : printed (sheetOf 0 40
     ∷ 8 ∷ 1 ∷ 0 ∷ 2 ∷ 0 ∷ 0 ∷ 0 ∷ 0
     ∷ 9 ∷ 0 ∷ 0 ∷ 3 ∷ 0 ∷ 0 ∷ 0 ∷ 0 ∷ []))
     ≡ ascii "refused 11 at 4\n"
-unfolding printed decimal decimalIn hexadecimal verdict decoding screen tell infer subtype subtypeIn wider removeAuthorised course eval apply evalWith addAuthorised has meet union insert remove subset
+unfolding printed decimal decimalIn hexadecimal verdict decoding screen tell infer subtype subtypeIn wider removeAuthorised course eval apply evalWith
+    addAuthorised has meet union insert remove subset
 refuses = refl
 
 -- "a boolean prints `bool 0` or `bool 1`"
 pub ends-true : printed (sheetOf 0 16 (0 ∷ 1 ∷ 0 ∷ 0 ∷ 0 ∷ 0 ∷ 0 ∷ 0 ∷ 9 ∷ 0 ∷ 0 ∷ 0 ∷ 0 ∷ 0 ∷ 0 ∷ 0 ∷ []))
     ≡ ascii "terms 2\nneeds 00000000\ntype bool\nend bool 1 calls 0 cells 0 posts 0 held 0\n"
-unfolding printed decimal decimalIn hexadecimal verdict decoding screen tell infer subtype subtypeIn wider removeAuthorised course eval apply evalWith addAuthorised has meet union insert remove subset
+unfolding printed decimal decimalIn hexadecimal verdict decoding screen tell infer subtype subtypeIn wider removeAuthorised course eval apply evalWith
+    addAuthorised has meet union insert remove subset
 ends-true = refl
 
 -- 02, W10: "the program's run line closes with `held` and the count": 65535 + 1
@@ -77,7 +81,8 @@ pub holds-sum : printed (sheetOf 0 32
     ∷ 11 ∷ 0 ∷ 0 ∷ 0 ∷ 0 ∷ 1 ∷ 0 ∷ 0
     ∷ 9 ∷ 0 ∷ 0 ∷ 2 ∷ 0 ∷ 0 ∷ 0 ∷ 0 ∷ []))
     ≡ ascii "terms 4\nneeds 00000000\ntype num\nend num 65535 calls 0 cells 0 posts 0 held 1\n"
-unfolding printed decimal decimalIn hexadecimal verdict decoding screen tell infer subtype subtypeIn wider removeAuthorised course eval apply evalWith addAuthorised has meet union insert remove subset
+unfolding printed decimal decimalIn hexadecimal verdict decoding screen tell infer subtype subtypeIn wider removeAuthorised course eval apply evalWith
+    addAuthorised has meet union insert remove subset
 holds-sum = refl
 
 -- and at a stop: 1 - 65535, then a check in the other operand
@@ -90,7 +95,8 @@ pub holds-at-stop : printed (sheetOf 2 56
     ∷ 11 ∷ 0 ∷ 0 ∷ 2 ∷ 0 ∷ 4 ∷ 0 ∷ 0
     ∷ 9 ∷ 0 ∷ 0 ∷ 5 ∷ 0 ∷ 0 ∷ 0 ∷ 0 ∷ []))
     ≡ ascii "terms 7\nneeds 00000002\ntype num\nstop 17 at 4 calls 0 cells 0 posts 0 held 1\n"
-unfolding printed decimal decimalIn hexadecimal verdict decoding screen tell infer subtype subtypeIn wider removeAuthorised course eval apply evalWith addAuthorised has meet union insert remove subset
+unfolding printed decimal decimalIn hexadecimal verdict decoding screen tell infer subtype subtypeIn wider removeAuthorised course eval apply evalWith
+    addAuthorised has meet union insert remove subset
 holds-at-stop = refl
 
 -- "Empty file: 1."

@@ -30,6 +30,11 @@ pub record Judging (s : List ℕ) (c : Counts) (l : List ℕ) : Type 0 where
   pub sheet : Sheet s c
   pub known : Known (typesOf s) l
 
+-- and a privilege
+pub record Testing (s : List ℕ) (c : Counts) (l : List ℕ) (p : ℕ) : Type 0 where
+  pub judging : Judging s c l
+  pub privilege : p < 32
+
 -- an answer as it is due, and what is known then
 pub record Answered {A : Type 0} (T : Types) (answer due : A) (l : List ℕ) : Type 0 where
   pub is : answer ≡ due

@@ -18,7 +18,7 @@ ghost use Rattle.program.specs.Layout.{typesOf, guardIn};
 ghost use Rattle.typing.specs.Rules.{postNeeds};
 ghost use Rattle.typing.specs.Checking.{joined as joinedOf};
 ghost use Rattle.rules.specs.Inference.{inferredModel, context};
-ghost use Rattle.rules.specs.Known.{Judging, Answered};
+ghost use Rattle.rules.specs.Known.{Judging, Testing, Answered};
 ghost use Rattle.rules.specs.Steps.{
   foundOf,
   leafStep,
@@ -158,8 +158,7 @@ pub fn tested(
     needs1: u32,
     j: Inferred,
 ) -> Inferred
-    requires { ⌜ Judging (now s) c (now known) ⌝ }
-    requires { ⌜ p < 32 ⌝ }
+    requires { ⌜ Testing (now s) c (now known) p ⌝ }
     ensures { λ r. ⌜ Answered (typesOf (now (s .entry))) (inferredModel r) (testStep (typesOf (now (s .entry))) p t ty1 needs1 (inferredModel j))
         (now (known .exit)) ⌝ }
 {

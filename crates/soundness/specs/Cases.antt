@@ -220,7 +220,8 @@ pub told : (cs : List Case) → map (observedBy largest) cs ≡ map due cs → (
 told cs h b e = observations b cs ∙ ap (λ (z : Sizes). map (observedBy z) cs) e ∙ h
 
 computed : map (observedBy largest) cases ≡ map due cases
-unfolding cases observedBy verdict decoding screen tell infer subtype subtypeIn wider removeAuthorised course eval apply evalWith addAuthorised has meet union insert remove subset
+unfolding cases observedBy verdict decoding screen tell infer subtype subtypeIn wider removeAuthorised course eval apply evalWith addAuthorised has
+    meet union insert remove subset
 computed = refl
 
 -- The starred cases hold of the definitions, with buffers of the largest lengths, whatever they hold.

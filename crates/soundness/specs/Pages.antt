@@ -98,7 +98,8 @@ pages =
     ∷ deciding (sheet 2 seven (on 0) (guards 1 ++ 0 ∷ [])) (rejected 2 0) ∷ []
 
 computed : map (observedBy largest) pages ≡ map due pages
-unfolding pages observedBy verdict decoding screen tell infer subtype subtypeIn wider removeAuthorised course eval apply evalWith addAuthorised has meet union insert remove subset
+unfolding pages observedBy verdict decoding screen tell infer subtype subtypeIn wider removeAuthorised course eval apply evalWith addAuthorised has
+    meet union insert remove subset
 computed = refl
 
 -- The rows hold of the definitions, with buffers of the largest lengths, whatever they hold.

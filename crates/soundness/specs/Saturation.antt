@@ -94,7 +94,8 @@ sums =
     ++ both doubled (asked 0) (ran (stopped 20 10) (saturating 0 0 1)) []
 
 computed : map (observedBy largest) sums ≡ map due sums
-unfolding sums observedBy verdict decoding screen tell infer subtype subtypeIn wider removeAuthorised course eval apply evalWith addAuthorised has meet union insert remove subset
+unfolding sums observedBy verdict decoding screen tell infer subtype subtypeIn wider removeAuthorised course eval apply evalWith addAuthorised has
+    meet union insert remove subset
 computed = refl
 
 -- The rows hold of the definitions, with buffers of the largest lengths, whatever they hold.

@@ -10,12 +10,13 @@ use lib.ListN.{getD, length, set}
 use lib.Seq.{getD-set-same, getD-set-other}
 use borrow.Author.Tests.{ltb-true, leb-true, leb-false, lt-ltb, le-ltb, le-leb, lt-leb, eq-eqb, ne-eqb, eqb-true}
 use Rattle.privileges.specs.Booleans.{and-left, and-right}
+use Rattle.program.specs.Limits.{maxTypes}
 use Rattle.program.specs.Tests.{also, orElse}
 use Rattle.program.specs.Bytes.{Bytes}
 use Rattle.program.specs.Layout.{principals, types, typeAt, typesOf}
 use Rattle.program.specs.Decoding.{baseOk, functionOk, shallow, sameBytes, fresh, typeOk}
 use Rattle.program.specs.Records.{typeAtByte, typeRecord}
-use Rattle.tables.specs.Internal.{leWord, Laid, TableAt, Depths, Deep}
+use Rattle.tables.specs.Internal.{leWord, Laid, Passed, TableAt, Depths, Deep}
 use Rattle.program.specs.Laws.Readable.{FieldsOk, fields-ok}
 use Rattle.program.specs.Laws.Records.{type-laid}
 use Rattle.tables.proofs.WordLaws.{eight-differ}
@@ -166,6 +167,12 @@ module _ (s : List ℕ) (c : Counts) (L : Laid s c) (t : ℕ) (l : t < types s) 
             depth-is h = record { right = type-is ∙ le-leb (m + 1) 12 (omega arith); deep = deep-is }
 
 -- ---- the list of depths
+-- the types below t are right, and the list has their depths
+pub record TypesPassed (s d : List ℕ) (n t : ℕ) : Type 0 where
+  pub passed : Passed (typeOk s) (types s) n t
+  pub room : length d ≡ maxTypes
+  pub depths : Depths s d t
+
 pub depths-none : (s d : List ℕ) → Depths s d 0
 depths-none s d = record { each = λ u h k. absurd (omega arith) }
 

@@ -3,13 +3,13 @@ use mathlib.Core.Bool.{Bool, true, false, _&&_, _||_}
 use mathlib.Core.List.{List, [], _∷_, _++_}
 use mathlib.Core.Option.{Option, none, some}
 use mathlib.Core.Path.{_≡_}
-use Prim.Native.Nat.{ℕ, zero, suc, _+_, _*_, _/_, _<_, _≤_}
+use Prim.Native.Nat.{ℕ, zero, suc, _+_, _*_, _-_, _/_, _<_, _≤_}
 use lib.Dec.{leb, ltb, eqb}
 use lib.ListN.{length, getD}
 use Rattle.program.specs.Limits.{maxPrincipals}
 use Rattle.program.specs.Bytes.{byte, word16}
-use Rattle.program.specs.Layout.{version, typeAt, guardField, sheetEnd, channels, kindByte, first, second, third}
-use Rattle.program.specs.Screening.{Condition, First, None, unless}
+use Rattle.program.specs.Layout.{version, types, terms, typeAt, guardField, sheetEnd, channels, kindByte, first, second, third}
+use Rattle.program.specs.Screening.{Condition, First, None, unless, lowest}
 use Rattle.program.specs.Formats.{Part, unused, flag, anyNumber, privilege, principal, channel, functionType, child, bodyChild, Kind, Boolean, Number, Variable, Function, Letrec, Call, If, Check, Enable, Sign, Test, Sum, Difference, Less, Post, kindOf, format}
 use Rattle.program.specs.Decoding.{holds, field, guardConditions, fieldConditions, shallow, typeOk, termOk}
 use Rattle.program.specs.Answers.{decodingCause, decodingPlace}
@@ -85,6 +85,12 @@ abbrev pub foundOf : Found → Option ℕ
 foundOf (At t) = some t
 foundOf Nothing = none
 
+-- records 0 to t - 1 of a table of so many are right, so that from t on the search finds what the whole search finds
+pub record Passed (ok : ℕ → Bool) (count n t : ℕ) : Type 0 where
+  pub below : t ≤ n
+  pub all : n ≡ count
+  pub rest-is : lowest ok 0 n ≡ lowest ok t (n - t)
+
 -- ---- types
 -- so many bytes as one number, lowest first
 unfoldable pub leWord : List ℕ → (at width : ℕ) → ℕ
@@ -98,9 +104,20 @@ pub record TableAt (s : List ℕ) (at t : ℕ) : Type 0 where
   pub near : at ≤ 11 + 4 * maxPrincipals
   pub inside : at + 10 * t + 10 ≤ length s
 
+-- and some of the types before it
+pub record TypesBefore (s : List ℕ) (at t n : ℕ) : Type 0 where
+  pub table : TableAt s at t
+  pub earlier : n ≤ t
+
 -- the list has the depths of the first so many types
 pub record Depths (s d : List ℕ) (t : ℕ) : Type 0 where
   pub each : (u : ℕ) → u < t → (k : ℕ) → shallow s k u ≡ leb (getD d u 0) k
+
+-- a type of a sheet with these counts, and a list with the depths of the types before it
+pub record DepthsBefore (s : List ℕ) (c : Counts) (d : List ℕ) (t : ℕ) : Type 0 where
+  pub laid : Laid s c
+  pub inside : t < types s
+  pub depths : Depths s d t
 
 pub record Deep (s : List ℕ) (t d : ℕ) : Type 0 where
   pub right : typeOk s t ≡ true
@@ -111,6 +128,11 @@ DepthIs s t (Is d) = Deep s t d
 DepthIs s t DepthFault = typeOk s t ≡ false
 
 -- ---- terms
+-- a term of a sheet with these counts
+pub record LaidTerm (s : List ℕ) (c : Counts) (t : ℕ) : Type 0 where
+  pub laid : Laid s c
+  pub inside : t < terms s
+
 -- `partOk` by the counts
 abbrev pub partIn : Counts → (t : ℕ) → Part → (value : ℕ) → Bool
 partIn c t unused x = eqb x 0

@@ -1,10 +1,9 @@
 // The term records: refusal 6, and the children that a record names.
 ghost use mathlib.Core.Path.{_≡_};
-ghost use Prim.Native.Nat.{_<_};
 ghost use Rattle.program.specs.Layout.{terms};
 ghost use Rattle.program.specs.Screening.{lowest};
 ghost use Rattle.program.specs.Decoding.{termOk};
-ghost use Rattle.tables.specs.Internal.{Laid, foundOf, shapeIf, shapeOf, shapeAt, isWrong};
+ghost use Rattle.tables.specs.Internal.{Laid, LaidTerm, foundOf, shapeIf, shapeOf, shapeAt, isWrong};
 use crate::search::Found;
 use accessors::table_term;
 use program::records::Counts;
@@ -70,8 +69,7 @@ fn shape_of(r: TermRecord, c: Counts, t: u16) -> Shape
 
 // The shape of term t.
 pub fn shape_at(s: &[u8], c: Counts, t: u16) -> Shape
-    requires { ⌜ Laid (now s) c ⌝ }
-    requires { ⌜ t < terms (now s) ⌝ }
+    requires { ⌜ LaidTerm (now s) c t ⌝ }
     ensures { λ r. ⌜ r ≡ shapeAt (now (s .entry)) t ⌝ }
 {
     shape_of(table_term(s, c, t), c, t)

@@ -7,7 +7,7 @@ ghost use lib.ListN.{length};
 ghost use Rattle.program.specs.Layout.{types};
 ghost use Rattle.program.specs.Screening.{lowest};
 ghost use Rattle.program.specs.Decoding.{fresh, typeOk};
-ghost use Rattle.tables.specs.Internal.{leWord, Laid, TableAt, Depths, DepthIs, foundOf};
+ghost use Rattle.tables.specs.Internal.{leWord, Laid, TableAt, TypesBefore, DepthsBefore, DepthIs, foundOf};
 use crate::search::Found;
 use accessors::type_record;
 use program::limits::MAX_TYPE_DEPTH;
@@ -41,8 +41,7 @@ fn le_word(s: &[u8], at: usize, width: usize) -> u64
 // Whether the record of type t differs from those of the first n types. The table begins at `at`. Records are compared by a word of eight bytes, the
 // argument, result and latent set, which tell function types apart, then by one of two, the kind and the zero.
 fn differs(s: &[u8], at: usize, t: u16, n: usize) -> bool
-    requires { ⌜ TableAt (now s) at t ⌝ }
-    requires { ⌜ n ≤ t ⌝ }
+    requires { ⌜ TypesBefore (now s) at t n ⌝ }
     ensures { λ r. ⌜ r ≡ fresh (now (s .entry)) t n ⌝ }
 {
     let here = at + 10 * (t as usize);
@@ -115,9 +114,7 @@ fn larger(a: u8, b: u8) -> u8
 
 // How deep type t is nested. `depths` has the depths of the types before it.
 fn type_depth(s: &[u8], c: Counts, depths: &[u8; TYPE_PLACES], t: u16) -> Depth
-    requires { ⌜ Laid (now s) c ⌝ }
-    requires { ⌜ t < types (now s) ⌝ }
-    requires { ⌜ Depths (now s) (now depths) t ⌝ }
+    requires { ⌜ DepthsBefore (now s) c (now depths) t ⌝ }
     ensures { λ r. ⌜ DepthIs (now (s .entry)) t r ⌝ }
 {
     let r = type_record(s, c, t);

@@ -36,6 +36,12 @@ pub fn max_frames() -> [u32; 6497]
     [0; 6497]
 }
 
+pub fn max_pairs() -> [u16; 2050]
+    ensures { λ r. ⌜ 2050 ≡ length r ⌝ }
+{
+    [0; 2050]
+}
+
 pub fn fill_cells(a: &mut [u8]) {
     let mut v = 1;
     let mut i = 0;

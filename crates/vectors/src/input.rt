@@ -1,7 +1,8 @@
-// The recorded vectors: a header of 19 bytes, the start stack's numbers and the sheet, every number with its highest byte first.
+// The recorded vectors: a header of 25 bytes, the start stack's numbers, the sheet and the pairs of its number terms, every number with its highest byte
+// first.
 ghost use Prim.Native.Nat.{_≤_};
 
-// One vector's header, with lengths that the buffers at hand have.
+// One vector's header, with lengths that the buffers at hand have. The numbers of the pairs come last, and their count is as it was read.
 pub struct Vector {
     pub whole: bool,
     pub sheet: usize,
@@ -11,9 +12,11 @@ pub struct Vector {
     pub cells: usize,
     pub posts: usize,
     pub frames: usize,
+    pub term: u32,
+    pub pairs: usize,
 }
 
-fn least(x: usize, most: usize) -> usize
+pub fn least(x: usize, most: usize) -> usize
     ensures { λ r. ⌜ r ≤ most ⌝ }
 {
     if x < most { x } else { most }
@@ -39,10 +42,10 @@ fn quad(a: u8, b: u8, c: u8, d: u8) -> u32 {
 pub fn read_vector(start: usize, sheet: usize, cells: usize, posts: usize, frames: usize) -> Vector
     ensures { λ r. ⌜ (r .start ≤ start) × ((r .sheet ≤ sheet) × ((r .cells ≤ cells) × ((r .posts ≤ posts) × (r .frames ≤ frames)))) ⌝ }
 {
-    let mut h = [0u8; 19];
+    let mut h = [0u8; 25];
     let got = io::read_full(0, &mut h);
     Vector {
-        whole: got == 19,
+        whole: got == 25,
         sheet: least(pair(h[0], h[1]), sheet),
         start: least(wide8(h[2]), start),
         calls: quad(h[3], h[4], h[5], h[6]),
@@ -50,6 +53,8 @@ pub fn read_vector(start: usize, sheet: usize, cells: usize, posts: usize, frame
         cells: least(wide32(quad(h[11], h[12], h[13], h[14])), cells),
         posts: least(pair(h[15], h[16]), posts),
         frames: least(pair(h[17], h[18]), frames),
+        term: quad(h[19], h[20], h[21], h[22]),
+        pairs: pair(h[23], h[24]),
     }
 }
 
@@ -60,6 +65,21 @@ pub fn read_start(start: &mut [u32]) {
         let mut b = [0u8; 4];
         io::read_full(0, &mut b);
         start[i] = quad(b[0], b[1], b[2], b[3]);
+        i += 1;
+    }
+}
+
+fn narrow(a: u8, b: u8) -> u16 {
+    (a as u16) * 256 + (b as u16)
+}
+
+// The numbers of the pairs.
+pub fn read_pairs(pairs: &mut [u16]) {
+    let mut i = 0;
+    while i < pairs.len() {
+        let mut b = [0u8; 2];
+        io::read_full(0, &mut b);
+        pairs[i] = narrow(b[0], b[1]);
         i += 1;
     }
 }

@@ -9,6 +9,7 @@ use buffers::fill_cells;
 use buffers::fill_numbers;
 use buffers::max_cells;
 use buffers::max_frames;
+use buffers::max_pairs;
 use buffers::max_posts;
 use buffers::max_sheet;
 use buffers::max_start;
@@ -16,18 +17,24 @@ use buffers::mix_all;
 use buffers::mix_cells;
 use buffers::mix_numbers;
 use input::Vector;
+use input::least;
+use input::read_pairs;
 use input::read_start;
 use input::read_vector;
 use output::line;
 use output::run_line;
 
-// The reader's and the type checker's answers.
-fn typecheck(sheet: &[u8]) {
+// What is told without a run.
+fn judge(sheet: &[u8], term: u32) {
     let mut answer = [0u32; 8];
     let r = capi::sovzedal_decode(sheet, &mut answer);
     line(b"decode", r, &answer);
     let r2 = capi::sovzedal_typecheck(sheet, &mut answer);
     line(b"typecheck", r2, &answer);
+    let r3 = capi::sovzedal_piece(sheet, &mut answer);
+    line(b"piece", r3, &answer);
+    let r4 = capi::sovzedal_term(sheet, term, &mut answer);
+    line(b"term", r4, &answer);
 }
 
 // An eager run on filled buffers of the lengths asked for.
@@ -147,6 +154,36 @@ fn record_lazy(
     run_line(name, r, &answer, h);
 }
 
+// An eager run over ranges.
+fn ranging(
+    name: &[u8],
+    sheet: &[u8],
+    pairs: &[u16],
+    start: &[u32],
+    calls: u32,
+    depth: u32,
+    enforce: u32,
+    cells: &mut [u8],
+    posts: &mut [u32],
+) {
+    fill_cells(cells);
+    fill_numbers(posts, 2, 3);
+    let mut answer = [0u32; 8];
+    let r = capi::sovzedal_run_ranges(
+        sheet,
+        pairs,
+        start,
+        calls,
+        depth,
+        enforce,
+        cells,
+        posts,
+        &mut answer,
+    );
+    let h = mix_numbers(mix_cells(0, cells), posts);
+    run_line(name, r, &answer, h);
+}
+
 // Both ways to treat checks: in force, then passed over.
 fn eagers(
     sheet: &[u8],
@@ -228,6 +265,69 @@ fn lazies(
     recorded_lazies(sheet, start, calls, depth, cells, posts, frames);
 }
 
+// The same, by the pairs that the input has next.
+fn rangings(
+    pairs: &mut [u16],
+    sheet: &[u8],
+    start: &[u32],
+    calls: u32,
+    depth: u32,
+    cells: &mut [u8],
+    posts: &mut [u32],
+) {
+    read_pairs(pairs);
+    ranging(
+        b"ranges",
+        sheet,
+        pairs,
+        start,
+        calls,
+        depth,
+        1,
+        cells,
+        posts,
+    );
+    ranging(
+        b"ranges-skip",
+        sheet,
+        pairs,
+        start,
+        calls,
+        depth,
+        0,
+        cells,
+        posts,
+    );
+}
+
+// On a part of the largest list.
+fn ranged(
+    numbers: usize,
+    sheet: &[u8],
+    start: &[u32],
+    calls: u32,
+    depth: u32,
+    cells: &mut [u8],
+    posts: &mut [u32],
+) {
+    let mut pairs = max_pairs();
+    let lent = least(numbers, 2050);
+    rangings(&mut pairs[..lent], sheet, start, calls, depth, cells, posts);
+}
+
+fn runs(
+    v: Vector,
+    sheet: &[u8],
+    start: &[u32],
+    cells: &mut [u8],
+    posts: &mut [u32],
+    frames: &mut [u32],
+) {
+    eagers(sheet, start, v.calls, v.depth, cells, posts);
+    lazies(sheet, start, v.calls, v.depth, cells, posts, frames);
+    ranged(v.pairs, sheet, start, v.calls, v.depth, cells, posts);
+}
+
 // One vector, on buffers of the lengths that it asks for.
 fn vector(
     v: Vector,
@@ -239,9 +339,8 @@ fn vector(
 ) {
     read_start(start);
     io::read_full(0, sheet);
-    typecheck(sheet);
-    eagers(sheet, start, v.calls, v.depth, cells, posts);
-    lazies(sheet, start, v.calls, v.depth, cells, posts, frames);
+    judge(sheet, v.term);
+    runs(v, sheet, start, cells, posts, frames);
 }
 
 // The next vector, on parts of the largest buffers; false at the end of the input.

@@ -3,7 +3,7 @@
 
 use crate::best_time;
 use differential::ANSWER_NUMBERS;
-use differential::{Asked, Buffers, Entry, Implementation, Library, Reference, Shipped};
+use differential::{Buffers, Entry, Implementation, Library, Query, Reference, Shipped};
 use sheets::extremes::{deepest, many_checks, most_types, widest};
 use sheets::load::frame_sheet;
 use sheets::request::Request;
@@ -61,13 +61,13 @@ fn run_time(sheet: &[u8]) -> f64 {
     let request = Request::largest().with_start(&[0, u32::MAX]);
     let entry = Entry::RunEager;
     let mut buffers = Buffers::random(&mut Rng::new(0), entry, &request, ANSWER_NUMBERS);
-    let asked = Asked {
+    let query = Query {
         entry,
         sheet,
         request: &request,
         enforce: 1,
     };
     best_time(|| {
-        asked.of::<Library>(&mut buffers);
+        query.of::<Library>(&mut buffers);
     })
 }

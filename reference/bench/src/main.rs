@@ -4,6 +4,7 @@
 mod erasing;
 mod explaining;
 mod floor;
+mod judging;
 mod naming;
 mod piecing;
 mod placement;
@@ -38,6 +39,7 @@ fn main() {
     erasing::print();
     naming::print();
     piecing::print();
+    judging::print();
     recording::print();
     ranging::print();
     floor::print();

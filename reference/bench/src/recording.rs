@@ -1,7 +1,7 @@
 //! What a record costs a run.
 
 use crate::best_time;
-use differential::{Asked, Buffers, Entry, Library, Recording, Reference};
+use differential::{Buffers, Entry, Library, Query, Recording, Reference};
 use differential::{ANSWER_NUMBERS, RECORD_NUMBERS};
 use sheets::extremes::{deepest, many_checks};
 use sheets::load::{frame_sheet, guarded_frame_sheet};
@@ -35,7 +35,7 @@ pub fn print() {
 /// may use.
 fn print_line(name: &str, sheet: &[u8], entry: Entry) {
     let request = Request::largest().with_start(&[0, u32::MAX]);
-    let asked = Asked {
+    let query = Query {
         entry,
         sheet,
         request: &request,
@@ -44,15 +44,15 @@ fn print_line(name: &str, sheet: &[u8], entry: Entry) {
     let rng = &mut Rng::new(0);
     let mut buffers = Buffers::random(rng, entry, &request, ANSWER_NUMBERS);
     let run = best_time(|| {
-        asked.of::<Library>(&mut buffers);
+        query.of::<Library>(&mut buffers);
     });
-    let mut recording = Recording::random(rng, &asked, ROOM, RECORD_NUMBERS);
+    let mut recording = Recording::random(rng, &query, ROOM, RECORD_NUMBERS);
     let recorded = best_time(|| {
-        recording.ask::<Library>(&asked);
+        recording.ask::<Library>(&query);
     });
     let entries = recording.answer().expect("the answer has room")[ANSWER_NUMBERS];
     let reference = best_time(|| {
-        recording.ask::<Reference>(&asked);
+        recording.ask::<Reference>(&query);
     });
     println!(
         "  {name:14}{:10}{entries:9}{:12.3}{:12.3}{:9.2}{:12.3}",

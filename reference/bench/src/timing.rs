@@ -1,7 +1,7 @@
 //! Rounds by turns.
 
 use crate::workload::Workload;
-use differential::{Asked, Buffers, Entry, Implementation, Library, Reference, ANSWER_NUMBERS};
+use differential::{Buffers, Entry, Implementation, Library, Query, Reference, ANSWER_NUMBERS};
 use sheets::request::Request;
 use sheets::rng::Rng;
 use std::time::Instant;
@@ -54,16 +54,16 @@ impl Bench {
         let begun = Instant::now();
         for _ in 0..workload.repeats {
             for sheet in &workload.sheets {
-                let asked = Asked {
+                let query = Query {
                     entry,
                     sheet,
                     request: &self.request,
                     enforce: 1,
                 };
-                asked.of::<I>(&mut buffers);
+                query.of::<I>(&mut buffers);
             }
         }
-        let asked = workload.repeats * workload.sheets.len();
-        (begun.elapsed().as_secs_f64() / asked as f64, buffers)
+        let query = workload.repeats * workload.sheets.len();
+        (begun.elapsed().as_secs_f64() / query as f64, buffers)
     }
 }

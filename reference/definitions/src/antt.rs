@@ -1,6 +1,6 @@
 //! Entries as text that the checker reads.
 
-use crate::row::{Asked, Buffers, Choosing, Compared, Entry, Ranging, Row, Runner, Running};
+use crate::row::{Buffers, Choosing, Compared, Entry, Query, Ranging, Row, Runner, Running};
 use sovzedal_reference::{
     Checks, Comparison, Outcome, Piece, Plain, Range, RangeRun, Recorded, Refusal, Run, Stop,
     Truth, Verdict, FRAME_NUMBERS,
@@ -28,7 +28,7 @@ pub fn theorem(entries: &[Entry]) -> String {
             entry
                 .rows
                 .iter()
-                .map(|asked| row(&name, &entry.sheet, asked)),
+                .map(|query| row(&name, &entry.sheet, query)),
         );
         names.push(name);
     }
@@ -76,7 +76,7 @@ fn running(sheet: &str, run: &Running) -> String {
     };
     format!(
         "running {sheet} {} {} {} (recordedAs (after {told} {}) {entries} {})",
-        request(&run.asked),
+        request(&run.query),
         buffers(&run.before),
         list(&run.before.record),
         buffers(&run.after),
@@ -92,7 +92,7 @@ fn ranging(sheet: &str, run: &Ranging) -> String {
     format!(
         "ranging {sheet} {} {} {} (after {told} {})",
         list(&run.pairs),
-        request(&run.asked),
+        request(&run.query),
         buffers(&run.before),
         buffers(&run.after)
     )
@@ -126,15 +126,15 @@ fn cause_and_place(refusal: Refusal) -> String {
     format!("{} {}", refusal.cause.number(), refusal.place)
 }
 
-fn request(asked: &Asked) -> String {
-    let runner = match asked.runner {
+fn request(query: &Query) -> String {
+    let runner = match query.runner {
         Runner::Eager => "eager",
         Runner::Lazy => "lazy",
     };
-    let request = &asked.request;
+    let request = &query.request;
     format!(
         "(requestOf {runner} {} {} {} {})",
-        asked.checks == Checks::InForce,
+        query.checks == Checks::Enforced,
         list(&request.start),
         request.calls,
         request.open_calls
@@ -251,17 +251,17 @@ mod tests {
             cell_bytes: 20,
             ..Request::largest()
         };
-        let asked = Asked {
+        let query = Query {
             runner: Runner::Eager,
-            checks: Checks::InForce,
+            checks: Checks::Enforced,
             request,
             record: 6,
         };
-        let entry = Entry::answered(cases::posting(2), [asked]);
+        let entry = Entry::answered(cases::posting(2), [query]);
         let rows: Vec<String> = entry
             .rows
             .iter()
-            .map(|asked| row("s", &entry.sheet, asked))
+            .map(|query| row("s", &entry.sheet, query))
             .collect();
         assert_eq!(
             rows,
@@ -286,7 +286,7 @@ mod tests {
                 ..Request::largest()
             };
             let sheet = cases::computing(tree);
-            let run = Ranging::answered(&sheet, pairs.to_vec(), Checks::PassedOver, request);
+            let run = Ranging::answered(&sheet, pairs.to_vec(), Checks::Skipped, request);
             ranging("s", &run)
         };
         let before = "(requestOf eager false [] 4096 100) \

@@ -1,7 +1,7 @@
 //! Which sheets and runs are asked about: small sheets and short runs, since
 //! the checker computes with lists.
 
-use crate::row::{Asked, Choosing, Compared, Entry, Ranging, Row, Runner, Running};
+use crate::row::{Choosing, Compared, Entry, Query, Ranging, Row, Runner, Running};
 use sheets::faulty::faulty;
 use sheets::generate::{sample, Sample};
 use sheets::pairs::Pair;
@@ -23,21 +23,13 @@ const MAX_BYTES_OF_FEW: usize = 480;
 /// Of a short run.
 const MAX_SHORT_CALLS: u32 = 100;
 
-const CHECKS: [Checks; 2] = [Checks::InForce, Checks::PassedOver];
-
-const WRONG: [Wrong; 5] = [
-    Wrong::HalfAPair,
-    Wrong::Fewer,
-    Wrong::More,
-    Wrong::NumbersForPairs,
-    Wrong::Crossed,
-];
+const CHECKS: [Checks; 2] = [Checks::Enforced, Checks::Skipped];
 
 const WAYS: [(Runner, Checks); 4] = [
-    (Runner::Eager, Checks::InForce),
-    (Runner::Eager, Checks::PassedOver),
-    (Runner::Lazy, Checks::InForce),
-    (Runner::Lazy, Checks::PassedOver),
+    (Runner::Eager, Checks::Enforced),
+    (Runner::Eager, Checks::Skipped),
+    (Runner::Lazy, Checks::Enforced),
+    (Runner::Lazy, Checks::Skipped),
 ];
 
 /// Of a record that is neither empty nor long: room for three entries, and a
@@ -107,23 +99,23 @@ pub fn compared(seed: u64, count: usize) -> Vec<Compared> {
 }
 
 fn asked_in_all_ways(sheet: Vec<u8>, request: &Request) -> Entry {
-    let asked = in_all_ways(request, SHORT_RECORD);
-    Entry::answered(sheet, asked)
+    let query = in_all_ways(request, SHORT_RECORD);
+    Entry::answered(sheet, query)
 }
 
 /// With a record that is too short for the last entry of a run with checks in
 /// force, and with one that has room to spare.
 fn asked_with_records(case: recorded::Recorded) -> Entry {
     let request = shortened(case.request);
-    let entries = case.in_force.len().min(MAX_SHORT_CALLS as usize);
+    let entries = case.enforced.len().min(MAX_SHORT_CALLS as usize);
     let bytes = entries * ENTRY_BYTES;
     let records = [bytes.saturating_sub(1), bytes + ENTRY_BYTES + 1];
-    let asked = records.map(|record| in_all_ways(&request, record));
-    Entry::answered(case.sheet, asked.into_iter().flatten())
+    let query = records.map(|record| in_all_ways(&request, record));
+    Entry::answered(case.sheet, query.into_iter().flatten())
 }
 
-fn in_all_ways(request: &Request, record: usize) -> [Asked; 4] {
-    WAYS.map(|(runner, checks)| Asked {
+fn in_all_ways(request: &Request, record: usize) -> [Query; 4] {
+    WAYS.map(|(runner, checks)| Query {
         runner,
         checks,
         request: request.clone(),
@@ -201,15 +193,15 @@ fn limits_of_requests() -> Entry {
             ..largest()
         },
     ];
-    let asked = requests.into_iter().flat_map(|request| {
-        [Runner::Eager, Runner::Lazy].map(|runner| Asked {
+    let query = requests.into_iter().flat_map(|request| {
+        [Runner::Eager, Runner::Lazy].map(|runner| Query {
             runner,
-            checks: Checks::InForce,
+            checks: Checks::Enforced,
             request: request.clone(),
             record: SHORT_RECORD,
         })
     });
-    Entry::answered(cases::endless(), asked)
+    Entry::answered(cases::endless(), query)
 }
 
 /// `None` if the sheet that is drawn is too large.
@@ -228,11 +220,11 @@ fn random_entry(rng: &mut Rng) -> Option<Entry> {
         Ok(_) => WAYS.to_vec(),
         Err(_) => vec![rng.pick(&WAYS)],
     };
-    let asked: Vec<Asked> = ways
+    let query: Vec<Query> = ways
         .into_iter()
         .map(|(runner, checks)| random_short(rng, &sample, runner, checks))
         .collect();
-    Some(Entry::answered(sample.bytes, asked))
+    Some(Entry::answered(sample.bytes, query))
 }
 
 fn is_small(sample: &Sample, max_bytes: usize) -> bool {
@@ -283,7 +275,7 @@ fn random_short_ranging(rng: &mut Rng, sheet: &[u8], world: &World, checks: Chec
         let right = random_pairs(rng, sheet);
         let wrong = match rng.percent(17) {
             true => {
-                let way = rng.pick(&WRONG);
+                let way = rng.pick(&Wrong::ALL);
                 wrong_pairs(rng, &right, way)
             }
             false => None,
@@ -297,17 +289,17 @@ fn random_short_ranging(rng: &mut Rng, sheet: &[u8], world: &World, checks: Chec
 }
 
 /// A run that makes few calls.
-fn random_short(rng: &mut Rng, sample: &Sample, runner: Runner, checks: Checks) -> Asked {
+fn random_short(rng: &mut Rng, sample: &Sample, runner: Runner, checks: Checks) -> Query {
     loop {
-        let asked = Asked {
+        let query = Query {
             runner,
             checks,
             request: Request::random_small(rng, &sample.world),
             record: random_record(rng),
         };
-        let answer = Running::answered(&sample.bytes, asked.clone()).answer;
+        let answer = Running::answered(&sample.bytes, query.clone()).answer;
         if answer.map_or(0, |recorded| recorded.run.calls) <= MAX_SHORT_CALLS {
-            return asked;
+            return query;
         }
     }
 }

@@ -11,12 +11,12 @@ pub struct Counts(Vec<(&'static str, usize)>);
 impl Counts {
     pub fn of<'a>(entries: &'a [Entry], compared: &[Compared]) -> Self {
         let mut counts = Self(EXPECTED.iter().map(|what| (*what, 0)).collect());
-        let asked = |entry: &'a Entry| entry.rows.iter().map(move |row| (entry, row));
-        for (entry, row) in entries.iter().flat_map(asked) {
+        let query = |entry: &'a Entry| entry.rows.iter().map(move |row| (entry, row));
+        for (entry, row) in entries.iter().flat_map(query) {
             match row {
                 Row::Running(run) => {
                     let taken = run.answer.map_or(0, |recorded| recorded.entries);
-                    let full = taken == run.asked.record / ENTRY_BYTES;
+                    let full = taken == run.query.record / ENTRY_BYTES;
                     counts.add_if(taken > 0, "runs with entries");
                     counts.add_if(taken > 0 && full, "runs that fill the record");
                 }
@@ -48,9 +48,9 @@ impl Counts {
     }
 
     fn add_ranging(&mut self, run: &Ranging) {
-        self.add(match run.asked.checks {
-            Checks::InForce => "runs over ranges, checks in force",
-            Checks::PassedOver => "runs over ranges, checks passed over",
+        self.add(match run.query.checks {
+            Checks::Enforced => "runs over ranges, checks in force",
+            Checks::Skipped => "runs over ranges, checks passed over",
         });
         self.add(ranged(run));
         let posts = run.answer.map_or(0, |run| run.posts);

@@ -24,7 +24,7 @@ pub enum Row {
 
 /// A run with a record, and the contents of the buffers before and after it.
 pub struct Running {
-    pub asked: Asked,
+    pub query: Query,
     pub before: Buffers,
     pub answer: Result<Recorded, Refusal>,
     pub after: Buffers,
@@ -34,7 +34,7 @@ pub struct Running {
 pub struct Ranging {
     /// Lowest and highest of each number term.
     pub pairs: Vec<u16>,
-    pub asked: Asked,
+    pub query: Query,
     pub before: Buffers,
     pub answer: Result<RangeRun, Refusal>,
     pub after: Buffers,
@@ -62,7 +62,7 @@ pub enum Runner {
 
 /// How a run is asked for.
 #[derive(Clone, Debug)]
-pub struct Asked {
+pub struct Query {
     pub runner: Runner,
     pub checks: Checks,
     pub request: Request,
@@ -80,10 +80,10 @@ pub struct Buffers {
 
 impl Entry {
     /// The sheet's verdict and these runs of it.
-    pub fn answered(sheet: Vec<u8>, asked: impl IntoIterator<Item = Asked>) -> Self {
+    pub fn answered(sheet: Vec<u8>, query: impl IntoIterator<Item = Query>) -> Self {
         let mut rows = vec![Row::Deciding(typecheck(&sheet))];
-        for asked in asked {
-            let run = Running::answered(&sheet, asked);
+        for query in query {
+            let run = Running::answered(&sheet, query);
             rows.push(Row::Running(Box::new(run)));
         }
         Self { sheet, rows }
@@ -119,12 +119,12 @@ impl Entry {
 }
 
 impl Running {
-    pub fn answered(sheet: &[u8], asked: Asked) -> Self {
-        let before = Buffers::filled(&asked);
+    pub fn answered(sheet: &[u8], query: Query) -> Self {
+        let before = Buffers::filled(&query);
         let mut after = before.clone();
-        let answer = asked.run(sheet, &mut after);
+        let answer = query.run(sheet, &mut after);
         Self {
-            asked,
+            query,
             before,
             answer,
             after,
@@ -135,19 +135,19 @@ impl Running {
 impl Ranging {
     /// What is asked is an eager run without a record.
     pub fn answered(sheet: &[u8], pairs: Vec<u16>, checks: Checks, request: Request) -> Self {
-        let asked = Asked {
+        let query = Query {
             runner: Runner::Eager,
             checks,
             request,
             record: 0,
         };
-        let before = Buffers::filled(&asked);
+        let before = Buffers::filled(&query);
         let mut after = before.clone();
         let Buffers { cells, posts, .. } = &mut after;
-        let answer = run_ranges(sheet, &pairs, &asked.allowed(), cells, posts);
+        let answer = run_ranges(sheet, &pairs, &query.allowed(), cells, posts);
         Self {
             pairs,
-            asked,
+            query,
             before,
             answer,
             after,
@@ -178,7 +178,7 @@ impl Compared {
     }
 }
 
-impl Asked {
+impl Query {
     fn allowed(&self) -> Allowed<'_> {
         Allowed {
             start: &self.request.start,
@@ -207,16 +207,16 @@ impl Buffers {
     /// Buffers of the lengths that are asked, each with a number of its own
     /// in every entry. An eager run has no frame store; a short list stands
     /// for what it leaves alone.
-    fn filled(asked: &Asked) -> Self {
-        let frame_numbers = match asked.runner {
+    fn filled(query: &Query) -> Self {
+        let frame_numbers = match query.runner {
             Runner::Eager => 1,
-            Runner::Lazy => asked.request.frame_numbers,
+            Runner::Lazy => query.request.frame_numbers,
         };
         Self {
-            cells: vec![7; asked.request.cell_bytes],
-            posts: vec![8; asked.request.posts],
+            cells: vec![7; query.request.cell_bytes],
+            posts: vec![8; query.request.posts],
             frames: vec![9; frame_numbers],
-            record: vec![6; asked.record],
+            record: vec![6; query.record],
         }
     }
 }

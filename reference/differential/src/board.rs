@@ -1,7 +1,7 @@
 //! One access to a register block, to be put to any implementation.
 
-use crate::asked::Lent;
 use crate::implementation::{Implementation, ANSWER_NUMBERS};
+use crate::query::Lent;
 use sheets::request::{MAX_CELL_BYTES, MAX_POSTS};
 use sheets::rng::Rng;
 use sheets::session::Access;

@@ -1,12 +1,12 @@
 //! The proved library and the reference behind one interface, and what is
 //! needed to ask both the same and to compare all that they leave behind.
 
-mod asked;
 mod board;
 mod granting;
 mod happened;
 mod implementation;
 mod library;
+mod query;
 pub mod ranging;
 mod recording;
 mod reference;
@@ -16,7 +16,6 @@ mod told;
 mod unit;
 mod why;
 
-pub use asked::{Asked, Buffers, Entry, Lent};
 pub use board::Board;
 pub use granting::granting_stack;
 pub use happened::Happened;
@@ -24,6 +23,7 @@ pub use implementation::{
     Implementation, RunArguments, ANSWER_NUMBERS, CHAIN_NUMBERS, RECORD_NUMBERS, SERVE_NUMBERS,
 };
 pub use library::Library;
+pub use query::{Buffers, Entry, Lent, Query};
 pub use ranging::Ranging;
 pub use recording::Recording;
 pub use reference::Reference;

@@ -1,7 +1,7 @@
 //! One run over ranges, to be had of any implementation.
 
-use crate::asked::{Asked, Buffers, Entry};
 use crate::implementation::{Implementation, RunArguments, ANSWER_NUMBERS};
+use crate::query::{Buffers, Entry, Query};
 use sheets::request::Request;
 use sheets::rng::Rng;
 
@@ -46,8 +46,8 @@ impl<'a> Ranging<'a> {
 
     /// The plain eager run of this sheet, which has the same terms and other
     /// numbers, by the same request.
-    pub fn plainly<'b>(&'b self, sheet: &'b [u8]) -> Asked<'b> {
-        Asked {
+    pub fn plainly<'b>(&'b self, sheet: &'b [u8]) -> Query<'b> {
+        Query {
             entry: Entry::RunEager,
             sheet,
             request: self.request,

@@ -1,7 +1,7 @@
 //! One run with a record, to be had of any implementation.
 
-use crate::asked::{Asked, Buffers, Entry, Lent};
 use crate::implementation::{Implementation, RunArguments, ANSWER_NUMBERS, RECORD_NUMBERS};
+use crate::query::{Buffers, Entry, Lent, Query};
 use sheets::rng::Rng;
 use sovzedal_reference::ENTRY_BYTES;
 
@@ -16,20 +16,20 @@ pub struct Recording {
 impl Recording {
     /// Buffers as for the run without a record, filled at random, and a record
     /// of so many bytes.
-    pub fn random(rng: &mut Rng, asked: &Asked, record: usize, answer: usize) -> Self {
+    pub fn random(rng: &mut Rng, query: &Query, record: usize, answer: usize) -> Self {
         Self {
-            buffers: Buffers::random(rng, asked.entry, asked.request, answer),
+            buffers: Buffers::random(rng, query.entry, query.request, answer),
             record: Lent::random(rng, record),
         }
     }
 
     /// Has the run and gives the returned number.
-    pub fn ask<I: Implementation>(&mut self, asked: &Asked) -> u32 {
+    pub fn ask<I: Implementation>(&mut self, query: &Query) -> u32 {
         let arguments = RunArguments {
-            start: &asked.request.start,
-            calls: asked.request.calls,
-            open_calls: asked.request.open_calls,
-            enforce: asked.enforce,
+            start: &query.request.start,
+            calls: query.request.calls,
+            open_calls: query.request.open_calls,
+            enforce: query.enforce,
         };
         let Buffers {
             cells,
@@ -39,11 +39,11 @@ impl Recording {
         } = &mut self.buffers;
         let (cells, posts, answer) = (cells.lent(), posts.lent(), answer.lent());
         let record = self.record.lent();
-        if asked.entry == Entry::RunLazy {
+        if query.entry == Entry::RunLazy {
             let frames = frames.lent();
-            I::record_lazy(asked.sheet, arguments, cells, posts, frames, record, answer)
+            I::record_lazy(query.sheet, arguments, cells, posts, frames, record, answer)
         } else {
-            I::record_eager(asked.sheet, arguments, cells, posts, record, answer)
+            I::record_eager(query.sheet, arguments, cells, posts, record, answer)
         }
     }
 

@@ -5,7 +5,7 @@ use crate::implementation::{ANSWER_NUMBERS, RECORD_NUMBERS, SERVE_NUMBERS};
 use sheets::lines::Job;
 use sovzedal_reference::lines::{self, Lines, Served, State};
 use sovzedal_reference::registers::{Block, Loaded, BLOCK_BYTES};
-use sovzedal_reference::{compare, decode, erase, explain, judge_term, names, piece, typecheck};
+use sovzedal_reference::{compare, decode, erase, explain, infer_term, names, piece, typecheck};
 use sovzedal_reference::{record_eager, record_lazy, run_eager, run_lazy, run_ranges};
 use sovzedal_reference::{Checks, Recorded, Refusal, Reply, Request, CHAIN_TERMS};
 
@@ -160,7 +160,7 @@ impl Implementation for Reference {
     }
 
     fn term(sheet: &[u8], term: u32, answer: &mut [u32]) -> u32 {
-        reply_with(answer, || judge_term(sheet, term))
+        reply_with(answer, || infer_term(sheet, term))
     }
 
     fn compare(unit: &[u8], office: &[u8], answer: &mut [u32]) -> u32 {
@@ -215,8 +215,8 @@ impl<'a> From<RunArguments<'a>> for Request<'a> {
             calls: arguments.calls,
             open_calls: arguments.open_calls,
             checks: match arguments.enforce {
-                0 => Checks::PassedOver,
-                _ => Checks::InForce,
+                0 => Checks::Skipped,
+                _ => Checks::Enforced,
             },
         }
     }

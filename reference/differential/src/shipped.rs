@@ -1,7 +1,7 @@
 //! One lean sheet, to be had of any implementation.
 
-use crate::asked::Lent;
 use crate::implementation::{Implementation, ANSWER_NUMBERS};
+use crate::query::Lent;
 use sheets::rng::Rng;
 
 /// The buffer for the lean sheet and the answer, with margins. Two are equal if

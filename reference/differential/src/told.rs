@@ -1,8 +1,8 @@
 //! Whole runs of the library, to be held against one another.
 
-use crate::asked::{Asked, Buffers, Entry};
 use crate::implementation::ANSWER_NUMBERS;
 use crate::library::Library;
+use crate::query::{Buffers, Entry, Query};
 use sheets::request::Request;
 use sheets::rng::Rng;
 
@@ -20,12 +20,12 @@ impl Way {
     pub fn random(rng: &mut Rng) -> Self {
         Self {
             enforce: rng.pick(&[0, 1, 1]),
-            ..Self::in_force(rng)
+            ..Self::enforced(rng)
         }
     }
 
     /// Either runner, with checks in force.
-    pub fn in_force(rng: &mut Rng) -> Self {
+    pub fn enforced(rng: &mut Rng) -> Self {
         Self {
             entry: rng.pick(&[Entry::RunEager, Entry::RunLazy]),
             enforce: 1,
@@ -51,13 +51,13 @@ impl Told {
         way: Way,
     ) -> Result<Self, String> {
         let mut buffers = Buffers::random(rng, way.entry, request, ANSWER_NUMBERS);
-        let asked = Asked {
+        let query = Query {
             entry: way.entry,
             sheet,
             request,
             enforce: way.enforce,
         };
-        let status = asked.of::<Library>(&mut buffers);
+        let status = query.of::<Library>(&mut buffers);
         let answer = *buffers.answer().expect("the answer has room");
         if status != ENDED && status != STOPPED {
             return Err(format!("{way:?} returns {status}, {answer:?}"));

@@ -1,7 +1,7 @@
 //! One call to the four lines, to be put to any implementation.
 
-use crate::asked::Lent;
 use crate::implementation::{Implementation, SERVE_NUMBERS};
+use crate::query::Lent;
 use sheets::lines::{Job, STATE_NUMBERS};
 use sheets::request::MAX_CELL_BYTES;
 use sheets::rng::Rng;

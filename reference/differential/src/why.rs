@@ -1,7 +1,7 @@
 //! One question why a privilege is needed, to be put to any implementation.
 
-use crate::asked::Lent;
 use crate::implementation::{Implementation, ANSWER_NUMBERS, CHAIN_NUMBERS};
+use crate::query::Lent;
 use sheets::rng::Rng;
 
 /// The list for the chain and the answer, with margins. Two are equal if every

@@ -23,11 +23,14 @@ const MOST_FOR_A_PIECE: u32 = 10;
 #[test]
 fn branches_of_deep_types_are_judged_soon() {
     let sheet = costly_branches();
-    let (library, reference) = (judge::<Library>(&sheet), judge::<Reference>(&sheet));
+    let (library, reference) = (
+        typecheck_with::<Library>(&sheet),
+        typecheck_with::<Reference>(&sheet),
+    );
     assert_eq!(library, reference);
     assert_eq!(library.0, 0, "the sheet is accepted");
     let fastest = fastest(|| {
-        judge::<Library>(&sheet);
+        typecheck_with::<Library>(&sheet);
     });
     println!("costly branches judged in {fastest:?}");
     assert!(fastest <= MOST, "{fastest:?}, {MOST:?} are allowed");
@@ -45,7 +48,7 @@ fn deep_needs_are_explained_in_terms_times_nesting() {
         assert_eq!(library, explain::<Reference>(&sheet), "{name}");
         assert_eq!(library.0, 0, "{name} is accepted");
         let judged = fastest(|| {
-            judge::<Library>(&sheet);
+            typecheck_with::<Library>(&sheet);
         });
         let explained = fastest(|| {
             explain::<Library>(&sheet);
@@ -70,7 +73,7 @@ fn pieces_are_found_by_judging_each_term_once() {
         assert_eq!(library, find::<Reference>(&sheet), "{name}");
         assert_eq!(library.0, 0, "{name} can be read");
         let judged = fastest(|| {
-            judge::<Library>(&whole);
+            typecheck_with::<Library>(&whole);
         });
         let found = fastest(|| {
             find::<Library>(&sheet);
@@ -100,7 +103,7 @@ fn full_sheets_are_made_lean_soon() {
     }
 }
 
-fn judge<I: Implementation>(sheet: &[u8]) -> (u32, [u32; ANSWER_NUMBERS]) {
+fn typecheck_with<I: Implementation>(sheet: &[u8]) -> (u32, [u32; ANSWER_NUMBERS]) {
     let mut answer = [0; ANSWER_NUMBERS];
     (I::typecheck(sheet, &mut answer), answer)
 }

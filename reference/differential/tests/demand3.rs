@@ -3,7 +3,7 @@
 //! in force and passed over.
 
 use differential::{granting_stack, settings};
-use differential::{Asked, Buffers, Entry, Implementation, Library, ANSWER_NUMBERS};
+use differential::{Buffers, Entry, Implementation, Library, Query, ANSWER_NUMBERS};
 use sheets::generate::{nearly_accepted, Sample};
 use sheets::hex;
 use sheets::records::{CHANNELS, UNGUARDED};
@@ -87,25 +87,25 @@ fn try_sheet(seed: u64, index: u64, counts: &mut Counts) -> Result<(), String> {
     let start = granting_stack(rng, &sample.world, needs)
         .ok_or("no principal may use what the root, a sign, needs")?;
     let request = Request::random_admissible(rng, start);
-    let (status, in_force) = run(rng, &sample, &request, 1);
-    let (other_status, passed_over) = run(rng, &sample, &request, 0);
+    let (status, enforced) = run(rng, &sample, &request, 1);
+    let (other_status, skipped) = run(rng, &sample, &request, 0);
 
     let is_same = status == other_status
-        && in_force.answer() == passed_over.answer()
-        && posts_made(&in_force) == posts_made(&passed_over);
+        && enforced.answer() == skipped.answer()
+        && posts_made(&enforced) == posts_made(&skipped);
     if !is_same {
         return Err(format!(
             "sheet {}\n{request:?}\n\
              in force    {status} {:?}, posts {:?}\n\
              passed over {other_status} {:?}, posts {:?}",
             hex(&sample.bytes),
-            in_force.answer(),
-            posts_made(&in_force),
-            passed_over.answer(),
-            posts_made(&passed_over),
+            enforced.answer(),
+            posts_made(&enforced),
+            skipped.answer(),
+            posts_made(&skipped),
         ));
     }
-    let answer = in_force.answer().expect("the answer has room");
+    let answer = enforced.answer().expect("the answer has room");
     match (status, answer) {
         (ENDED, [_, _, ty, ..]) if *ty == verdict[2] => counts.ended += 1,
         (STOPPED, [19..=22, ..]) => counts.stopped += 1,
@@ -121,7 +121,7 @@ fn try_sheet(seed: u64, index: u64, counts: &mut Counts) -> Result<(), String> {
     if sample.world.guards.is_some() {
         counts.of_version_2 += 1;
         counts.for_a_guard += usize::from(needs_without_guards(&sample) != Some(needs));
-        let posts = posts_made(&in_force).expect("the posts made");
+        let posts = posts_made(&enforced).expect("the posts made");
         let is_guarded = |entry: &u32| sample.world.guard((entry >> 16) as u8).is_some();
         counts.guarded += usize::from(posts.iter().any(is_guarded));
     }
@@ -141,13 +141,13 @@ fn needs_without_guards(sample: &Sample) -> Option<u32> {
 fn run(rng: &mut Rng, sample: &Sample, request: &Request, enforce: u32) -> (u32, Buffers) {
     let entry = rng.pick(&[Entry::RunEager, Entry::RunLazy]);
     let mut buffers = Buffers::random(rng, entry, request, ANSWER_NUMBERS);
-    let asked = Asked {
+    let query = Query {
         entry,
         sheet: &sample.bytes,
         request,
         enforce,
     };
-    (asked.of::<Library>(&mut buffers), buffers)
+    (query.of::<Library>(&mut buffers), buffers)
 }
 
 fn posts_made(buffers: &Buffers) -> Option<&[u32]> {

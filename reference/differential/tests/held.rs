@@ -2,7 +2,7 @@
 //! implementation what they come to: the runners of both tell the number, the
 //! posts and how many results were held.
 
-use differential::{settings, Asked, Buffers, Entry, Happened, Implementation};
+use differential::{settings, Buffers, Entry, Happened, Implementation, Query};
 use differential::{Library, Reference, ANSWER_NUMBERS};
 use sheets::extremes::most_held;
 use sheets::hex;
@@ -89,13 +89,13 @@ fn told<I: Implementation>(
         ..Request::largest()
     };
     let mut buffers = Buffers::random(rng, entry, &request, ANSWER_NUMBERS);
-    let asked = Asked {
+    let query = Query {
         entry,
         sheet: &sums.sheet,
         request: &request,
         enforce,
     };
-    let returned = asked.of::<I>(&mut buffers);
+    let returned = query.of::<I>(&mut buffers);
     let posts: Vec<u32> = sums.posts.iter().map(|&post| post.into()).collect();
     if returned == DONE && buffers.answer() == Some(&due) && buffers.posts.contents() == posts {
         return Ok(());
@@ -119,15 +119,15 @@ fn the_most_that_are_known() -> Result<(), String> {
         let rng = &mut Rng::new(0);
         let buffers = Buffers::random(rng, entry, &Request::largest(), ANSWER_NUMBERS);
         let (mut library, mut reference) = (buffers.clone(), buffers);
-        let asked = Asked {
+        let query = Query {
             entry,
             sheet: &most_held(),
             request: &Request::largest(),
             enforce: 1,
         };
         let returned = [
-            asked.of::<Library>(&mut library),
-            asked.of::<Reference>(&mut reference),
+            query.of::<Library>(&mut library),
+            query.of::<Reference>(&mut reference),
         ];
         if returned != [DONE; 2] || library.answer() != Some(&due) || library != reference {
             let told = [library.answer(), reference.answer()];

@@ -6,7 +6,7 @@
 
 use differential::ranging::holds;
 use differential::{settings, Buffers, Happened, Implementation, Library, Ranging, Reference};
-use differential::{Asked, Entry, ANSWER_NUMBERS};
+use differential::{Entry, Query, ANSWER_NUMBERS};
 use sheets::extremes::{deepest, most_held, widest};
 use sheets::load::frame_sheet;
 use sheets::ranges::{self, Wrong};
@@ -30,14 +30,6 @@ const UNFIT: u32 = 3;
 const UNDECIDED: u32 = 36;
 /// Pairs that aren't those of the sheet's numbers.
 const PAIRS: u32 = 35;
-
-const WRONG: [Wrong; 5] = [
-    Wrong::HalfAPair,
-    Wrong::Fewer,
-    Wrong::More,
-    Wrong::NumbersForPairs,
-    Wrong::Crossed,
-];
 
 /// What has to happen, beside each refusal and stop.
 const EXPECTED: [&str; 22] = [
@@ -102,7 +94,7 @@ fn both_answer_alike_and_hold_the_plain_runs() {
     let refusals = refusals.map(|cause| format!("refused, {cause}"));
     let stops = (17..=22).chain([UNDECIDED]);
     let stops = stops.map(|cause| format!("stopped, {cause}"));
-    let wrong = WRONG.map(|wrong| format!("{wrong:?}, {PAIRS}"));
+    let wrong = Wrong::ALL.map(|wrong| format!("{wrong:?}, {PAIRS}"));
     let before = [8, 31, 14, 15, 16].map(|cause| format!("wrong pairs, {cause} before {PAIRS}"));
     let expected = EXPECTED.map(String::from).into_iter();
     let expected = expected.chain(refusals).chain(stops);
@@ -143,7 +135,7 @@ fn the_largest_runs_are_alike() {
 fn random_pairs(rng: &mut Rng, sheet: &[u8]) -> (Vec<u16>, Option<Wrong>) {
     let right = ranges::random_pairs(rng, sheet);
     if rng.percent(15) {
-        let wrong = rng.pick(&WRONG);
+        let wrong = rng.pick(&Wrong::ALL);
         if let Some(pairs) = ranges::wrong_pairs(rng, &right, wrong) {
             return (pairs, Some(wrong));
         }
@@ -204,7 +196,7 @@ impl Asking<'_> {
     /// With checks in force and passed over.
     fn ask_all(&self, rng: &mut Rng, happened: &mut Happened) {
         let enforced = rng.pick(&[1, 1, 2, 256, u32::MAX]);
-        let [in_force, passed_over] = [enforced, 0].map(|enforce| {
+        let [enforced, skipped] = [enforced, 0].map(|enforce| {
             let answer = random_answer_length(rng);
             let told = self.ask_both(rng, enforce, answer, happened)?;
             self.count(&told, happened);
@@ -214,9 +206,9 @@ impl Asking<'_> {
             self.count_undecided(rng, enforce, &told, happened);
             Some(told)
         });
-        if let (Some(in_force), Some(passed_over)) = (in_force, passed_over) {
+        if let (Some(enforced), Some(skipped)) = (enforced, skipped) {
             happened.count_if(
-                in_force.cause() == 17 && passed_over.cause() == UNDECIDED,
+                enforced.cause() == 17 && skipped.cause() == UNDECIDED,
                 "36 with checks passed over, 17 in force",
             );
         }
@@ -326,11 +318,11 @@ impl Asking<'_> {
         for _ in 0..CHOICES {
             let choice = ranges::random_choice(rng, &self.pairs);
             let chosen = ranges::with_numbers(self.sheet, &choice);
-            let asked = ranging.plainly(&chosen);
-            let plain = run::<Library>(rng, &asked);
+            let query = ranging.plainly(&chosen);
+            let plain = run::<Library>(rng, &query);
             let held = told.holds(&plain);
             assert!(held, "enforce {enforce}, {choice:?}, {}", self.what());
-            let held = told.holds(&run::<Reference>(rng, &asked));
+            let held = told.holds(&run::<Reference>(rng, &query));
             assert!(held, "enforce {enforce}, {choice:?}, {}", self.what());
             values.insert(plain.answer[3]);
             posts.insert(plain.posts);
@@ -360,9 +352,9 @@ impl Asking<'_> {
 }
 
 /// A plain run in buffers of its own.
-fn run<I: Implementation>(rng: &mut Rng, asked: &Asked) -> Told {
-    let mut buffers = Buffers::random(rng, Entry::RunEager, asked.request, ANSWER_NUMBERS);
-    let status = asked.of::<I>(&mut buffers);
+fn run<I: Implementation>(rng: &mut Rng, query: &Query) -> Told {
+    let mut buffers = Buffers::random(rng, Entry::RunEager, query.request, ANSWER_NUMBERS);
+    let status = query.of::<I>(&mut buffers);
     Told::new(status, &buffers)
 }
 

@@ -3,7 +3,7 @@
 //! is the same. The library's records are also held against W12's sentences,
 //! and, with entries dropped, against one another.
 
-use differential::{settings, Asked, Buffers, Entry, Happened, Implementation, Library};
+use differential::{settings, Buffers, Entry, Happened, Implementation, Library, Query};
 use differential::{Recording, Reference, ANSWER_NUMBERS, RECORD_NUMBERS};
 use sheets::extremes::most_decisions;
 use sheets::generate::{sample, Sample};
@@ -112,7 +112,7 @@ fn the_longest_record_is_kept() {
         again: "the most decisions".to_string(),
     };
     let rng = &mut Rng::new(0);
-    let [eager, lazy] = [Entry::RunEager, Entry::RunLazy].map(|entry| asking.asked(entry, 1));
+    let [eager, lazy] = [Entry::RunEager, Entry::RunLazy].map(|entry| asking.query(entry, 1));
     let office = asking.complete(rng, &eager).expect("a run that starts");
     let length = office.len() - 1;
     let mut library = Recording::random(rng, &lazy, length, RECORD_NUMBERS);
@@ -160,11 +160,11 @@ impl Asking<'_> {
     /// By both runners, with checks in force and passed over.
     fn ask_all(&self, rng: &mut Rng, happened: &mut Happened) {
         let enforced = rng.pick(&[1, 1, 2, 256, u32::MAX]);
-        let [in_force, passed_over] = [enforced, 0].map(|enforce| {
+        let [enforced, skipped] = [enforced, 0].map(|enforce| {
             let [eager, lazy] = [Entry::RunEager, Entry::RunLazy].map(|entry| {
-                let asked = self.asked(entry, enforce);
-                self.ask_both(rng, &asked, happened);
-                self.complete(rng, &asked)
+                let query = self.query(entry, enforce);
+                self.ask_both(rng, &query, happened);
+                self.complete(rng, &query)
             });
             // A lazy run may be refused for its frame store.
             if let (Some(eager), Some(lazy)) = (&eager, &lazy) {
@@ -172,17 +172,17 @@ impl Asking<'_> {
             }
             eager
         });
-        if let (Some(in_force), Some(passed_over)) = (in_force, passed_over) {
-            self.hold(rng, &in_force, happened);
+        if let (Some(enforced), Some(skipped)) = (enforced, skipped) {
+            self.hold(rng, &enforced, happened);
             happened.count_if(
-                passed_over.len() < in_force.len(),
+                skipped.len() < enforced.len(),
                 "fewer decisions with checks passed over",
             );
         }
     }
 
-    fn asked(&self, entry: Entry, enforce: u32) -> Asked<'_> {
-        Asked {
+    fn query(&self, entry: Entry, enforce: u32) -> Query<'_> {
+        Query {
             entry,
             sheet: self.sheet,
             request: &self.request,
@@ -191,30 +191,30 @@ impl Asking<'_> {
     }
 
     /// One run with a record of any length.
-    fn ask_both(&self, rng: &mut Rng, asked: &Asked, happened: &mut Happened) {
+    fn ask_both(&self, rng: &mut Rng, query: &Query, happened: &mut Happened) {
         let length = random_record_length(rng);
         let answer = random_answer_length(rng);
-        let before = Recording::random(rng, asked, length, answer);
+        let before = Recording::random(rng, query, length, answer);
         let [mut library, mut reference] = [before.clone(), before.clone()];
-        let returned = library.ask::<Library>(asked);
-        let expected = reference.ask::<Reference>(asked);
+        let returned = library.ask::<Library>(query);
+        let expected = reference.ask::<Reference>(query);
         assert_eq!(
             (returned, library.buffers.answer.contents()),
             (expected, reference.buffers.answer.contents()),
             "{:?}, enforce {}, {}",
-            asked.entry,
-            asked.enforce,
+            query.entry,
+            query.enforce,
             self.what()
         );
         assert!(
             library == reference,
             "{:?}, enforce {}, first difference: record {:?}, {}",
-            asked.entry,
-            asked.enforce,
+            query.entry,
+            query.enforce,
             library.record.first_difference(&reference.record),
             self.what()
         );
-        let of_each = |what: &str| format!("{:?}, {what}", asked.entry);
+        let of_each = |what: &str| format!("{:?}, {what}", query.entry);
         if answer < RECORD_NUMBERS {
             assert!(returned == UNFIT && library == before, "{}", self.what());
             happened.count(of_each("a short answer"));
@@ -223,20 +223,20 @@ impl Asking<'_> {
         if answer > RECORD_NUMBERS {
             happened.count(of_each("a longer answer"));
         }
-        self.is_the_plain_run(rng, asked, returned, &library);
+        self.is_the_plain_run(rng, query, returned, &library);
         if returned == REFUSED {
             assert!(library.told().0.is_empty(), "{}", self.what());
             assert!(library.record == before.record, "{}", self.what());
             happened.count(of_each("refused"));
             return;
         }
-        self.is_a_beginning(rng, asked, &library, &before, happened);
+        self.is_a_beginning(rng, query, &library, &before, happened);
     }
 
     /// "Its answer is as without a record."
-    fn is_the_plain_run(&self, rng: &mut Rng, asked: &Asked, returned: u32, told: &Recording) {
-        let mut plain = Buffers::random(rng, asked.entry, asked.request, ANSWER_NUMBERS);
-        let plainly = asked.of::<Library>(&mut plain);
+    fn is_the_plain_run(&self, rng: &mut Rng, query: &Query, returned: u32, told: &Recording) {
+        let mut plain = Buffers::random(rng, query.entry, query.request, ANSWER_NUMBERS);
+        let plainly = query.of::<Library>(&mut plain);
         let told = &told.buffers;
         assert_eq!(
             (returned, told.answer()),
@@ -258,12 +258,12 @@ impl Asking<'_> {
     fn is_a_beginning(
         &self,
         rng: &mut Rng,
-        asked: &Asked,
+        query: &Query,
         library: &Recording,
         before: &Recording,
         happened: &mut Happened,
     ) {
-        let complete = self.complete(rng, asked).expect("a run that isn't refused");
+        let complete = self.complete(rng, query).expect("a run that isn't refused");
         let (taken, rest) = library.told();
         let length = taken.len() + rest.len();
         let room = length - length % ENTRY_BYTES;
@@ -272,17 +272,17 @@ impl Asking<'_> {
         let untouched = &before.record.contents()[taken.len()..];
         assert_eq!(rest, untouched, "{}", self.what());
         let whole = taken.len() == complete.len();
-        count_length(asked.entry, length, taken.len(), whole, happened);
+        count_length(query.entry, length, taken.len(), whole, happened);
         let answer = library.answer().expect("the answer has room");
-        self.count_decisions(asked, answer, &complete, whole, happened);
+        self.count_decisions(query, answer, &complete, whole, happened);
     }
 
     /// All that a run decides, or `None` if it is refused.
-    fn complete(&self, rng: &mut Rng, asked: &Asked) -> Option<Vec<u8>> {
+    fn complete(&self, rng: &mut Rng, query: &Query) -> Option<Vec<u8>> {
         let mut length = AMPLE;
         loop {
-            let mut recording = Recording::random(rng, asked, length, RECORD_NUMBERS);
-            if recording.ask::<Library>(asked) == REFUSED {
+            let mut recording = Recording::random(rng, query, length, RECORD_NUMBERS);
+            if recording.ask::<Library>(query) == REFUSED {
                 return None;
             }
             let (taken, rest) = recording.told();
@@ -298,7 +298,7 @@ impl Asking<'_> {
     /// guard is the last.
     fn count_decisions(
         &self,
-        asked: &Asked,
+        query: &Query,
         answer: &[u32; RECORD_NUMBERS],
         complete: &[u8],
         whole: bool,
@@ -315,12 +315,12 @@ impl Asking<'_> {
                 1 => "yes",
                 _ => panic!("{entry:?}, {}", self.what()),
             };
-            let over = match asked.enforce {
+            let over = match query.enforce {
                 0 => "passed over, ",
                 _ => "",
             };
-            happened.count(format!("{:?}, {over}a {kind}, {yes}", asked.entry));
-            assert!(asked.enforce != 0 || kind == "test", "{}", self.what());
+            happened.count(format!("{:?}, {over}a {kind}, {yes}", query.entry));
+            assert!(query.enforce != 0 || kind == "test", "{}", self.what());
             if kind != "test" && yes == "no" {
                 assert_eq!(number + 1, entries.len(), "{}", self.what());
                 assert_eq!(answer[..2], [17, term.into()], "{}", self.what());

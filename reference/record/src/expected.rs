@@ -1,9 +1,9 @@
-//! The ten lines that are printed for a vector.
+//! The fourteen lines that are printed for a vector.
 
 use crate::vector::Vector;
 use sovzedal_reference::{
-    decode, record_eager, record_lazy, run_eager, run_lazy, typecheck, Checks, Recorded, Refusal,
-    Reply, Request, ENTRY_BYTES,
+    decode, infer_term, piece, record_eager, record_lazy, run_eager, run_lazy, run_ranges,
+    typecheck, Checks, Recorded, Refusal, Reply, Request, ENTRY_BYTES,
 };
 
 /// Of every run with a record: ten entries and a half.
@@ -14,14 +14,18 @@ pub fn lines(vector: &Vector) -> String {
     [
         line("decode", decode(sheet).into(), &[]),
         line("typecheck", typecheck(sheet).into(), &[]),
-        eager("eager", vector, Checks::InForce),
-        eager("eager-skip", vector, Checks::PassedOver),
-        recorded_eager("eager-record", vector, Checks::InForce),
-        recorded_eager("eager-record-skip", vector, Checks::PassedOver),
-        lazy("lazy", vector, Checks::InForce),
-        lazy("lazy-skip", vector, Checks::PassedOver),
-        recorded_lazy("lazy-record", vector, Checks::InForce),
-        recorded_lazy("lazy-record-skip", vector, Checks::PassedOver),
+        line("piece", piece(sheet).into(), &[]),
+        line("term", infer_term(sheet, vector.term).into(), &[]),
+        eager("eager", vector, Checks::Enforced),
+        eager("eager-skip", vector, Checks::Skipped),
+        recorded_eager("eager-record", vector, Checks::Enforced),
+        recorded_eager("eager-record-skip", vector, Checks::Skipped),
+        lazy("lazy", vector, Checks::Enforced),
+        lazy("lazy-skip", vector, Checks::Skipped),
+        recorded_lazy("lazy-record", vector, Checks::Enforced),
+        recorded_lazy("lazy-record-skip", vector, Checks::Skipped),
+        ranges("ranges", vector, Checks::Enforced),
+        ranges("ranges-skip", vector, Checks::Skipped),
     ]
     .concat()
 }
@@ -93,6 +97,19 @@ fn recorded_lazy(name: &str, vector: &Vector, checks: Checks) -> String {
     let checksum = Checksum::default().cells_and_posts(&buffers);
     let checksum = checksum.add(buffers.frames).add(buffers.record);
     recorded_line(name, told, checksum)
+}
+
+fn ranges(name: &str, vector: &Vector, checks: Checks) -> String {
+    let mut buffers = Buffers::filled(vector);
+    let run = run_ranges(
+        &vector.sheet,
+        &vector.pairs,
+        &request(vector, checks),
+        &mut buffers.cells,
+        &mut buffers.posts,
+    );
+    let Checksum(sum) = Checksum::default().cells_and_posts(&buffers);
+    line(name, run.into(), &[sum])
 }
 
 fn request(vector: &Vector, checks: Checks) -> Request<'_> {

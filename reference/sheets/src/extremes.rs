@@ -133,14 +133,14 @@ fn twin_towers() -> Vec<TypeRecord> {
 fn fitting_pairs(types: &[TypeRecord]) -> Vec<(u16, u16)> {
     let mut pairs = Vec::new();
     for (callee, record) in (0..).zip(types) {
-        let asked = record.argument;
-        if asked < FIRST_FUNCTION {
+        let query = record.argument;
+        if query < FIRST_FUNCTION {
             continue;
         }
-        let is_right = asked % 2 == 1;
-        let floor = (asked - FIRST_FUNCTION) / 2 % MAX_TYPE_DEPTH;
+        let is_right = query % 2 == 1;
+        let floor = (query - FIRST_FUNCTION) / 2 % MAX_TYPE_DEPTH;
         if is_right == floor.is_multiple_of(2) {
-            let twin = asked ^ 1;
+            let twin = query ^ 1;
             pairs.push((callee, twin));
         }
     }

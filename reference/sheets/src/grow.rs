@@ -304,15 +304,15 @@ impl Grower<'_> {
     }
 
     /// A type that fits the one asked, by preference another one.
-    fn fitting(&mut self, asked: u16, site: Site) -> Option<u16> {
+    fn fitting(&mut self, query: u16, site: Site) -> Option<u16> {
         let fitting: Vec<u16> = (0..self.world.types.len() as u16)
-            .filter(|&given| given != asked && self.world.fits(given, asked))
+            .filter(|&given| given != query && self.world.fits(given, query))
             .filter(|&given| self.has_height(given, site))
             .collect();
         if let (true, Some(given)) = (self.rng.percent(70), self.rng.pick_any(&fitting)) {
             return Some(given);
         }
-        self.has_height(asked, site).then_some(asked)
+        self.has_height(query, site).then_some(query)
     }
 
     /// A function type whose calls give `ty` and need no more than allowed,

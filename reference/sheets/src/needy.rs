@@ -40,11 +40,11 @@ pub fn needing(rng: &mut Rng) -> Sample {
 /// Its tree alone. Of a hundred terms on the way `noise` have to do with the
 /// privilege.
 pub fn needing_tree(rng: &mut Rng, noise: usize, levels: usize) -> (World, Tree) {
-    let [asked, other] = two_privileges(rng);
-    let world = world(rng, asked, other);
+    let [query, other] = two_privileges(rng);
+    let world = world(rng, query, other);
     let mut nest = Nest {
         rng,
-        asked,
+        query,
         other,
         has_pages: world.guards.is_some(),
         noise,
@@ -53,23 +53,23 @@ pub fn needing_tree(rng: &mut Rng, noise: usize, levels: usize) -> (World, Tree)
 }
 
 fn two_privileges(rng: &mut Rng) -> [u8; 2] {
-    let asked = rng.below(32);
-    let other = (asked + rng.between(1, 31)) % 32;
-    [asked as u8, other as u8]
+    let query = rng.below(32);
+    let other = (query + rng.between(1, 31)) % 32;
+    [query as u8, other as u8]
 }
 
-fn world(rng: &mut Rng, asked: u8, other: u8) -> World {
-    let (p, q) = (1 << asked, 1 << other);
+fn world(rng: &mut Rng, query: u8, other: u8) -> World {
+    let (p, q) = (1 << query, 1 << other);
     let others = [0, u32::MAX, rng.bits()];
     let rest = rng.pick(&others) & !(p | q);
     let mut types = vec![TypeRecord::bool(), TypeRecord::number()];
     types.extend([0, p, q, p | q].map(|latent| TypeRecord::function(NUMBER, NUMBER, latent)));
     types.push(TypeRecord::function(BOOL, NUMBER, 0));
     let mut guards = [UNGUARDED; CHANNELS];
-    guards[usize::from(ASKED_PAGE)] = asked;
+    guards[usize::from(ASKED_PAGE)] = query;
     guards[usize::from(OTHER_PAGE)] = other;
     World {
-        privileges: vec![asked, other],
+        privileges: vec![query, other],
         principals: vec![p | q | rest, q | rest],
         types,
         guards: rng.percent(50).then_some(guards),
@@ -78,7 +78,7 @@ fn world(rng: &mut Rng, asked: u8, other: u8) -> World {
 
 struct Nest<'a> {
     rng: &'a mut Rng,
-    asked: u8,
+    query: u8,
     other: u8,
     /// Whether the sheet is of version 2.
     has_pages: bool,
@@ -101,7 +101,7 @@ impl Nest<'_> {
             0 => self.needy_call(number(7)),
             1 => self.binder(LATENT[1], number(7)),
             2 => self.needing_post(number(7)),
-            _ => check(self.asked, number(7)),
+            _ => check(self.query, number(7)),
         }
     }
 
@@ -110,7 +110,7 @@ impl Nest<'_> {
         if self.has_pages {
             post_to(ASKED_PAGE, tree)
         } else {
-            check(self.asked, tree)
+            check(self.query, tree)
         }
     }
 
@@ -142,7 +142,7 @@ impl Nest<'_> {
             6 => when(boolean(true), tree, twig),
             7 => when(boolean(false), twig, tree),
             8 => test(self.other, tree, twig),
-            9 => test(self.rng.pick(&[self.asked, self.other]), twig, tree),
+            9 => test(self.rng.pick(&[self.query, self.other]), twig, tree),
             10 => call(self.function(harmless), tree),
             11 => self.binder(harmless, tree),
             12 if has_room => when(less(twig, tree), number(1), number(2)),
@@ -164,16 +164,16 @@ impl Nest<'_> {
     fn noisy(&mut self, tree: Tree) -> Tree {
         let twig = self.needing_twig(&tree);
         match self.rng.below(13) {
-            0 => check(self.asked, tree),
+            0 => check(self.query, tree),
             1 => self.needy_call(tree),
             2 => self.binder(LATENT[1], tree),
-            3 => enable(self.asked, tree),
-            4 => test(self.asked, tree, number(0)),
-            5 => test(self.asked, tree, twig),
-            6 => test(self.asked, twig, tree),
+            3 => enable(self.query, tree),
+            4 => test(self.query, tree, number(0)),
+            5 => test(self.query, tree, twig),
+            6 => test(self.query, twig, tree),
             7 => test(self.other, twig, tree),
             8 => when(boolean(false), twig, tree),
-            9 => call(check(self.asked, self.function(LATENT[0])), tree),
+            9 => call(check(self.query, self.function(LATENT[0])), tree),
             10 => difference(tree, twig),
             11 => self.needing_post(tree),
             _ => sum(twig, tree),
@@ -183,15 +183,15 @@ impl Nest<'_> {
     /// Something small, no higher than the tree, that mostly has nothing to
     /// do with the privilege.
     fn twig(&mut self, tree: &Tree) -> Tree {
-        let asked = self.asked;
+        let query = self.query;
         let twig = match self.rng.below(12) {
-            0 => enable(asked, check(asked, number(1))),
-            1 => test(asked, check(asked, number(1)), number(2)),
+            0 => enable(query, check(query, number(1))),
+            1 => test(query, check(query, number(1)), number(2)),
             2 => check(self.other, number(1)),
             3 => call(self.function(LATENT[0]), number(1)),
             4 => sign(HALF_ABLE, check(self.other, number(2))),
-            5 => enable(asked, self.needy_call(number(2))),
-            6 => enable(asked, self.needing_post(number(2))),
+            5 => enable(query, self.needy_call(number(2))),
+            6 => enable(query, self.needing_post(number(2))),
             7 if self.rng.percent(self.noise) => self.needing_twig(tree),
             _ => number(1),
         };
@@ -204,7 +204,7 @@ impl Nest<'_> {
     fn needing_twig(&mut self, tree: &Tree) -> Tree {
         let twig = self.cause();
         if twig.height() > tree.height() {
-            return check(self.asked, number(5));
+            return check(self.query, number(5));
         }
         twig
     }

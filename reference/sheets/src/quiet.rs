@@ -14,7 +14,7 @@ use crate::world::World;
 /// sets and in the guards of channels that nothing is posted to.
 pub fn quiet(rng: &mut Rng) -> (Sample, u8) {
     let mut world = World::random(rng);
-    let asked = world.random_privilege(rng);
+    let query = world.random_privilege(rng);
     let size = rng.pick(&[5, 10, 20, 20, 40, 80]);
     let mut tree = match rng.below(10) {
         0..=5 => accepted(rng, &world, size),
@@ -25,7 +25,7 @@ pub fn quiet(rng: &mut Rng) -> (Sample, u8) {
             tree
         }
     };
-    open_a_channel(&mut world, asked);
+    open_a_channel(&mut world, query);
     let naming = rng.pick(&[
         None,
         None,
@@ -38,18 +38,18 @@ pub fn quiet(rng: &mut Rng) -> (Sample, u8) {
     let mut silencer = Silencer {
         rng,
         world: &world,
-        asked,
+        query,
         naming,
     };
     silencer.silence(&mut tree);
     let bytes = assemble(rng, &world, &tree).to_bytes();
-    (Sample { bytes, world }, asked)
+    (Sample { bytes, world }, query)
 }
 
 /// Posts have to go somewhere.
-fn open_a_channel(world: &mut World, asked: u8) {
+fn open_a_channel(world: &mut World, query: u8) {
     if let Some(guards) = &mut world.guards {
-        if guards.iter().all(|&guard| guard == asked) {
+        if guards.iter().all(|&guard| guard == query) {
             guards[0] = UNGUARDED;
         }
     }
@@ -58,7 +58,7 @@ fn open_a_channel(world: &mut World, asked: u8) {
 struct Silencer<'a> {
     rng: &'a mut Rng,
     world: &'a World,
-    asked: u8,
+    query: u8,
     /// The one kind of terms that may name the privilege.
     naming: Option<Kind>,
 }
@@ -67,9 +67,9 @@ impl Silencer<'_> {
     fn silence(&mut self, tree: &mut Tree) {
         if self.naming != Some(tree.kind) {
             match tree.kind {
-                Kind::Check if tree.small == self.asked => self.change_check(tree),
-                Kind::Test if tree.small == self.asked => tree.small = self.another(),
-                Kind::Post if self.world.guard(tree.small) == Some(self.asked) => {
+                Kind::Check if tree.small == self.query => self.change_check(tree),
+                Kind::Test if tree.small == self.query => tree.small = self.another(),
+                Kind::Post if self.world.guard(tree.small) == Some(self.query) => {
                     tree.small = self.other_channel();
                 }
                 _ => {}
@@ -89,18 +89,18 @@ impl Silencer<'_> {
 
     /// Another privilege, of the world by preference.
     fn another(&mut self) -> u8 {
-        let asked = self.asked;
+        let query = self.query;
         let others = self.world.privileges.iter().copied();
-        let others: Vec<u8> = others.filter(|&it| it != asked).collect();
-        let any = (usize::from(asked) + self.rng.between(1, 31)) % 32;
+        let others: Vec<u8> = others.filter(|&it| it != query).collect();
+        let any = (usize::from(query) + self.rng.between(1, 31)) % 32;
         self.rng.pick_any(&others).unwrap_or(any as u8)
     }
 
     fn other_channel(&mut self) -> u8 {
-        let asked = self.asked;
+        let query = self.query;
         let channels = self.world.channels();
         let others: Vec<u8> = channels
-            .filter(|&channel| self.world.guard(channel) != Some(asked))
+            .filter(|&channel| self.world.guard(channel) != Some(query))
             .collect();
         self.rng.pick(&others)
     }

@@ -358,7 +358,7 @@ fn in_term_order() -> Vec<Ranged> {
 }
 
 fn refused() -> Vec<Ranged> {
-    let asked = |name, pairs: &[u16]| Ranged {
+    let query = |name, pairs: &[u16]| Ranged {
         name,
         sheet: computing(sum(member(), member())),
         pairs: pairs.to_vec(),
@@ -370,45 +370,45 @@ fn refused() -> Vec<Ranged> {
         let guards = [guard; CHANNELS];
         Ranged {
             sheet: with_guards(&guards, &[0], &[], sign(0, member())),
-            ..asked(name, pairs)
+            ..query(name, pairs)
         }
     };
     vec![
-        asked("no pairs", &[]),
-        asked("a pair too few", &[1, 2]),
-        asked("half a pair too few", &[1, 2, 3]),
-        asked("half a pair too many", &[1, 2, 3, 4, 5]),
-        asked("a pair too many", &[1, 2, 3, 4, 5, 6]),
-        asked("the first lowest above its highest", &[2, 1, 3, 4]),
-        asked("the last lowest above its highest", &[1, 2, 65_535, 0]),
+        query("no pairs", &[]),
+        query("a pair too few", &[1, 2]),
+        query("half a pair too few", &[1, 2, 3]),
+        query("half a pair too many", &[1, 2, 3, 4, 5]),
+        query("a pair too many", &[1, 2, 3, 4, 5, 6]),
+        query("the first lowest above its highest", &[2, 1, 3, 4]),
+        query("the last lowest above its highest", &[1, 2, 65_535, 0]),
         Ranged {
             sheet: computing(when(boolean(true), member(), member())),
-            ..asked(
+            ..query(
                 "a lowest above its highest where no run comes",
                 &[1, 2, 4, 3],
             )
         },
         Ranged {
             sheet: computing(boolean(true)),
-            ..asked("pairs for no numbers", &[1, 2])
+            ..query("pairs for no numbers", &[1, 2])
         },
         version_2("version 2", UNGUARDED, &[1, 2]),
         version_2("version 2, without pairs", UNGUARDED, &[]),
         version_2("31 before 35", 32, &[1, 2]),
         Ranged {
             sheet: plain(&[0], member()),
-            ..asked("7 before 35", &[])
+            ..query("7 before 35", &[])
         },
-        with(asked("14 before 35", &[]), largest().with_start(&[0])),
+        with(query("14 before 35", &[]), largest().with_start(&[0])),
         with(
-            asked("15 before 35", &[]),
+            query("15 before 35", &[]),
             Request {
                 posts: MAX_POSTS + 1,
                 ..largest()
             },
         ),
         with(
-            asked("16 before 35", &[]),
+            query("16 before 35", &[]),
             Request {
                 calls: MAX_CALLS + 1,
                 ..largest()

@@ -146,6 +146,16 @@ pub enum Wrong {
     Crossed,
 }
 
+impl Wrong {
+    pub const ALL: [Self; 5] = [
+        Self::HalfAPair,
+        Self::Fewer,
+        Self::More,
+        Self::NumbersForPairs,
+        Self::Crossed,
+    ];
+}
+
 /// Such pairs, from the right ones of a sheet, if these can be made so.
 pub fn wrong_pairs(rng: &mut Rng, right: &[u16], wrong: Wrong) -> Option<Vec<u16>> {
     let mut pairs = right.to_vec();
@@ -212,13 +222,7 @@ mod tests {
             let choice = random_choice(rng, &pairs);
             let mut within = pairs.chunks_exact(2).zip(choice);
             assert!(within.all(|(pair, number)| pair[0] <= number && number <= pair[1]));
-            for wrong in [
-                Wrong::HalfAPair,
-                Wrong::Fewer,
-                Wrong::More,
-                Wrong::NumbersForPairs,
-                Wrong::Crossed,
-            ] {
+            for wrong in Wrong::ALL {
                 let Some(changed) = wrong_pairs(rng, &pairs, wrong) else {
                     assert!(pairs.is_empty());
                     continue;

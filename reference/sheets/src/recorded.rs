@@ -27,18 +27,13 @@ pub struct Recorded {
     pub name: &'static str,
     pub sheet: Vec<u8>,
     pub request: Request,
-    pub in_force: Vec<Decision>,
-    pub passed_over: Vec<Decision>,
+    pub enforced: Vec<Decision>,
+    pub skipped: Vec<Decision>,
 }
 
 /// A sheet of version 2 on a stack that grants [`GRANTED`] and no other. Terms
 /// are numbered from the leaves up, from left to right.
-fn case(
-    name: &'static str,
-    tree: Tree,
-    in_force: &[Decision],
-    passed_over: &[Decision],
-) -> Recorded {
+fn case(name: &'static str, tree: Tree, enforced: &[Decision], skipped: &[Decision]) -> Recorded {
     let mut guards = [UNGUARDED; CHANNELS];
     guards[usize::from(PAGE)] = GRANTED;
     guards[usize::from(OTHER_PAGE)] = OTHER;
@@ -47,8 +42,8 @@ fn case(
         name,
         sheet: with_guards(&guards, &PRINCIPALS, &functions, sign(ABLE, tree)),
         request: Request::largest().with_start(&[ABLE.into(), 1 << GRANTED]),
-        in_force: in_force.to_vec(),
-        passed_over: passed_over.to_vec(),
+        enforced: enforced.to_vec(),
+        skipped: skipped.to_vec(),
     }
 }
 
@@ -60,8 +55,8 @@ pub fn all() -> Vec<Recorded> {
         name: "the contract's sheet",
         sheet: posting(1 << 1),
         request: Request::largest(),
-        in_force: vec![(2, 1, true)],
-        passed_over: vec![],
+        enforced: vec![(2, 1, true)],
+        skipped: vec![],
     });
     all
 }
@@ -237,15 +232,15 @@ fn with_stops() -> Vec<Recorded> {
             name: "a check in each of 100 open calls",
             sheet: endless_checked,
             request: Request::largest().with_start(&[ABLE.into(), 1 << GRANTED]),
-            in_force: vec![(2, 3, true); 100],
-            passed_over: vec![],
+            enforced: vec![(2, 3, true); 100],
+            skipped: vec![],
         },
         Recorded {
             name: "a run that decides nothing",
             sheet: endless(),
             request: Request::largest(),
-            in_force: vec![],
-            passed_over: vec![],
+            enforced: vec![],
+            skipped: vec![],
         },
     ]
 }

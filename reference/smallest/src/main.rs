@@ -3,7 +3,7 @@
 //! shown by a run.
 
 use sheets::hex;
-use sheets::request::Request as Asked;
+use sheets::request::Request as Query;
 use sheets::smallest::{all, Smallest};
 use sovzedal_reference::{report, run_eager, Checks, Reply, Request};
 
@@ -24,7 +24,7 @@ fn main() {
 }
 
 fn print_run(case: &Smallest) {
-    let Asked {
+    let Query {
         start,
         calls,
         open_calls,
@@ -37,7 +37,7 @@ fn print_run(case: &Smallest) {
         start,
         calls: *calls,
         open_calls: *open_calls,
-        checks: Checks::InForce,
+        checks: Checks::Enforced,
     };
     let (mut cells, mut posts) = (vec![0; *cell_bytes], vec![0; *posts]);
     let run = run_eager(&case.sheet, &request, &mut cells, &mut posts);

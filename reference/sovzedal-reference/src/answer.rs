@@ -1,9 +1,9 @@
 //! Results in the numbers of the C interface.
 
+use crate::checker::Verdict;
 use crate::compare::Comparison;
 use crate::erase::Lean;
 use crate::explain::Explanation;
-use crate::judge::Verdict;
 use crate::names::Naming;
 use crate::piece::Piece;
 use crate::refusal::Refusal;

@@ -1,7 +1,7 @@
 //! The lean sheets of request W9: without what a sheet's acceptance makes idle.
 
+use crate::checker::Accepted;
 use crate::encode::encode;
-use crate::judge::Accepted;
 use crate::refusal::{Cause, Refusal};
 use crate::set::Set;
 use crate::sheet::{FunctionType, Sheet, Term, TermId, Type, TypeId};

@@ -1,6 +1,6 @@
 //! The explanations of request W7: which terms a need comes from.
 
-use crate::judge::Accepted;
+use crate::checker::Accepted;
 use crate::refusal::{Cause, Refusal};
 use crate::set::Privilege;
 use crate::sheet::{Term, TermId, TypeId};

@@ -3,7 +3,7 @@
 //! This crate follows the contract's words and nothing else, so that it can be
 //! compared with the proved library. It reads a sheet into a tree
 //! ([`decode`]), judges it ([`typecheck`]), finds the smallest faulty piece of
-//! one that is refused ([`piece`]), judges single terms ([`judge_term`]), tells
+//! one that is refused ([`piece`]), judges single terms ([`infer_term`]), tells
 //! where a need comes from ([`explain`]) and which privileges it names
 //! ([`names`]), makes it lean ([`erase`]) and interprets it ([`run_eager`],
 //! [`run_lazy`]), and has it run by a block of [`registers`] or in turn with
@@ -13,12 +13,12 @@
 //! ([`run_ranges`]). Where the words leave a choice, `READINGS.md` names it.
 
 mod answer;
+mod checker;
 mod compare;
 mod decode;
 mod encode;
 mod erase;
 mod explain;
-mod judge;
 pub mod lines;
 mod names;
 mod piece;
@@ -33,12 +33,12 @@ mod sheet;
 mod term;
 
 pub use answer::Reply;
+pub use checker::{typecheck, typecheck_by, Accepted, Judgement, Rules, Verdict};
 pub use compare::{compare, Comparison};
 pub use decode::decode;
 pub use encode::encode;
 pub use erase::{erase, Lean};
 pub use explain::{explain, Explanation, CHAIN_TERMS};
-pub use judge::{typecheck, typecheck_by, Accepted, Judgement, Rules, Verdict};
 pub use names::{names, Naming};
 pub use piece::{piece, Piece};
 pub use record::{Entry, ENTRY_BYTES};
@@ -53,4 +53,4 @@ pub use set::{Privilege, Set};
 pub use sheet::{
     ChannelId, FunctionType, Guards, PrincipalId, Sheet, Term, TermId, Type, TypeId, CHANNELS,
 };
-pub use term::{judge_term, TermJudgement};
+pub use term::{infer_term, TermJudgement};

@@ -38,7 +38,7 @@ pub fn piece(bytes: &[u8]) -> Result<Option<Piece>, Refusal> {
         Some(Piece {
             term,
             count: count(&sheet, term),
-            fault: place.judge(&sheet).err()?.cause,
+            fault: place.infer(&sheet).err()?.cause,
             record: record_place(&sheet, term),
         })
     });

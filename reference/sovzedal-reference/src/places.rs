@@ -1,7 +1,7 @@
 //! Every term of a sheet where it stands: "in the bindings and under the
 //! principal it has in the sheet".
 
-use crate::judge::{judge_alone, Judgement};
+use crate::checker::{infer_alone, Judgement};
 use crate::refusal::Refusal;
 use crate::set::Set;
 use crate::sheet::{PrincipalId, Sheet, Term, TermId, TypeId};
@@ -16,10 +16,10 @@ pub(crate) struct Place {
 
 impl Place {
     /// What the rules say of the term there, with all that is in it.
-    pub(crate) fn judge(&self, sheet: &Sheet) -> Result<Judgement, Refusal> {
+    pub(crate) fn infer(&self, sheet: &Sheet) -> Result<Judgement, Refusal> {
         // The root is a sign, so the signer given of it is never asked.
         let signer = self.principal.map_or(Set::EMPTY, |it| sheet.authorised(it));
-        judge_alone(sheet, self.term, &self.bindings, signer)
+        infer_alone(sheet, self.term, &self.bindings, signer)
     }
 }
 

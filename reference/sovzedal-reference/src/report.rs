@@ -1,6 +1,6 @@
 //! The text that the checking program prints.
 
-use crate::judge::{typecheck, Verdict};
+use crate::checker::{typecheck, Verdict};
 use crate::refusal::Refusal;
 use crate::run::{run_eager, Outcome, Plain, Request, Run, Stop, MAX_CELL_BYTES, MAX_POSTS};
 use crate::sheet::Type;
@@ -8,13 +8,13 @@ use crate::sheet::Type;
 /// Judges a sheet and, if it is accepted, runs it eagerly with checks in
 /// force, on an empty stack, with the largest allowances and buffers.
 pub fn report(bytes: &[u8]) -> String {
-    match judge_and_run(bytes) {
+    match check_and_run(bytes) {
         Ok((verdict, run)) => verdict_lines(verdict) + &run_line(run),
         Err(refusal) => format!("refused {} at {}\n", refusal.cause.number(), refusal.place),
     }
 }
 
-fn judge_and_run(bytes: &[u8]) -> Result<(Verdict, Run), Refusal> {
+fn check_and_run(bytes: &[u8]) -> Result<(Verdict, Run), Refusal> {
     let verdict = typecheck(bytes)?;
     let mut cells = vec![0; MAX_CELL_BYTES];
     let mut posts = [0; MAX_POSTS];

@@ -1,7 +1,7 @@
 //! What the rules say of one term where it stands.
 
+use crate::checker::Judgement;
 use crate::decode::decode;
-use crate::judge::Judgement;
 use crate::places::places;
 use crate::refusal::{Cause, Refusal};
 use crate::set::Set;
@@ -19,13 +19,13 @@ pub struct TermJudgement {
 /// The judgement of the term with this number, whatever is faulty elsewhere. An
 /// unreadable sheet gets the reader's refusal, and then a number past the last
 /// term is 37.
-pub fn judge_term(bytes: &[u8], number: u32) -> Result<TermJudgement, Refusal> {
+pub fn infer_term(bytes: &[u8], number: u32) -> Result<TermJudgement, Refusal> {
     let sheet = decode(bytes)?;
     let mut places = places(&sheet).into_iter();
     let place = places
         .find(|place| u32::from(place.term) == number)
         .ok_or(Cause::NoTerm.anywhere())?;
-    let Judgement { ty, needs } = place.judge(&sheet)?;
+    let Judgement { ty, needs } = place.infer(&sheet)?;
     Ok(TermJudgement {
         ty,
         needs,

@@ -103,7 +103,7 @@ fn the_sheet_above_without_its_enable() {
 #[test]
 fn checks_passed_over() {
     let request = Request {
-        checks: Checks::PassedOver,
+        checks: Checks::Skipped,
         ..Request::LARGEST
     };
     assert_eq!(outcome(&posting_without_enable(), request), number_end(7));
@@ -224,17 +224,17 @@ fn where_needs_are_granted_checks_may_be_passed_over() {
                 continue;
             }
             let start = [0, granted];
-            let asked = |checks| Request {
+            let query = |checks| Request {
                 checks,
                 ..on(&start)
             };
-            let in_force = run(&case.sheet, asked(Checks::InForce));
+            let enforced = run(&case.sheet, query(Checks::Enforced));
             assert!(
-                matches!(in_force.0.outcome, Outcome::End(_)),
-                "{}: {in_force:?}",
+                matches!(enforced.0.outcome, Outcome::End(_)),
+                "{}: {enforced:?}",
                 case.name
             );
-            assert_eq!(in_force, run(&case.sheet, asked(Checks::PassedOver)));
+            assert_eq!(enforced, run(&case.sheet, query(Checks::Skipped)));
         }
     }
 }

@@ -9,7 +9,7 @@ use sheets::extremes::longest;
 use sheets::ranges::{numbers_of, with_numbers};
 use sheets::smallest::{all, Smallest};
 use sheets::tree;
-use sovzedal_reference::judge_term;
+use sovzedal_reference::infer_term;
 use sovzedal_reference::lines::{Job, Lent, Lines, STATE_NUMBERS};
 use sovzedal_reference::registers::{at, status, Block, BLOCK_BYTES, RUN};
 use sovzedal_reference::{compare, decode, erase, explain, names, piece, report, run_eager};
@@ -266,9 +266,9 @@ fn the_refusal_of_a_privilege_is_that_of_the_call_shown() {
     }
     // So it is with the call that is shown after it.
     let (_, rest) = section.split_once(call).expect("what follows the call");
-    let asked = format!("sovzedal_names(sheet, {}, 32, answer, 8);\n", sheet.len());
-    assert_eq!(block(rest, "c"), Some(&*asked));
-    let (_, rest) = rest.split_once(&asked).expect("what follows that call");
+    let query = format!("sovzedal_names(sheet, {}, 32, answer, 8);\n", sheet.len());
+    assert_eq!(block(rest, "c"), Some(&*query));
+    let (_, rest) = rest.split_once(&query).expect("what follows that call");
     let refusal = names(&sheet, 32).expect_err("a refusal");
     assert_eq!(block(rest, "text"), Some(&*refused(refusal)));
     assert_eq!(names(&sheet, 31), Ok(Naming::Unnamed));
@@ -290,11 +290,11 @@ fn the_refusal_of_a_term_is_that_of_the_call_shown() {
         sheet.len()
     );
     assert_eq!(block(section, "c"), Some(&*call));
-    let refusal = judge_term(&sheet, terms).expect_err("a refusal");
+    let refusal = infer_term(&sheet, terms).expect_err("a refusal");
     assert_eq!(refusal.cause, Cause::NoTerm);
     assert_eq!(block(section, "text"), Some(&*refused(refusal)));
     for term in 0..terms {
-        assert!(judge_term(&sheet, term).is_ok());
+        assert!(infer_term(&sheet, term).is_ok());
     }
 }
 
@@ -549,6 +549,58 @@ fn the_frame_is_explained_by_its_chain() {
     assert_eq!(verdict.needs, Set::EMPTY);
 }
 
+/// Terms of the frame have the types and needs that the readme prints.
+#[test]
+fn the_frame_has_the_judgements_shown() {
+    let directory = repository().join("examples");
+    if !directory.exists() {
+        return;
+    }
+    let frame = bytes(&read(&directory.join("frame.hex")));
+    let shown = read(&directory.join("README.md"));
+    let (_, rest) = section(&shown, "Pieces")
+        .expect("a section")
+        .split_once("`frame.hex`")
+        .expect("a word about the frame");
+    let print = block(rest, "text").expect("a print");
+    let mut lines = print.lines();
+    assert!(typecheck(&frame).is_ok() && piece(&frame) == Ok(None));
+    assert_eq!(lines.next(), Some("accepted"));
+    assert_eq!(lines.next(), Some("no piece"));
+    assert!(lines.clone().count() > 0);
+    are_judgements_of(&frame, lines);
+    let gate = repository().join(".ci/examples");
+    assert!(!gate.exists() || read(&gate).contains(print));
+}
+
+/// Each after the term's number.
+fn are_judgements_of<'a>(sheet: &[u8], lines: impl Iterator<Item = &'a str>) {
+    for line in lines {
+        let rest = line.strip_prefix("term ").expect("a term");
+        let (number, judgement) = rest.split_once(": ").expect("a judgement");
+        is_judgement_of(sheet, number.parse().expect("a number"), judgement);
+    }
+}
+
+/// A cause is also told by a word, which the header has.
+fn is_judgement_of(sheet: &[u8], number: u32, printed: &str) {
+    let (begin, end) = match infer_term(sheet, number) {
+        Ok(told) => {
+            let principal = told.principal.unwrap_or(0);
+            let (ty, needs) = (told.ty, told.needs.bits());
+            let begin = format!("type {ty}, needs {needs:08X}, principal {principal}");
+            (begin, String::new())
+        }
+        Err(Refusal { cause, place }) => {
+            let begin = format!("refused, {} (", cause.number());
+            (begin, format!(") at {place}"))
+        }
+    };
+    let word = printed.strip_prefix(&begin).expect(&begin);
+    let word = word.strip_suffix(&end).expect(&end);
+    assert_eq!(word.is_empty(), end.is_empty(), "{printed}");
+}
+
 /// The draft's smallest faulty piece is the one that the readme prints, with the
 /// records of its terms, and mended as the readme says the next one is told, and
 /// in the end none.
@@ -572,16 +624,18 @@ fn the_draft_has_the_piece_shown() {
         told.term,
         told.count
     );
-    let records = print.strip_prefix(&begin).expect(&begin);
-    assert_eq!(records.lines().count(), told.count);
-    for line in records.lines() {
+    let mut lines = print.strip_prefix(&begin).expect(&begin).lines();
+    for line in lines.by_ref().take(told.count) {
         let (number, rest) = line.trim_start().split_once(": ").expect("a term");
-        let (_, record) = rest.split_once(", ").expect("its kind");
+        let (_, rest) = rest.split_once(", ").expect("its kind");
+        let (record, judgement) = rest.split_once(": ").expect("its record");
         let number: TermId = number.parse().expect("a number");
         let below = 8 * usize::from(told.term - number);
         let place = told.record.start - below..told.record.end - below;
         assert_eq!(bytes(record), draft[place], "the record of {number}");
+        is_judgement_of(&draft, number.into(), judgement);
     }
+    are_judgements_of(&draft, lines);
     the_gate_asks_for_the_print_of("Pieces");
 
     let record = |number: TermId| told.record.start - 8 * usize::from(told.term - number);
@@ -803,13 +857,13 @@ fn the_runs_over_ranges_are_those_of_the_calls_shown() {
         let (pairs, call) = calls.split_once(" };\n\n").expect("pairs");
         let pairs = pairs.strip_prefix("uint16_t pairs[] = { ").expect("pairs");
         let pairs: Vec<u16> = pairs.split(", ").map(|it| it.parse().unwrap()).collect();
-        let asked = format!(
+        let query = format!(
             "sovzedal_run_ranges(sheet, {}, pairs, {}, start, 0, {MAX_CALLS}, {MAX_OPEN_CALLS}, 1, \
              cells, {MAX_CELL_BYTES}, posts, {MAX_POSTS}, answer, 8);\n",
             sheet.len(),
             pairs.len()
         );
-        assert_eq!(call, asked);
+        assert_eq!(call, query);
         let reply = Reply::from(over_ranges(&sheet, &pairs).0);
         assert_eq!(reply.answer[0], cause.number());
         assert_eq!(block(section, "text"), Some(&*in_words(reply)));
@@ -1035,14 +1089,14 @@ fn told(case: &Smallest) -> String {
 }
 
 fn run(case: &Smallest) -> String {
-    let asked = &case.request;
+    let query = &case.request;
     let request = Request {
-        start: &asked.start,
-        calls: asked.calls,
-        open_calls: asked.open_calls,
-        checks: Checks::InForce,
+        start: &query.start,
+        calls: query.calls,
+        open_calls: query.open_calls,
+        checks: Checks::Enforced,
     };
-    let (mut cells, mut posts) = (vec![0; asked.cell_bytes], vec![0; asked.posts]);
+    let (mut cells, mut posts) = (vec![0; query.cell_bytes], vec![0; query.posts]);
     let run = run_eager(&case.sheet, &request, &mut cells, &mut posts);
     in_words(run.into())
 }

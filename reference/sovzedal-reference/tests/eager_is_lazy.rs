@@ -2,7 +2,7 @@
 //! drawn at random.
 
 use sheets::generate::sample;
-use sheets::request::Request as Asked;
+use sheets::request::Request as Query;
 use sheets::rng::Rng;
 use sovzedal_reference::{run_eager, run_lazy, Checks, Request};
 
@@ -14,20 +14,20 @@ fn eager_is_lazy() {
     for index in 0..SHEETS {
         let rng = &mut Rng::for_item(SEED, index);
         let sample = sample(rng);
-        let asked = Asked::random(rng, &sample.world);
-        for checks in [Checks::InForce, Checks::PassedOver] {
+        let query = Query::random(rng, &sample.world);
+        for checks in [Checks::Enforced, Checks::Skipped] {
             let request = Request {
-                start: &asked.start,
-                calls: asked.calls,
-                open_calls: asked.open_calls,
+                start: &query.start,
+                calls: query.calls,
+                open_calls: query.open_calls,
                 checks,
             };
-            let (mut cells, mut posts) = (vec![1; asked.cell_bytes], vec![1; asked.posts]);
+            let (mut cells, mut posts) = (vec![1; query.cell_bytes], vec![1; query.posts]);
             let eager = run_eager(&sample.bytes, &request, &mut cells, &mut posts);
 
             let (mut lazy_cells, mut lazy_posts) =
-                (vec![1; asked.cell_bytes], vec![1; asked.posts]);
-            let mut frames = vec![1; Asked::largest().frame_numbers];
+                (vec![1; query.cell_bytes], vec![1; query.posts]);
+            let mut frames = vec![1; Query::largest().frame_numbers];
             let lazy = run_lazy(
                 &sample.bytes,
                 &request,

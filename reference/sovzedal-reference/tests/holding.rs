@@ -3,22 +3,22 @@
 
 use sheets::extremes::most_held;
 use sheets::held;
-use sheets::request::Request as Asked;
+use sheets::request::Request as Query;
 use sheets::tree::*;
 use sheets::{cases, hex};
 use sovzedal_reference::registers::{Block, Loaded, RUN};
 use sovzedal_reference::*;
 
 /// Both runners must tell the same, by all their numbers.
-fn run(sheet: &[u8], asked: &Asked, checks: Checks) -> Result<Run, Refusal> {
+fn run(sheet: &[u8], query: &Query, checks: Checks) -> Result<Run, Refusal> {
     let request = Request {
-        start: &asked.start,
-        calls: asked.calls,
-        open_calls: asked.open_calls,
+        start: &query.start,
+        calls: query.calls,
+        open_calls: query.open_calls,
         checks,
     };
-    let (mut cells, mut posts) = (vec![9; asked.cell_bytes], vec![9; asked.posts]);
-    let mut frames = vec![9; asked.frame_numbers];
+    let (mut cells, mut posts) = (vec![9; query.cell_bytes], vec![9; query.posts]);
+    let mut frames = vec![9; query.frame_numbers];
     let eager = run_eager(sheet, &request, &mut cells, &mut posts);
     let lazy = run_lazy(sheet, &request, &mut cells, &mut posts, &mut frames);
     assert_eq!(eager, lazy, "{}", hex(sheet));
@@ -95,7 +95,7 @@ fn the_exact_result_is_past_a_limit_or_not() {
     let all: Vec<_> = held::all()
         .iter()
         .map(|case| {
-            let run = run(&case.sheet, &case.request, Checks::InForce);
+            let run = run(&case.sheet, &case.request, Checks::Enforced);
             (case.name, told(run))
         })
         .collect();
@@ -107,12 +107,12 @@ fn the_exact_result_is_past_a_limit_or_not() {
 #[test]
 fn checks_passed_over() {
     for case in held::all() {
-        let in_force = run(&case.sheet, &case.request, Checks::InForce);
-        let passed_over = run(&case.sheet, &case.request, Checks::PassedOver);
+        let enforced = run(&case.sheet, &case.request, Checks::Enforced);
+        let skipped = run(&case.sheet, &case.request, Checks::Skipped);
         match case.name {
-            "a check after a held sum" => assert_eq!(told(passed_over), Number(65_535, 2)),
-            "a check around a held sum" => assert_eq!(told(passed_over), Number(65_535, 1)),
-            name => assert_eq!(in_force, passed_over, "{name}"),
+            "a check after a held sum" => assert_eq!(told(skipped), Number(65_535, 2)),
+            "a check around a held sum" => assert_eq!(told(skipped), Number(65_535, 1)),
+            name => assert_eq!(enforced, skipped, "{name}"),
         }
     }
 }
@@ -122,7 +122,7 @@ fn checks_passed_over() {
 #[test]
 fn where_the_count_is_told() {
     for case in held::all() {
-        let run = run(&case.sheet, &case.request, Checks::InForce);
+        let run = run(&case.sheet, &case.request, Checks::Enforced);
         let reply = Reply::from(run);
         let due = run.map_or(0, |run| run.held);
         assert_eq!(reply.answer[7], due, "{}", case.name);
@@ -155,7 +155,7 @@ fn a_block_does_not_tell_it() {
 /// More than 16 bits hold.
 #[test]
 fn the_most_that_are_known() {
-    let run = run(&most_held(), &Asked::largest(), Checks::InForce).unwrap();
+    let run = run(&most_held(), &Query::largest(), Checks::Enforced).unwrap();
     assert_eq!(run.outcome, Outcome::End(Plain::Number(65_535)));
     assert_eq!((run.calls, run.held), (4_095, 2_053_642));
     assert_eq!(decode(&most_held()).unwrap().terms.len(), 1_024);

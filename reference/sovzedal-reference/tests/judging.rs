@@ -79,13 +79,13 @@ fn functions_fit_where_more_is_allowed() {
 fn arguments_fit_the_other_way_round() {
     // A taker of takers: what takes needy functions may be given where one
     // that takes quiet functions is asked, and not the other way.
-    let judged = |asked, given| {
+    let judged = |query, given| {
         let functions = [
             TypeRecord::function(NUMBER, NUMBER, 0),
             TypeRecord::function(NUMBER, NUMBER, 2),
             TypeRecord::function(QUIET, BOOL, 0),
             TypeRecord::function(NEEDY, BOOL, 0),
-            TypeRecord::function(asked, BOOL, 0),
+            TypeRecord::function(query, BOOL, 0),
         ];
         let outer = function(6, sign(0, boolean(true)));
         let root = sign(0, call(outer, taking(given)));

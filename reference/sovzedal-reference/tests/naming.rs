@@ -118,15 +118,15 @@ fn a_privilege_above_31_is_not_taken_for_another() {
 /// it is the same. Frames are innermost first.
 fn pairs() -> Vec<[Vec<u32>; 2]> {
     let (able, unable) = (u32::from(ABLE), u32::from(UNABLE));
-    let (asked, other) = (1 << ASKED, 1 << OTHER);
+    let (query, other) = (1 << ASKED, 1 << OTHER);
     vec![
-        [vec![], vec![able, asked]],
-        [vec![able, other], vec![able, asked | other]],
+        [vec![], vec![able, query]],
+        [vec![able, other], vec![able, query | other]],
         [vec![able, other], vec![able, 0, able, u32::MAX]],
-        [vec![unable, asked | other], vec![able, asked]],
+        [vec![unable, query | other], vec![able, query]],
         [
-            vec![able, asked, able, other],
-            vec![able, other, unable, asked],
+            vec![able, query, able, other],
+            vec![able, other, unable, query],
         ],
     ]
 }

@@ -5,7 +5,7 @@ use sheets::generate::sample;
 use sheets::grow::accepted;
 use sheets::pages::{self, GRANTED, HIGHEST, OTHER, OTHER_PAGE, PAGE, SECOND_PAGE};
 use sheets::records::{Format, Records, CHANNELS, UNGUARDED};
-use sheets::request::Request as Asked;
+use sheets::request::Request as Query;
 use sheets::rng::Rng;
 use sheets::spoil::spoil_one;
 use sheets::tree::*;
@@ -82,7 +82,7 @@ fn what_cannot_be_read_is_told_alike() {
             continue;
         };
         assert_eq!(typecheck(&case.sheet), Err(refusal), "{}", case.name);
-        for checks in [Checks::InForce, Checks::PassedOver] {
+        for checks in [Checks::Enforced, Checks::Skipped] {
             let request = request(&case.request, checks);
             let (mut cells, mut posts, mut frames) = ([9; 80], [9; 5], [9; 7]);
             let eager = run_eager(&case.sheet, &request, &mut cells, &mut posts);
@@ -205,7 +205,7 @@ fn what_a_guard_lets_pass() {
     ];
     let cases = pages::posting();
     let told = cases.iter().map(|case| {
-        let (run, posts) = run(&case.sheet, &case.request, Checks::InForce);
+        let (run, posts) = run(&case.sheet, &case.request, Checks::Enforced);
         (case.name, run.outcome, posts)
     });
     assert_eq!(told.collect::<Vec<_>>(), expected);
@@ -216,18 +216,18 @@ fn what_a_guard_lets_pass() {
 #[test]
 fn guards_are_passed_over_with_checks() {
     for case in pages::posting() {
-        let (in_force, posts) = run(&case.sheet, &case.request, Checks::InForce);
-        let (passed_over, all) = run(&case.sheet, &case.request, Checks::PassedOver);
+        let (enforced, posts) = run(&case.sheet, &case.request, Checks::Enforced);
+        let (skipped, all) = run(&case.sheet, &case.request, Checks::Skipped);
         let Outcome::Stop(Stop {
             cause: Cause::RefusedCheck,
             ..
-        }) = in_force.outcome
+        }) = enforced.outcome
         else {
-            assert_eq!((in_force, posts), (passed_over, all), "{}", case.name);
+            assert_eq!((enforced, posts), (skipped, all), "{}", case.name);
             continue;
         };
         assert!(all.starts_with(&posts), "{}", case.name);
-        assert_eq!(passed_over.outcome, end(7), "{}", case.name);
+        assert_eq!(skipped.outcome, end(7), "{}", case.name);
         assert_eq!(all.last(), Some(&on(last_channel(case.name), 7)));
     }
 }
@@ -255,13 +255,13 @@ fn the_guard_is_asked_before_a_place() {
     ];
     let cases = pages::without_a_place();
     let told = cases.iter().map(|case| {
-        let (run, _) = run(&case.sheet, &case.request, Checks::InForce);
+        let (run, _) = run(&case.sheet, &case.request, Checks::Enforced);
         (case.name, run.outcome, run.posts)
     });
     assert_eq!(told.collect::<Vec<_>>(), expected);
     // Passed over, a guard leaves the place to be missed.
-    let (passed_over, _) = run(&cases[0].sheet, &cases[0].request, Checks::PassedOver);
-    assert_eq!(passed_over.outcome, stop(Cause::NoPost, 1));
+    let (skipped, _) = run(&cases[0].sheet, &cases[0].request, Checks::Skipped);
+    assert_eq!(skipped.outcome, stop(Cause::NoPost, 1));
 }
 
 /// The sheet of a case, by its name.
@@ -409,17 +409,17 @@ fn passed_over_there_are_no_guards() {
         if world.guards.is_none() {
             continue;
         }
-        let asked = Asked::random_admissible(rng, vec![]);
+        let query = Query::random_admissible(rng, vec![]);
         let with = bytes(&world, world.format(), &tree);
         let without = bytes(&world, unguarded(), &tree);
         if decode(&with).is_err() {
             continue;
         }
-        let passed_over = run(&with, &asked, Checks::PassedOver);
-        assert_eq!(passed_over, run(&without, &asked, Checks::PassedOver));
-        let in_force = run(&with, &asked, Checks::InForce).0.outcome;
-        let bare = run(&without, &asked, Checks::InForce).0.outcome;
-        refused += usize::from(in_force != bare);
+        let skipped = run(&with, &query, Checks::Skipped);
+        assert_eq!(skipped, run(&without, &query, Checks::Skipped));
+        let enforced = run(&with, &query, Checks::Enforced).0.outcome;
+        let bare = run(&without, &query, Checks::Enforced).0.outcome;
+        refused += usize::from(enforced != bare);
     }
     assert!(refused >= 300, "{refused}");
 }
@@ -440,11 +440,11 @@ fn version_1_has_no_guard() {
         two.extend([5, 0, 16]);
         two.extend([UNGUARDED; CHANNELS]);
         assert_eq!(typecheck(one), typecheck(&two), "item {index}");
-        let asked = Asked::random_admissible(rng, vec![]);
-        for checks in [Checks::InForce, Checks::PassedOver] {
-            let (told, posts) = run(one, &asked, checks);
+        let query = Query::random_admissible(rng, vec![]);
+        for checks in [Checks::Enforced, Checks::Skipped] {
+            let (told, posts) = run(one, &query, checks);
             assert!(posts.iter().all(|&entry| entry < 65_536));
-            assert_eq!((told, posts), run(&two, &asked, checks), "item {index}");
+            assert_eq!((told, posts), run(&two, &query, checks), "item {index}");
         }
         compared += 1;
     }
@@ -465,23 +465,23 @@ fn bytes(world: &World, format: Format, tree: &Tree) -> Vec<u8> {
     .to_bytes()
 }
 
-fn request(asked: &Asked, checks: Checks) -> Request<'_> {
+fn request(query: &Query, checks: Checks) -> Request<'_> {
     Request {
-        start: &asked.start,
-        calls: asked.calls,
-        open_calls: asked.open_calls,
+        start: &query.start,
+        calls: query.calls,
+        open_calls: query.open_calls,
         checks,
     }
 }
 
 /// What both runners tell, and the posts made.
-fn run(sheet: &[u8], asked: &Asked, checks: Checks) -> (Run, Vec<u32>) {
-    let request = request(asked, checks);
-    let mut cells = vec![9; asked.cell_bytes];
-    let mut posts = vec![u32::MAX; asked.posts];
-    let mut frames = vec![9; asked.frame_numbers];
+fn run(sheet: &[u8], query: &Query, checks: Checks) -> (Run, Vec<u32>) {
+    let request = request(query, checks);
+    let mut cells = vec![9; query.cell_bytes];
+    let mut posts = vec![u32::MAX; query.posts];
+    let mut frames = vec![9; query.frame_numbers];
     let lazy = run_lazy(sheet, &request, &mut cells, &mut posts, &mut frames);
-    let lazy_posts = std::mem::replace(&mut posts, vec![u32::MAX; asked.posts]);
+    let lazy_posts = std::mem::replace(&mut posts, vec![u32::MAX; query.posts]);
     let eager = run_eager(sheet, &request, &mut cells, &mut posts);
     assert_eq!((eager, &posts), (lazy, &lazy_posts));
     let run = eager.expect("an admissible request");

@@ -3,7 +3,7 @@
 
 use sheets::ranged::Ranged;
 use sheets::ranges::{self, Wrong};
-use sheets::request::Request as Asked;
+use sheets::request::Request as Query;
 use sheets::rng::Rng;
 use sheets::{hex, ranged};
 use sovzedal_reference::{decode, run_eager, run_ranges};
@@ -29,42 +29,42 @@ struct Left<R> {
 }
 
 fn left<R>(
-    asked: &Asked,
+    query: &Query,
     checks: Checks,
     run: impl FnOnce(&Request, &mut [u8], &mut [u32]) -> Result<R, Refusal>,
 ) -> Left<R> {
     let request = Request {
-        start: &asked.start,
-        calls: asked.calls,
-        open_calls: asked.open_calls,
+        start: &query.start,
+        calls: query.calls,
+        open_calls: query.open_calls,
         checks,
     };
-    let (mut cells, mut posts) = (vec![CELL; asked.cell_bytes], vec![POST; asked.posts]);
+    let (mut cells, mut posts) = (vec![CELL; query.cell_bytes], vec![POST; query.posts]);
     let told = run(&request, &mut cells, &mut posts);
     Left { told, cells, posts }
 }
 
-fn over_ranges(sheet: &[u8], pairs: &[u16], asked: &Asked, checks: Checks) -> Left<RangeRun> {
-    left(asked, checks, |request, cells, posts| {
+fn over_ranges(sheet: &[u8], pairs: &[u16], query: &Query, checks: Checks) -> Left<RangeRun> {
+    left(query, checks, |request, cells, posts| {
         run_ranges(sheet, pairs, request, cells, posts)
     })
 }
 
-fn plainly(sheet: &[u8], asked: &Asked, checks: Checks) -> Left<Run> {
-    left(asked, checks, |request, cells, posts| {
+fn plainly(sheet: &[u8], query: &Query, checks: Checks) -> Left<Run> {
+    left(query, checks, |request, cells, posts| {
         run_eager(sheet, request, cells, posts)
     })
 }
 
 /// Sheets of every sort, pairs for them, and requests.
-fn drawn() -> impl Iterator<Item = (Vec<u8>, Vec<u16>, Asked, Rng)> {
+fn drawn() -> impl Iterator<Item = (Vec<u8>, Vec<u16>, Query, Rng)> {
     (0..SHEETS).map(|index| {
         let mut rng = Rng::for_item(SEED, index);
         let sample = ranges::random_sheet(&mut rng);
         let pairs = ranges::random_pairs(&mut rng, &sample.bytes);
-        let request = Asked::random(&mut rng, &sample.world);
+        let request = Query::random(&mut rng, &sample.world);
         let request = match rng.percent(70) {
-            true => Asked::random_admissible(&mut rng, request.start),
+            true => Query::random_admissible(&mut rng, request.start),
             false => request,
         };
         (sample.bytes, pairs, request, rng)
@@ -189,7 +189,7 @@ fn each_case_has_its_answer() {
     let all: Vec<_> = ranged::all()
         .iter()
         .map(|case| {
-            let left = over_ranges(&case.sheet, &case.pairs, &case.request, Checks::InForce);
+            let left = over_ranges(&case.sheet, &case.pairs, &case.request, Checks::Enforced);
             (case.name, told(left.told))
         })
         .collect();
@@ -203,7 +203,7 @@ fn posts_and_counts_of_the_cases() {
     let of = |name: &str| {
         let all = ranged::all();
         let case = all.iter().find(|case| case.name == name).expect(name);
-        let left = over_ranges(&case.sheet, &case.pairs, &case.request, Checks::InForce);
+        let left = over_ranges(&case.sheet, &case.pairs, &case.request, Checks::Enforced);
         let run = left.told.expect("a run that starts");
         assert!(left.cells.iter().all(|&byte| byte == 0));
         assert!(left.posts[run.posts as usize..]
@@ -232,13 +232,13 @@ fn posts_and_counts_of_the_cases() {
 #[test]
 fn checks_passed_over() {
     for case in ranged::all() {
-        let [in_force, passed_over] = [Checks::InForce, Checks::PassedOver]
+        let [enforced, skipped] = [Checks::Enforced, Checks::Skipped]
             .map(|checks| over_ranges(&case.sheet, &case.pairs, &case.request, checks));
         if case.name == "a refused check" {
-            assert_eq!(told(passed_over.told), Number(3, 9));
-            assert_eq!(passed_over.posts[0], 3 * 65_536 + 9);
+            assert_eq!(told(skipped.told), Number(3, 9));
+            assert_eq!(skipped.posts[0], 3 * 65_536 + 9);
         } else {
-            assert_eq!(in_force, passed_over, "{}", case.name);
+            assert_eq!(enforced, skipped, "{}", case.name);
         }
     }
 }
@@ -248,7 +248,7 @@ fn checks_passed_over() {
 #[test]
 fn answers_by_their_numbers() {
     for case in ranged::all() {
-        let left = over_ranges(&case.sheet, &case.pairs, &case.request, Checks::InForce);
+        let left = over_ranges(&case.sheet, &case.pairs, &case.request, Checks::Enforced);
         let counts = left
             .told
             .map_or([0; 4], |run| [run.calls, run.cells, run.posts, 0]);
@@ -342,9 +342,9 @@ fn plain_runs_are_inside_the_answer() {
         (sheet, pairs, request, Rng::new(SEED))
     });
     let (mut ended, mut stopped, mut apart) = (0, 0, 0);
-    for (sheet, pairs, asked, mut rng) in cases.chain(drawn()) {
-        for checks in [Checks::InForce, Checks::PassedOver] {
-            let answer = over_ranges(&sheet, &pairs, &asked, checks);
+    for (sheet, pairs, query, mut rng) in cases.chain(drawn()) {
+        for checks in [Checks::Enforced, Checks::Skipped] {
+            let answer = over_ranges(&sheet, &pairs, &query, checks);
             let Ok(run) = answer.told else {
                 continue;
             };
@@ -355,7 +355,7 @@ fn plain_runs_are_inside_the_answer() {
             for _ in 0..CHOICES {
                 let choice = ranges::random_choice(&mut rng, &pairs);
                 let chosen = ranges::with_numbers(&sheet, &choice);
-                let plain = plainly(&chosen, &asked, checks);
+                let plain = plainly(&chosen, &query, checks);
                 let told = plain.told.expect("a run that starts");
                 assert!(
                     is_inside(&plain, &answer),
@@ -407,11 +407,11 @@ fn is_inside(plain: &Left<Run>, answer: &Left<RangeRun>) -> bool {
 #[test]
 fn single_numbers_give_the_plain_run() {
     let mut compared = 0;
-    for (sheet, _, asked, _) in drawn() {
+    for (sheet, _, query, _) in drawn() {
         let numbers = ranges::numbers_of(&sheet);
         let pairs: Vec<u16> = numbers.iter().flat_map(|&number| [number; 2]).collect();
-        let over = over_ranges(&sheet, &pairs, &asked, Checks::InForce);
-        let plain = plainly(&sheet, &asked, Checks::InForce);
+        let over = over_ranges(&sheet, &pairs, &query, Checks::Enforced);
+        let plain = plainly(&sheet, &query, Checks::Enforced);
         let (run, expected) = match (over.told, plain.told) {
             (Ok(run), Ok(expected)) => (run, expected),
             (Err(refusal), Ok(_)) if refusal.cause == Cause::Ranges => {
@@ -481,8 +481,8 @@ fn other_numbers_are_as_readable() {
 #[test]
 fn wrong_pairs_come_last() {
     let (mut wrong_pairs, mut before, mut version_2) = (0, 0, 0);
-    for (sheet, right, asked, mut rng) in drawn() {
-        let plain = plainly(&sheet, &asked, Checks::InForce);
+    for (sheet, right, query, mut rng) in drawn() {
+        let plain = plainly(&sheet, &query, Checks::Enforced);
         for wrong in [
             None,
             Some(Wrong::HalfAPair),
@@ -498,7 +498,7 @@ fn wrong_pairs_come_last() {
             let Some(pairs) = pairs else {
                 continue;
             };
-            let over = over_ranges(&sheet, &pairs, &asked, Checks::InForce);
+            let over = over_ranges(&sheet, &pairs, &query, Checks::Enforced);
             let Err(refusal) = over.told else {
                 assert!(wrong.is_none() && plain.told.is_ok(), "{}", hex(&sheet));
                 continue;

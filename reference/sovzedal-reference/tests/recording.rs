@@ -2,7 +2,7 @@
 
 use sheets::generate::sample;
 use sheets::recorded::{self, Decision};
-use sheets::request::Request as Asked;
+use sheets::request::Request as Query;
 use sheets::rng::Rng;
 use sheets::{hex, smallest};
 use sovzedal_reference::{compare, record_eager, record_lazy, run_eager, run_lazy};
@@ -27,13 +27,13 @@ enum Runner {
 fn record(
     runner: Runner,
     sheet: &[u8],
-    asked: &Asked,
+    query: &Query,
     checks: Checks,
     length: usize,
 ) -> (Result<Recorded, Refusal>, Vec<u8>) {
-    let request = request(asked, checks);
-    let mut cells = vec![0; asked.cell_bytes];
-    let mut posts = vec![0; asked.posts];
+    let request = request(query, checks);
+    let mut cells = vec![0; query.cell_bytes];
+    let mut posts = vec![0; query.posts];
     let mut record = vec![BEFORE; length];
     let told = match runner {
         Runner::Eager => record_eager(sheet, &request, &mut cells, &mut posts, &mut record),
@@ -52,11 +52,11 @@ fn record(
     (told, record)
 }
 
-fn request(asked: &Asked, checks: Checks) -> Request<'_> {
+fn request(query: &Query, checks: Checks) -> Request<'_> {
     Request {
-        start: &asked.start,
-        calls: asked.calls,
-        open_calls: asked.open_calls,
+        start: &query.start,
+        calls: query.calls,
+        open_calls: query.open_calls,
         checks,
     }
 }
@@ -75,20 +75,20 @@ fn bytes(decisions: &[Decision]) -> Vec<u8> {
 }
 
 /// Any sheets and requests.
-fn drawn() -> impl Iterator<Item = (Vec<u8>, Asked)> {
+fn drawn() -> impl Iterator<Item = (Vec<u8>, Query)> {
     (0..SHEETS).map(|index| {
         let rng = &mut Rng::for_item(SEED, index);
         let sample = sample(rng);
-        let request = Asked::random(rng, &sample.world);
+        let request = Query::random(rng, &sample.world);
         (sample.bytes, request)
     })
 }
 
 const WAYS: [(Runner, Checks); 4] = [
-    (Runner::Eager, Checks::InForce),
-    (Runner::Eager, Checks::PassedOver),
-    (Runner::Lazy, Checks::InForce),
-    (Runner::Lazy, Checks::PassedOver),
+    (Runner::Eager, Checks::Enforced),
+    (Runner::Eager, Checks::Skipped),
+    (Runner::Lazy, Checks::Enforced),
+    (Runner::Lazy, Checks::Skipped),
 ];
 
 /// "Both runners can record each check, test and guard they decide", with
@@ -98,8 +98,8 @@ fn each_case_has_its_record() {
     for case in recorded::all() {
         for (runner, checks) in WAYS {
             let decisions = match checks {
-                Checks::InForce => &case.in_force,
-                Checks::PassedOver => &case.passed_over,
+                Checks::Enforced => &case.enforced,
+                Checks::Skipped => &case.skipped,
             };
             let whole = bytes(decisions);
             for length in 0..whole.len() + 2 * ENTRY_BYTES {
@@ -124,13 +124,13 @@ fn each_case_has_its_record() {
 fn a_record_changes_nothing_else() {
     let (mut recorded, mut refused) = (0, 0);
     let smallest = smallest::all().into_iter();
-    let smallest = smallest.map(|case| (case.sheet, Asked::largest()));
-    for (sheet, asked) in smallest.chain(drawn()) {
+    let smallest = smallest.map(|case| (case.sheet, Query::largest()));
+    for (sheet, query) in smallest.chain(drawn()) {
         for (runner, checks) in WAYS {
-            let (told, left) = record(runner, &sheet, &asked, checks, 64);
-            let request = request(&asked, checks);
-            let mut cells = vec![0; asked.cell_bytes];
-            let mut posts = vec![0; asked.posts];
+            let (told, left) = record(runner, &sheet, &query, checks, 64);
+            let request = request(&query, checks);
+            let mut cells = vec![0; query.cell_bytes];
+            let mut posts = vec![0; query.posts];
             let plain = match runner {
                 Runner::Eager => run_eager(&sheet, &request, &mut cells, &mut posts),
                 Runner::Lazy => {
@@ -159,13 +159,13 @@ fn any_two_runners_have_one_record() {
     let (mut decided, mut cut) = (0, 0);
     let cases = recorded::all().into_iter();
     let cases = cases.map(|case| (case.sheet, case.request));
-    for (index, (sheet, asked)) in cases.chain(drawn()).enumerate() {
+    for (index, (sheet, query)) in cases.chain(drawn()).enumerate() {
         let rng = &mut Rng::for_item(!SEED, index as u64);
         let length = rng.below(100);
-        for checks in [Checks::InForce, Checks::PassedOver] {
-            let (eager, office) = record(Runner::Eager, &sheet, &asked, checks, AMPLE);
-            let (lazy, same) = record(Runner::Lazy, &sheet, &asked, checks, AMPLE);
-            let (short, beginning) = record(Runner::Lazy, &sheet, &asked, checks, length);
+        for checks in [Checks::Enforced, Checks::Skipped] {
+            let (eager, office) = record(Runner::Eager, &sheet, &query, checks, AMPLE);
+            let (lazy, same) = record(Runner::Lazy, &sheet, &query, checks, AMPLE);
+            let (short, beginning) = record(Runner::Lazy, &sheet, &query, checks, length);
             assert_eq!((eager, &office), (lazy, &same), "{}", hex(&sheet));
             let (Ok(eager), Ok(short)) = (eager, short) else {
                 continue;
@@ -189,9 +189,9 @@ fn any_two_runners_have_one_record() {
 #[test]
 fn the_last_entry_of_a_refused_check_is_its_no() {
     let mut refused = 0;
-    for (sheet, asked) in drawn() {
+    for (sheet, query) in drawn() {
         for runner in [Runner::Eager, Runner::Lazy] {
-            let (told, left) = record(runner, &sheet, &asked, Checks::InForce, AMPLE);
+            let (told, left) = record(runner, &sheet, &query, Checks::Enforced, AMPLE);
             let Ok(told) = told else {
                 continue;
             };

@@ -540,7 +540,7 @@ fn has_run(before: &Unit, after: &Unit, sheet: &[u8]) {
         start: &[],
         calls,
         open_calls: MAX_OPEN_CALLS,
-        checks: Checks::InForce,
+        checks: Checks::Enforced,
     };
     let mut lent = before.clone();
     let run = run_eager(sheet, &request, &mut lent.cells, &mut lent.posts);

@@ -38,7 +38,7 @@ fn requests_turned_back() {
             start,
             calls,
             open_calls,
-            checks: Checks::InForce,
+            checks: Checks::Enforced,
         };
         eager(&sheet, request, cells, posts)
             .err()

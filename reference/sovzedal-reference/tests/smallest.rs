@@ -18,7 +18,7 @@ fn told(case: &Smallest) -> u32 {
         start: &case.request.start,
         calls: case.request.calls,
         open_calls: case.request.open_calls,
-        checks: Checks::InForce,
+        checks: Checks::Enforced,
     };
     let mut cells = vec![0; case.request.cell_bytes];
     let mut posts = vec![0; case.request.posts];

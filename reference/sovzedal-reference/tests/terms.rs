@@ -1,7 +1,7 @@
 //! Single terms of a sheet: what is told of each where it stands.
 
 use sheets::pieces;
-use sovzedal_reference::{decode, judge_term, piece, typecheck};
+use sovzedal_reference::{decode, infer_term, piece, typecheck};
 use sovzedal_reference::{Accepted, Cause, Refusal, Term};
 
 /// Every term of an accepted sheet has what the judge says of it there, and the
@@ -15,12 +15,12 @@ fn terms_of_an_accepted_sheet_are_typed() {
         };
         accepted_sheets += 1;
         for id in 0..=accepted.sheet.root() {
-            let told = judge_term(&case.sheet, id.into()).expect("a type");
+            let told = infer_term(&case.sheet, id.into()).expect("a type");
             let judged = accepted.judgement(id);
             assert_eq!((told.ty, told.needs), (judged.ty, judged.needs));
             assert_eq!(told.principal.is_none(), id == accepted.sheet.root());
         }
-        let root = judge_term(&case.sheet, accepted.sheet.root().into()).expect("a type");
+        let root = infer_term(&case.sheet, accepted.sheet.root().into()).expect("a type");
         let verdict = typecheck(&case.sheet).expect("accepted");
         assert_eq!((root.ty, root.needs), (verdict.ty, verdict.needs));
     }
@@ -35,7 +35,7 @@ fn a_piece_is_refused_where_it_stands() {
     for case in pieces::all() {
         let sheet = decode(&case.sheet).expect("readable");
         let Some(told) = piece(&case.sheet).expect("readable") else {
-            let root = judge_term(&case.sheet, sheet.root().into());
+            let root = infer_term(&case.sheet, sheet.root().into());
             assert!(root.is_ok(), "{root:?}");
             continue;
         };
@@ -44,9 +44,9 @@ fn a_piece_is_refused_where_it_stands() {
             cause: told.fault,
             place: told.term.into(),
         };
-        assert_eq!(judge_term(&case.sheet, told.term.into()), Err(fault));
+        assert_eq!(infer_term(&case.sheet, told.term.into()), Err(fault));
         for child in sheet.term(told.term).children() {
-            assert!(judge_term(&case.sheet, child.into()).is_ok());
+            assert!(infer_term(&case.sheet, child.into()).is_ok());
         }
     }
     assert!(pieces_told > 3);
@@ -62,7 +62,7 @@ fn the_nearest_sign_tells_the_principal() {
             let Term::Sign { principal, inner } = sheet.term(id) else {
                 continue;
             };
-            if let Ok(told) = judge_term(&case.sheet, inner.into()) {
+            if let Ok(told) = infer_term(&case.sheet, inner.into()) {
                 assert_eq!(told.principal, Some(principal));
                 signs += 1;
             }
@@ -81,10 +81,10 @@ fn a_number_past_the_last_term_is_37() {
     for case in pieces::all() {
         let terms = decode(&case.sheet).expect("readable").terms.len() as u32;
         for number in [terms, terms + 1, 1 << 16, u32::MAX] {
-            assert_eq!(judge_term(&case.sheet, number), Err(no_term));
+            assert_eq!(infer_term(&case.sheet, number), Err(no_term));
         }
     }
     // The reader's refusals come first.
-    let unreadable = judge_term(&[], 0).expect_err("a refusal");
+    let unreadable = infer_term(&[], 0).expect_err("a refusal");
     assert_eq!(unreadable.cause, Cause::CutShort);
 }

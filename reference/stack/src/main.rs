@@ -8,7 +8,7 @@
 mod paint;
 
 use differential::{
-    Asked, Board, Buffers, Entry, Implementation, Library, Ranging, Recording, Reference, Shipped,
+    Board, Buffers, Entry, Implementation, Library, Query, Ranging, Recording, Reference, Shipped,
     Unit, Why, ANSWER_NUMBERS, RECORD_NUMBERS,
 };
 use sheets::extremes::{costly_branches, costly_fault, costly_need, deep_calls, deep_need};
@@ -184,14 +184,14 @@ fn used_by<I: Implementation>(sheet: &[u8], entry: Entry, open_calls: u32) -> us
         ..Request::largest().with_start(&[0, u32::MAX])
     };
     let mut buffers = Buffers::random(&mut Rng::new(0), entry, &request, ANSWER_NUMBERS);
-    let asked = Asked {
+    let query = Query {
         entry,
         sheet,
         request: &request,
         enforce: 1,
     };
     paint::stack_used(|| {
-        asked.of::<I>(&mut buffers);
+        query.of::<I>(&mut buffers);
     })
 }
 
@@ -201,15 +201,15 @@ fn used_to_record<I: Implementation>(sheet: &[u8], entry: Entry, open_calls: u32
         open_calls,
         ..Request::largest().with_start(&[0, u32::MAX])
     };
-    let asked = Asked {
+    let query = Query {
         entry,
         sheet,
         request: &request,
         enforce: 1,
     };
-    let mut recording = Recording::random(&mut Rng::new(0), &asked, 1 << 16, RECORD_NUMBERS);
+    let mut recording = Recording::random(&mut Rng::new(0), &query, 1 << 16, RECORD_NUMBERS);
     paint::stack_used(|| {
-        recording.ask::<I>(&asked);
+        recording.ask::<I>(&query);
     })
 }
 

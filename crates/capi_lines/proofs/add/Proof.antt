@@ -1,7 +1,7 @@
 -- `add` returns 3 and leaves everything as it was where the state has another length than 102 (other-size) or the list is shorter than eight
 -- (too-short). Else the state is as `keep_added` leaves it, and `put` leaves the reply (add-given).
 use borrow.Author.Needs.{needs}
-use Rattle.lines.specs.Answers.{jobOf}
+use Rattle.queues.specs.Answers.{jobOf}
 use Rattle.replies.specs.Laws.{other-size, too-short}
 use Rattle.capi_lines.specs.States.{stateNumbers}
 use Rattle.capi_lines.proofs.EntryLaws.{add-away, add-given}

@@ -5,7 +5,7 @@ use native.Mathlib.Omega.{arith}
 use borrow.Author.Needs.{needs}
 use mathlib.Core.List.{[]}
 use Rattle.interp.specs.Answers.{buffersOf}
-use Rattle.lines.specs.Answers.{linesModel}
+use Rattle.queues.specs.Answers.{linesModel}
 use Rattle.replies.specs.Laws.{other-size, too-short}
 use Rattle.capi_lines.specs.States.{stateNumbers}
 use Rattle.capi_lines.proofs.EntryLaws.{serve-away, serve-given, small-answer}

@@ -21,12 +21,14 @@ tell-requires : tie.Need-tell-requires
 tell-requires c κs =
     let at-record-eager = c .before .before .before .before .before .before .before in
     let at-if1 = at-record-eager .before .before .before .before in
-    let start = at-if1 .before .before .before .before .before .before .before in (
-      tellable (start .args .sheet .now) (requestOf eager (enforces (start .args .enforce)) (start .args .start .now) (start .args .calls) (start .args .depth))
-          (buffersOf (start .args .cells .now) (start .args .posts .now) []) (start .args .noted .now) (at-record-eager .record-eager .result)
-          (at-record-eager .record-eager .ensures),
-      at-if1 .if1 .left,
-    )
+    let start = at-if1 .before .before .before .before .before .before .before in
+    let asked = requestOf eager (enforces (start .args .enforce)) (start .args .start .now) (start .args .calls) (start .args .depth) in
+    let lent = buffersOf (start .args .cells .now) (start .args .posts .now) [] in
+    record {
+      tellable = tellable (start .args .sheet .now) asked lent (start .args .noted .now) (at-record-eager .record-eager .result)
+          (at-record-eager .record-eager .ensures);
+      room = at-if1 .if1 .left;
+    }
 
 same-length : tie.Need-same-length
 same-length c = search needs

@@ -8,15 +8,15 @@ use Rattle.capi_record.proofs.tell.Statement.{statement}
 use Rattle.capi_record.proofs.tell.Tie as tie
 
 of-run-requires : tie.Need-of-run-requires
-of-run-requires c κs = c .before .pre .0 .counts-small
+of-run-requires c κs = c .before .pre .tellable .counts-small
 
 put-requires : tie.Need-put-requires
-put-requires c κs = omega (arith, c .before .before .before .pre .1)
+put-requires c κs = omega (arith, c .before .before .before .pre .room)
 
 cast-answer : tie.Need-cast-answer
 cast-answer c =
     let start = c .before .before .before .before .before .before .before in
-    omega (arith, start .pre .0 .entries-small)
+    omega (arith, start .pre .tellable .entries-small)
 
 slice-write-answer : tie.Need-slice-write-answer
 slice-write-answer c = search needs
@@ -28,7 +28,7 @@ returns : tie.Need-returns
 returns c =
     let at-of-run = c .before .before .before .before .before in
     let start = at-of-run .before .before in
-    in-nine (start .args .answer .now) (start .pre .1) (runReply (runModel (start .args .r .run))) (run-eight (runModel (start .args .r .run)))
+    in-nine (start .args .answer .now) (start .pre .room) (runReply (runModel (start .args .r .run))) (run-eight (runModel (start .args .r .run)))
     (start .args .r .entries) (at-of-run .of-run .ensures) (c .before .before .before .put .ensures)
 
 pub tell-spec : {M : Type 1} → statement M

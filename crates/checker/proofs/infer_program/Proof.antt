@@ -12,7 +12,7 @@ sub-root : tie.Need-sub-root
 sub-root c = omega (arith, some-terms (c .before .pre))
 
 infer-requires : tie.Need-infer-requires
-infer-requires c κs = (root-ready (c .before .before .pre) _ refl, known-none _ _ refl)
+infer-requires c κs = record { ready = root-ready (c .before .before .pre) _ refl; known = known-none _ _ refl }
 
 conclude-requires : tie.Need-conclude-requires
 conclude-requires c κs = search needs

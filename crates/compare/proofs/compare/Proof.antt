@@ -33,11 +33,11 @@ returns-2 c =
 place-requires : tie.Need-place-requires
 place-requires c κs =
     let at-well-formed2 = c .before in
-    let at-well-formed = at-well-formed2 .before .before in (
-      sym (at-well-formed .well-formed .ensures) ∙ not-false (at-well-formed .well-formed .result) (c .before .before .if1 .left),
-      sym
-          (at-well-formed2 .well-formed2 .ensures) ∙ not-false (at-well-formed2 .well-formed2 .result) (c .if2 .left),
-    )
+    let at-well-formed = at-well-formed2 .before .before in
+    record {
+      of-unit = sym (at-well-formed .well-formed .ensures) ∙ not-false (at-well-formed .well-formed .result) (c .before .before .if1 .left);
+      of-office = sym (at-well-formed2 .well-formed2 .ensures) ∙ not-false (at-well-formed2 .well-formed2 .result) (c .if2 .left);
+    }
 
 returns-3 : tie.Need-returns-3
 returns-3 c =

@@ -31,12 +31,13 @@ same-requires : tie.Need-same-requires Inv-loop μ-loop
 same-requires c κs =
     let at-loop-test = c .before in
     let at-loop = at-loop-test .before in
-    let start = at-loop .before .before .before in (
-      unit-entry (start .args .unit .now) (start .args .office .now) (start .pre .0) (start .pre .1) (at-loop .loop .i) (at-loop .loop .j) (at-loop .loop .inv)
-          (c .if1 .left) (at-loop-test .loop-test .taken),
-      office-entry (start .args .unit .now) (start .args .office .now) (start .pre .0) (start .pre .1)
-          (at-loop .loop .i) (at-loop .loop .j) (at-loop .loop .inv) (c .if1 .left) (at-loop-test .loop-test .taken),
-    )
+    let start = at-loop .before .before .before in
+    record {
+      of-unit = unit-entry (start .args .unit .now) (start .args .office .now) (start .pre) (at-loop .loop .i) (at-loop .loop .j) (at-loop .loop .inv)
+          (c .if1 .left) (at-loop-test .loop-test .taken);
+      of-office = office-entry (start .args .unit .now) (start .args .office .now) (start .pre)
+          (at-loop .loop .i) (at-loop .loop .j) (at-loop .loop .inv) (c .if1 .left) (at-loop-test .loop-test .taken);
+    }
 
 add-i : tie.Need-add-i Inv-loop μ-loop
 add-i c =
@@ -44,7 +45,7 @@ add-i c =
     let start = at-loop .before .before .before in
     omega (
       arith,
-      unit-entry (start .args .unit .now) (start .args .office .now) (start .pre .0) (start .pre .1) (at-loop .loop .i) (at-loop .loop .j)
+      unit-entry (start .args .unit .now) (start .args .office .now) (start .pre) (at-loop .loop .i) (at-loop .loop .j)
           (at-loop .loop .inv) (c .before .before .if1 .left) (c .before .before .before .loop-test .taken) .inside,
     )
 
@@ -54,7 +55,7 @@ add-j c =
     let start = at-loop .before .before .before in
     omega (
       arith,
-      office-entry (start .args .unit .now) (start .args .office .now) (start .pre .0) (start .pre .1) (at-loop .loop .i) (at-loop .loop .j)
+      office-entry (start .args .unit .now) (start .args .office .now) (start .pre) (at-loop .loop .i) (at-loop .loop .j)
           (at-loop .loop .inv) (c .before .before .if1 .left) (c .before .before .before .loop-test .taken) .inside,
     )
 
@@ -64,7 +65,7 @@ loop-less c =
     let start = at-loop .before .before .before in
     omega (
       arith,
-      office-entry (start .args .unit .now) (start .args .office .now) (start .pre .0) (start .pre .1) (at-loop .loop .i) (at-loop .loop .j)
+      office-entry (start .args .unit .now) (start .args .office .now) (start .pre) (at-loop .loop .i) (at-loop .loop .j)
           (at-loop .loop .inv) (c .before .before .if1 .left) (c .before .before .before .loop-test .taken) .inside,
     )
 
@@ -75,9 +76,9 @@ loop-again c =
     let at-loop-test = at-if1 .before in
     let at-loop = at-loop-test .before in
     let start = at-loop .before .before .before in
-    ⊎-elim (λ w. placing-same (start .args .unit .now) (start .args .office .now) (start .pre .0) (start .pre .1) (at-loop .loop .i) (at-loop .loop .j)
+    ⊎-elim (λ w. placing-same (start .args .unit .now) (start .args .office .now) (start .pre) (at-loop .loop .i) (at-loop .loop .j)
     (at-loop .loop .inv) (at-if1 .if1 .left) (at-loop-test .loop-test .taken) (sym (at-same .same .ensures) ∙ w .0 .taken) (w .1))
-    (λ w. placing-other (start .args .unit .now) (start .args .office .now) (start .pre .0) (start .pre .1) (at-loop .loop .i) (at-loop .loop .j)
+    (λ w. placing-other (start .args .unit .now) (start .args .office .now) (start .pre) (at-loop .loop .i) (at-loop .loop .j)
     (at-loop .loop .inv) (at-if1 .if1 .left) (at-loop-test .loop-test .taken) (sym (at-same .same .ensures) ∙ w .0 .left) (w .1)) (c .if2 .came)
 
 returns-2 : tie.Need-returns-2 Inv-loop μ-loop

@@ -16,7 +16,7 @@ shared-slice-read-if1-2 c = search needs
 returns : tie.Need-returns
 returns c =
     let start = c .before .before .before in
-    other-bytes (start .args .unit .now) (start .args .i) (start .args .office .now) (start .args .j) (start .pre .0) (start .pre .1)
+    other-bytes (start .args .unit .now) (start .args .i) (start .args .office .now) (start .args .j) (start .pre .of-unit) (start .pre .of-office)
     (omega (arith, c .before .before .shared-slice-known .given (start .args .i + 1)))
     (omega (arith, c .before .shared-slice-known2 .given (start .args .j + 1))) (λ q. c .if1 .taken (q .first))
 
@@ -37,7 +37,7 @@ returns-2 c =
     let at-shared-slice-known2 = c .before .before .before .before in
     let at-shared-slice-known = at-shared-slice-known2 .before in
     let start = at-shared-slice-known .before in
-    other-bytes (start .args .unit .now) (start .args .i) (start .args .office .now) (start .args .j) (start .pre .0) (start .pre .1)
+    other-bytes (start .args .unit .now) (start .args .i) (start .args .office .now) (start .args .j) (start .pre .of-unit) (start .pre .of-office)
     (omega (arith, at-shared-slice-known .shared-slice-known .given (start .args .i + 1)))
     (omega (arith, at-shared-slice-known2 .shared-slice-known2 .given (start .args .j + 1))) (λ q. c .if2 .taken (q .second))
 
@@ -58,7 +58,7 @@ returns-3 c =
     let at-shared-slice-known2 = c .before .before .before .before .before .before .before in
     let at-shared-slice-known = at-shared-slice-known2 .before in
     let start = at-shared-slice-known .before in
-    other-bytes (start .args .unit .now) (start .args .i) (start .args .office .now) (start .args .j) (start .pre .0) (start .pre .1)
+    other-bytes (start .args .unit .now) (start .args .i) (start .args .office .now) (start .args .j) (start .pre .of-unit) (start .pre .of-office)
     (omega (arith, at-shared-slice-known .shared-slice-known .given (start .args .i + 1)))
     (omega (arith, at-shared-slice-known2 .shared-slice-known2 .given (start .args .j + 1))) (λ q. c .if3 .taken (q .third))
 
@@ -81,7 +81,7 @@ returns-4 c =
     let at-shared-slice-known2 = at-if1 .before in
     let at-shared-slice-known = at-shared-slice-known2 .before in
     let start = at-shared-slice-known .before in
-    last-byte (start .args .unit .now) (start .args .i) (start .args .office .now) (start .args .j) (start .pre .0) (start .pre .1)
+    last-byte (start .args .unit .now) (start .args .i) (start .args .office .now) (start .args .j) (start .pre .of-unit) (start .pre .of-office)
     (omega (arith, at-shared-slice-known .shared-slice-known .given (start .args .i + 1)))
     (omega (arith, at-shared-slice-known2 .shared-slice-known2 .given (start .args .j + 1))) (at-if1 .if1 .left) (at-if2 .if2 .left)
     (c .before .before .if3 .left)

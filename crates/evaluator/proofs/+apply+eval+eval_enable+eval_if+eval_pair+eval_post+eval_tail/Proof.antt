@@ -12,7 +12,10 @@ use lib.Dec.{ltb}
 use Rattle.machine.specs.Store.{shapeOf}
 use Rattle.evaluator.specs.Contracts.{workLeft}
 use Rattle.evaluator.proofs.ContractLaws.{ends, ends-same, goes-on, stays, follows, same-cells}
-use Rattle.evaluator.proofs.ShapeLaws.{node-of, node-leaf, node-post, pair-of, nine-or-ten, first-below, second-below, third-below, privilege-below, guard-right, lower, tail-of, tail-stops, next-below, tail-goes, boolean-is, number-is, variable-is, function-is, operand-below, pair-is, pair-applies, pair-operates, post-is, if-is, enable-is, branch-stuck, branch-undecided, branch-to, chosen-below, apply-stuck, apply-deep, apply-spent, apply-full, apply-runs, one-call-less, operate-calls, post-done, post-calls}
+use Rattle.evaluator.proofs.ShapeLaws.{node-of, node-leaf, node-post, boolean-is, number-is, variable-is, function-is, post-is, if-is, enable-is, pair-is}
+use Rattle.evaluator.proofs.ShapeLaws.{first-below, second-below, third-below, operand-below, next-below, chosen-below, privilege-below, lower, nine-or-ten}
+use Rattle.evaluator.proofs.ShapeLaws.{guard-right, tail-of, tail-stops, tail-goes, pair-of, pair-applies, pair-operates, branch-stuck, branch-undecided, branch-to}
+use Rattle.evaluator.proofs.ShapeLaws.{apply-stuck, apply-deep, apply-spent, apply-full, apply-runs, one-call-less, operate-calls, post-done, post-calls}
 use Rattle.stores.proofs.CellLaws.{bound-full}
 use Prim.Native.Nat.{ℕ, _<_}
 use borrow.Fn.Kinds.{In}

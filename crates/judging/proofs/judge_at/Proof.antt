@@ -8,7 +8,7 @@ use Rattle.judging.proofs.judge_at.Statement.{statement}
 use Rattle.judging.proofs.judge_at.Tie as tie
 
 infer-requires : tie.Need-infer-requires
-infer-requires c κs = (c .before .before .pre, known-none _ _ refl)
+infer-requires c κs = record { ready = c .before .before .pre; known = known-none _ _ refl }
 
 enum-known-j : tie.Need-enum-known-j
 enum-known-j c = search needs

@@ -79,11 +79,9 @@ put-sheet-requires : tie.Need-put-sheet-requires
 put-sheet-requires c κs =
     let at-number-terms = c .before .before .before .before .before in
     let at-number-types = at-number-terms .before in
-    let start = at-number-types .before .before .before .before .before in (
-      sheet-ready (start .pre) (at-number-types .number-types .ensures) (at-number-terms .number-terms .ensures),
-      omega
-          (arith, size-is (sheet-ready (start .pre) (at-number-types .number-types .ensures) (at-number-terms .number-terms .ensures)), c .before .if2 .left),
-    )
+    let start = at-number-types .before .before .before .before .before in
+    let ready = sheet-ready (start .pre) (at-number-types .number-types .ensures) (at-number-terms .number-terms .ensures) in
+    record { ready = ready; room = omega (arith, size-is ready, c .before .if2 .left) }
 
 same-length : tie.Need-same-length
 same-length c = search needs

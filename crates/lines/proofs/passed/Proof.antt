@@ -2,8 +2,8 @@
 -- them, which is required.
 use native.Mathlib.Omega.{arith}
 use borrow.Author.Needs.{needs}
-use Rattle.lines.specs.Answers.{queueModel, linesModel}
-use Rattle.lines.proofs.LineLaws.{made-room, by-refused, by-ran}
+use Rattle.queues.specs.Answers.{queueModel, linesModel}
+use Rattle.lines.proofs.ServeLaws.{made-room, by-refused, by-ran}
 use Rattle.lines.proofs.passed.Statement.{statement}
 use Rattle.lines.proofs.passed.Tie as tie
 

@@ -5,7 +5,7 @@ use borrow.Author.Needs.{needs}
 use borrow.Author.Tests.{leb-true}
 use lib.ListN.{length}
 use Prim.Native.Nat.{_+_}
-use Rattle.lines.specs.Answers.{jobModel}
+use Rattle.queues.specs.Answers.{jobModel}
 use Rattle.lines.proofs.RunLaws.{job-run}
 use Rattle.lines.proofs.run_job.Statement.{statement}
 use Rattle.lines.proofs.run_job.Tie as tie

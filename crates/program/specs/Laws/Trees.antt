@@ -4,6 +4,7 @@ use mathlib.Core.List.{List}
 use mathlib.Core.Option.{Option}
 use mathlib.Core.Path.{_≡_, refl, sym, ap, subst}
 use Prim.Native.Nat.{ℕ, zero, suc, _<_, _≤_}
+use native.Mathlib.Nat.{le-refl}
 use native.Mathlib.Omega.{arith}
 use lib.Dec.{eqb}
 use borrow.Author.Tests.{ltb-true, leb-true, eqb-true, eq-eqb}
@@ -128,8 +129,8 @@ every-any q (test at p y n) = (q (test at p y n), every-any q y, every-any q n)
 every-any q (binary at op a b) = (q (binary at op a b), every-any q a, every-any q b)
 every-any q (post at ch g c) = (q (post at ch g c), every-any q c)
 
--- in a sheet it is enough that the tree of each number has it
-module _ (s : List ℕ) (w : WellFormed s) (Q : Term → Type 0) (each : (t : ℕ) → t < terms s → Q (tree s t)) where
+-- in a sheet it is enough that the tree of each number has it, or of each number below a bound for the trees of these
+module _ (s : List ℕ) (w : WellFormed s) (Q : Term → Type 0) (n : ℕ) (few : n ≤ terms s) (each : (t : ℕ) → t < n → Q (tree s t)) where
   node-every : (G : ℕ → Option ℕ) (k : Kind) (t x a b c : ℕ) (f : ℕ → Term) → Below (format k) t a b c → ((y : ℕ) → y < t → Every Q (f y))
       → Q (node G k t x a b c f) → Every Q (node G k t x a b c f)
   node-every G Boolean t x a b c f v h q = q
@@ -148,18 +149,19 @@ module _ (s : List ℕ) (w : WellFormed s) (Q : Term → Type 0) (each : (t : �
   node-every G Less t x a b c f v h q = (q, h a (v .first-below refl), h b (v .second-below refl))
   node-every G Post t x a b c f v h q = (q, h a (v .first-below refl))
 
-  every-below : (k t : ℕ) → t < terms s → t < k → Every Q (tree s t)
+  every-below : (k t : ℕ) → t < n → t < k → Every Q (tree s t)
   every-below zero t l h = absurd (omega arith)
   every-below (suc k) t l h =
-      subst (Every Q) (sym (tree-node s w t l))
-      (node-every (guardOf s) (kindOf (kindByte s t)) t (small s t) (first s t) (second s t) (third s t) (tree s) (below s w t l)
-      (λ y g. every-below k y (omega arith) (omega arith)) (subst Q (tree-node s w t l) (each t l)))
+      let inside : t < terms s = omega (arith, few, l) in
+      subst (Every Q) (sym (tree-node s w t inside))
+      (node-every (guardOf s) (kindOf (kindByte s t)) t (small s t) (first s t) (second s t) (third s t) (tree s) (below s w t inside)
+      (λ y g. every-below k y (omega arith) (omega arith)) (subst Q (tree-node s w t inside) (each t l)))
 
-  pub tree-every : (t : ℕ) → t < terms s → Every Q (tree s t)
+  pub tree-every : (t : ℕ) → t < n → Every Q (tree s t)
   tree-every t l = every-below (suc t) t l (omega arith)
 
-  pub program-every : Every Q (program s)
-  program-every = tree-every (root s) (omega (arith, w .terms-least))
+pub program-every : (s : List ℕ) → WellFormed s → (Q : Term → Type 0) → ((t : ℕ) → t < terms s → Q (tree s t)) → Every Q (program s)
+program-every s w Q each = tree-every s w Q (terms s) (le-refl (terms s)) each (root s) (omega (arith, w .terms-least))
 
 -- ---- 003's standard expressions (its Definition 2.1): the body of every function is signed. Here its type is also a function type.
 pub data Signed : Term → Type 0 where

@@ -9,7 +9,7 @@ use Rattle.ranges.proofs.run_admitted.Tie as tie
 pairs-ok-requires : tie.Need-pairs-ok-requires
 pairs-ok-requires c κs =
     let start = c .before .before .before .before .before in
-    (start .pre .well-formed, start .pre .counts-are)
+    record { well-formed = start .pre .well-formed; counts-are = start .pre .counts-are }
 
 returns : tie.Need-returns
 returns c =
@@ -20,7 +20,7 @@ returns c =
 evaluate-requires : tie.Need-evaluate-requires
 evaluate-requires c κs =
     let start = c .before .before .before .before .before .before .before .before .before in
-    (start .pre, sym (c .before .before .before .pairs-ok .ensures) ∙ not-false _ (c .before .before .if1 .left))
+    record { cleared = start .pre; pairs-ok = sym (c .before .before .before .pairs-ok .ensures) ∙ not-false _ (c .before .before .if1 .left) }
 
 same-length : tie.Need-same-length
 same-length c = search needs

@@ -1,18 +1,17 @@
 -- `deliver` leaves a place that is shorter than the text as it was (too-short); else it copies the n bytes of the text to the front (fitting).
 -- The invariant: the first i bytes are the draft's, the others as they were, the length is unchanged, and i is at most n; copy-more makes it one byte more.
 -- The measure is n - i, the number of bytes left, and falls since each turn adds 1 to i.
-use mathlib.Core.List.{_++_}
-use mathlib.Core.Path.{_≡_, refl}
-use Prim.Native.Nat.{_-_, _≤_}
+use mathlib.Core.Path.{refl}
+use Prim.Native.Nat.{_-_}
 use native.Mathlib.Omega.{arith}
-use lib.ListN.{length, take, drop, length-set}
+use lib.ListN.{length-set}
 use Rattle.program.specs.Laws.Lists.{sized, copy-more}
-use Rattle.report.proofs.ReportLaws.{too-short, fitting}
+use Rattle.report.proofs.ReportLaws.{Copied, too-short, fitting}
 use Rattle.report.proofs.deliver.Statement.{statement}
 use Rattle.report.proofs.deliver.Tie as tie
 
 abbrev Inv-loop : tie.InvT-loop
-Inv-loop text₀ d n i₀ text i = (i ≤ n) × ((length text ≡ length text₀) × (text ≡ take i (d .bytes) ++ drop i text₀))
+Inv-loop text₀ d n i₀ text i = Copied (d .bytes) text₀ text n i
 
 abbrev μ-loop : tie.MeasureT-loop
 μ-loop text₀ d n i₀ text i = n - i
@@ -23,13 +22,13 @@ returns c =
     too-short (start .args .t1) (start .args .text .now) (sized (start .args .t1 .bytes) 224 (start .good .0 .1 .1 .0 .1 .0 .1)) (start .pre) (c .if1 .taken)
 
 loop-holds : tie.Need-loop-holds Inv-loop μ-loop
-loop-holds c = (omega arith, (refl, refl))
+loop-holds c = record { below = omega arith; long = refl; copied = refl }
 
 element-copy-out-text : tie.Need-element-copy-out-text Inv-loop μ-loop
 element-copy-out-text c = omega (arith, c .before .before .before .pre)
 
 slice-write-text : tie.Need-slice-write-text Inv-loop μ-loop
-slice-write-text c = omega (arith, c .before .before .loop .inv .1 .0, c .before .before .before .if1 .left)
+slice-write-text c = omega (arith, c .before .before .loop .inv .long, c .before .before .before .if1 .left)
 
 add-i : tie.Need-add-i Inv-loop μ-loop
 add-i c =
@@ -42,25 +41,24 @@ loop-less c = omega arith
 loop-again : tie.Need-loop-again Inv-loop μ-loop
 loop-again c =
     let at-loop = c .before .before in
-    let start = at-loop .before .before in (
-      omega arith,
-      (
-        simp length-set (at-loop .loop .inv .1 .0),
-        copy-more (start .args .t1 .bytes) (start .args .text .now) (at-loop .loop .text)
-            (at-loop .loop .i) (omega (arith, sized (start .args .t1 .bytes) 224 (start .good .0 .1 .1 .0 .1 .0 .1), start .pre))
-            (omega (arith, c .before .before .before .if1 .left)) (at-loop .loop .inv .1 .1),
-      ),
-    )
+    let start = at-loop .before .before in
+    record {
+      below = omega arith;
+      long = simp length-set (at-loop .loop .inv .long);
+      copied = copy-more (start .args .t1 .bytes) (start .args .text .now) (at-loop .loop .text)
+          (at-loop .loop .i) (omega (arith, sized (start .args .t1 .bytes) 224 (start .good .0 .1 .1 .0 .1 .0 .1), start .pre))
+          (omega (arith, c .before .before .before .if1 .left)) (at-loop .loop .inv .copied);
+    }
 
 same-length : tie.Need-same-length Inv-loop μ-loop
-same-length c = c .before .loop .inv .1 .0
+same-length c = c .before .loop .inv .long
 
 returns-2 : tie.Need-returns-2 Inv-loop μ-loop
 returns-2 c =
     let at-loop = c .before in
     let start = at-loop .before .before in
     fitting (start .args .t1) (start .args .text .now) (sized (start .args .t1 .bytes) 224 (start .good .0 .1 .1 .0 .1 .0 .1)) (start .pre) (at-loop .loop .i)
-    (at-loop .loop .text) (at-loop .loop .inv .0) (c .loop-test .left) (c .before .before .if1 .left) (at-loop .loop .inv .1 .1)
+    (at-loop .loop .text) (at-loop .loop .inv .below) (c .loop-test .left) (c .before .before .if1 .left) (at-loop .loop .inv .copied)
 
 pub deliver-spec : {M : Type 1} → statement M
 deliver-spec =

@@ -266,7 +266,17 @@ module _ (T : Types) (A : ℕ → ℕ) (base : Base T) where
   enter-holds : (r : Bool) (ty : ℕ) (body : Term) (env : Env) (φ : ℕ) (h : HasType (closure r ty body env) φ) (w : Value) → HasType w (T .arg ty)
       → Holds (entered r ty body env w) (inner r ty (h .Γ))
   enter-holds true ty body env φ h w hw =
-      (hw, (record { Γ = h .Γ; N = h .N; function = h .function; holds = h .holds; derives = h .derives; within = h .within; standard = h .standard; below = sub-same }, h .holds))
+      let again : HasType (closure true ty body env) ty = record {
+        Γ = h .Γ;
+        N = h .N;
+        function = h .function;
+        holds = h .holds;
+        derives = h .derives;
+        within = h .within;
+        standard = h .standard;
+        below = sub-same;
+      } in
+      (hw, (again, h .holds))
   enter-holds false ty body env φ h w hw = (hw, h .holds)
 
   apply-alike : (k : ℕ) → AlikeApplication (apply standard (eagerControl A) (plain true) k) (apply standard (eagerControl A) (plain false) k)

@@ -4,21 +4,21 @@ use mathlib.Core.Bool.{Bool, true, false, cond}
 use mathlib.Core.List.{List, [], _∷_, _++_}
 use mathlib.Core.Option.{Option, none, some, Option·none-ne-some}
 use mathlib.Core.Path.{_≡_, refl, sym, ap, _∙_, subst}
-use Prim.Native.Nat.{ℕ, _<_, _≤_}
+use Prim.Native.Nat.{ℕ, suc, _<_, _≤_}
 use native.Mathlib.Omega.{arith}
 use lib.Dec.{eqb}
 use borrow.Author.Tests.{eqb-true, eq-eqb}
 use Rattle.program.specs.Layout.{Types, terms, typesOf}
 use Rattle.program.specs.Terms.{Term, tree, program}
 use Rattle.program.specs.Laws.Readable.{WellFormed}
-use Rattle.program.specs.Laws.Trees.{Standard}
-use Rattle.typing.specs.Places.{Placed, placed, placedNumber, Among, among-first, among-later}
+use Rattle.program.specs.Laws.Trees.{tree-every, Standard}
+use Rattle.typing.specs.Places.{Placed, placed, numberOf, placedNumber, Among, among-first, among-later}
 use Rattle.typing.specs.Laws.Places.{tree-number}
 use Rattle.typing.specs.Faults.{Within, here, in-function, in-letrec-body, in-letrec-rest, in-call-function, in-call-argument, in-if-condition, in-if-yes, in-if-no, in-check, in-enable, in-sign, in-test-yes, in-test-no, in-left, in-right, in-post}
 use Rattle.subterms.specs.Smallest.{subterms}
 use Rattle.subterms.specs.Judging.{withNumber}
 use Rattle.subterms.specs.Claims.{Stands}
-use Rattle.subterms.specs.Laws.Subterms.{within-listed, listed-within}
+use Rattle.subterms.specs.Laws.Subterms.{within-listed, listed-within, within-every}
 use Rattle.subterms.specs.Laws.Pieces.{numbered}
 use Rattle.subterms.specs.Laws.Standing.{once}
 
@@ -113,6 +113,19 @@ module _ (s : List ℕ) (w : WellFormed s) where
       go : (o : Option Placed) → withNumber t all ≡ o → o ≡ none
       go none e = refl
       go (some x) e = let f = number-found t all e in absurd (omega (arith, h, listed-table t (f .listed) (f .number-is) .inside))
+
+  -- what stands in a term has no higher number than the term
+  pub number-above : (Γ : List ℕ) (n k t : ℕ) → k < terms s → k < t → withNumber t (subterms (typesOf s) Γ n (tree s k)) ≡ none
+  number-above Γ n k t l h = go (withNumber t (subterms (typesOf s) Γ n (tree s k))) refl
+    where
+      go : (o : Option Placed) → withNumber t (subterms (typesOf s) Γ n (tree s k)) ≡ o → o ≡ none
+      go none e = refl
+      go (some x) e =
+          let f = number-found t (subterms (typesOf s) Γ n (tree s k)) e in
+          let p = listed-within (typesOf s) Γ n (tree s k) (f .listed) in
+          let every = tree-every s w (λ (c : Term). numberOf c ≤ k) (suc k) l (λ j g. omega (arith, tree-number s j, g)) k (omega arith) in
+          let low = within-every (typesOf s) (λ (c : Term). numberOf c ≤ k) (p .within) every in
+          absurd (omega (arith, h, low, f .number-is, ap placedNumber (p .is)))
 
 -- ---- what the bytes give of the whole, they give of each term in it
 module _ (T : Types) where

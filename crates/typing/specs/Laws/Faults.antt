@@ -61,7 +61,8 @@ module _ {T : Types} {A : ℕ → ℕ} {Γ : List ℕ} {n : ℕ} {c : Term} wher
   self w = faulty (record { bindings = Γ; principal = n; part = c; within = here; wrong = w })
 
   -- branches of the types τ and ρ
-  branches-explained : (at τ ρ N : ℕ) → (subtype T τ ρ ≡ false → subtype T ρ τ ≡ false → Wrong T A Γ n 26 at c) → Explained T A Γ n c (joined at (wider T τ ρ) N)
+  branches-explained : (at τ ρ N : ℕ) → (subtype T τ ρ ≡ false → subtype T ρ τ ≡ false → Wrong T A Γ n 26 at c)
+      → Explained T A Γ n c (joined at (wider T τ ρ) N)
   unfolding wider
   branches-explained at τ ρ N h = go (subtype T τ ρ) (subtype T ρ τ) refl refl
     where
@@ -86,15 +87,19 @@ module _ (T : Types) (A : ℕ → ℕ) where
   explained Γ n (call at f a) = next-explained _ (explained Γ n f) (λ _ _ _ w. in-call-function w) λ φ N e.
       next-explained _ (explained Γ n a) (λ _ _ _ w. in-call-argument w) λ α M e′. require-explained (T .isFun φ) 24 at (λ h. self (not-a-function e e′ h)) λ h.
       require-explained (subtype T α (T .arg φ)) 25 at (λ h′. self (unfit-argument e e′ h h′)) λ _. well
-  explained Γ n (if at c y o) = next-explained _ (explained Γ n c) (λ _ _ _ w. in-if-condition w) λ σ N e. next-explained _ (explained Γ n y) (λ _ _ _ w. in-if-yes w) λ τ M e′.
+  explained Γ n (if at c y o) = next-explained _ (explained Γ n c) (λ _ _ _ w. in-if-condition w) λ σ N e.
+      next-explained _ (explained Γ n y) (λ _ _ _ w. in-if-yes w) λ τ M e′.
       next-explained _ (explained Γ n o) (λ _ _ _ w. in-if-no w) λ ρ K e″. lower-explained (eqb σ 0) 10 at (omega arith) λ h. branches-explained at τ ρ _ λ p q.
       unfit-if (e ∙ ap (λ (x : ℕ). typed x N) (eqb-true σ 0 h)) e′ e″ p q
   explained Γ n (check at p c) = next-explained _ (explained Γ n c) (λ _ _ _ w. in-check w) λ τ N e. well
   explained Γ n (enable at p c) = next-explained _ (explained Γ n c) (λ _ _ _ w. in-enable w) λ τ N e. well
-  explained Γ n (sign at m c) = next-explained _ (explained Γ m c) (λ _ _ _ w. in-sign w) λ τ N e. lower-explained (subset N (A m)) 11 at (omega arith) λ _. well
-  explained Γ n (test at p y o) = next-explained _ (explained Γ n y) (λ _ _ _ w. in-test-yes w) λ τ N e. next-explained _ (explained Γ n o) (λ _ _ _ w. in-test-no w) λ ρ M e′.
+  explained Γ n (sign at m c) = next-explained _ (explained Γ m c) (λ _ _ _ w. in-sign w) λ τ N e.
+      lower-explained (subset N (A m)) 11 at (omega arith) λ _. well
+  explained Γ n (test at p y o) = next-explained _ (explained Γ n y) (λ _ _ _ w. in-test-yes w) λ τ N e.
+      next-explained _ (explained Γ n o) (λ _ _ _ w. in-test-no w) λ ρ M e′.
       branches-explained at τ ρ _ λ q r. unfit-test e e′ q r
-  explained Γ n (binary at op a b) = next-explained _ (explained Γ n a) (λ _ _ _ w. in-left w) λ τ N e. next-explained _ (explained Γ n b) (λ _ _ _ w. in-right w) λ ρ M e′.
+  explained Γ n (binary at op a b) = next-explained _ (explained Γ n a) (λ _ _ _ w. in-left w) λ τ N e.
+      next-explained _ (explained Γ n b) (λ _ _ _ w. in-right w) λ ρ M e′.
       lower-explained (eqb τ 1 && eqb ρ 1) 10 at (omega arith) λ _. well
   explained Γ n (post at ch g c) = next-explained _ (explained Γ n c) (λ _ _ _ w. in-post w) λ τ N e. lower-explained (eqb τ 1) 10 at (omega arith) λ _. well
 

@@ -1,7 +1,7 @@
 //! What the sheets and runs have to do with channels and guards, and what has
 //! to happen.
 
-use differential::{Asked, Entry, Happened, ANSWER_NUMBERS};
+use differential::{Entry, Happened, Query, ANSWER_NUMBERS};
 use sheets::records::{CHANNELS, UNGUARDED};
 use sheets::request::{MAX_CALLS, MAX_CELL_BYTES, MAX_OPEN_CALLS, MAX_POSTS};
 use sheets::tree::Kind;
@@ -74,7 +74,7 @@ const EXPECTED_OF_RUNS: [&str; 4] = [
 
 /// A question, and what both implementations told.
 pub struct Told<'a> {
-    pub asked: &'a Asked<'a>,
+    pub query: &'a Query<'a>,
     pub returned: u32,
     pub answer: &'a [u32; ANSWER_NUMBERS],
     /// The list of posts after a run.
@@ -91,7 +91,7 @@ impl Told<'_> {
     }
 
     pub fn is_run(&self) -> bool {
-        matches!(self.asked.entry, Entry::RunEager | Entry::RunLazy)
+        matches!(self.query.entry, Entry::RunEager | Entry::RunLazy)
     }
 
     /// The entries of the posts made.
@@ -109,7 +109,7 @@ impl Counts {
             (REFUSED, 31) => self.count_bad_guard(told),
             (REFUSED, 1..=8) => self.count_unreadable(told),
             (REFUSED, 11 | 12) => self.count_needs(told),
-            (DONE, _) if told.asked.entry == Entry::Typecheck => self.count_accepted(told),
+            (DONE, _) if told.query.entry == Entry::Typecheck => self.count_accepted(told),
             (DONE | STOPPED, _) if told.is_run() => self.count_run(told),
             _ => {}
         }
@@ -134,7 +134,7 @@ impl Counts {
     }
 
     fn count_unreadable(&mut self, told: &Told) {
-        let (sheet, cause) = (told.asked.sheet, told.cause());
+        let (sheet, cause) = (told.query.sheet, told.cause());
         match cause {
             // Of several fields it may be another's fault that is told.
             1..=4 => match fault_of_tag_5(sheet) {
@@ -174,12 +174,12 @@ impl Counts {
 
     fn count_bad_guard(&mut self, told: &Told) {
         let happened = &mut self.0;
-        let Asked {
+        let Query {
             sheet,
             request,
             entry,
             ..
-        } = told.asked;
+        } = told.query;
         happened.count(by("31", *entry));
         happened.count(format!("31 at channel {}", told.place()));
         let guards = guards(sheet).expect("a sheet with guards");
@@ -207,7 +207,7 @@ impl Counts {
 
     /// Counts a need that is too much, if it is a guard's.
     fn count_needs(&mut self, told: &Told) {
-        let sheet = told.asked.sheet;
+        let sheet = told.query.sheet;
         if guards(sheet).is_none() {
             return;
         }
@@ -221,7 +221,7 @@ impl Counts {
 
     fn count_accepted(&mut self, told: &Told) {
         let happened = &mut self.0;
-        let bytes = told.asked.sheet;
+        let bytes = told.query.sheet;
         if guards(bytes).is_none() {
             return happened.count("version 1 accepted");
         }
@@ -243,15 +243,15 @@ impl Counts {
     }
 
     fn count_run(&mut self, told: &Told) {
-        if guards(told.asked.sheet).is_none() {
+        if guards(told.query.sheet).is_none() {
             return;
         }
-        let sheet = decode(told.asked.sheet).expect("a sheet that runs");
+        let sheet = decode(told.query.sheet).expect("a sheet that runs");
         self.count_posts(told, &sheet);
         if told.returned == DONE {
             return self
                 .0
-                .count(by("a run of version 2 ends", told.asked.entry));
+                .count(by("a run of version 2 ends", told.query.entry));
         }
         let term = told.place() as TermId;
         if let Term::Post { .. } = sheet.term(term) {
@@ -272,22 +272,22 @@ impl Counts {
             return;
         }
         happened.count_if(guarded < told.made().len(), "a guarded post among others");
-        if told.asked.enforce != 0 {
-            return happened.count(by("a guarded post passes", told.asked.entry));
+        if told.query.enforce != 0 {
+            return happened.count(by("a guarded post passes", told.query.entry));
         }
-        happened.count(by("a guarded post is passed over", told.asked.entry));
-        let stops = refused_at_a_post(told.asked, sheet);
+        happened.count(by("a guarded post is passed over", told.query.entry));
+        let stops = refused_at_a_post(told.query, sheet);
         happened.count_if(stops.is_some(), "passed over, a post that 17 would stop");
     }
 
     fn count_stop_at_post(&mut self, told: &Told, sheet: &Sheet, term: TermId) {
         let happened = &mut self.0;
-        let in_force = told.asked.enforce != 0;
+        let enforced = told.query.enforce != 0;
         let guard = guard_of(sheet, sheet.term(term));
         let is_full = told.made().len() == told.posts.len();
         match told.cause() {
             17 => {
-                happened.count(by("17 at a post", told.asked.entry));
+                happened.count(by("17 at a post", told.query.entry));
                 happened.count_if(!told.made().is_empty(), "17 at a post after posts");
                 happened.count_if(is_full, "17 at a post where 22 would follow");
             }
@@ -297,13 +297,13 @@ impl Counts {
                 };
                 happened.count("18 at a guarded post");
                 let may_use = sheet.authorised(signer(sheet, term)).contains(guard);
-                happened.count_if(in_force && !may_use, "18 at a post where 17 would follow");
+                happened.count_if(enforced && !may_use, "18 at a post where 17 would follow");
             }
-            22 if guard.is_some() && in_force => happened.count("22 at a guarded post"),
+            22 if guard.is_some() && enforced => happened.count("22 at a guarded post"),
             22 if guard.is_some() => {
                 happened.count("22 at a guarded post, passed over");
                 happened.count_if(
-                    refused_at_a_post(told.asked, sheet) == Some(term),
+                    refused_at_a_post(told.query, sheet) == Some(term),
                     "passed over, 22 at a post that 17 would stop",
                 );
             }
@@ -417,16 +417,16 @@ fn signer(sheet: &Sheet, term: TermId) -> PrincipalId {
 }
 
 /// The post that 17 stops, if the same is asked with checks in force.
-fn refused_at_a_post(asked: &Asked, sheet: &Sheet) -> Option<TermId> {
+fn refused_at_a_post(query: &Query, sheet: &Sheet) -> Option<TermId> {
     let request = Request {
-        start: &asked.request.start,
-        calls: asked.request.calls,
-        open_calls: asked.request.open_calls,
-        checks: Checks::InForce,
+        start: &query.request.start,
+        calls: query.request.calls,
+        open_calls: query.request.open_calls,
+        checks: Checks::Enforced,
     };
-    let mut cells = vec![0; asked.request.cell_bytes];
-    let mut posts = vec![0; asked.request.posts];
-    let run = run_eager(asked.sheet, &request, &mut cells, &mut posts).ok()?;
+    let mut cells = vec![0; query.request.cell_bytes];
+    let mut posts = vec![0; query.request.posts];
+    let run = run_eager(query.sheet, &request, &mut cells, &mut posts).ok()?;
     match run.outcome {
         Outcome::Stop(Stop { cause, term }) if cause.number() == 17 => {
             matches!(sheet.term(term), Term::Post { .. }).then_some(term)

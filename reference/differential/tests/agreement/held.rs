@@ -29,8 +29,8 @@ impl Counts {
             return;
         }
         let happened = &mut self.0;
-        let in_force = told.asked.enforce != 0;
-        happened.count(by(told.returned, told.asked.entry, in_force));
+        let enforced = told.query.enforce != 0;
+        happened.count(by(told.returned, told.query.entry, enforced));
         happened.count(match held {
             1 => "held results, 1",
             2..=9 => "held results, 2 to 9",
@@ -40,7 +40,7 @@ impl Counts {
             happened.count(then_stopped(told.cause()));
         }
         if told.cause() == 18 {
-            let sheet = decode(told.asked.sheet).expect("a sheet that runs");
+            let sheet = decode(told.query.sheet).expect("a sheet that runs");
             match sheet.term(told.place() as TermId) {
                 Term::Sum(..) => happened.count(then_stuck(Kind::Sum)),
                 Term::Difference(..) => happened.count(then_stuck(Kind::Difference)),
@@ -62,9 +62,9 @@ impl Counts {
     }
 }
 
-fn by(returned: u32, entry: Entry, in_force: bool) -> String {
+fn by(returned: u32, entry: Entry, enforced: bool) -> String {
     let outcome = if returned == DONE { "end" } else { "stop" };
-    let checks = if in_force { "in force" } else { "passed over" };
+    let checks = if enforced { "in force" } else { "passed over" };
     format!("held results, {outcome} by {entry:?}, checks {checks}")
 }
 

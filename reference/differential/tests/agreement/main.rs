@@ -4,7 +4,7 @@
 mod guards;
 mod held;
 
-use differential::{settings, Asked, Buffers, Entry, Library, Reference, ANSWER_NUMBERS};
+use differential::{settings, Buffers, Entry, Library, Query, Reference, ANSWER_NUMBERS};
 use guards::Told;
 use sheets::generate::sample;
 use sheets::hex;
@@ -97,7 +97,7 @@ fn compare(seed: u64, index: u64, reached: &mut Reached) -> Result<(), String> {
     ];
     for (entry, enforce) in questions {
         let request = Request::random(rng, &sample.world);
-        let asked = Asked {
+        let query = Query {
             entry,
             sheet: &sample.bytes,
             request: &request,
@@ -105,10 +105,10 @@ fn compare(seed: u64, index: u64, reached: &mut Reached) -> Result<(), String> {
         };
         let answer = random_answer_length(rng);
         let buffers = Buffers::random(rng, entry, &request, answer);
-        let (returned, buffers) = ask_both(&asked, buffers)?;
+        let (returned, buffers) = ask_both(&query, buffers)?;
         if let Some(answer) = buffers.answer() {
             let told = Told {
-                asked: &asked,
+                query: &query,
                 returned,
                 answer,
                 posts: buffers.posts.contents(),
@@ -149,10 +149,10 @@ fn random_answer_length(rng: &mut Rng) -> usize {
 }
 
 /// Gives what both returned and left in the buffers, or tells how they differ.
-fn ask_both(asked: &Asked, buffers: Buffers) -> Result<(u32, Buffers), String> {
+fn ask_both(query: &Query, buffers: Buffers) -> Result<(u32, Buffers), String> {
     let (mut library, mut reference) = (buffers.clone(), buffers);
-    let library_status = asked.of::<Library>(&mut library);
-    let reference_status = asked.of::<Reference>(&mut reference);
+    let library_status = query.of::<Library>(&mut library);
+    let reference_status = query.of::<Reference>(&mut reference);
     if library_status == reference_status && library == reference {
         return Ok((library_status, library));
     }
@@ -164,10 +164,10 @@ fn ask_both(asked: &Asked, buffers: Buffers) -> Result<(u32, Buffers), String> {
          library   returns {library_status}, answer {:?}\n\
          reference returns {reference_status}, answer {:?}\n\
          first difference: cells {:?}, posts {:?}, frames {:?}, answer {:?}",
-        asked.entry,
-        asked.enforce,
-        hex(asked.sheet),
-        asked.request,
+        query.entry,
+        query.enforce,
+        hex(query.sheet),
+        query.request,
         library.answer.contents(),
         reference.answer.contents(),
         library.cells.first_difference(&reference.cells),

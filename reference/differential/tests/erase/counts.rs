@@ -256,8 +256,8 @@ impl Counts {
         );
         match term {
             Term::Call { function, argument } => {
-                let asked = old.function_type(ty(function)).map(|it| it.argument);
-                happened.count_if(asked != Some(ty(argument)), "an argument that only fitted");
+                let query = old.function_type(ty(function)).map(|it| it.argument);
+                happened.count_if(query != Some(ty(argument)), "an argument that only fitted");
             }
             Term::If { yes, no, .. } => {
                 happened.count_if(ty(yes) != ty(no), "branches of two types");

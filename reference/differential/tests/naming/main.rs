@@ -44,8 +44,8 @@ fn main() -> ExitCode {
         for index in batch.items {
             // Not the sheets that the other tests have had from this seed.
             let rng = &mut Rng::for_item(batch.seed.rotate_left(7), index);
-            let (sample, asked) = random_sheet(rng);
-            if let Err(difference) = compare(rng, &sample, asked, &mut counts) {
+            let (sample, query) = random_sheet(rng);
+            if let Err(difference) = compare(rng, &sample, query, &mut counts) {
                 println!("{difference}");
                 println!("sheet {}", hex(&sample.bytes));
                 println!("again with {}", settings::again(batch.seed, index));
@@ -102,15 +102,15 @@ fn random_sheet(rng: &mut Rng) -> (Sample, u8) {
         0..65 => quiet(rng),
         _ => {
             let sample = sample(rng);
-            let asked = sample.world.random_privilege(rng);
-            (sample, asked)
+            let query = sample.world.random_privilege(rng);
+            (sample, query)
         }
     }
 }
 
 /// Puts all questions about one sheet to both implementations, and runs it
 /// with and without some of the privileges.
-fn compare(rng: &mut Rng, sample: &Sample, asked: u8, counts: &mut Counts) -> Result<(), String> {
+fn compare(rng: &mut Rng, sample: &Sample, query: u8, counts: &mut Counts) -> Result<(), String> {
     let subject = Subject::new(&sample.bytes);
     let above = random_above(rng, subject.named);
     for privilege in (0..PRIVILEGES).chain(above) {
@@ -124,7 +124,7 @@ fn compare(rng: &mut Rng, sample: &Sample, asked: u8, counts: &mut Counts) -> Re
         ..sample.world.clone()
     };
     let any = rng.below(PRIVILEGES as usize) as u8;
-    for privilege in [asked, asked, world.random_privilege(rng), any] {
+    for privilege in [query, query, world.random_privilege(rng), any] {
         subject.run(rng, &world, &question(sheet, privilege.into()), counts)?;
     }
     Ok(())
@@ -256,7 +256,7 @@ impl<'a> Subject<'a> {
         counts: &mut Counts,
     ) -> Result<(), String> {
         let pair = Pair::random(rng, world, question.privilege);
-        let ways = [Way::in_force(rng), Way::in_force(rng)];
+        let ways = [Way::enforced(rng), Way::enforced(rng)];
         let [start, other] = pair.starts.clone();
         let request = Request::random_admissible(rng, start);
         let told = Told::of_run(rng, self.bytes, &request, ways[0])?;

@@ -99,12 +99,12 @@ impl Question<'_> {
     /// somewhere.
     pub fn asks_for_others(&self) -> bool {
         self.sheet.terms.iter().any(|&term| {
-            let asked = match term {
+            let query = match term {
                 Term::Check { privilege, .. } | Term::Test { privilege, .. } => Some(privilege),
                 Term::Post { channel, .. } => self.sheet.guard(channel),
                 _ => None,
             };
-            asked.is_some_and(|asked| asked != self.privilege)
+            query.is_some_and(|query| query != self.privilege)
         })
     }
 }

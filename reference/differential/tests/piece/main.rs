@@ -139,14 +139,14 @@ fn compare(
     match sheet {
         None => is_the_readers(bytes, returned, answer),
         Some(sheet) => {
-            let asked = Asked {
+            let query = Query {
                 bytes,
                 sheet: &sheet,
                 first: (judged[0], judged[1] as TermId),
                 returned,
                 answer,
             };
-            asked.is_as_said(judged_terms, counts)
+            query.is_as_said(judged_terms, counts)
         }
     }
 }
@@ -191,7 +191,7 @@ fn is_the_readers(
 }
 
 /// A sheet that can be read, and what was told of it.
-struct Asked<'a> {
+struct Query<'a> {
     bytes: &'a [u8],
     sheet: &'a Sheet,
     /// What the library's type checker tells, 0 and 0 if it accepts the sheet.
@@ -200,7 +200,7 @@ struct Asked<'a> {
     answer: &'a [u32; ANSWER_NUMBERS],
 }
 
-impl Asked<'_> {
+impl Query<'_> {
     /// Whether the library's answer is as W13 says, by each of its sentences.
     fn is_as_said(&self, judged_terms: usize, counts: &mut Counts) -> Result<(), String> {
         if self.returned != DONE {

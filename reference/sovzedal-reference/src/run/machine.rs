@@ -263,8 +263,8 @@ impl<'a, A: Authority, D: Domain> Machine<'a, A, D> {
     /// checks are passed over, and then nothing is decided.
     fn check(&mut self, id: TermId, privilege: Privilege) -> Result<(), Stop> {
         let goes_on = match self.request.checks {
-            Checks::InForce => self.decide(id, privilege),
-            Checks::PassedOver => true,
+            Checks::Enforced => self.decide(id, privilege),
+            Checks::Skipped => true,
         };
         if !goes_on {
             return stop(Cause::RefusedCheck, id);

@@ -14,9 +14,9 @@ pub const MAX_OPEN_CALLS: u32 = 100;
 
 #[derive(Clone, Copy, Debug, PartialEq, Eq)]
 pub enum Checks {
-    InForce,
+    Enforced,
     /// A check is read as its inner term, and no guard is asked.
-    PassedOver,
+    Skipped,
 }
 
 #[derive(Clone, Copy, Debug)]
@@ -35,7 +35,7 @@ impl Request<'_> {
         start: &[],
         calls: MAX_CALLS,
         open_calls: MAX_OPEN_CALLS,
-        checks: Checks::InForce,
+        checks: Checks::Enforced,
     };
 }
 

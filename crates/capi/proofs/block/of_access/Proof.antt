@@ -1,7 +1,7 @@
 -- `of_access` gives the reply that `accessReply` says, by case.
 use borrow.Author.Needs.{needs}
-use Rattle.registers.specs.Answers.{accessModel}
-use Rattle.registers.specs.declared.block.Access.{Access}
+use Rattle.blocks.specs.Answers.{accessModel}
+use Rattle.blocks.specs.declared.block.Access.{Access}
 use Rattle.capi.specs.Blocks.{accessReply}
 use Rattle.replies.specs.Laws.{by}
 use Rattle.capi.proofs.block.of_access.Statement.{statement}

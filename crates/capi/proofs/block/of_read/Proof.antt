@@ -1,7 +1,7 @@
 -- `of_read` gives the reply that `readReply` says, by case.
 use borrow.Author.Needs.{needs}
-use Rattle.registers.specs.Answers.{readModel}
-use Rattle.registers.specs.declared.block.Read.{Read}
+use Rattle.blocks.specs.Answers.{readModel}
+use Rattle.blocks.specs.declared.block.Read.{Read}
 use Rattle.capi.specs.Blocks.{readReply}
 use Rattle.replies.specs.Laws.{by}
 use Rattle.capi.proofs.block.of_read.Statement.{statement}

@@ -1,7 +1,7 @@
 -- `of_added` gives the reply of each case: done, or 27 to 29.
 use borrow.Author.Needs.{needs}
-use Rattle.lines.specs.Answers.{additionModel}
-use Rattle.lines.specs.declared.state.Addition.{Addition}
+use Rattle.queues.specs.Answers.{additionModel}
+use Rattle.queues.specs.declared.state.Addition.{Addition}
 use Rattle.replies.specs.Laws.{by}
 use Rattle.capi_lines.specs.Entries.{addReply}
 use Rattle.capi_lines.proofs.reply.of_added.Statement.{statement}

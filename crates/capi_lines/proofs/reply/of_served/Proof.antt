@@ -2,7 +2,7 @@
 use borrow.Author.Needs.{needs}
 use mathlib.Core.Path.{subst}
 use Rattle.lines.specs.Answers.{answerModel}
-use Rattle.lines.specs.declared.state.Answer.{Answer}
+use Rattle.lines.specs.declared.answer.Answer.{Answer}
 use Rattle.replies.specs.Laws.{by}
 use Rattle.capi_lines.specs.Entries.{serveReply}
 use Rattle.capi_lines.specs.Internal.{SmallAnswer}

@@ -1,6 +1,6 @@
 -- `keep_added` writes the state anew if the add is done, and leaves the list by a refusal (kept-added).
 use borrow.Author.Needs.{needs}
-use Rattle.lines.specs.Answers.{linesModel}
+use Rattle.queues.specs.Answers.{linesModel}
 use Rattle.capi_lines.proofs.EntryLaws.{kept-added}
 use Rattle.capi_lines.proofs.state.keep_added.Statement.{statement}
 use Rattle.capi_lines.proofs.state.keep_added.Tie as tie

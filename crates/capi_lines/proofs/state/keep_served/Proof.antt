@@ -1,6 +1,6 @@
 -- `keep_served` leaves the list if no job was served, and writes the state anew otherwise (kept-served).
 use borrow.Author.Needs.{needs}
-use Rattle.lines.specs.Answers.{linesModel}
+use Rattle.queues.specs.Answers.{linesModel}
 use Rattle.capi_lines.proofs.EntryLaws.{kept-served}
 use Rattle.capi_lines.proofs.state.keep_served.Statement.{statement}
 use Rattle.capi_lines.proofs.state.keep_served.Tie as tie

@@ -6,7 +6,7 @@ use mathlib.Core.List.{_++_}
 use mathlib.Core.Path.{_≡_, refl, sym, ap, _∙_}
 use Prim.Native.Nat.{ℕ, _-_, _≤_}
 use lib.ListN.{set, take, drop}
-use Rattle.lines.specs.Answers.{linesModel}
+use Rattle.queues.specs.Answers.{linesModel}
 use Rattle.replies.specs.Laws.{written-length, written-more, written-over}
 use Rattle.capi_lines.specs.States.{stateNumbers, stateWritten}
 use Rattle.capi_lines.proofs.StateLaws.{written-size, written-at}
@@ -53,7 +53,8 @@ loop-again c =
     let start = at-loop .before .before in (
       omega (arith, at-loop-test .loop-test .taken),
       ap (set (at-loop .loop .state) (at-loop .loop .i))
-          (c .number-at .ensures ∙ sym (written-at (linesModel (start .args .q)) (at-loop .loop .i) (at-loop-test .loop-test .taken))) ∙ written-more stateNumbers
+          (c .number-at .ensures ∙ sym (written-at (linesModel (start .args .q)) (at-loop .loop .i) (at-loop-test .loop-test .taken)))
+          ∙ written-more stateNumbers
           (stateWritten (linesModel (start .args .q))) (start .args .state .now) (at-loop .loop .i) (written-size (linesModel (start .args .q)))
           (omega (arith, start .pre)) (at-loop-test .loop-test .taken) (at-loop .loop .inv .1),
     )

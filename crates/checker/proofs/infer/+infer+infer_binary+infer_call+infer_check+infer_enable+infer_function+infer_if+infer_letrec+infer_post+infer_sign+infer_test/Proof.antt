@@ -7,7 +7,8 @@ use borrow.Author.Needs.{needs}
 use mathlib.Core.Path.{refl}
 use Prim.Native.Nat.{_+_, _*_}
 use Rattle.accessors.specs.Internal.{term-inside}
-use Rattle.checker.proofs.TermLaws.{past-ten, kind-most, check-child, enable-child, sign-child, post-child, post-guard-byte, check-privilege, enable-privilege, test-privilege, call-first, call-second, test-first, test-second, binary-first, binary-second, if-first, if-second, if-third, function-room, function-child, letrec-room, letrec-body, letrec-rest, leaf-is, check-is, enable-is, sign-is, post-is, test-stops, test-is, call-stops, call-is, binary-stops, binary-is, if-stops, branch-stops, if-is, function-is, letrec-stops, letrec-is}
+use Rattle.checker.proofs.TermLaws.{read-at, past-ten, kind-most, check-child, enable-child, sign-child, post-child, post-guard-byte, check-privilege, enable-privilege, test-privilege, call-first, call-second, test-first, test-second, binary-first, binary-second, if-first, if-second, if-third, function-room, function-child, letrec-room, letrec-body, letrec-rest}
+use Rattle.checker.proofs.TermLaws.{leaf-is, check-is, enable-is, sign-is, post-is, test-stops, test-is, call-stops, call-is, binary-stops, binary-is, if-stops, branch-stops, if-is, function-is, letrec-stops, letrec-is}
 use Prim.Native.Nat.{ℕ, _<_}
 use borrow.Fn.Kinds.{In}
 use borrow.Fn.PlainCycle.{Measures, is, falls, and}
@@ -237,93 +238,93 @@ infer-claims t = (
 infer-table-term-requires : (t : ℕ) → infer-lts.Need-table-term-requires (infer-claims t) (infer-at t) infer.Post
 infer-table-term-requires t c κs =
     let start = c .before in
-    let r = start .pre .1 .0 in
+    let r = start .pre .1 .ready in
     term-inside (start .args .s .now) (r .sheet .well-formed .terms-inside) (start .args .c) (r .sheet .counts) (start .args .t) (r .inside)
 
 infer-infer-function-requires : (t : ℕ) → infer-lts.Need-infer-function-requires (infer-claims t) (infer-at t) infer.Post
 infer-infer-function-requires t c κs =
     let start = c .before .before .before .before in (
       omega (arith, start .pre .0),
-      (
-        record { ready = start .pre .1 .0; known = start .pre .1 .1; record-is = c .before .before .table-term .ensures },
-        c .before .match .keys1,
-      ),
+      record {
+        at = read-at (start .pre .1) (c .before .before .table-term .ensures);
+        kind-is = c .before .match .keys1;
+      },
     )
 
 infer-infer-letrec-requires : (t : ℕ) → infer-lts.Need-infer-letrec-requires (infer-claims t) (infer-at t) infer.Post
 infer-infer-letrec-requires t c κs =
     let start = c .before .before .before .before in (
       omega (arith, start .pre .0),
-      (
-        record { ready = start .pre .1 .0; known = start .pre .1 .1; record-is = c .before .before .table-term .ensures },
-        c .before .match .keys2,
-      ),
+      record {
+        at = read-at (start .pre .1) (c .before .before .table-term .ensures);
+        kind-is = c .before .match .keys2;
+      },
     )
 
 infer-infer-call-requires : (t : ℕ) → infer-lts.Need-infer-call-requires (infer-claims t) (infer-at t) infer.Post
 infer-infer-call-requires t c κs =
     let start = c .before .before .before .before in (
       omega (arith, start .pre .0),
-      (
-        record { ready = start .pre .1 .0; known = start .pre .1 .1; record-is = c .before .before .table-term .ensures },
-        c .before .match .keys3,
-      ),
+      record {
+        at = read-at (start .pre .1) (c .before .before .table-term .ensures);
+        kind-is = c .before .match .keys3;
+      },
     )
 
 infer-infer-if-requires : (t : ℕ) → infer-lts.Need-infer-if-requires (infer-claims t) (infer-at t) infer.Post
 infer-infer-if-requires t c κs =
     let start = c .before .before .before .before in (
       omega (arith, start .pre .0),
-      (
-        record { ready = start .pre .1 .0; known = start .pre .1 .1; record-is = c .before .before .table-term .ensures },
-        c .before .match .keys4,
-      ),
+      record {
+        at = read-at (start .pre .1) (c .before .before .table-term .ensures);
+        kind-is = c .before .match .keys4;
+      },
     )
 
 infer-infer-check-requires : (t : ℕ) → infer-lts.Need-infer-check-requires (infer-claims t) (infer-at t) infer.Post
 infer-infer-check-requires t c κs =
     let start = c .before .before .before .before in (
       omega (arith, start .pre .0),
-      (
-        record { ready = start .pre .1 .0; known = start .pre .1 .1; record-is = c .before .before .table-term .ensures },
-        c .before .match .keys5,
-      ),
+      record {
+        at = read-at (start .pre .1) (c .before .before .table-term .ensures);
+        kind-is = c .before .match .keys5;
+      },
     )
 
 infer-infer-enable-requires : (t : ℕ) → infer-lts.Need-infer-enable-requires (infer-claims t) (infer-at t) infer.Post
 infer-infer-enable-requires t c κs =
     let start = c .before .before .before .before in (
       omega (arith, start .pre .0),
-      (
-        record { ready = start .pre .1 .0; known = start .pre .1 .1; record-is = c .before .before .table-term .ensures },
-        c .before .match .keys6,
-      ),
+      record {
+        at = read-at (start .pre .1) (c .before .before .table-term .ensures);
+        kind-is = c .before .match .keys6;
+      },
     )
 
 infer-infer-sign-requires : (t : ℕ) → infer-lts.Need-infer-sign-requires (infer-claims t) (infer-at t) infer.Post
 infer-infer-sign-requires t c κs =
     let start = c .before .before .before .before in (
       omega (arith, start .pre .0),
-      (
-        record { ready = start .pre .1 .0; known = start .pre .1 .1; record-is = c .before .before .table-term .ensures },
-        c .before .match .keys7,
-      ),
+      record {
+        at = read-at (start .pre .1) (c .before .before .table-term .ensures);
+        kind-is = c .before .match .keys7;
+      },
     )
 
 infer-infer-test-requires : (t : ℕ) → infer-lts.Need-infer-test-requires (infer-claims t) (infer-at t) infer.Post
 infer-infer-test-requires t c κs =
     let start = c .before .before .before .before in (
       omega (arith, start .pre .0),
-      (
-        record { ready = start .pre .1 .0; known = start .pre .1 .1; record-is = c .before .before .table-term .ensures },
-        c .before .match .keys8,
-      ),
+      record {
+        at = read-at (start .pre .1) (c .before .before .table-term .ensures);
+        kind-is = c .before .match .keys8;
+      },
     )
 
 infer-leaf-requires : (t : ℕ) → infer-lts.Need-leaf-requires (infer-claims t) (infer-at t) infer.Post
 infer-leaf-requires t c κs =
     let start = c .before .before .before .before in
-    omega (arith, start .pre .1 .0 .fits)
+    omega (arith, start .pre .1 .ready .fits)
 
 infer-infer-binary-requires : (t : ℕ) → infer-lts.Need-infer-binary-requires (infer-claims t) (infer-at t) infer.Post
 infer-infer-binary-requires t c κs =
@@ -331,28 +332,22 @@ infer-infer-binary-requires t c κs =
     let at-table-term = at-match .before in
     let start = at-table-term .before .before in (
       omega (arith, start .pre .0),
-      (
-        record { ready = start .pre .1 .0; known = start .pre .1 .1; record-is = at-table-term .table-term .ensures },
-        (
-          past-ten _ (c .before .before .if1 .left) (at-match .match .rest .0 .0 .0 .0 .0 .0 .0 .1) (at-match .match .rest .0 .0 .0 .0 .0 .0 .1)
-              (at-match .match .rest .0 .0 .0 .0 .0 .1) (at-match .match .rest .0 .0 .0 .0 .1) (at-match .match .rest .0 .0 .0 .1)
-              (at-match .match .rest .0 .0 .1) (at-match .match .rest .0 .1) (at-match .match .rest .1),
-          c .before .if2 .taken,
-        ),
-      ),
+      record {
+        at = read-at (start .pre .1) (at-table-term .table-term .ensures);
+        kind-least = past-ten _ (c .before .before .if1 .left) (at-match .match .rest .0 .0 .0 .0 .0 .0 .0 .1) (at-match .match .rest .0 .0 .0 .0 .0 .0 .1)
+            (at-match .match .rest .0 .0 .0 .0 .0 .1) (at-match .match .rest .0 .0 .0 .0 .1) (at-match .match .rest .0 .0 .0 .1)
+            (at-match .match .rest .0 .0 .1) (at-match .match .rest .0 .1) (at-match .match .rest .1);
+        kind-most = c .before .if2 .taken;
+      },
     )
 
 infer-infer-post-requires : (t : ℕ) → infer-lts.Need-infer-post-requires (infer-claims t) (infer-at t) infer.Post
 infer-infer-post-requires t c κs =
     let at-table-term = c .before .before .before .before in
     let start = at-table-term .before .before in
-    let h = kind-most (record { ready = start .pre .1 .0; known = start .pre .1 .1; record-is = at-table-term .table-term .ensures }) in (
+    let h = kind-most (read-at (start .pre .1) (at-table-term .table-term .ensures)) in (
       omega (arith, start .pre .0),
-      (
-        record { ready = start .pre .1 .0; known = start .pre .1 .1; record-is = at-table-term .table-term .ensures },
-        omega
-            (arith, h, c .before .if2 .left),
-      ),
+      record { at = read-at (start .pre .1) (at-table-term .table-term .ensures); kind-is = omega (arith, h, c .before .if2 .left) },
     )
 
 infer-returns : (t : ℕ) → infer-lts.Need-returns (infer-claims t) (infer-at t) infer.Post
@@ -383,9 +378,9 @@ infer-returns-9 : (t : ℕ) → infer-lts.Need-returns-9 (infer-claims t) (infer
 infer-returns-9 t c =
     let start = c .before .before .before .before .before in
     record {
-      is = leaf-is (record { ready = start .pre .1 .0; known = start .pre .1 .1; record-is = c .before .before .before .table-term .ensures }) _
+      is = leaf-is (read-at (start .pre .1) (c .before .before .before .table-term .ensures)) _
           (omega (arith, c .before .if1 .taken)) (c .leaf .ensures);
-      known = start .pre .1 .1;
+      known = start .pre .1 .known;
     }
 
 infer-returns-10 : (t : ℕ) → infer-lts.Need-returns-10 (infer-claims t) (infer-at t) infer.Post
@@ -400,8 +395,8 @@ infer-binary-claims t = (infer-below t, infer.Post, result-of-reads.Asked, resul
 infer-binary-infer-requires : (t : ℕ) → infer-binary-lts.Need-infer-requires (infer-binary-claims t) (infer-binary-at t) infer-binary.Post
 infer-binary-infer-requires t c κs =
     let start = c .before .before in
-    let h = binary-first (start .pre .1 .0) (start .pre .1 .1 .0) (start .pre .1 .1 .1) in
-    (omega (arith, start .pre .0, h .lower), (h .ready, start .pre .1 .0 .known))
+    let h = binary-first (start .pre .1 .at) (start .pre .1 .kind-least) (start .pre .1 .kind-most) in
+    (omega (arith, start .pre .0, h .lower), record { ready = h .ready; known = start .pre .1 .at .known })
 
 infer-binary-enum-known-j : (t : ℕ) → infer-binary-lts.Need-enum-known-j (infer-binary-claims t) (infer-binary-at t) infer-binary.Post
 infer-binary-enum-known-j t c = search needs
@@ -414,7 +409,7 @@ infer-binary-returns t c =
     let at-infer = c .before .before in
     let start = at-infer .before .before .before in
     record {
-      is = binary-stops (start .pre .1 .0) _ (start .pre .1 .1 .0) (start .pre .1 .1 .1) (at-infer .infer .result) (at-infer .infer .ensures .is)
+      is = binary-stops (start .pre .1 .at) _ (start .pre .1 .kind-least) (start .pre .1 .kind-most) (at-infer .infer .result) (at-infer .infer .ensures .is)
           (c .before .match .keys2);
       known = at-infer .infer .ensures .known;
     }
@@ -423,8 +418,8 @@ infer-binary-infer-requires-2 : (t : ℕ) → infer-binary-lts.Need-infer-requir
 infer-binary-infer-requires-2 t c κs =
     let at-infer = c .before .before .before .before in
     let start = at-infer .before .before .before in
-    let h = binary-second (start .pre .1 .0) (start .pre .1 .1 .0) (start .pre .1 .1 .1) in
-    (omega (arith, start .pre .0, h .lower), (h .ready, at-infer .infer .ensures .known))
+    let h = binary-second (start .pre .1 .at) (start .pre .1 .kind-least) (start .pre .1 .kind-most) in
+    (omega (arith, start .pre .0, h .lower), record { ready = h .ready; known = at-infer .infer .ensures .known })
 
 infer-binary-result-of-requires : (t : ℕ) → infer-binary-lts.Need-result-of-requires (infer-binary-claims t) (infer-binary-at t) infer-binary.Post
 infer-binary-result-of-requires t c κs = search needs
@@ -439,7 +434,7 @@ infer-binary-returns-2 t c =
     let at-infer = at-j .before .before in
     let start = at-infer .before .before .before in
     record {
-      is = binary-is (start .pre .1 .0) _ (start .pre .1 .1 .0) (start .pre .1 .1 .1) (at-j .j .given .1) (at-infer .infer .ensures .is)
+      is = binary-is (start .pre .1 .at) _ (start .pre .1 .kind-least) (start .pre .1 .kind-most) (at-j .j .given .1) (at-infer .infer .ensures .is)
           (at-infer2 .infer2 .ensures .is) (c .before .result-of .ensures) (c .computed .ensures);
       known = at-infer2 .infer2 .ensures .known;
     }
@@ -450,7 +445,8 @@ infer-call-claims t = (infer-below t, infer.Post, call-of-reads.Asked, call-of-r
 infer-call-infer-requires : (t : ℕ) → infer-call-lts.Need-infer-requires (infer-call-claims t) (infer-call-at t) infer-call.Post
 infer-call-infer-requires t c κs =
     let start = c .before .before in
-    let h = call-first (start .pre .1 .0) (start .pre .1 .1) in (omega (arith, start .pre .0, h .lower), (h .ready, start .pre .1 .0 .known))
+    let h = call-first (start .pre .1 .at) (start .pre .1 .kind-is) in
+    (omega (arith, start .pre .0, h .lower), record { ready = h .ready; known = start .pre .1 .at .known })
 
 infer-call-enum-known-j : (t : ℕ) → infer-call-lts.Need-enum-known-j (infer-call-claims t) (infer-call-at t) infer-call.Post
 infer-call-enum-known-j t c = search needs
@@ -463,7 +459,7 @@ infer-call-returns t c =
     let at-infer = c .before .before in
     let start = at-infer .before .before .before in
     record {
-      is = call-stops (start .pre .1 .0) _ (start .pre .1 .1) (at-infer .infer .result) (at-infer .infer .ensures .is)
+      is = call-stops (start .pre .1 .at) _ (start .pre .1 .kind-is) (at-infer .infer .result) (at-infer .infer .ensures .is)
           (c .before .match .keys2);
       known = at-infer .infer .ensures .known;
     }
@@ -472,12 +468,13 @@ infer-call-infer-requires-2 : (t : ℕ) → infer-call-lts.Need-infer-requires-2
 infer-call-infer-requires-2 t c κs =
     let at-infer = c .before .before .before .before in
     let start = at-infer .before .before .before in
-    let h = call-second (start .pre .1 .0) (start .pre .1 .1) in (omega (arith, start .pre .0, h .lower), (h .ready, at-infer .infer .ensures .known))
+    let h = call-second (start .pre .1 .at) (start .pre .1 .kind-is) in
+    (omega (arith, start .pre .0, h .lower), record { ready = h .ready; known = at-infer .infer .ensures .known })
 
 infer-call-call-of-requires : (t : ℕ) → infer-call-lts.Need-call-of-requires (infer-call-claims t) (infer-call-at t) infer-call.Post
 infer-call-call-of-requires t c κs =
     let start = c .before .before .before .before .before .before .before .before .before in
-    record { sheet = start .pre .1 .0 .ready .sheet; known = c .before .infer2 .ensures .known }
+    record { sheet = start .pre .1 .at .ready .sheet; known = c .before .infer2 .ensures .known }
 
 infer-call-returns-2 : (t : ℕ) → infer-call-lts.Need-returns-2 (infer-call-claims t) (infer-call-at t) infer-call.Post
 infer-call-returns-2 t c =
@@ -485,7 +482,7 @@ infer-call-returns-2 t c =
     let at-infer = at-j .before .before in
     let start = at-infer .before .before .before in
     record {
-      is = call-is (start .pre .1 .0) _ (start .pre .1 .1) (at-j .j .given .1) (at-infer .infer .ensures .is) (c .before .before .infer2 .ensures .is)
+      is = call-is (start .pre .1 .at) _ (start .pre .1 .kind-is) (at-j .j .given .1) (at-infer .infer .ensures .is) (c .before .before .infer2 .ensures .is)
           (c .call-of .ensures .is);
       known = c .call-of .ensures .known;
     }
@@ -496,19 +493,20 @@ infer-check-claims t = (infer-below t, infer.Post, checked-reads.Asked, checked-
 infer-check-infer-requires : (t : ℕ) → infer-check-lts.Need-infer-requires (infer-check-claims t) (infer-check-at t) infer-check.Post
 infer-check-infer-requires t c κs =
     let start = c .before .before in
-    let h = check-child (start .pre .1 .0) (start .pre .1 .1) in (omega (arith, start .pre .0, h .lower), (h .ready, start .pre .1 .0 .known))
+    let h = check-child (start .pre .1 .at) (start .pre .1 .kind-is) in
+    (omega (arith, start .pre .0, h .lower), record { ready = h .ready; known = start .pre .1 .at .known })
 
 infer-check-checked-requires : (t : ℕ) → infer-check-lts.Need-checked-requires (infer-check-claims t) (infer-check-at t) infer-check.Post
 infer-check-checked-requires t c κs =
     let start = c .before .before .before in
-    check-privilege (start .pre .1 .0) (start .pre .1 .1)
+    check-privilege (start .pre .1 .at) (start .pre .1 .kind-is)
 
 infer-check-returns : (t : ℕ) → infer-check-lts.Need-returns (infer-check-claims t) (infer-check-at t) infer-check.Post
 infer-check-returns t c =
     let at-infer = c .before in
     let start = at-infer .before .before .before in
     record {
-      is = check-is (start .pre .1 .0) _ (start .pre .1 .1) (at-infer .infer .ensures .is)
+      is = check-is (start .pre .1 .at) _ (start .pre .1 .kind-is) (at-infer .infer .ensures .is)
           (c .checked .ensures);
       known = at-infer .infer .ensures .known;
     }
@@ -519,7 +517,8 @@ infer-enable-claims t = (infer-below t, infer.Post, authority-reads.Asked, autho
 infer-enable-infer-requires : (t : ℕ) → infer-enable-lts.Need-infer-requires (infer-enable-claims t) (infer-enable-at t) infer-enable.Post
 infer-enable-infer-requires t c κs =
     let start = c .before .before in
-    let h = enable-child (start .pre .1 .0) (start .pre .1 .1) in (omega (arith, start .pre .0, h .lower), (h .ready, start .pre .1 .0 .known))
+    let h = enable-child (start .pre .1 .at) (start .pre .1 .kind-is) in
+    (omega (arith, start .pre .0, h .lower), record { ready = h .ready; known = start .pre .1 .at .known })
 
 infer-enable-authority-requires : (t : ℕ) → infer-enable-lts.Need-authority-requires (infer-enable-claims t) (infer-enable-at t) infer-enable.Post
 infer-enable-authority-requires t c κs = search needs
@@ -527,14 +526,14 @@ infer-enable-authority-requires t c κs = search needs
 infer-enable-enabled-requires : (t : ℕ) → infer-enable-lts.Need-enabled-requires (infer-enable-claims t) (infer-enable-at t) infer-enable.Post
 infer-enable-enabled-requires t c κs =
     let start = c .before .before .before .before in
-    enable-privilege (start .pre .1 .0) (start .pre .1 .1)
+    enable-privilege (start .pre .1 .at) (start .pre .1 .kind-is)
 
 infer-enable-returns : (t : ℕ) → infer-enable-lts.Need-returns (infer-enable-claims t) (infer-enable-at t) infer-enable.Post
 infer-enable-returns t c =
     let at-infer = c .before .before in
     let start = at-infer .before .before .before in
     record {
-      is = enable-is (start .pre .1 .0) _ (start .pre .1 .1) (c .before .authority .ensures) (at-infer .infer .ensures .is)
+      is = enable-is (start .pre .1 .at) _ (start .pre .1 .kind-is) (c .before .authority .ensures) (at-infer .infer .ensures .is)
           (c .enabled .ensures);
       known = at-infer .infer .ensures .known;
     }
@@ -557,13 +556,13 @@ infer-function-type-record-requires t c κs = search needs
 infer-function-push-requires : (t : ℕ) → infer-function-lts.Need-push-requires (infer-function-claims t) (infer-function-at t) infer-function.Post
 infer-function-push-requires t c κs =
     let start = c .before .before in
-    function-room (start .pre .1 .0) (start .pre .1 .1)
+    function-room (start .pre .1 .at) (start .pre .1 .kind-is)
 
 infer-function-infer-requires : (t : ℕ) → infer-function-lts.Need-infer-requires (infer-function-claims t) (infer-function-at t) infer-function.Post
 infer-function-infer-requires t c κs =
     let start = c .before .before .before .before in
-    let h = function-child (start .pre .1 .0) (start .pre .1 .1) (c .before .push .ensures) in
-    (omega (arith, start .pre .0, h .lower), (h .ready, start .pre .1 .0 .known))
+    let h = function-child (start .pre .1 .at) (start .pre .1 .kind-is) (c .before .push .ensures) in
+    (omega (arith, start .pre .0, h .lower), record { ready = h .ready; known = start .pre .1 .at .known })
 
 infer-function-function-of-requires : (t : ℕ) → infer-function-lts.Need-function-of-requires (infer-function-claims t) (infer-function-at t) infer-function.Post
 infer-function-function-of-requires t c κs = search needs
@@ -574,7 +573,7 @@ infer-function-returns t c =
     let at-type-record = at-infer .before .before .before in
     let start = at-type-record .before .before in
     record {
-      is = function-is (start .pre .1 .0) _ _ (at-type-record .type-record .ensures) refl (start .pre .1 .1) (c .before .before .before .push .ensures)
+      is = function-is (start .pre .1 .at) _ _ (at-type-record .type-record .ensures) refl (start .pre .1 .kind-is) (c .before .before .before .push .ensures)
           (at-infer .infer .ensures .is) (c .function-of .ensures);
       known = at-infer .infer .ensures .known;
     }
@@ -585,7 +584,8 @@ infer-if-claims t = (infer-below t, infer.Post, branched-reads.Asked, branched-r
 infer-if-infer-requires : (t : ℕ) → infer-if-lts.Need-infer-requires (infer-if-claims t) (infer-if-at t) infer-if.Post
 infer-if-infer-requires t c κs =
     let start = c .before .before in
-    let h = if-first (start .pre .1 .0) (start .pre .1 .1) in (omega (arith, start .pre .0, h .lower), (h .ready, start .pre .1 .0 .known))
+    let h = if-first (start .pre .1 .at) (start .pre .1 .kind-is) in
+    (omega (arith, start .pre .0, h .lower), record { ready = h .ready; known = start .pre .1 .at .known })
 
 infer-if-enum-known-i : (t : ℕ) → infer-if-lts.Need-enum-known-i (infer-if-claims t) (infer-if-at t) infer-if.Post
 infer-if-enum-known-i t c = search needs
@@ -598,7 +598,7 @@ infer-if-returns t c =
     let at-infer = c .before .before in
     let start = at-infer .before .before .before in
     record {
-      is = if-stops (start .pre .1 .0) _ (start .pre .1 .1) (at-infer .infer .result) (at-infer .infer .ensures .is)
+      is = if-stops (start .pre .1 .at) _ (start .pre .1 .kind-is) (at-infer .infer .result) (at-infer .infer .ensures .is)
           (c .before .match .keys2);
       known = at-infer .infer .ensures .known;
     }
@@ -607,7 +607,8 @@ infer-if-infer-requires-2 : (t : ℕ) → infer-if-lts.Need-infer-requires-2 (in
 infer-if-infer-requires-2 t c κs =
     let at-infer = c .before .before .before .before in
     let start = at-infer .before .before .before in
-    let h = if-second (start .pre .1 .0) (start .pre .1 .1) in (omega (arith, start .pre .0, h .lower), (h .ready, at-infer .infer .ensures .known))
+    let h = if-second (start .pre .1 .at) (start .pre .1 .kind-is) in
+    (omega (arith, start .pre .0, h .lower), record { ready = h .ready; known = at-infer .infer .ensures .known })
 
 infer-if-enum-known-j : (t : ℕ) → infer-if-lts.Need-enum-known-j (infer-if-claims t) (infer-if-at t) infer-if.Post
 infer-if-enum-known-j t c = search needs
@@ -622,7 +623,7 @@ infer-if-returns-2 t c =
     let at-infer = at-i .before .before in
     let start = at-infer .before .before .before in
     record {
-      is = branch-stops (start .pre .1 .0) _ (start .pre .1 .1) (at-i .i .given .1) (at-infer .infer .ensures .is) (at-infer2 .infer2 .result)
+      is = branch-stops (start .pre .1 .at) _ (start .pre .1 .kind-is) (at-i .i .given .1) (at-infer .infer .ensures .is) (at-infer2 .infer2 .result)
           (at-infer2 .infer2 .ensures .is) (c .before .match2 .keys2);
       known = at-infer2 .infer2 .ensures .known;
     }
@@ -631,12 +632,13 @@ infer-if-infer-requires-3 : (t : ℕ) → infer-if-lts.Need-infer-requires-3 (in
 infer-if-infer-requires-3 t c κs =
     let at-infer2 = c .before .before .before .before in
     let start = at-infer2 .before .before .before .before .before .before .before .before in
-    let h = if-third (start .pre .1 .0) (start .pre .1 .1) in (omega (arith, start .pre .0, h .lower), (h .ready, at-infer2 .infer2 .ensures .known))
+    let h = if-third (start .pre .1 .at) (start .pre .1 .kind-is) in
+    (omega (arith, start .pre .0, h .lower), record { ready = h .ready; known = at-infer2 .infer2 .ensures .known })
 
 infer-if-branched-requires : (t : ℕ) → infer-if-lts.Need-branched-requires (infer-if-claims t) (infer-if-at t) infer-if.Post
 infer-if-branched-requires t c κs =
     let start = c .before .before .before .before .before .before .before .before .before .before .before .before .before .before in
-    record { sheet = start .pre .1 .0 .ready .sheet; known = c .before .infer3 .ensures .known }
+    record { sheet = start .pre .1 .at .ready .sheet; known = c .before .infer3 .ensures .known }
 
 infer-if-returns-3 : (t : ℕ) → infer-if-lts.Need-returns-3 (infer-if-claims t) (infer-if-at t) infer-if.Post
 infer-if-returns-3 t c =
@@ -646,7 +648,7 @@ infer-if-returns-3 t c =
     let at-infer = at-i .before .before in
     let start = at-infer .before .before .before in
     record {
-      is = if-is (start .pre .1 .0) _ (start .pre .1 .1) (at-i .i .given .1) (at-infer .infer .ensures .is) (at-j .j .given .1)
+      is = if-is (start .pre .1 .at) _ (start .pre .1 .kind-is) (at-i .i .given .1) (at-infer .infer .ensures .is) (at-j .j .given .1)
           (at-infer2 .infer2 .ensures .is) (c .before .before .infer3 .ensures .is) (c .branched .ensures .is);
       known = c .branched .ensures .known;
     }
@@ -669,18 +671,18 @@ infer-letrec-type-record-requires t c κs = search needs
 infer-letrec-push-requires : (t : ℕ) → infer-letrec-lts.Need-push-requires (infer-letrec-claims t) (infer-letrec-at t) infer-letrec.Post
 infer-letrec-push-requires t c κs =
     let start = c .before .before in
-    let h = letrec-room (start .pre .1 .0) (start .pre .1 .1) in omega arith
+    let h = letrec-room (start .pre .1 .at) (start .pre .1 .kind-is) in omega arith
 
 infer-letrec-push-requires-2 : (t : ℕ) → infer-letrec-lts.Need-push-requires-2 (infer-letrec-claims t) (infer-letrec-at t) infer-letrec.Post
 infer-letrec-push-requires-2 t c κs =
     let start = c .before .before .before in
-    let h = letrec-room (start .pre .1 .0) (start .pre .1 .1) in omega (arith, c .push .ensures .len-is)
+    let h = letrec-room (start .pre .1 .at) (start .pre .1 .kind-is) in omega (arith, c .push .ensures .len-is)
 
 infer-letrec-infer-requires : (t : ℕ) → infer-letrec-lts.Need-infer-requires (infer-letrec-claims t) (infer-letrec-at t) infer-letrec.Post
 infer-letrec-infer-requires t c κs =
     let start = c .before .before .before .before .before in
-    let h = letrec-body (start .pre .1 .0) (start .pre .1 .1) (c .before .before .push .ensures) (c .before .push2 .ensures) in
-    (omega (arith, start .pre .0, h .lower), (h .ready, start .pre .1 .0 .known))
+    let h = letrec-body (start .pre .1 .at) (start .pre .1 .kind-is) (c .before .before .push .ensures) (c .before .push2 .ensures) in
+    (omega (arith, start .pre .0, h .lower), record { ready = h .ready; known = start .pre .1 .at .known })
 
 infer-letrec-enum-known-j : (t : ℕ) → infer-letrec-lts.Need-enum-known-j (infer-letrec-claims t) (infer-letrec-at t) infer-letrec.Post
 infer-letrec-enum-known-j t c = search needs
@@ -696,7 +698,7 @@ infer-letrec-returns t c =
     let at-type-record = at-push .before in
     let start = at-type-record .before .before in
     record {
-      is = letrec-stops (start .pre .1 .0) _ _ (at-type-record .type-record .ensures) refl (start .pre .1 .1) (at-push .push .ensures)
+      is = letrec-stops (start .pre .1 .at) _ _ (at-type-record .type-record .ensures) refl (start .pre .1 .kind-is) (at-push .push .ensures)
           (at-push2 .push2 .ensures) (at-infer .infer .result) (at-infer .infer .ensures .is) (c .before .match .keys2);
       known = at-infer .infer .ensures .known;
     }
@@ -706,8 +708,8 @@ infer-letrec-infer-requires-2 t c κs =
     let at-infer = c .before .before .before .before in
     let at-push = at-infer .before .before .before in
     let start = at-push .before .before .before in
-    let h = letrec-rest (start .pre .1 .0) (start .pre .1 .1) (at-push .push .ensures) in
-    (omega (arith, start .pre .0, h .lower), (h .ready, at-infer .infer .ensures .known))
+    let h = letrec-rest (start .pre .1 .at) (start .pre .1 .kind-is) (at-push .push .ensures) in
+    (omega (arith, start .pre .0, h .lower), record { ready = h .ready; known = at-infer .infer .ensures .known })
 
 infer-letrec-letrec-of-requires : (t : ℕ) → infer-letrec-lts.Need-letrec-of-requires (infer-letrec-claims t) (infer-letrec-at t) infer-letrec.Post
 infer-letrec-letrec-of-requires t c κs = search needs
@@ -722,7 +724,7 @@ infer-letrec-returns-2 t c =
     let at-type-record = at-push .before in
     let start = at-type-record .before .before in
     record {
-      is = letrec-is (start .pre .1 .0) _ _ (at-type-record .type-record .ensures) refl (start .pre .1 .1) (at-push .push .ensures)
+      is = letrec-is (start .pre .1 .at) _ _ (at-type-record .type-record .ensures) refl (start .pre .1 .kind-is) (at-push .push .ensures)
           (at-push2 .push2 .ensures) (at-j .j .given .1) (at-infer .infer .ensures .is) (at-infer2 .infer2 .ensures .is)
           (c .letrec-of .ensures);
       known = at-infer2 .infer2 .ensures .known;
@@ -734,7 +736,8 @@ infer-post-claims t = (infer-below t, infer.Post, guard-reads.Asked, guard-reads
 infer-post-infer-requires : (t : ℕ) → infer-post-lts.Need-infer-requires (infer-post-claims t) (infer-post-at t) infer-post.Post
 infer-post-infer-requires t c κs =
     let start = c .before .before in
-    let h = post-child (start .pre .1 .0) (start .pre .1 .1) in (omega (arith, start .pre .0, h .lower), (h .ready, start .pre .1 .0 .known))
+    let h = post-child (start .pre .1 .at) (start .pre .1 .kind-is) in
+    (omega (arith, start .pre .0, h .lower), record { ready = h .ready; known = start .pre .1 .at .known })
 
 infer-post-guard-requires : (t : ℕ) → infer-post-lts.Need-guard-requires (infer-post-claims t) (infer-post-at t) infer-post.Post
 infer-post-guard-requires t c κs = search needs
@@ -742,14 +745,14 @@ infer-post-guard-requires t c κs = search needs
 infer-post-posted-requires : (t : ℕ) → infer-post-lts.Need-posted-requires (infer-post-claims t) (infer-post-at t) infer-post.Post
 infer-post-posted-requires t c κs =
     let start = c .before .before .before .before in
-    post-guard-byte (start .pre .1 .0) (start .pre .1 .1) (c .guard .ensures)
+    post-guard-byte (start .pre .1 .at) (start .pre .1 .kind-is) (c .guard .ensures)
 
 infer-post-returns : (t : ℕ) → infer-post-lts.Need-returns (infer-post-claims t) (infer-post-at t) infer-post.Post
 infer-post-returns t c =
     let at-infer = c .before .before in
     let start = at-infer .before .before .before in
     record {
-      is = post-is (start .pre .1 .0) _ (start .pre .1 .1) (c .before .guard .ensures) (at-infer .infer .ensures .is) (c .posted .ensures);
+      is = post-is (start .pre .1 .at) _ (start .pre .1 .kind-is) (c .before .guard .ensures) (at-infer .infer .ensures .is) (c .posted .ensures);
       known = at-infer .infer .ensures .known;
     }
 
@@ -759,7 +762,8 @@ infer-sign-claims t = (infer-below t, infer.Post, authority-reads.Asked, authori
 infer-sign-infer-requires : (t : ℕ) → infer-sign-lts.Need-infer-requires (infer-sign-claims t) (infer-sign-at t) infer-sign.Post
 infer-sign-infer-requires t c κs =
     let start = c .before .before in
-    let h = sign-child (start .pre .1 .0) (start .pre .1 .1) in (omega (arith, start .pre .0, h .lower), (h .ready, start .pre .1 .0 .known))
+    let h = sign-child (start .pre .1 .at) (start .pre .1 .kind-is) in
+    (omega (arith, start .pre .0, h .lower), record { ready = h .ready; known = start .pre .1 .at .known })
 
 infer-sign-cast-authority : (t : ℕ) → infer-sign-lts.Need-cast-authority (infer-sign-claims t) (infer-sign-at t) infer-sign.Post
 infer-sign-cast-authority t c = search needs
@@ -775,7 +779,7 @@ infer-sign-returns t c =
     let at-infer = c .before .before .before in
     let start = at-infer .before .before .before in
     record {
-      is = sign-is (start .pre .1 .0) _ (start .pre .1 .1) (c .before .authority .ensures) (at-infer .infer .ensures .is)
+      is = sign-is (start .pre .1 .at) _ (start .pre .1 .kind-is) (c .before .authority .ensures) (at-infer .infer .ensures .is)
           (c .signed .ensures);
       known = at-infer .infer .ensures .known;
     }
@@ -786,7 +790,8 @@ infer-test-claims t = (infer-below t, infer.Post, tested-reads.Asked, tested-rea
 infer-test-infer-requires : (t : ℕ) → infer-test-lts.Need-infer-requires (infer-test-claims t) (infer-test-at t) infer-test.Post
 infer-test-infer-requires t c κs =
     let start = c .before .before in
-    let h = test-first (start .pre .1 .0) (start .pre .1 .1) in (omega (arith, start .pre .0, h .lower), (h .ready, start .pre .1 .0 .known))
+    let h = test-first (start .pre .1 .at) (start .pre .1 .kind-is) in
+    (omega (arith, start .pre .0, h .lower), record { ready = h .ready; known = start .pre .1 .at .known })
 
 infer-test-enum-known-j : (t : ℕ) → infer-test-lts.Need-enum-known-j (infer-test-claims t) (infer-test-at t) infer-test.Post
 infer-test-enum-known-j t c = search needs
@@ -799,7 +804,7 @@ infer-test-returns t c =
     let at-infer = c .before .before in
     let start = at-infer .before .before .before in
     record {
-      is = test-stops (start .pre .1 .0) _ (start .pre .1 .1) (at-infer .infer .result) (at-infer .infer .ensures .is)
+      is = test-stops (start .pre .1 .at) _ (start .pre .1 .kind-is) (at-infer .infer .result) (at-infer .infer .ensures .is)
           (c .before .match .keys2);
       known = at-infer .infer .ensures .known;
     }
@@ -808,12 +813,16 @@ infer-test-infer-requires-2 : (t : ℕ) → infer-test-lts.Need-infer-requires-2
 infer-test-infer-requires-2 t c κs =
     let at-infer = c .before .before .before .before in
     let start = at-infer .before .before .before in
-    let h = test-second (start .pre .1 .0) (start .pre .1 .1) in (omega (arith, start .pre .0, h .lower), (h .ready, at-infer .infer .ensures .known))
+    let h = test-second (start .pre .1 .at) (start .pre .1 .kind-is) in
+    (omega (arith, start .pre .0, h .lower), record { ready = h .ready; known = at-infer .infer .ensures .known })
 
 infer-test-tested-requires : (t : ℕ) → infer-test-lts.Need-tested-requires (infer-test-claims t) (infer-test-at t) infer-test.Post
 infer-test-tested-requires t c κs =
     let start = c .before .before .before .before .before .before .before .before .before in
-    (record { sheet = start .pre .1 .0 .ready .sheet; known = c .before .infer2 .ensures .known }, test-privilege (start .pre .1 .0) (start .pre .1 .1))
+    record {
+      judging = record { sheet = start .pre .1 .at .ready .sheet; known = c .before .infer2 .ensures .known };
+      privilege = test-privilege (start .pre .1 .at) (start .pre .1 .kind-is);
+    }
 
 infer-test-returns-2 : (t : ℕ) → infer-test-lts.Need-returns-2 (infer-test-claims t) (infer-test-at t) infer-test.Post
 infer-test-returns-2 t c =
@@ -821,7 +830,7 @@ infer-test-returns-2 t c =
     let at-infer = at-j .before .before in
     let start = at-infer .before .before .before in
     record {
-      is = test-is (start .pre .1 .0) _ (start .pre .1 .1) (at-j .j .given .1) (at-infer .infer .ensures .is) (c .before .before .infer2 .ensures .is)
+      is = test-is (start .pre .1 .at) _ (start .pre .1 .kind-is) (at-j .j .given .1) (at-infer .infer .ensures .is) (c .before .before .infer2 .ensures .is)
           (c .tested .ensures .is);
       known = c .tested .ensures .known;
     }

@@ -1,16 +1,15 @@
 -- The list has the nesting of every term from t on, held at 33, one more than is allowed. The parent of t - 1 is t or higher, so that its nesting is in
 -- the list; t - 1 has one more, or 33 if the parent has 33 (nested-more). t falls, from the root to 0.
-use mathlib.Core.Path.{_≡_}
-use Prim.Native.Nat.{_<_, _-_}
+use Prim.Native.Nat.{_-_}
 use native.Mathlib.Omega.{arith}
-use lib.ListN.{length, length-set, replicate}
-use Rattle.decoder.specs.Internal.{Nested}
-use Rattle.decoder.proofs.NestingLaws.{nested-root, nested-more, one-more, held}
+use lib.ListN.{length-set, replicate}
+use Rattle.program.specs.Limits.{maxTerms}
+use Rattle.decoder.proofs.NestingLaws.{NestedFrom, nested-root, nested-more, one-more, held}
 use Rattle.decoder.proofs.nesting.nestings.Statement.{statement}
 use Rattle.decoder.proofs.nesting.nestings.Tie as tie
 
 abbrev Inv-loop : tie.InvT-loop
-Inv-loop parents n deep₀ t₀ deep t = (t < n) × ((length deep ≡ 1024) × Nested parents deep n t)
+Inv-loop parents n deep₀ t₀ deep t = NestedFrom parents deep n t
 
 abbrev μ-loop : tie.MeasureT-loop
 μ-loop parents n deep₀ t₀ deep t = t
@@ -25,14 +24,12 @@ array-write-deep : tie.Need-array-write-deep Inv-loop μ-loop
 array-write-deep c = omega arith
 
 loop-holds : tie.Need-loop-holds Inv-loop μ-loop
-loop-holds c = (
-  omega arith,
-  (
-    length-set (replicate 1024 0) (c .args .n - 1) 1,
-    nested-root (c .args .parents .now) (replicate 1024 0) (c .args .n)
-        (c .pre .low) (c .pre .high),
-  ),
-)
+loop-holds c =
+    record {
+      below = omega arith;
+      room = length-set (replicate maxTerms 0) (c .args .n - 1) 1;
+      nested = nested-root (c .args .parents .now) (replicate maxTerms 0) (c .args .n) (c .pre .low) (c .pre .high);
+    }
 
 sub-t-2 : tie.Need-sub-t-2 Inv-loop μ-loop
 sub-t-2 c = omega arith
@@ -67,15 +64,14 @@ loop-less c = omega arith
 loop-again : tie.Need-loop-again Inv-loop μ-loop
 loop-again c =
     let at-loop = c .before .before .before in
-    let start = at-loop .before in (
-      omega arith,
-      (
-        simp length-set (at-loop .loop .inv .1 .0),
-        nested-more (start .args .parents .now) (at-loop .loop .deep) (start .args .n)
-            (at-loop .loop .t) _ (at-loop .loop .inv .1 .1) (start .pre .rising) (omega (arith, at-loop .loop .inv .1 .0, start .pre .high))
-            (c .before .before .loop-test .taken) (at-loop .loop .inv .0) (λ k h. one-more _ k) (omega arith),
-      ),
-    )
+    let start = at-loop .before in
+    record {
+      below = omega arith;
+      room = simp length-set (at-loop .loop .inv .room);
+      nested = nested-more (start .args .parents .now) (at-loop .loop .deep) (start .args .n)
+          (at-loop .loop .t) _ (at-loop .loop .inv .nested) (start .pre .rising) (omega (arith, at-loop .loop .inv .room, start .pre .high))
+          (c .before .before .loop-test .taken) (at-loop .loop .inv .below) (λ k h. one-more _ k) (omega arith);
+    }
 
 array-write-deep-3 : tie.Need-array-write-deep-3 Inv-loop μ-loop
 array-write-deep-3 c =
@@ -88,18 +84,17 @@ loop-less-2 c = omega arith
 loop-again-2 : tie.Need-loop-again-2 Inv-loop μ-loop
 loop-again-2 c =
     let at-loop = c .before .before .before in
-    let start = at-loop .before in (
-      omega arith,
-      (
-        simp length-set (at-loop .loop .inv .1 .0),
-        nested-more (start .args .parents .now) (at-loop .loop .deep) (start .args .n)
-            (at-loop .loop .t) 33 (at-loop .loop .inv .1 .1) (start .pre .rising) (omega (arith, at-loop .loop .inv .1 .0, start .pre .high))
-            (c .before .before .loop-test .taken) (at-loop .loop .inv .0) (λ k h. held _ k (c .if1 .left) h) (omega arith),
-      ),
-    )
+    let start = at-loop .before in
+    record {
+      below = omega arith;
+      room = simp length-set (at-loop .loop .inv .room);
+      nested = nested-more (start .args .parents .now) (at-loop .loop .deep) (start .args .n)
+          (at-loop .loop .t) 33 (at-loop .loop .inv .nested) (start .pre .rising) (omega (arith, at-loop .loop .inv .room, start .pre .high))
+          (c .before .before .loop-test .taken) (at-loop .loop .inv .below) (λ k h. held _ k (c .if1 .left) h) (omega arith);
+    }
 
 returns : tie.Need-returns Inv-loop μ-loop
-returns c = record { each = λ x h q k m. c .before .loop .inv .1 .1 .each x (omega (arith, c .loop-test .left)) q k m }
+returns c = record { each = λ x h q k m. c .before .loop .inv .nested .each x (omega (arith, c .loop-test .left)) q k m }
 
 pub nestings-spec : {M : Type 1} → statement M
 nestings-spec =

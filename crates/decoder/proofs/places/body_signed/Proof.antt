@@ -19,7 +19,8 @@ returns : tie.Need-returns
 returns c =
     let at-table-term = c .before .before .before .before in
     let start = at-table-term .before .before in
-    body-is (start .args .s .now) (start .args .c) (start .args .t) (start .pre) (at-table-term .table-term .ensures) (c .before .if1 .taken) (c .is-sign .ensures)
+    body-is (start .args .s .now) (start .args .c) (start .args .t) (start .pre) (at-table-term .table-term .ensures) (c .before .if1 .taken)
+    (c .is-sign .ensures)
 
 returns-2 : tie.Need-returns-2
 returns-2 c =

@@ -13,7 +13,7 @@ contains-requires c κs = search needs
 returns : tie.Need-returns
 returns c =
     let start = c .before .before .before in
-    latent-is (start .pre .0) _ _ (start .pre .1 .0) (c .before .type-record .ensures) (c .contains .ensures)
+    latent-is (start .pre .sheet) _ _ (start .pre .is-function) (c .before .type-record .ensures) (c .contains .ensures)
 
 pub has-latent-spec : {M : Type 1} → statement M
 has-latent-spec = tie.close (tie.spec type-record-requires contains-requires returns)

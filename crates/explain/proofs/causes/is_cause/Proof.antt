@@ -12,12 +12,16 @@ term-requires c κs = search needs
 has-latent-requires : tie.Need-has-latent-requires
 has-latent-requires c κs =
     let start = c .before .before .before in
-    (start .pre .ready .sheet, (letrec-function (start .pre .ready) (c .before .term .ensures) (c .match .keys1), start .pre .privilege))
+    record {
+      sheet = start .pre .ready .sheet;
+      is-function = letrec-function (start .pre .ready) (c .before .term .ensures) (c .match .keys1);
+      privilege = start .pre .privilege;
+    }
 
 infer-requires : tie.Need-infer-requires
 infer-requires c κs =
     let start = c .before .before .before .before in
-    (call-ready (start .pre .ready) (c .before .before .term .ensures) (c .before .match .keys2), start .pre .known)
+    record { ready = call-ready (start .pre .ready) (c .before .before .term .ensures) (c .before .match .keys2); known = start .pre .known }
 
 enum-known-j : tie.Need-enum-known-j
 enum-known-j c = search needs
@@ -41,14 +45,13 @@ has-latent-requires-2 : tie.Need-has-latent-requires-2
 has-latent-requires-2 c κs =
     let at-match = c .before .before .before .before .before in
     let at-term = at-match .before in
-    let start = at-term .before .before in (
-      start .pre .ready .sheet,
-      (
-        part-function (start .pre .ready) (at-term .term .ensures) _ (at-match .match .keys2) _
-            (c .before .before .before .infer .ensures .is) (c .before .j .given .1) (start .pre .needing),
-        start .pre .privilege,
-      ),
-    )
+    let start = at-term .before .before in
+    record {
+      sheet = start .pre .ready .sheet;
+      is-function = part-function (start .pre .ready) (at-term .term .ensures) _ (at-match .match .keys2) _
+          (c .before .before .before .infer .ensures .is) (c .before .j .given .1) (start .pre .needing);
+      privilege = start .pre .privilege;
+    }
 
 guard-requires : tie.Need-guard-requires
 guard-requires c κs = search needs

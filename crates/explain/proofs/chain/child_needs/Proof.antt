@@ -13,7 +13,7 @@ returns c =
 infer-requires : tie.Need-infer-requires
 infer-requires c κs =
     let start = c .before .before .before .before .before in
-    (start .pre .ready (not-false _ (c .before .before .if1 .left)), start .pre .known)
+    record { ready = start .pre .ready (not-false _ (c .before .before .if1 .left)); known = start .pre .known }
 
 enum-known-j : tie.Need-enum-known-j
 enum-known-j c = search needs

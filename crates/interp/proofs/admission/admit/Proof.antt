@@ -18,12 +18,13 @@ admit-readable-requires : tie.Need-admit-readable-requires
 admit-readable-requires c κs =
     let at-d2 = c .before in
     let at-decode = at-d2 .before .before in
-    let start = at-decode .before .before .before in (
-      readable (start .args .s .now) (start .args .start .now) (start .args .cells) (start .args .posts) (start .args .frames) (start .args .calls)
-          (start .args .depth) (at-decode .decode .ensures .0) (at-d2 .d2 .given .1),
-      counted (start .args .s .now) (start .args .start .now) (start .args .cells)
-          (start .args .posts) (start .args .frames) (start .args .calls) (start .args .depth) (at-d2 .d2 .given .1) (at-decode .decode .ensures .1),
-    )
+    let start = at-decode .before .before .before in
+    record {
+      readable = readable (start .args .s .now) (start .args .start .now) (start .args .cells) (start .args .posts) (start .args .frames) (start .args .calls)
+          (start .args .depth) (at-decode .decode .ensures .0) (at-d2 .d2 .given .1);
+      counts-are = counted (start .args .s .now) (start .args .start .now) (start .args .cells)
+          (start .args .posts) (start .args .frames) (start .args .calls) (start .args .depth) (at-d2 .d2 .given .1) (at-decode .decode .ensures .1);
+    }
 
 returns : tie.Need-returns
 returns c =

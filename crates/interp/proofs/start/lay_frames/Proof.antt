@@ -1,20 +1,15 @@
 -- Each turn lays one frame, from the outermost on, in front of what is left of the store. The numbers of the stack that are left fall by two.
 use native.Mathlib.Omega.{arith}
 use borrow.Author.Needs.{needs}
-use mathlib.Core.Path.{_≡_, refl}
-use mathlib.Core.List.{_++_}
-use Prim.Native.Nat.{_+_, _%_}
-use lib.ListN.{length, drop, length-set}
+use mathlib.Core.Path.{refl}
+use lib.ListN.{length-set}
 use Rattle.program.specs.Records.{authorityRecord}
-use Rattle.semantics.specs.Runs.{stack}
-use Rattle.refinement.specs.Claims.{laidOut}
-use Rattle.interp.proofs.StartLaws.{lay-none, lay-more, all-laid}
+use Rattle.interp.proofs.StartLaws.{LaidFrom, lay-none, lay-more, all-laid}
 use Rattle.interp.proofs.start.lay_frames.Statement.{statement}
 use Rattle.interp.proofs.start.lay_frames.Tie as tie
 
 abbrev Inv-loop : tie.InvT-loop
-Inv-loop s start frames₀ at₀ i₀ frames at i = (i % 2 ≡ 0) × ((i + at ≡ length start) ×
-    ((length frames ≡ length frames₀) × (frames ≡ laidOut (authorityRecord s) (stack (drop i start)) ++ drop at frames₀)))
+Inv-loop s start frames₀ at₀ i₀ frames at i = LaidFrom (authorityRecord s) start frames₀ frames at i
 
 abbrev μ-loop : tie.MeasureT-loop
 μ-loop s start frames₀ at₀ i₀ frames at i = i
@@ -22,28 +17,33 @@ abbrev μ-loop : tie.MeasureT-loop
 loop-holds : tie.Need-loop-holds Inv-loop μ-loop
 loop-holds c =
     let start = c .before .before .before in
-    (start .pre .whole .even, (omega arith, (refl, lay-none _ (start .args .start .now) (start .args .frames .now))))
+    record {
+      even = start .pre .whole .even;
+      place = omega arith;
+      room = refl;
+      laid = lay-none _ (start .args .start .now) (start .args .frames .now);
+    }
 
 sub-i : tie.Need-sub-i Inv-loop μ-loop
 sub-i c =
     let at-loop = c .before in
     let start = at-loop .before .before .before .before in
     let inv = at-loop .loop .inv in
-    omega (arith, start .pre .whole .few, start .pre .whole .even, start .pre .room, inv .0, inv .1 .0, inv .1 .1 .0)
+    omega (arith, start .pre .whole .few, start .pre .whole .even, start .pre .room, inv .even, inv .place, inv .room)
 
 mul-authority : tie.Need-mul-authority Inv-loop μ-loop
 mul-authority c =
     let at-loop = c .before in
     let start = at-loop .before .before .before .before in
     let inv = at-loop .loop .inv in
-    omega (arith, start .pre .whole .few, start .pre .whole .even, start .pre .room, inv .0, inv .1 .0, inv .1 .1 .0)
+    omega (arith, start .pre .whole .few, start .pre .whole .even, start .pre .room, inv .even, inv .place, inv .room)
 
 shared-slice-read-authority : tie.Need-shared-slice-read-authority Inv-loop μ-loop
 shared-slice-read-authority c =
     let at-loop = c .before .before in
     let start = at-loop .before .before .before .before in
     let inv = at-loop .loop .inv in
-    omega (arith, start .pre .whole .few, start .pre .whole .even, start .pre .room, inv .0, inv .1 .0, inv .1 .1 .0)
+    omega (arith, start .pre .whole .few, start .pre .whole .even, start .pre .room, inv .even, inv .place, inv .room)
 
 authority-requires : tie.Need-authority-requires Inv-loop μ-loop
 authority-requires c κs = search needs
@@ -53,49 +53,49 @@ mul-frames c =
     let at-loop = c .before .before .before in
     let start = at-loop .before .before .before .before in
     let inv = at-loop .loop .inv in
-    omega (arith, start .pre .whole .few, start .pre .whole .even, start .pre .room, inv .0, inv .1 .0, inv .1 .1 .0)
+    omega (arith, start .pre .whole .few, start .pre .whole .even, start .pre .room, inv .even, inv .place, inv .room)
 
 slice-write-frames : tie.Need-slice-write-frames Inv-loop μ-loop
 slice-write-frames c =
     let at-loop = c .before .before .before in
     let start = at-loop .before .before .before .before in
     let inv = at-loop .loop .inv in
-    omega (arith, start .pre .whole .few, start .pre .whole .even, start .pre .room, inv .0, inv .1 .0, inv .1 .1 .0)
+    omega (arith, start .pre .whole .few, start .pre .whole .even, start .pre .room, inv .even, inv .place, inv .room)
 
 add-frames : tie.Need-add-frames Inv-loop μ-loop
 add-frames c =
     let at-loop = c .before .before .before in
     let start = at-loop .before .before .before .before in
     let inv = at-loop .loop .inv in
-    omega (arith, start .pre .whole .few, start .pre .whole .even, start .pre .room, inv .0, inv .1 .0, inv .1 .1 .0)
+    omega (arith, start .pre .whole .few, start .pre .whole .even, start .pre .room, inv .even, inv .place, inv .room)
 
 mul-frames-2 : tie.Need-mul-frames-2 Inv-loop μ-loop
 mul-frames-2 c =
     let at-loop = c .before .before .before in
     let start = at-loop .before .before .before .before in
     let inv = at-loop .loop .inv in
-    omega (arith, start .pre .whole .few, start .pre .whole .even, start .pre .room, inv .0, inv .1 .0, inv .1 .1 .0)
+    omega (arith, start .pre .whole .few, start .pre .whole .even, start .pre .room, inv .even, inv .place, inv .room)
 
 shared-slice-read-frames : tie.Need-shared-slice-read-frames Inv-loop μ-loop
 shared-slice-read-frames c =
     let at-loop = c .before .before .before .before in
     let start = at-loop .before .before .before .before in
     let inv = at-loop .loop .inv in
-    omega (arith, start .pre .whole .few, start .pre .whole .even, start .pre .room, inv .0, inv .1 .0, inv .1 .1 .0)
+    omega (arith, start .pre .whole .few, start .pre .whole .even, start .pre .room, inv .even, inv .place, inv .room)
 
 add-frames-2 : tie.Need-add-frames-2 Inv-loop μ-loop
 add-frames-2 c =
     let at-loop = c .before .before .before .before in
     let start = at-loop .before .before .before .before in
     let inv = at-loop .loop .inv in
-    omega (arith, start .pre .whole .few, start .pre .whole .even, start .pre .room, inv .0, inv .1 .0, inv .1 .1 .0)
+    omega (arith, start .pre .whole .few, start .pre .whole .even, start .pre .room, inv .even, inv .place, inv .room)
 
 mul-frames-3 : tie.Need-mul-frames-3 Inv-loop μ-loop
 mul-frames-3 c =
     let at-loop = c .before .before .before .before in
     let start = at-loop .before .before .before .before in
     let inv = at-loop .loop .inv in
-    omega (arith, start .pre .whole .few, start .pre .whole .even, start .pre .room, inv .0, inv .1 .0, inv .1 .1 .0)
+    omega (arith, start .pre .whole .few, start .pre .whole .even, start .pre .room, inv .even, inv .place, inv .room)
 
 slice-write-frames-2 : tie.Need-slice-write-frames-2 Inv-loop μ-loop
 slice-write-frames-2 c =
@@ -106,9 +106,9 @@ slice-write-frames-2 c =
       start .pre .whole .few,
       start .pre .whole .even,
       start .pre .room,
-      at-loop .loop .inv .0,
-      at-loop .loop .inv .1 .0,
-      at-loop .loop .inv .1 .1 .0,
+      at-loop .loop .inv .even,
+      at-loop .loop .inv .place,
+      at-loop .loop .inv .room,
       c .before .before .before .loop-test .taken,
     ))
 
@@ -117,44 +117,42 @@ add-at c =
     let at-loop = c .before .before .before .before in
     let start = at-loop .before .before .before .before in
     let inv = at-loop .loop .inv in
-    omega (arith, start .pre .whole .few, start .pre .whole .even, start .pre .room, inv .0, inv .1 .0, inv .1 .1 .0)
+    omega (arith, start .pre .whole .few, start .pre .whole .even, start .pre .room, inv .even, inv .place, inv .room)
 
 loop-less : tie.Need-loop-less Inv-loop μ-loop
 loop-less c =
     let at-loop = c .before .before .before .before in
     let start = at-loop .before .before .before .before in
     let inv = at-loop .loop .inv in
-    omega (arith, start .pre .whole .few, start .pre .whole .even, start .pre .room, inv .0, inv .1 .0, inv .1 .1 .0)
+    omega (arith, start .pre .whole .few, start .pre .whole .even, start .pre .room, inv .even, inv .place, inv .room)
 
 loop-again : tie.Need-loop-again Inv-loop μ-loop
 loop-again c =
     let at-loop-test = c .before .before .before in
     let at-loop = at-loop-test .before in
-    let start = at-loop .before .before .before .before in (
-      omega (arith, at-loop .loop .inv .0, at-loop-test .loop-test .taken),
-      (
-        omega (arith, at-loop .loop .inv .0, at-loop .loop .inv .1 .0, at-loop-test .loop-test .taken),
-        (
-          simp length-set (at-loop .loop .inv .1 .1 .0),
-          lay-more _ (start .args .start .now) (start .args .frames .now) _ _ (at-loop .loop .inv .0)
-              (omega (arith, at-loop .loop .inv .0, at-loop-test .loop-test .taken)) (at-loop .loop .inv .1 .0) (start .pre .whole .even)
-              (omega (arith, start .pre .whole .few, start .pre .room)) (c .before .authority .ensures) (at-loop .loop .inv .1 .1 .1),
-        ),
-      ),
-    )
+    let start = at-loop .before .before .before .before in
+    let inv = at-loop .loop .inv in
+    record {
+      even = omega (arith, inv .even, at-loop-test .loop-test .taken);
+      place = omega (arith, inv .even, inv .place, at-loop-test .loop-test .taken);
+      room = simp length-set (inv .room);
+      laid = lay-more _ (start .args .start .now) (start .args .frames .now) _ _ (inv .even)
+          (omega (arith, inv .even, at-loop-test .loop-test .taken)) (inv .place) (start .pre .whole .even)
+          (omega (arith, start .pre .whole .few, start .pre .room)) (c .before .authority .ensures) (inv .laid);
+    }
 
 same-length : tie.Need-same-length Inv-loop μ-loop
 same-length c =
     let at-loop = c .before in
     let start = at-loop .before .before .before .before in
     let inv = at-loop .loop .inv in
-    omega (arith, start .pre .whole .few, start .pre .whole .even, start .pre .room, inv .0, inv .1 .0, inv .1 .1 .0)
+    omega (arith, start .pre .whole .few, start .pre .whole .even, start .pre .room, inv .even, inv .place, inv .room)
 
 returns : tie.Need-returns Inv-loop μ-loop
 returns c =
     let at-loop = c .before in
     let start = at-loop .before .before .before .before in
-    all-laid _ (start .args .start .now) (start .args .frames .now) _ _ (c .loop-test .left) (at-loop .loop .inv .1 .0) (at-loop .loop .inv .1 .1 .1)
+    all-laid _ (start .args .start .now) (start .args .frames .now) _ _ (c .loop-test .left) (at-loop .loop .inv .place) (at-loop .loop .inv .laid)
 
 pub lay-frames-spec : {M : Type 1} → statement M
 lay-frames-spec =

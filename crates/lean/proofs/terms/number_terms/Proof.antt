@@ -3,21 +3,20 @@
 use native.Mathlib.Omega.{arith}
 use borrow.Author.Needs.{needs}
 use mathlib.Core.Path.{_≡_, refl, ap, _∙_}
-use Prim.Native.Nat.{_<_, _≤_, _-_}
-use lib.ListN.{length, length-set}
+use Prim.Native.Nat.{_<_, _-_}
+use lib.ListN.{length-set}
+use Rattle.program.specs.Limits.{maxTerms}
 use Rattle.program.specs.Layout.{terms}
 use Rattle.erasure.specs.Kept.{keptBelow}
 use Rattle.erasure.specs.Lean.{keptTerm, newTerms, newTerm}
 use Rattle.erasure.specs.Laws.Kept.{kept-most}
-use Rattle.lean.specs.Internal.{Table}
-use Rattle.lean.proofs.TableLaws.{table-none, table-more, table-whole, count-none, count-yes, count-no, within, through}
+use Rattle.lean.proofs.TableLaws.{Numbered, table-none, table-more, table-whole, count-none, count-yes, count-no, within, through}
 use Rattle.lean.proofs.TermLaws.{kept-here, gone-here, inner-below, inner-number, own-number}
 use Rattle.lean.proofs.terms.number_terms.Statement.{statement}
 use Rattle.lean.proofs.terms.number_terms.Tie as tie
 
 abbrev Inv-loop : tie.InvT-loop
-Inv-loop s c numbers₀ n count₀ t₀ numbers count t = (t ≤ n) ×
-    ((n ≡ terms s) × ((length numbers ≡ 1024) × ((count ≡ keptBelow (keptTerm s) t) × Table (newTerm s) numbers t)))
+Inv-loop s c numbers₀ n count₀ t₀ numbers count t = Numbered (keptTerm s) (newTerm s) (terms s) maxTerms numbers n count t
 
 abbrev μ-loop : tie.MeasureT-loop
 μ-loop s c numbers₀ n count₀ t₀ numbers count t = n - t
@@ -25,7 +24,13 @@ abbrev μ-loop : tie.MeasureT-loop
 loop-holds : tie.Need-loop-holds Inv-loop μ-loop
 loop-holds c =
     let start = c .before in
-    (omega arith, (start .pre .counts .terms-are, (refl, (count-none (keptTerm (start .args .s .now)), table-none (newTerm (start .args .s .now)) _))))
+    record {
+      below = omega arith;
+      all-are = start .pre .counts .terms-are;
+      room = refl;
+      count-is = count-none (keptTerm (start .args .s .now));
+      table = table-none (newTerm (start .args .s .now)) _;
+    }
 
 cast-i : tie.Need-cast-i Inv-loop μ-loop
 cast-i c =
@@ -58,7 +63,7 @@ array-read-numbers c =
     let at-loop-test = c .before .before .before .before in
     let at-loop = at-loop-test .before in
     let start = at-loop .before .before in
-    let l : at-loop .loop .t < terms (start .args .s .now) = within (at-loop-test .loop-test .taken) (at-loop .loop .inv .1 .0) in omega (
+    let l : at-loop .loop .t < terms (start .args .s .now) = within (at-loop-test .loop-test .taken) (at-loop .loop .inv .all-are) in omega (
       arith,
       inner-below (start .pre) l (c .before .before .before .term .ensures) (c .before .is-idle .ensures) (c .if1 .taken),
       start .pre .well-formed .terms-most,
@@ -86,23 +91,18 @@ loop-again c =
     let at-loop-test = at-term .before in
     let at-loop = at-loop-test .before in
     let start = at-loop .before .before in
-    let l : at-loop .loop .t < terms (start .args .s .now) = within (at-loop-test .loop-test .taken) (at-loop .loop .inv .1 .0) in (
-      omega arith,
-      (
-        at-loop .loop .inv .1 .0,
-        (
-          simp length-set (at-loop .loop .inv .1 .1 .0),
-          (
-            count-no (keptTerm (start .args .s .now)) (at-loop .loop .t) (at-loop .loop .inv .1 .1 .1 .0)
-                (gone-here (start .pre) l (at-term .term .ensures) (at-is-idle .is-idle .ensures) (c .if1 .taken)),
-            table-more (newTerm (start .args .s .now))
-                (at-loop .loop .numbers) (at-loop .loop .t) _ (omega (arith, start .pre .well-formed .terms-most))
-                (inner-number (start .pre) l (at-term .term .ensures) (at-is-idle .is-idle .ensures) (c .if1 .taken) (at-loop .loop .inv .1 .1 .1 .1))
-                (at-loop .loop .inv .1 .1 .1 .1),
-          ),
-        ),
-      ),
-    )
+    let l : at-loop .loop .t < terms (start .args .s .now) = within (at-loop-test .loop-test .taken) (at-loop .loop .inv .all-are) in
+    record {
+      below = omega arith;
+      all-are = at-loop .loop .inv .all-are;
+      room = simp length-set (at-loop .loop .inv .room);
+      count-is = count-no (keptTerm (start .args .s .now)) (at-loop .loop .t) (at-loop .loop .inv .count-is)
+          (gone-here (start .pre) l (at-term .term .ensures) (at-is-idle .is-idle .ensures) (c .if1 .taken));
+      table = table-more (newTerm (start .args .s .now))
+          (at-loop .loop .numbers) (at-loop .loop .t) _ (omega (arith, start .pre .well-formed .terms-most))
+          (inner-number (start .pre) l (at-term .term .ensures) (at-is-idle .is-idle .ensures) (c .if1 .taken) (at-loop .loop .inv .table))
+          (at-loop .loop .inv .table);
+    }
 
 mul-numbers-3 : tie.Need-mul-numbers-3 Inv-loop μ-loop
 mul-numbers-3 c =
@@ -121,7 +121,7 @@ add-count c =
     omega (
       arith,
       kept-most (keptTerm (start .args .s .now)) (at-loop .loop .t),
-      at-loop .loop .inv .1 .1 .1 .0,
+      at-loop .loop .inv .count-is,
       start .pre .counts .terms-are,
       start .pre .well-formed .terms-most,
     )
@@ -138,34 +138,29 @@ loop-again-2 c =
     let at-loop-test = at-term .before in
     let at-loop = at-loop-test .before in
     let start = at-loop .before .before in
-    let l : at-loop .loop .t < terms (start .args .s .now) = within (at-loop-test .loop-test .taken) (at-loop .loop .inv .1 .0) in (
-      omega arith,
-      (
-        at-loop .loop .inv .1 .0,
-        (
-          simp length-set (at-loop .loop .inv .1 .1 .0),
-          (
-            count-yes (keptTerm (start .args .s .now)) (at-loop .loop .t) (at-loop .loop .inv .1 .1 .1 .0)
-                (kept-here (start .pre) l (at-term .term .ensures) (at-is-idle .is-idle .ensures) (c .if1 .left)),
-            table-more (newTerm (start .args .s .now))
-                (at-loop .loop .numbers) (at-loop .loop .t) (at-loop .loop .count) (omega (arith, start .pre .well-formed .terms-most))
-                (own-number (start .pre) l (at-term .term .ensures) (at-is-idle .is-idle .ensures) (c .if1 .left) (at-loop .loop .inv .1 .1 .1 .0))
-                (at-loop .loop .inv .1 .1 .1 .1),
-          ),
-        ),
-      ),
-    )
+    let l : at-loop .loop .t < terms (start .args .s .now) = within (at-loop-test .loop-test .taken) (at-loop .loop .inv .all-are) in
+    record {
+      below = omega arith;
+      all-are = at-loop .loop .inv .all-are;
+      room = simp length-set (at-loop .loop .inv .room);
+      count-is = count-yes (keptTerm (start .args .s .now)) (at-loop .loop .t) (at-loop .loop .inv .count-is)
+          (kept-here (start .pre) l (at-term .term .ensures) (at-is-idle .is-idle .ensures) (c .if1 .left));
+      table = table-more (newTerm (start .args .s .now))
+          (at-loop .loop .numbers) (at-loop .loop .t) (at-loop .loop .count) (omega (arith, start .pre .well-formed .terms-most))
+          (own-number (start .pre) l (at-term .term .ensures) (at-is-idle .is-idle .ensures) (c .if1 .left) (at-loop .loop .inv .count-is))
+          (at-loop .loop .inv .table);
+    }
 
 returns : tie.Need-returns Inv-loop μ-loop
 unfolding newTerms
 returns c =
     let at-loop = c .before in
     let start = at-loop .before .before in
-    let e : at-loop .loop .t ≡ terms (start .args .s .now) = through (at-loop .loop .inv .0) (c .loop-test .left)
-    (at-loop .loop .inv .1 .0) in record {
+    let e : at-loop .loop .t ≡ terms (start .args .s .now) = through (at-loop .loop .inv .below) (c .loop-test .left)
+    (at-loop .loop .inv .all-are) in record {
       table = table-whole (newTerm (start .args .s .now)) (at-loop .loop .numbers) e
-          (at-loop .loop .inv .1 .1 .1 .1);
-      count-is = at-loop .loop .inv .1 .1 .1 .0 ∙ ap (keptBelow (keptTerm (start .args .s .now))) e;
+          (at-loop .loop .inv .table);
+      count-is = at-loop .loop .inv .count-is ∙ ap (keptBelow (keptTerm (start .args .s .now))) e;
     }
 
 pub number-terms-spec : {M : Type 1} → statement M

@@ -2,21 +2,20 @@
 -- (first-number), and any other the number of its head, which is lower (merged-number). The types that are left, n - t, fall.
 use native.Mathlib.Omega.{arith}
 use mathlib.Core.Path.{_≡_, refl, ap, _∙_}
-use Prim.Native.Nat.{_≤_, _-_}
-use lib.ListN.{length, length-set}
+use Prim.Native.Nat.{_-_}
+use lib.ListN.{length-set}
+use Rattle.program.specs.Limits.{maxTypes}
 use Rattle.program.specs.Layout.{types}
 use Rattle.erasure.specs.Kept.{keptBelow}
 use Rattle.erasure.specs.Lean.{keptType, newTypes, newType}
 use Rattle.erasure.specs.Laws.Kept.{kept-most}
-use Rattle.lean.specs.Internal.{Table}
-use Rattle.lean.proofs.TableLaws.{table-none, table-more, table-whole, count-none, count-yes, count-no, through}
+use Rattle.lean.proofs.TableLaws.{Numbered, table-none, table-more, table-whole, count-none, count-yes, count-no, through}
 use Rattle.lean.proofs.TypeLaws.{merging, head-first, first-number, head-other, head-below, merged-number}
 use Rattle.lean.proofs.types.number_types.Statement.{statement}
 use Rattle.lean.proofs.types.number_types.Tie as tie
 
 abbrev Inv-loop : tie.InvT-loop
-Inv-loop s c numbers₀ n count₀ t₀ numbers count t = (t ≤ n) ×
-    ((n ≡ types s) × ((length numbers ≡ 256) × ((count ≡ keptBelow (keptType s) t) × Table (newType s) numbers t)))
+Inv-loop s c numbers₀ n count₀ t₀ numbers count t = Numbered (keptType s) (newType s) (types s) maxTypes numbers n count t
 
 abbrev μ-loop : tie.MeasureT-loop
 μ-loop s c numbers₀ n count₀ t₀ numbers count t = n - t
@@ -24,7 +23,13 @@ abbrev μ-loop : tie.MeasureT-loop
 loop-holds : tie.Need-loop-holds Inv-loop μ-loop
 loop-holds c =
     let start = c .before in
-    (omega arith, (start .pre .counts .types-are, (refl, (count-none (keptType (start .args .s .now)), table-none (newType (start .args .s .now)) _))))
+    record {
+      below = omega arith;
+      all-are = start .pre .counts .types-are;
+      room = refl;
+      count-is = count-none (keptType (start .args .s .now));
+      table = table-none (newType (start .args .s .now)) _;
+    }
 
 cast-i : tie.Need-cast-i Inv-loop μ-loop
 cast-i c =
@@ -35,7 +40,7 @@ first-alike-requires : tie.Need-first-alike-requires Inv-loop μ-loop
 first-alike-requires c κs =
     let at-loop = c .before .before in
     let start = at-loop .before .before in
-    merging (start .pre) (at-loop .loop .inv .1 .1 .1 .1) (c .before .loop-test .taken) (at-loop .loop .inv .1 .0)
+    merging (start .pre) (at-loop .loop .inv .table) (c .before .loop-test .taken) (at-loop .loop .inv .all-are)
 
 cast-h : tie.Need-cast-h Inv-loop μ-loop
 cast-h c =
@@ -64,7 +69,7 @@ add-count c =
     omega (
       arith,
       kept-most (keptType (start .args .s .now)) (at-loop .loop .t),
-      at-loop .loop .inv .1 .1 .1 .0,
+      at-loop .loop .inv .count-is,
       start .pre .counts .types-are,
       start .pre .well-formed .types-most,
     )
@@ -79,22 +84,17 @@ loop-again c =
     let at-first-alike = c .before in
     let at-loop = at-first-alike .before .before .before in
     let start = at-loop .before .before in
-    let m = merging (start .pre) (at-loop .loop .inv .1 .1 .1 .1) (c .before .before .before .loop-test .taken) (at-loop .loop .inv .1 .0) in (
-      omega arith,
-      (
-        at-loop .loop .inv .1 .0,
-        (
-          simp length-set (at-loop .loop .inv .1 .1 .0),
-          (
-            count-yes (keptType (start .args .s .now)) (at-loop .loop .t) (at-loop .loop .inv .1 .1 .1 .0)
-                (head-first m (at-first-alike .first-alike .ensures) (c .if1 .taken)),
-            table-more (newType (start .args .s .now)) (at-loop .loop .numbers)
-                (at-loop .loop .t) (at-loop .loop .count) (omega (arith, start .pre .well-formed .types-most))
-                (first-number m (at-first-alike .first-alike .ensures) (c .if1 .taken) (at-loop .loop .inv .1 .1 .1 .0)) (at-loop .loop .inv .1 .1 .1 .1),
-          ),
-        ),
-      ),
-    )
+    let m = merging (start .pre) (at-loop .loop .inv .table) (c .before .before .before .loop-test .taken) (at-loop .loop .inv .all-are) in
+    record {
+      below = omega arith;
+      all-are = at-loop .loop .inv .all-are;
+      room = simp length-set (at-loop .loop .inv .room);
+      count-is = count-yes (keptType (start .args .s .now)) (at-loop .loop .t) (at-loop .loop .inv .count-is)
+          (head-first m (at-first-alike .first-alike .ensures) (c .if1 .taken));
+      table = table-more (newType (start .args .s .now)) (at-loop .loop .numbers)
+          (at-loop .loop .t) (at-loop .loop .count) (omega (arith, start .pre .well-formed .types-most))
+          (first-number m (at-first-alike .first-alike .ensures) (c .if1 .taken) (at-loop .loop .inv .count-is)) (at-loop .loop .inv .table);
+    }
 
 mul-numbers-2 : tie.Need-mul-numbers-2 Inv-loop μ-loop
 mul-numbers-2 c =
@@ -107,7 +107,7 @@ array-read-numbers c =
     let start = at-loop .before .before in
     omega (
       arith,
-      head-below (merging (start .pre) (at-loop .loop .inv .1 .1 .1 .1) (c .before .before .before .loop-test .taken) (at-loop .loop .inv .1 .0))
+      head-below (merging (start .pre) (at-loop .loop .inv .table) (c .before .before .before .loop-test .taken) (at-loop .loop .inv .all-are))
           (c .before .first-alike .ensures) (c .if1 .left),
       start .pre .counts .types-are,
       start .pre .well-formed .types-most,
@@ -133,33 +133,28 @@ loop-again-2 c =
     let at-first-alike = c .before in
     let at-loop = at-first-alike .before .before .before in
     let start = at-loop .before .before in
-    let m = merging (start .pre) (at-loop .loop .inv .1 .1 .1 .1) (c .before .before .before .loop-test .taken) (at-loop .loop .inv .1 .0) in (
-      omega arith,
-      (
-        at-loop .loop .inv .1 .0,
-        (
-          simp length-set (at-loop .loop .inv .1 .1 .0),
-          (
-            count-no (keptType (start .args .s .now)) (at-loop .loop .t) (at-loop .loop .inv .1 .1 .1 .0)
-                (head-other m (at-first-alike .first-alike .ensures) (c .if1 .left)),
-            table-more (newType (start .args .s .now)) (at-loop .loop .numbers)
-                (at-loop .loop .t) _ (omega (arith, start .pre .well-formed .types-most))
-                (merged-number m (at-first-alike .first-alike .ensures) (c .if1 .left)) (at-loop .loop .inv .1 .1 .1 .1),
-          ),
-        ),
-      ),
-    )
+    let m = merging (start .pre) (at-loop .loop .inv .table) (c .before .before .before .loop-test .taken) (at-loop .loop .inv .all-are) in
+    record {
+      below = omega arith;
+      all-are = at-loop .loop .inv .all-are;
+      room = simp length-set (at-loop .loop .inv .room);
+      count-is = count-no (keptType (start .args .s .now)) (at-loop .loop .t) (at-loop .loop .inv .count-is)
+          (head-other m (at-first-alike .first-alike .ensures) (c .if1 .left));
+      table = table-more (newType (start .args .s .now)) (at-loop .loop .numbers)
+          (at-loop .loop .t) _ (omega (arith, start .pre .well-formed .types-most))
+          (merged-number m (at-first-alike .first-alike .ensures) (c .if1 .left)) (at-loop .loop .inv .table);
+    }
 
 returns : tie.Need-returns Inv-loop μ-loop
 unfolding newTypes
 returns c =
     let at-loop = c .before in
     let start = at-loop .before .before in
-    let e : at-loop .loop .t ≡ types (start .args .s .now) = through (at-loop .loop .inv .0) (c .loop-test .left)
-    (at-loop .loop .inv .1 .0) in record {
+    let e : at-loop .loop .t ≡ types (start .args .s .now) = through (at-loop .loop .inv .below) (c .loop-test .left)
+    (at-loop .loop .inv .all-are) in record {
       table = table-whole (newType (start .args .s .now)) (at-loop .loop .numbers) e
-          (at-loop .loop .inv .1 .1 .1 .1);
-      count-is = at-loop .loop .inv .1 .1 .1 .0 ∙ ap (keptBelow (keptType (start .args .s .now))) e;
+          (at-loop .loop .inv .table);
+      count-is = at-loop .loop .inv .count-is ∙ ap (keptBelow (keptType (start .args .s .now))) e;
     }
 
 pub number-types-spec : {M : Type 1} → statement M

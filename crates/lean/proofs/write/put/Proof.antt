@@ -23,10 +23,10 @@ shared-slice-read-buffer c =
     let start = at-loop .before in
     omega (
       arith,
-      start .pre .0,
-      start .pre .1,
+      start .pre .room,
+      start .pre .enough,
       pasted-length (start .args .buffer .now) (start .args .at) (start .args .from .now) (start .args .n)
-          (start .pre .0) (start .pre .1) (at-loop .loop .i) (at-loop .loop .inv .1) (at-loop .loop .inv .0),
+          (start .pre .room) (start .pre .enough) (at-loop .loop .i) (at-loop .loop .inv .1) (at-loop .loop .inv .0),
     )
 
 add-buffer : tie.Need-add-buffer Inv-loop μ-loop
@@ -35,10 +35,10 @@ add-buffer c =
     let start = at-loop .before in
     omega (
       arith,
-      start .pre .0,
-      start .pre .1,
+      start .pre .room,
+      start .pre .enough,
       pasted-length (start .args .buffer .now) (start .args .at) (start .args .from .now) (start .args .n)
-          (start .pre .0) (start .pre .1) (at-loop .loop .i) (at-loop .loop .inv .1) (at-loop .loop .inv .0),
+          (start .pre .room) (start .pre .enough) (at-loop .loop .i) (at-loop .loop .inv .1) (at-loop .loop .inv .0),
     )
 
 slice-write-buffer : tie.Need-slice-write-buffer Inv-loop μ-loop
@@ -47,10 +47,10 @@ slice-write-buffer c =
     let start = at-loop .before in
     omega (
       arith,
-      start .pre .0,
-      start .pre .1,
+      start .pre .room,
+      start .pre .enough,
       pasted-length (start .args .buffer .now) (start .args .at) (start .args .from .now) (start .args .n)
-          (start .pre .0) (start .pre .1) (at-loop .loop .i) (at-loop .loop .inv .1) (at-loop .loop .inv .0),
+          (start .pre .room) (start .pre .enough) (at-loop .loop .i) (at-loop .loop .inv .1) (at-loop .loop .inv .0),
     )
 
 add-i : tie.Need-add-i Inv-loop μ-loop
@@ -59,10 +59,10 @@ add-i c =
     let start = at-loop .before in
     omega (
       arith,
-      start .pre .0,
-      start .pre .1,
+      start .pre .room,
+      start .pre .enough,
       pasted-length (start .args .buffer .now) (start .args .at) (start .args .from .now) (start .args .n)
-          (start .pre .0) (start .pre .1) (at-loop .loop .i) (at-loop .loop .inv .1) (at-loop .loop .inv .0),
+          (start .pre .room) (start .pre .enough) (at-loop .loop .i) (at-loop .loop .inv .1) (at-loop .loop .inv .0),
     )
 
 loop-less : tie.Need-loop-less Inv-loop μ-loop
@@ -73,7 +73,7 @@ loop-again c =
     let at-loop = c .before .before in
     let start = at-loop .before in (
       omega arith,
-      pasted-more (start .args .buffer .now) (start .args .at) (start .args .from .now) (start .args .n) (start .pre .0) (start .pre .1)
+      pasted-more (start .args .buffer .now) (start .args .at) (start .args .from .now) (start .args .n) (start .pre .room) (start .pre .enough)
           (at-loop .loop .i) (at-loop .loop .inv .1) (c .before .loop-test .taken),
     )
 
@@ -81,14 +81,14 @@ same-length : tie.Need-same-length Inv-loop μ-loop
 same-length c =
     let at-loop = c .before in
     let start = at-loop .before in
-    pasted-length (start .args .buffer .now) (start .args .at) (start .args .from .now) (start .args .n) (start .pre .0) (start .pre .1) (at-loop .loop .i)
-    (at-loop .loop .inv .1) (at-loop .loop .inv .0)
+    pasted-length (start .args .buffer .now) (start .args .at) (start .args .from .now) (start .args .n) (start .pre .room) (start .pre .enough)
+    (at-loop .loop .i) (at-loop .loop .inv .1) (at-loop .loop .inv .0)
 
 returns : tie.Need-returns Inv-loop μ-loop
 returns c =
     let at-loop = c .before in
     let start = at-loop .before in
-    pasted-all (start .args .buffer .now) (start .args .at) (start .args .from .now) (start .args .n) (start .pre .0) (start .pre .1) (at-loop .loop .i)
+    pasted-all (start .args .buffer .now) (start .args .at) (start .args .from .now) (start .args .n) (start .pre .room) (start .pre .enough) (at-loop .loop .i)
     (at-loop .loop .inv .1) (at-loop .loop .inv .0) (c .loop-test .left)
 
 pub put-spec : {M : Type 1} → statement M

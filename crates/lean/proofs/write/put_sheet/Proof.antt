@@ -8,85 +8,89 @@ use Rattle.lean.proofs.write.put_sheet.Tie as tie
 cast-at : tie.Need-cast-at
 cast-at c =
     let start = c .before .before .before .before .before in
-    omega (arith, size-small (start .pre .0))
+    omega (arith, size-small (start .pre .ready))
 
 mul-at : tie.Need-mul-at
 mul-at c =
     let start = c .before .before .before .before .before in
-    omega (arith, size-small (start .pre .0))
+    omega (arith, size-small (start .pre .ready))
 
 add-at : tie.Need-add-at
 add-at c =
     let start = c .before .before .before .before .before in
-    omega (arith, size-small (start .pre .0))
+    omega (arith, size-small (start .pre .ready))
 
 put-requires : tie.Need-put-requires
 put-requires c κs =
     let start = c .before .before .before .before .before .before in
-    (omega (arith, sheet-room (start .pre .0) (start .args .buffer .now) (start .pre .1)), prefix-in (start .pre .0))
+    record {
+      room = omega (arith, sheet-room (start .pre .ready) (start .args .buffer .now) (start .pre .room));
+      enough = prefix-in (start .pre .ready);
+    }
 
 mul-put-head : tie.Need-mul-put-head
 mul-put-head c =
     let at-put = c .before .before .before .before in
     let start = at-put .before .before .before .before .before .before .before in
-    omega (arith, size-small (start .pre .0))
+    omega (arith, size-small (start .pre .ready))
 
 put-head-requires : tie.Need-put-head-requires
 put-head-requires c κs =
     let at-put = c .before .before .before .before in
     let start = at-put .before .before .before .before .before .before .before in
-    omega (arith, sheet-room (start .pre .0) (start .args .buffer .now) (start .pre .1), at-put .put .kept .0)
+    omega (arith, sheet-room (start .pre .ready) (start .args .buffer .now) (start .pre .room), at-put .put .kept .0)
 
 add-put-types : tie.Need-add-put-types
 add-put-types c =
     let at-put = c .before .before .before .before .before .before .before .before .before in
     let start = at-put .before .before .before .before .before .before .before in
-    omega (arith, size-small (start .pre .0))
+    omega (arith, size-small (start .pre .ready))
 
 put-types-requires : tie.Need-put-types-requires
 put-types-requires c κs =
     let at-put-head = c .before .before .before .before in
     let at-put = at-put-head .before .before .before .before .before in
-    let start = at-put .before .before .before .before .before .before .before in (
-      record { sheet = start .pre .0 .sheet; table = start .pre .0 .types-numbered .table },
-      omega (
+    let start = at-put .before .before .before .before .before .before .before in
+    record {
+      ready = record { sheet = start .pre .ready .sheet; table = start .pre .ready .types-numbered .table };
+      room = omega (
         arith,
-        sheet-room (start .pre .0) (start .args .buffer .now) (start .pre .1),
-        start .pre .0 .types-numbered .count-is,
+        sheet-room (start .pre .ready) (start .args .buffer .now) (start .pre .room),
+        start .pre .ready .types-numbered .count-is,
         at-put .put .kept .0,
         at-put-head .put-head .kept .0,
-      ),
-    )
+      );
+    }
 
 add-behind : tie.Need-add-behind
 add-behind c =
     let at-put = c .before .before .before .before .before .before .before .before .before .before .before .before in
     let start = at-put .before .before .before .before .before .before .before in
-    omega (arith, size-small (start .pre .0))
+    omega (arith, size-small (start .pre .ready))
 
 cast-behind : tie.Need-cast-behind
 cast-behind c =
     let at-put = c .before .before .before .before .before .before .before .before .before .before .before .before .before in
     let start = at-put .before .before .before .before .before .before .before in
-    omega (arith, size-small (start .pre .0))
+    omega (arith, size-small (start .pre .ready))
 
 mul-behind : tie.Need-mul-behind
 mul-behind c =
     let at-put = c .before .before .before .before .before .before .before .before .before .before .before .before .before in
     let start = at-put .before .before .before .before .before .before .before in
-    omega (arith, size-small (start .pre .0))
+    omega (arith, size-small (start .pre .ready))
 
 add-behind-2 : tie.Need-add-behind-2
 add-behind-2 c =
     let at-put = c .before .before .before .before .before .before .before .before .before .before .before .before .before in
     let start = at-put .before .before .before .before .before .before .before in
-    omega (arith, size-small (start .pre .0))
+    omega (arith, size-small (start .pre .ready))
 
 mul-put-head-2 : tie.Need-mul-put-head-2
 mul-put-head-2 c =
     let at-put = c .before .before .before .before .before .before .before .before .before .before .before .before .before .before .before in
     let start = at-put .before .before .before .before .before .before .before in
-    omega (arith, size-small (start .pre .0))
+    omega (arith, size-small (start .pre .ready))
 
 put-head-requires-2 : tie.Need-put-head-requires-2
 put-head-requires-2 c κs =
@@ -96,7 +100,7 @@ put-head-requires-2 c κs =
     let start = at-put .before .before .before .before .before .before .before in
     omega (
       arith,
-      sheet-room (start .pre .0) (start .args .buffer .now) (start .pre .1),
+      sheet-room (start .pre .ready) (start .args .buffer .now) (start .pre .room),
       at-put .put .kept .0,
       at-put-head .put-head .kept .0,
       at-put-types .put-types .kept .1 .1 .1 .0,
@@ -107,7 +111,7 @@ add-put-terms c =
     let at-put-head = c .before .before .before .before .before .before .before .before .before .before .before .before .before .before .before .before in
     let at-put = at-put-head .before .before .before .before .before in
     let start = at-put .before .before .before .before .before .before .before in
-    omega (arith, size-small (start .pre .0))
+    omega (arith, size-small (start .pre .ready))
 
 put-terms-requires : tie.Need-put-terms-requires
 put-terms-requires c κs =
@@ -115,21 +119,22 @@ put-terms-requires c κs =
     let at-put-types = at-put-head2 .before .before .before .before .before .before in
     let at-put-head = at-put-types .before .before .before .before .before in
     let at-put = at-put-head .before .before .before .before .before in
-    let start = at-put .before .before .before .before .before .before .before in (
-      record {
-        types-ready = record { sheet = start .pre .0 .sheet; table = start .pre .0 .types-numbered .table };
-        table = start .pre .0 .terms-numbered .table;
-      },
-      omega (
+    let start = at-put .before .before .before .before .before .before .before in
+    record {
+      ready = record {
+        types-ready = record { sheet = start .pre .ready .sheet; table = start .pre .ready .types-numbered .table };
+        table = start .pre .ready .terms-numbered .table;
+      };
+      room = omega (
         arith,
-        sheet-room (start .pre .0) (start .args .buffer .now) (start .pre .1),
-        start .pre .0 .terms-numbered .count-is,
+        sheet-room (start .pre .ready) (start .args .buffer .now) (start .pre .room),
+        start .pre .ready .terms-numbered .count-is,
         at-put .put .kept .0,
         at-put-head .put-head .kept .0,
         at-put-types .put-types .kept .1 .1 .1 .0,
         at-put-head2 .put-head2 .kept .0,
-      ),
-    )
+      );
+    }
 
 same-length : tie.Need-same-length
 same-length c =
@@ -153,7 +158,7 @@ returns c =
     let at-put-head = at-put-types .before .before .before .before .before in
     let at-put = at-put-head .before .before .before .before .before in
     let start = at-put .before .before .before .before .before .before .before in
-    sheet-put (start .pre .0) (start .args .buffer .now) (start .pre .1) (at-put .put .ensures) (at-put-head .put-head .ensures)
+    sheet-put (start .pre .ready) (start .args .buffer .now) (start .pre .room) (at-put .put .ensures) (at-put-head .put-head .ensures)
     (at-put-types .put-types .ensures) (at-put-head2 .put-head2 .ensures) (c .before .before .put-terms .ensures)
 
 pub put-sheet-spec : {M : Type 1} → statement M

@@ -4,34 +4,32 @@
 use native.Mathlib.Omega.{arith}
 use borrow.Author.Needs.{needs}
 use borrow.Author.Tests.{not-true, not-false}
-use mathlib.Core.Path.{_≡_, sym, ap}
-use Prim.Native.Nat.{_≤_, _-_}
+use mathlib.Core.Path.{sym, ap}
+use Prim.Native.Nat.{_-_}
 use lib.ListN.{length}
 use Rattle.program.specs.Layout.{terms as termsOf}
 use Rattle.erasure.specs.Lean.{keptTerm, termBytes}
 use Rattle.lean.proofs.TermLaws.{kept-here, gone-here}
 use Rattle.lean.proofs.TableLaws.{within, up-to, through}
-use Rattle.lean.proofs.WriteLaws.{Gathered, term-gathering, gathered-none, gathered-length, gathered-few, gathered-room, gathered-yes, gathered-no, gathered-all}
+use Rattle.lean.proofs.WriteLaws.{Written, term-gathering, gathered-none, gathered-length, gathered-few, gathered-room, gathered-yes, gathered-no, gathered-all}
 use Rattle.lean.proofs.write.put_terms.Statement.{statement}
 use Rattle.lean.proofs.write.put_terms.Tie as tie
 
 abbrev Inv-loop : tie.InvT-loop
-Inv-loop s c types terms buffer₀ at n count₀ next₀ buffer count next = (next ≤ n) ×
-    ((n ≡ termsOf s) × Gathered (keptTerm s) (termBytes s) buffer₀ at next count buffer)
+Inv-loop s c types terms buffer₀ at n count₀ next₀ buffer count next = Written (keptTerm s) (termBytes s) (termsOf s) buffer₀ at n next count buffer
 
 abbrev μ-loop : tie.MeasureT-loop
 μ-loop s c types terms buffer₀ at n count₀ next₀ buffer count next = n - next
 
 loop-holds : tie.Need-loop-holds Inv-loop μ-loop
 loop-holds c =
-    let start = c .before .before in (
-      omega arith,
-      (
-        start .pre .0 .types-ready .sheet .counts .terms-are,
-        gathered-none (keptTerm (start .args .s .now)) (termBytes (start .args .s .now))
-            (start .args .buffer .now) (start .args .at),
-      ),
-    )
+    let start = c .before .before in
+    record {
+      below = omega arith;
+      all-are = start .pre .ready .types-ready .sheet .counts .terms-are;
+      gathered = gathered-none (keptTerm (start .args .s .now)) (termBytes (start .args .s .now))
+          (start .args .buffer .now) (start .args .at);
+    }
 
 term-requires : tie.Need-term-requires Inv-loop μ-loop
 term-requires c κs = search needs
@@ -39,7 +37,7 @@ term-requires c κs = search needs
 add-next : tie.Need-add-next Inv-loop μ-loop
 add-next c =
     let start = c .before .before .before .before .before in
-    omega (arith, c .before .loop-test .taken, c .before .before .loop .inv .1 .0, start .pre .0 .types-ready .sheet .well-formed .terms-most)
+    omega (arith, c .before .loop-test .taken, c .before .before .loop .inv .all-are, start .pre .ready .types-ready .sheet .well-formed .terms-most)
 
 is-idle-requires : tie.Need-is-idle-requires Inv-loop μ-loop
 is-idle-requires c κs = search needs
@@ -48,7 +46,7 @@ term-bytes-requires : tie.Need-term-bytes-requires Inv-loop μ-loop
 term-bytes-requires c κs =
     let at-loop = c .before .before .before .before in
     let start = at-loop .before .before .before in
-    record { ready = start .pre .0; inside = within (c .before .before .before .loop-test .taken) (at-loop .loop .inv .1 .0) }
+    record { ready = start .pre .ready; inside = within (c .before .before .before .loop-test .taken) (at-loop .loop .inv .all-are) }
 
 mul-put : tie.Need-mul-put Inv-loop μ-loop
 mul-put c =
@@ -56,10 +54,10 @@ mul-put c =
     let start = at-loop .before .before .before in
     omega (
       arith,
-      gathered-few (term-gathering (start .args .s .now) (start .args .buffer .now) (start .args .at) (start .pre .1)) (at-loop .loop .inv .1 .1),
-      at-loop .loop .inv .0,
-      at-loop .loop .inv .1 .0,
-      start .pre .0 .types-ready .sheet .well-formed .terms-most,
+      gathered-few (term-gathering (start .args .s .now) (start .args .buffer .now) (start .args .at) (start .pre .room)) (at-loop .loop .inv .gathered),
+      at-loop .loop .inv .below,
+      at-loop .loop .inv .all-are,
+      start .pre .ready .types-ready .sheet .well-formed .terms-most,
     )
 
 add-put : tie.Need-add-put Inv-loop μ-loop
@@ -68,14 +66,14 @@ add-put c =
     let at-loop-test = at-term .before in
     let at-loop = at-loop-test .before in
     let start = at-loop .before .before .before in
-    let inside = within (at-loop-test .loop-test .taken) (at-loop .loop .inv .1 .0) in omega (
+    let inside = within (at-loop-test .loop-test .taken) (at-loop .loop .inv .all-are) in omega (
       arith,
-      gathered-room (term-gathering (start .args .s .now) (start .args .buffer .now) (start .args .at) (start .pre .1)) (at-loop .loop .inv .1 .1) inside
-          (kept-here (start .pre .0 .types-ready .sheet) inside (at-term .term .ensures) (c .before .before .before .is-idle .ensures)
+      gathered-room (term-gathering (start .args .s .now) (start .args .buffer .now) (start .args .at) (start .pre .room)) (at-loop .loop .inv .gathered) inside
+          (kept-here (start .pre .ready .types-ready .sheet) inside (at-term .term .ensures) (c .before .before .before .is-idle .ensures)
           (not-true _ (c .before .before .if1 .taken))),
       gathered-length
-          (term-gathering (start .args .s .now) (start .args .buffer .now) (start .args .at) (start .pre .1)) (at-loop .loop .inv .1 .1)
-          (up-to (at-loop .loop .inv .0) (at-loop .loop .inv .1 .0)),
+          (term-gathering (start .args .s .now) (start .args .buffer .now) (start .args .at) (start .pre .room)) (at-loop .loop .inv .gathered)
+          (up-to (at-loop .loop .inv .below) (at-loop .loop .inv .all-are)),
       start .good .1 .1 .1 .1 .0 .0,
     )
 
@@ -89,12 +87,14 @@ put-requires c κs =
     let at-loop-test = at-term .before in
     let at-loop = at-loop-test .before in
     let start = at-loop .before .before .before in
-    let inside = within (at-loop-test .loop-test .taken) (at-loop .loop .inv .1 .0) in (
-      gathered-room (term-gathering (start .args .s .now) (start .args .buffer .now) (start .args .at) (start .pre .1)) (at-loop .loop .inv .1 .1) inside
-          (kept-here (start .pre .0 .types-ready .sheet) inside (at-term .term .ensures) (at-is-idle .is-idle .ensures)
-          (not-true _ (c .before .before .before .if1 .taken))),
-      omega (arith, ap length (c .before .before .term-bytes .ensures)),
-    )
+    let inside = within (at-loop-test .loop-test .taken) (at-loop .loop .inv .all-are) in
+    record {
+      room = gathered-room (term-gathering (start .args .s .now) (start .args .buffer .now) (start .args .at) (start .pre .room))
+          (at-loop .loop .inv .gathered) inside
+          (kept-here (start .pre .ready .types-ready .sheet) inside (at-term .term .ensures) (at-is-idle .is-idle .ensures)
+          (not-true _ (c .before .before .before .if1 .taken)));
+      enough = omega (arith, ap length (c .before .before .term-bytes .ensures));
+    }
 
 add-count : tie.Need-add-count Inv-loop μ-loop
 add-count c =
@@ -102,10 +102,10 @@ add-count c =
     let start = at-loop .before .before .before in
     omega (
       arith,
-      gathered-few (term-gathering (start .args .s .now) (start .args .buffer .now) (start .args .at) (start .pre .1)) (at-loop .loop .inv .1 .1),
-      at-loop .loop .inv .0,
-      at-loop .loop .inv .1 .0,
-      start .pre .0 .types-ready .sheet .well-formed .terms-most,
+      gathered-few (term-gathering (start .args .s .now) (start .args .buffer .now) (start .args .at) (start .pre .room)) (at-loop .loop .inv .gathered),
+      at-loop .loop .inv .below,
+      at-loop .loop .inv .all-are,
+      start .pre .ready .types-ready .sheet .well-formed .terms-most,
     )
 
 loop-less : tie.Need-loop-less Inv-loop μ-loop
@@ -122,16 +122,15 @@ loop-again c =
     let at-loop-test = at-term .before in
     let at-loop = at-loop-test .before in
     let start = at-loop .before .before .before in
-    let inside = within (at-loop-test .loop-test .taken) (at-loop .loop .inv .1 .0) in (
-      omega (arith, at-loop-test .loop-test .taken),
-      (
-        at-loop .loop .inv .1 .0,
-        gathered-yes
-            (term-gathering (start .args .s .now) (start .args .buffer .now) (start .args .at) (start .pre .1)) (at-loop .loop .inv .1 .1) inside
-            (kept-here (start .pre .0 .types-ready .sheet) inside (at-term .term .ensures) (at-is-idle .is-idle .ensures) (not-true _ (at-if1 .if1 .taken)))
-            (c .before .before .put .ensures) (at-term-bytes .term-bytes .ensures),
-      ),
-    )
+    let inside = within (at-loop-test .loop-test .taken) (at-loop .loop .inv .all-are) in
+    record {
+      below = omega (arith, at-loop-test .loop-test .taken);
+      all-are = at-loop .loop .inv .all-are;
+      gathered = gathered-yes
+          (term-gathering (start .args .s .now) (start .args .buffer .now) (start .args .at) (start .pre .room)) (at-loop .loop .inv .gathered) inside
+          (kept-here (start .pre .ready .types-ready .sheet) inside (at-term .term .ensures) (at-is-idle .is-idle .ensures) (not-true _ (at-if1 .if1 .taken)))
+          (c .before .before .put .ensures) (at-term-bytes .term-bytes .ensures);
+    }
 
 loop-less-2 : tie.Need-loop-less-2 Inv-loop μ-loop
 loop-less-2 c = omega (arith, c .before .before .before .loop-test .taken)
@@ -141,30 +140,29 @@ loop-again-2 c =
     let at-loop-test = c .before .before .before in
     let at-loop = at-loop-test .before in
     let start = at-loop .before .before .before in
-    let inside = within (at-loop-test .loop-test .taken) (at-loop .loop .inv .1 .0) in (
-      omega (arith, at-loop-test .loop-test .taken),
-      (
-        at-loop .loop .inv .1 .0,
-        gathered-no
-            (term-gathering (start .args .s .now) (start .args .buffer .now) (start .args .at) (start .pre .1)) (at-loop .loop .inv .1 .1)
-            (gone-here (start .pre .0 .types-ready .sheet) inside (c .before .before .term .ensures) (c .before .is-idle .ensures)
-            (not-false _ (c .if1 .left))),
-      ),
-    )
+    let inside = within (at-loop-test .loop-test .taken) (at-loop .loop .inv .all-are) in
+    record {
+      below = omega (arith, at-loop-test .loop-test .taken);
+      all-are = at-loop .loop .inv .all-are;
+      gathered = gathered-no
+          (term-gathering (start .args .s .now) (start .args .buffer .now) (start .args .at) (start .pre .room)) (at-loop .loop .inv .gathered)
+          (gone-here (start .pre .ready .types-ready .sheet) inside (c .before .before .term .ensures) (c .before .is-idle .ensures)
+          (not-false _ (c .if1 .left)));
+    }
 
 same-length : tie.Need-same-length Inv-loop μ-loop
 same-length c =
     let at-loop = c .before in
     let start = at-loop .before .before .before in
-    gathered-length (term-gathering (start .args .s .now) (start .args .buffer .now) (start .args .at) (start .pre .1)) (at-loop .loop .inv .1 .1)
-    (up-to (at-loop .loop .inv .0) (at-loop .loop .inv .1 .0))
+    gathered-length (term-gathering (start .args .s .now) (start .args .buffer .now) (start .args .at) (start .pre .room)) (at-loop .loop .inv .gathered)
+    (up-to (at-loop .loop .inv .below) (at-loop .loop .inv .all-are))
 
 returns : tie.Need-returns Inv-loop μ-loop
 returns c =
     let at-loop = c .before in
     let start = at-loop .before .before .before in
-    gathered-all (term-gathering (start .args .s .now) (start .args .buffer .now) (start .args .at) (start .pre .1)) (at-loop .loop .inv .1 .1)
-    (through (at-loop .loop .inv .0) (c .loop-test .left) (at-loop .loop .inv .1 .0))
+    gathered-all (term-gathering (start .args .s .now) (start .args .buffer .now) (start .args .at) (start .pre .room)) (at-loop .loop .inv .gathered)
+    (through (at-loop .loop .inv .below) (c .loop-test .left) (at-loop .loop .inv .all-are))
 
 pub put-terms-spec : {M : Type 1} → statement M
 put-terms-spec =

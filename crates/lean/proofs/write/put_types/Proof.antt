@@ -1,59 +1,57 @@
 -- The records of those among the first `next` types that are kept stand one after the other, and the count is how many they are. A type is kept
 -- if its number is the count (entry-first, entry-other); its record then comes behind the others (gathered-yes). The types that are left, n - next, fall.
 use native.Mathlib.Omega.{arith}
-use mathlib.Core.Path.{_≡_, sym, ap}
-use Prim.Native.Nat.{_≤_, _-_}
+use mathlib.Core.Path.{sym, ap}
+use Prim.Native.Nat.{_-_}
 use lib.ListN.{length}
 use Rattle.program.specs.Layout.{types as typesOf}
 use Rattle.erasure.specs.Lean.{keptType, typeBytes}
 use Rattle.lean.proofs.TypeLaws.{entry-first, entry-other}
 use Rattle.lean.proofs.TableLaws.{within, up-to, through}
-use Rattle.lean.proofs.WriteLaws.{Gathered, type-gathering, gathered-none, gathered-length, gathered-few, gathered-room, gathered-yes, gathered-no, gathered-all}
+use Rattle.lean.proofs.WriteLaws.{Written, type-gathering, gathered-none, gathered-length, gathered-few, gathered-room, gathered-yes, gathered-no, gathered-all}
 use Rattle.lean.proofs.write.put_types.Statement.{statement}
 use Rattle.lean.proofs.write.put_types.Tie as tie
 
 abbrev Inv-loop : tie.InvT-loop
-Inv-loop s c types buffer₀ at n count₀ next₀ buffer count next = (next ≤ n) ×
-    ((n ≡ typesOf s) × Gathered (keptType s) (typeBytes s) buffer₀ at next count buffer)
+Inv-loop s c types buffer₀ at n count₀ next₀ buffer count next = Written (keptType s) (typeBytes s) (typesOf s) buffer₀ at n next count buffer
 
 abbrev μ-loop : tie.MeasureT-loop
 μ-loop s c types buffer₀ at n count₀ next₀ buffer count next = n - next
 
 loop-holds : tie.Need-loop-holds Inv-loop μ-loop
 loop-holds c =
-    let start = c .before .before in (
-      omega arith,
-      (
-        start .pre .0 .sheet .counts .types-are,
-        gathered-none (keptType (start .args .s .now)) (typeBytes (start .args .s .now))
-            (start .args .buffer .now) (start .args .at),
-      ),
-    )
+    let start = c .before .before in
+    record {
+      below = omega arith;
+      all-are = start .pre .ready .sheet .counts .types-are;
+      gathered = gathered-none (keptType (start .args .s .now)) (typeBytes (start .args .s .now))
+          (start .args .buffer .now) (start .args .at);
+    }
 
 cast-i : tie.Need-cast-i Inv-loop μ-loop
 cast-i c =
     let start = c .before .before .before .before in
-    omega (arith, c .loop-test .taken, c .before .loop .inv .1 .0, start .pre .0 .sheet .well-formed .types-most)
+    omega (arith, c .loop-test .taken, c .before .loop .inv .all-are, start .pre .ready .sheet .well-formed .types-most)
 
 add-next : tie.Need-add-next Inv-loop μ-loop
 add-next c =
     let start = c .before .before .before .before in
-    omega (arith, c .loop-test .taken, c .before .loop .inv .1 .0, start .pre .0 .sheet .well-formed .types-most)
+    omega (arith, c .loop-test .taken, c .before .loop .inv .all-are, start .pre .ready .sheet .well-formed .types-most)
 
 mul-if1 : tie.Need-mul-if1 Inv-loop μ-loop
 mul-if1 c =
     let start = c .before .before .before .before in
-    omega (arith, c .loop-test .taken, c .before .loop .inv .1 .0, start .pre .0 .sheet .well-formed .types-most)
+    omega (arith, c .loop-test .taken, c .before .loop .inv .all-are, start .pre .ready .sheet .well-formed .types-most)
 
 element-copy-out-if1 : tie.Need-element-copy-out-if1 Inv-loop μ-loop
 element-copy-out-if1 c =
     let start = c .before .before .before .before in
-    omega (arith, c .loop-test .taken, c .before .loop .inv .1 .0, start .pre .0 .sheet .well-formed .types-most)
+    omega (arith, c .loop-test .taken, c .before .loop .inv .all-are, start .pre .ready .sheet .well-formed .types-most)
 
 type-bytes-requires : tie.Need-type-bytes-requires Inv-loop μ-loop
 type-bytes-requires c κs =
     let start = c .before .before .before .before .before .before in
-    record { ready = start .pre .0; inside = within (c .before .before .loop-test .taken) (c .before .before .before .loop .inv .1 .0) }
+    record { ready = start .pre .ready; inside = within (c .before .before .loop-test .taken) (c .before .before .before .loop .inv .all-are) }
 
 cast-put : tie.Need-cast-put Inv-loop μ-loop
 cast-put c =
@@ -61,10 +59,10 @@ cast-put c =
     let start = at-loop .before .before .before in
     omega (
       arith,
-      gathered-few (type-gathering (start .args .s .now) (start .args .buffer .now) (start .args .at) (start .pre .1)) (at-loop .loop .inv .1 .1),
-      at-loop .loop .inv .0,
-      at-loop .loop .inv .1 .0,
-      start .pre .0 .sheet .well-formed .types-most,
+      gathered-few (type-gathering (start .args .s .now) (start .args .buffer .now) (start .args .at) (start .pre .room)) (at-loop .loop .inv .gathered),
+      at-loop .loop .inv .below,
+      at-loop .loop .inv .all-are,
+      start .pre .ready .sheet .well-formed .types-most,
     )
 
 mul-put : tie.Need-mul-put Inv-loop μ-loop
@@ -73,10 +71,10 @@ mul-put c =
     let start = at-loop .before .before .before in
     omega (
       arith,
-      gathered-few (type-gathering (start .args .s .now) (start .args .buffer .now) (start .args .at) (start .pre .1)) (at-loop .loop .inv .1 .1),
-      at-loop .loop .inv .0,
-      at-loop .loop .inv .1 .0,
-      start .pre .0 .sheet .well-formed .types-most,
+      gathered-few (type-gathering (start .args .s .now) (start .args .buffer .now) (start .args .at) (start .pre .room)) (at-loop .loop .inv .gathered),
+      at-loop .loop .inv .below,
+      at-loop .loop .inv .all-are,
+      start .pre .ready .sheet .well-formed .types-most,
     )
 
 add-put : tie.Need-add-put Inv-loop μ-loop
@@ -84,13 +82,13 @@ add-put c =
     let at-loop-test = c .before .before .before .before in
     let at-loop = at-loop-test .before in
     let start = at-loop .before .before .before in
-    let inside = within (at-loop-test .loop-test .taken) (at-loop .loop .inv .1 .0) in omega (
+    let inside = within (at-loop-test .loop-test .taken) (at-loop .loop .inv .all-are) in omega (
       arith,
-      gathered-room (type-gathering (start .args .s .now) (start .args .buffer .now) (start .args .at) (start .pre .1)) (at-loop .loop .inv .1 .1) inside
-          (entry-first (start .pre .0) inside (at-loop .loop .inv .1 .1 .count-is) (c .before .before .if1 .taken)),
+      gathered-room (type-gathering (start .args .s .now) (start .args .buffer .now) (start .args .at) (start .pre .room)) (at-loop .loop .inv .gathered) inside
+          (entry-first (start .pre .ready) inside (at-loop .loop .inv .gathered .count-is) (c .before .before .if1 .taken)),
       gathered-length
-          (type-gathering (start .args .s .now) (start .args .buffer .now) (start .args .at) (start .pre .1)) (at-loop .loop .inv .1 .1)
-          (up-to (at-loop .loop .inv .0) (at-loop .loop .inv .1 .0)),
+          (type-gathering (start .args .s .now) (start .args .buffer .now) (start .args .at) (start .pre .room)) (at-loop .loop .inv .gathered)
+          (up-to (at-loop .loop .inv .below) (at-loop .loop .inv .all-are)),
       start .good .1 .1 .1 .0 .0,
     )
 
@@ -102,12 +100,13 @@ put-requires c κs =
     let at-loop-test = c .before .before .before .before .before in
     let at-loop = at-loop-test .before in
     let start = at-loop .before .before .before in
-    let inside = within (at-loop-test .loop-test .taken) (at-loop .loop .inv .1 .0) in (
-      gathered-room (type-gathering (start .args .s .now) (start .args .buffer .now) (start .args .at) (start .pre .1)) (at-loop .loop .inv .1 .1) inside
-          (entry-first (start .pre .0) inside (at-loop .loop .inv .1 .1 .count-is) (c .before .before .before .if1 .taken)),
-      omega
-          (arith, ap length (c .before .before .type-bytes .ensures)),
-    )
+    let inside = within (at-loop-test .loop-test .taken) (at-loop .loop .inv .all-are) in
+    record {
+      room = gathered-room (type-gathering (start .args .s .now) (start .args .buffer .now) (start .args .at) (start .pre .room))
+          (at-loop .loop .inv .gathered) inside
+          (entry-first (start .pre .ready) inside (at-loop .loop .inv .gathered .count-is) (c .before .before .before .if1 .taken));
+      enough = omega (arith, ap length (c .before .before .type-bytes .ensures));
+    }
 
 add-count : tie.Need-add-count Inv-loop μ-loop
 add-count c =
@@ -115,10 +114,10 @@ add-count c =
     let start = at-loop .before .before .before in
     omega (
       arith,
-      gathered-few (type-gathering (start .args .s .now) (start .args .buffer .now) (start .args .at) (start .pre .1)) (at-loop .loop .inv .1 .1),
-      at-loop .loop .inv .0,
-      at-loop .loop .inv .1 .0,
-      start .pre .0 .sheet .well-formed .types-most,
+      gathered-few (type-gathering (start .args .s .now) (start .args .buffer .now) (start .args .at) (start .pre .room)) (at-loop .loop .inv .gathered),
+      at-loop .loop .inv .below,
+      at-loop .loop .inv .all-are,
+      start .pre .ready .sheet .well-formed .types-most,
     )
 
 loop-less : tie.Need-loop-less Inv-loop μ-loop
@@ -133,16 +132,15 @@ loop-again c =
     let at-loop-test = at-if1 .before .before in
     let at-loop = at-loop-test .before in
     let start = at-loop .before .before .before in
-    let inside = within (at-loop-test .loop-test .taken) (at-loop .loop .inv .1 .0) in (
-      omega (arith, at-loop-test .loop-test .taken),
-      (
-        at-loop .loop .inv .1 .0,
-        gathered-yes
-            (type-gathering (start .args .s .now) (start .args .buffer .now) (start .args .at) (start .pre .1)) (at-loop .loop .inv .1 .1) inside
-            (entry-first (start .pre .0) inside (at-loop .loop .inv .1 .1 .count-is) (at-if1 .if1 .taken)) (c .before .before .put .ensures)
-            (at-type-bytes .type-bytes .ensures),
-      ),
-    )
+    let inside = within (at-loop-test .loop-test .taken) (at-loop .loop .inv .all-are) in
+    record {
+      below = omega (arith, at-loop-test .loop-test .taken);
+      all-are = at-loop .loop .inv .all-are;
+      gathered = gathered-yes
+          (type-gathering (start .args .s .now) (start .args .buffer .now) (start .args .at) (start .pre .room)) (at-loop .loop .inv .gathered) inside
+          (entry-first (start .pre .ready) inside (at-loop .loop .inv .gathered .count-is) (at-if1 .if1 .taken)) (c .before .before .put .ensures)
+          (at-type-bytes .type-bytes .ensures);
+    }
 
 loop-less-2 : tie.Need-loop-less-2 Inv-loop μ-loop
 loop-less-2 c = omega (arith, c .before .before .loop-test .taken)
@@ -152,29 +150,28 @@ loop-again-2 c =
     let at-loop-test = c .before .before in
     let at-loop = at-loop-test .before in
     let start = at-loop .before .before .before in
-    let inside = within (at-loop-test .loop-test .taken) (at-loop .loop .inv .1 .0) in (
-      omega (arith, at-loop-test .loop-test .taken),
-      (
-        at-loop .loop .inv .1 .0,
-        gathered-no
-            (type-gathering (start .args .s .now) (start .args .buffer .now) (start .args .at) (start .pre .1)) (at-loop .loop .inv .1 .1)
-            (entry-other (start .pre .0) inside (at-loop .loop .inv .1 .1 .count-is) (c .if1 .left)),
-      ),
-    )
+    let inside = within (at-loop-test .loop-test .taken) (at-loop .loop .inv .all-are) in
+    record {
+      below = omega (arith, at-loop-test .loop-test .taken);
+      all-are = at-loop .loop .inv .all-are;
+      gathered = gathered-no
+          (type-gathering (start .args .s .now) (start .args .buffer .now) (start .args .at) (start .pre .room)) (at-loop .loop .inv .gathered)
+          (entry-other (start .pre .ready) inside (at-loop .loop .inv .gathered .count-is) (c .if1 .left));
+    }
 
 same-length : tie.Need-same-length Inv-loop μ-loop
 same-length c =
     let at-loop = c .before in
     let start = at-loop .before .before .before in
-    gathered-length (type-gathering (start .args .s .now) (start .args .buffer .now) (start .args .at) (start .pre .1)) (at-loop .loop .inv .1 .1)
-    (up-to (at-loop .loop .inv .0) (at-loop .loop .inv .1 .0))
+    gathered-length (type-gathering (start .args .s .now) (start .args .buffer .now) (start .args .at) (start .pre .room)) (at-loop .loop .inv .gathered)
+    (up-to (at-loop .loop .inv .below) (at-loop .loop .inv .all-are))
 
 returns : tie.Need-returns Inv-loop μ-loop
 returns c =
     let at-loop = c .before in
     let start = at-loop .before .before .before in
-    gathered-all (type-gathering (start .args .s .now) (start .args .buffer .now) (start .args .at) (start .pre .1)) (at-loop .loop .inv .1 .1)
-    (through (at-loop .loop .inv .0) (c .loop-test .left) (at-loop .loop .inv .1 .0))
+    gathered-all (type-gathering (start .args .s .now) (start .args .buffer .now) (start .args .at) (start .pre .room)) (at-loop .loop .inv .gathered)
+    (through (at-loop .loop .inv .below) (c .loop-test .left) (at-loop .loop .inv .all-are))
 
 pub put-types-spec : {M : Type 1} → statement M
 put-types-spec =

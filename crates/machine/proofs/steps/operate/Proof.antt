@@ -70,7 +70,8 @@ returns-4 c =
     let at-sort2 = at-if2 .before in
     let at-if1 = at-sort2 .before in
     let at-sort = at-if1 .before in
-    sum-fits _ _ _ _ _ (sym (at-sort .sort .ensures) ∙ at-if1 .if1 .left) (sym (at-sort2 .sort2 .ensures) ∙ at-if2 .if2 .left) (at-intervals .intervals .ensures) (at-if3 .if3 .left) (at-payload .payload .ensures)
+    sum-fits _ _ _ _ _ (sym (at-sort .sort .ensures) ∙ at-if1 .if1 .left) (sym (at-sort2 .sort2 .ensures) ∙ at-if2 .if2 .left)
+    (at-intervals .intervals .ensures) (at-if3 .if3 .left) (at-payload .payload .ensures)
     (c .before .before .before .payload2 .ensures) (c .before .before .if4 .taken) (omega (arith, c .before .if5 .taken))
     (omega (arith, at-payload .payload .ensures)) (c .number .ensures)
 
@@ -87,7 +88,8 @@ returns-5 c =
     let at-sort2 = at-if2 .before in
     let at-if1 = at-sort2 .before in
     let at-sort = at-if1 .before in
-    sum-over _ _ _ _ _ (sym (at-sort .sort .ensures) ∙ at-if1 .if1 .left) (sym (at-sort2 .sort2 .ensures) ∙ at-if2 .if2 .left) (at-intervals .intervals .ensures) (at-if3 .if3 .left) (at-payload .payload .ensures)
+    sum-over _ _ _ _ _ (sym (at-sort .sort .ensures) ∙ at-if1 .if1 .left) (sym (at-sort2 .sort2 .ensures) ∙ at-if2 .if2 .left)
+    (at-intervals .intervals .ensures) (at-if3 .if3 .left) (at-payload .payload .ensures)
     (at-payload2 .payload2 .ensures) (c .before .before .before .if4 .taken) (c .before .before .if5 .left) (omega (arith, at-payload .payload .ensures))
     (c .saturate .ensures .0) (c .saturate .ensures .1)
 
@@ -104,7 +106,9 @@ returns-6 c =
     let at-sort2 = at-if2 .before in
     let at-if1 = at-sort2 .before in
     let at-sort = at-if1 .before in
-    difference-fits _ _ _ _ _ (sym (at-sort .sort .ensures) ∙ at-if1 .if1 .left) (sym (at-sort2 .sort2 .ensures) ∙ at-if2 .if2 .left) (at-intervals .intervals .ensures) (at-if3 .if3 .left) (at-payload .payload .ensures) (at-payload2 .payload2 .ensures) (c .before .before .before .if4 .left) (c .before .before .if6 .taken)
+    difference-fits _ _ _ _ _ (sym (at-sort .sort .ensures) ∙ at-if1 .if1 .left) (sym (at-sort2 .sort2 .ensures) ∙ at-if2 .if2 .left)
+    (at-intervals .intervals .ensures) (at-if3 .if3 .left) (at-payload .payload .ensures) (at-payload2 .payload2 .ensures)
+    (c .before .before .before .if4 .left) (c .before .before .if6 .taken)
     (c .before .if7 .taken) (c .number2 .ensures)
 
 saturate-requires-2 : tie.Need-saturate-requires-2
@@ -121,7 +125,9 @@ returns-7 c =
     let at-sort2 = at-if2 .before in
     let at-if1 = at-sort2 .before in
     let at-sort = at-if1 .before in
-    difference-under _ _ _ _ _ (sym (at-sort .sort .ensures) ∙ at-if1 .if1 .left) (sym (at-sort2 .sort2 .ensures) ∙ at-if2 .if2 .left) (at-intervals .intervals .ensures) (at-if3 .if3 .left) (at-payload .payload .ensures) (at-payload2 .payload2 .ensures) (at-if4 .if4 .left) (c .before .before .before .if6 .taken) (c .before .before .if7 .left)
+    difference-under _ _ _ _ _ (sym (at-sort .sort .ensures) ∙ at-if1 .if1 .left) (sym (at-sort2 .sort2 .ensures) ∙ at-if2 .if2 .left)
+    (at-intervals .intervals .ensures) (at-if3 .if3 .left) (at-payload .payload .ensures) (at-payload2 .payload2 .ensures)
+    (at-if4 .if4 .left) (c .before .before .before .if6 .taken) (c .before .before .if7 .left)
     (c .saturate2 .ensures .0) (c .saturate2 .ensures .1)
 
 boolean-requires : tie.Need-boolean-requires
@@ -136,7 +142,8 @@ returns-8 c =
     let at-sort2 = at-if2 .before in
     let at-if1 = at-sort2 .before in
     let at-sort = at-if1 .before in
-    less-is _ _ _ _ _ (sym (at-sort .sort .ensures) ∙ at-if1 .if1 .left) (sym (at-sort2 .sort2 .ensures) ∙ at-if2 .if2 .left) (at-intervals .intervals .ensures) (at-if3 .if3 .left) (at-payload .payload .ensures)
+    less-is _ _ _ _ _ (sym (at-sort .sort .ensures) ∙ at-if1 .if1 .left) (sym (at-sort2 .sort2 .ensures) ∙ at-if2 .if2 .left)
+    (at-intervals .intervals .ensures) (at-if3 .if3 .left) (at-payload .payload .ensures)
     (c .before .before .before .payload2 .ensures) (c .before .before .if4 .left) (c .before .if6 .left) (c .boolean .ensures)
 
 pub operate-spec : {M : Type 1} → statement M

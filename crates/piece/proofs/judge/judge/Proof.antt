@@ -56,10 +56,11 @@ test-requires : tie.Need-test-requires
 test-requires c κs =
     let at-match = c .before in
     let at-term = at-match .before in
-    let start = at-term .before .before in (
-      record { sheet = start .pre .ready .sheet; known = start .pre .known },
-      test-privilege (ready-at (start .pre) (at-term .term .ensures)) (at-match .match .keys8),
-    )
+    let start = at-term .before .before in
+    record {
+      judging = record { sheet = start .pre .ready .sheet; known = start .pre .known };
+      privilege = test-privilege (ready-at (start .pre) (at-term .term .ensures)) (at-match .match .keys8);
+    }
 
 leaf-requires : tie.Need-leaf-requires
 leaf-requires c κs = search needs

@@ -12,7 +12,7 @@ enum-told : tie.Need-enum-told
 enum-told c = search needs
 
 returns : tie.Need-returns
-returns c = record { is = stop _ (c .before .before .before .args .i) (c .before .match .keys2); known = c .before .before .before .pre .0 .known }
+returns c = record { is = stop _ (c .before .before .before .args .i) (c .before .match .keys2); known = c .before .before .before .pre .judging .known }
 
 tested-requires : tie.Need-tested-requires
 tested-requires c κs = search needs

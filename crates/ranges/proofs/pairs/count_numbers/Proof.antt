@@ -21,7 +21,11 @@ loop-holds c = (omega arith, refl)
 is-number-requires : tie.Need-is-number-requires Inv-loop μ-loop
 is-number-requires c κs =
     let start = c .before .before .before in
-    record { well-formed = start .pre .0; counts-are = start .pre .1; inside = omega (arith, c .loop-test .taken, start .pre .1 .terms-are) }
+    record {
+      well-formed = start .pre .well-formed;
+      counts-are = start .pre .counts-are;
+      inside = omega (arith, c .loop-test .taken, start .pre .counts-are .terms-are);
+    }
 
 add-n : tie.Need-add-n Inv-loop μ-loop
 add-n c =
@@ -32,19 +36,19 @@ add-n c =
       at-loop .loop .inv .1,
       counted-most (start .args .s .now) (at-loop .loop .t),
       c .before .before .loop-test .taken,
-      start .pre .1 .terms-are,
-      start .pre .0 .terms-most,
+      start .pre .counts-are .terms-are,
+      start .pre .well-formed .terms-most,
     )
 
 add-t : tie.Need-add-t Inv-loop μ-loop
 add-t c =
     let start = c .before .before .before .before .before in
-    omega (arith, start .pre .1 .terms-are, start .pre .0 .terms-most)
+    omega (arith, start .pre .counts-are .terms-are, start .pre .well-formed .terms-most)
 
 loop-less : tie.Need-loop-less Inv-loop μ-loop
 loop-less c =
     let start = c .before .before .before .before .before in
-    omega (arith, start .pre .1 .terms-are, start .pre .0 .terms-most)
+    omega (arith, start .pre .counts-are .terms-are, start .pre .well-formed .terms-most)
 
 loop-again : tie.Need-loop-again Inv-loop μ-loop
 loop-again c =
@@ -63,7 +67,7 @@ returns c =
     let at-loop = c .before in
     let start = at-loop .before .before in
     counted-all (start .args .s .now) (at-loop .loop .t) (termsOf (start .args .s .now)) (at-loop .loop .inv .1)
-    (omega (arith, at-loop .loop .inv .0, c .loop-test .left, start .pre .1 .terms-are))
+    (omega (arith, at-loop .loop .inv .0, c .loop-test .left, start .pre .counts-are .terms-are))
 
 pub count-numbers-spec : {M : Type 1} → statement M
 count-numbers-spec =

@@ -3,17 +3,15 @@
 use native.Mathlib.Omega.{arith}
 use borrow.Author.Needs.{needs}
 use mathlib.Core.Logic.{⊎-elim}
-use mathlib.Core.Path.{_≡_, refl, sym, _∙_}
-use Prim.Native.Nat.{_≤_, _-_, _*_, _+_}
+use mathlib.Core.Path.{refl, sym, _∙_}
+use Prim.Native.Nat.{_-_, _*_, _+_}
 use Rattle.program.specs.Layout.{terms as termsOf}
-use Rattle.intervals.specs.Pairs.{numbersBelow}
-use Rattle.ranges.specs.Internal.{Laid}
-use Rattle.ranges.proofs.PairLaws.{counted-yes, counted-no, counted-most, counted-below, laid-none, laid-other, laid-pair, laid-all}
+use Rattle.ranges.proofs.PairLaws.{LaidBelow, counted-yes, counted-no, counted-most, counted-below, laid-none, laid-other, laid-pair, laid-all}
 use Rattle.ranges.proofs.pairs.lay_pairs.Statement.{statement}
 use Rattle.ranges.proofs.pairs.lay_pairs.Tie as tie
 
 abbrev Inv-loop : tie.InvT-loop
-Inv-loop s c pairs terms₀ count n₀ t₀ terms n t = (t ≤ count) × (n ≡ numbersBelow s t) × Laid s pairs t terms₀ terms
+Inv-loop s c pairs terms₀ count n₀ t₀ terms n t = LaidBelow s pairs terms₀ terms count n t
 
 abbrev μ-loop : tie.MeasureT-loop
 μ-loop s c pairs terms₀ count n₀ t₀ terms n t = count - t
@@ -21,7 +19,7 @@ abbrev μ-loop : tie.MeasureT-loop
 loop-holds : tie.Need-loop-holds Inv-loop μ-loop
 loop-holds c =
     let start = c .before .before in
-    (omega arith, refl, laid-none (start .args .s .now) (start .args .pairs .now) (start .args .terms .now))
+    record { below = omega arith; count-is = refl; laid = laid-none (start .args .s .now) (start .args .pairs .now) (start .args .terms .now) }
 
 is-number-requires : tie.Need-is-number-requires Inv-loop μ-loop
 is-number-requires c κs =
@@ -39,8 +37,8 @@ mul-lowest c =
     let start = at-loop .before .before .before in
     omega (
       arith,
-      at-loop .loop .inv .0,
-      at-loop .loop .inv .1,
+      at-loop .loop .inv .below,
+      at-loop .loop .inv .count-is,
       counted-most (start .args .s .now) (at-loop .loop .t),
       start .pre .counts-are .terms-are,
       start .pre .well-formed .terms-most,
@@ -52,8 +50,8 @@ mul-lowest-2 c =
     let start = at-loop .before .before .before in
     omega (
       arith,
-      at-loop .loop .inv .0,
-      at-loop .loop .inv .1,
+      at-loop .loop .inv .below,
+      at-loop .loop .inv .count-is,
       counted-most (start .args .s .now) (at-loop .loop .t),
       start .pre .counts-are .terms-are,
       start .pre .well-formed .terms-most,
@@ -65,7 +63,7 @@ shared-slice-read-lowest c =
     let start = at-loop .before .before .before in
     omega (
       arith,
-      at-loop .loop .inv .1,
+      at-loop .loop .inv .count-is,
       start .pre .enough,
       counted-below (start .args .s .now) (at-loop .loop .t) (termsOf (start .args .s .now))
           (omega (arith, c .before .before .before .loop-test .taken, start .pre .counts-are .terms-are))
@@ -78,8 +76,8 @@ mul-highest c =
     let start = at-loop .before .before .before in
     omega (
       arith,
-      at-loop .loop .inv .0,
-      at-loop .loop .inv .1,
+      at-loop .loop .inv .below,
+      at-loop .loop .inv .count-is,
       counted-most (start .args .s .now) (at-loop .loop .t),
       start .pre .counts-are .terms-are,
       start .pre .well-formed .terms-most,
@@ -91,8 +89,8 @@ add-highest c =
     let start = at-loop .before .before .before in
     omega (
       arith,
-      at-loop .loop .inv .0,
-      at-loop .loop .inv .1,
+      at-loop .loop .inv .below,
+      at-loop .loop .inv .count-is,
       counted-most (start .args .s .now) (at-loop .loop .t),
       start .pre .counts-are .terms-are,
       start .pre .well-formed .terms-most,
@@ -104,8 +102,8 @@ mul-highest-2 c =
     let start = at-loop .before .before .before in
     omega (
       arith,
-      at-loop .loop .inv .0,
-      at-loop .loop .inv .1,
+      at-loop .loop .inv .below,
+      at-loop .loop .inv .count-is,
       counted-most (start .args .s .now) (at-loop .loop .t),
       start .pre .counts-are .terms-are,
       start .pre .well-formed .terms-most,
@@ -118,7 +116,7 @@ shared-slice-read-highest c =
     let start = at-loop .before .before .before in
     omega (
       arith,
-      at-loop .loop .inv .1,
+      at-loop .loop .inv .count-is,
       start .pre .enough,
       counted-below (start .args .s .now) (at-loop .loop .t) (termsOf (start .args .s .now))
           (omega (arith, at-loop-test .loop-test .taken, start .pre .counts-are .terms-are))
@@ -134,8 +132,8 @@ cast-terms c =
     let start = at-loop .before .before .before in
     omega (
       arith,
-      at-loop .loop .inv .0,
-      at-loop .loop .inv .1,
+      at-loop .loop .inv .below,
+      at-loop .loop .inv .count-is,
       counted-most (start .args .s .now) (at-loop .loop .t),
       start .pre .counts-are .terms-are,
       start .pre .well-formed .terms-most,
@@ -147,8 +145,8 @@ mul-terms c =
     let start = at-loop .before .before .before in
     omega (
       arith,
-      at-loop .loop .inv .0,
-      at-loop .loop .inv .1,
+      at-loop .loop .inv .below,
+      at-loop .loop .inv .count-is,
       counted-most (start .args .s .now) (at-loop .loop .t),
       start .pre .counts-are .terms-are,
       start .pre .well-formed .terms-most,
@@ -166,8 +164,8 @@ add-n c =
     let start = at-loop .before .before .before in
     omega (
       arith,
-      at-loop .loop .inv .0,
-      at-loop .loop .inv .1,
+      at-loop .loop .inv .below,
+      at-loop .loop .inv .count-is,
       counted-most (start .args .s .now) (at-loop .loop .t),
       start .pre .counts-are .terms-are,
       start .pre .well-formed .terms-most,
@@ -179,8 +177,8 @@ add-t c =
     let start = at-loop .before .before .before in
     omega (
       arith,
-      at-loop .loop .inv .0,
-      at-loop .loop .inv .1,
+      at-loop .loop .inv .below,
+      at-loop .loop .inv .count-is,
       counted-most (start .args .s .now) (at-loop .loop .t),
       start .pre .counts-are .terms-are,
       start .pre .well-formed .terms-most,
@@ -192,8 +190,8 @@ loop-less c =
     let start = at-loop .before .before .before in
     omega (
       arith,
-      at-loop .loop .inv .0,
-      at-loop .loop .inv .1,
+      at-loop .loop .inv .below,
+      at-loop .loop .inv .count-is,
       counted-most (start .args .s .now) (at-loop .loop .t),
       start .pre .counts-are .terms-are,
       start .pre .well-formed .terms-most,
@@ -203,25 +201,27 @@ loop-again : tie.Need-loop-again Inv-loop μ-loop
 loop-again c =
     let at-is-number = c .before in
     let at-loop = at-is-number .before .before in
-    let start = at-loop .before .before .before in (
-      omega arith,
-      ⊎-elim (λ w. counted-yes (start .args .s .now) (at-loop .loop .t) (at-loop .loop .inv .1)
+    let start = at-loop .before .before .before in
+    record {
+      below = omega arith;
+      count-is = ⊎-elim (λ w. counted-yes (start .args .s .now) (at-loop .loop .t) (at-loop .loop .inv .count-is)
           (sym (w .0 .taken) ∙ at-is-number .is-number .ensures) (w .5))
-          (λ w. counted-no (start .args .s .now) (at-loop .loop .t) (at-loop .loop .inv .1) (sym (w .0 .left) ∙ at-is-number .is-number .ensures) (w .2))
-          (c .if1 .came),
-      ⊎-elim (λ w. laid-pair (at-loop .loop .inv .2)
-          (omega (arith, c .before .before .loop-test .taken, start .pre .counts-are .terms-are, start .pre .well-formed .terms-most, start .pre .decoded .long))
-          (sym (w .0 .taken) ∙ at-is-number .is-number .ensures) (at-loop .loop .inv .1) (omega (arith, w .1 .given (2 * at-loop .loop .n)))
+          (λ w. counted-no (start .args .s .now) (at-loop .loop .t) (at-loop .loop .inv .count-is) (sym (w .0 .left) ∙ at-is-number .is-number .ensures) (w .2))
+          (c .if1 .came);
+      laid = ⊎-elim (λ w. laid-pair (at-loop .loop .inv .laid)
+          (omega
+          (arith, c .before .before .loop-test .taken, start .pre .counts-are .terms-are, start .pre .well-formed .terms-most, start .pre .decoded .long))
+          (sym (w .0 .taken) ∙ at-is-number .is-number .ensures) (at-loop .loop .inv .count-is) (omega (arith, w .1 .given (2 * at-loop .loop .n)))
           (omega (arith, w .2 .given (2 * at-loop .loop .n + 1))) (w .3 .ensures) (w .4))
-          (λ w. laid-other (at-loop .loop .inv .2) (sym (w .0 .left) ∙ at-is-number .is-number .ensures) (w .1)) (c .if1 .came),
-    )
+          (λ w. laid-other (at-loop .loop .inv .laid) (sym (w .0 .left) ∙ at-is-number .is-number .ensures) (w .1)) (c .if1 .came);
+    }
 
 returns : tie.Need-returns Inv-loop μ-loop
 returns c =
     let at-loop = c .before in
     let start = at-loop .before .before .before in
     laid-all (start .args .s .now) (start .args .pairs .now) (start .args .terms .now) (at-loop .loop .terms) (at-loop .loop .t) (termsOf (start .args .s .now))
-    (at-loop .loop .inv .2) (omega (arith, at-loop .loop .inv .0, c .loop-test .left, start .pre .counts-are .terms-are))
+    (at-loop .loop .inv .laid) (omega (arith, at-loop .loop .inv .below, c .loop-test .left, start .pre .counts-are .terms-are))
 
 pub lay-pairs-spec : {M : Type 1} → statement M
 lay-pairs-spec =

@@ -4,7 +4,7 @@ use borrow.Author.Needs.{needs}
 use mathlib.Core.Path.{_∙_, sym, ap, subst}
 use Rattle.interp.specs.Answers.{runModel}
 use Rattle.interp.specs.declared.answer.Run.{Run}
-use Rattle.registers.specs.Block.{registersOf}
+use Rattle.blocks.specs.Block.{registersOf}
 use Rattle.registers.specs.Internal.{FewCalls}
 use Rattle.registers.proofs.RunLaws.{refusal-registers}
 use Rattle.registers.proofs.outcome.of_run.Statement.{statement}

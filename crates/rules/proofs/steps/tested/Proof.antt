@@ -16,12 +16,12 @@ returns : tie.Need-returns
 unfolding testStep
 returns c =
     let start = c .before .before .before in
-    record { is = stop _ (start .args .j) (c .before .match .keys2); known = start .pre .0 .known }
+    record { is = stop _ (start .args .j) (c .before .match .keys2); known = start .pre .judging .known }
 
 wider-requires : tie.Need-wider-requires
 wider-requires c κs =
     let start = c .before .before .before .before .before in
-    start .pre .0
+    start .pre .judging
 
 remove-requires : tie.Need-remove-requires
 remove-requires c κs = search needs

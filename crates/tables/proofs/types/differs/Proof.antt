@@ -18,27 +18,27 @@ abbrev μ-loop : tie.MeasureT-loop
 mul-here : tie.Need-mul-here Inv-loop μ-loop
 mul-here c =
     let start = c .before in
-    omega (arith, start .pre .0 .near, start .pre .0 .inside)
+    omega (arith, start .pre .table .near, start .pre .table .inside)
 
 add-here : tie.Need-add-here Inv-loop μ-loop
 add-here c =
     let start = c .before in
-    omega (arith, start .pre .0 .near, start .pre .0 .inside)
+    omega (arith, start .pre .table .near, start .pre .table .inside)
 
 add-le-word : tie.Need-add-le-word Inv-loop μ-loop
 add-le-word c =
     let start = c .before in
-    omega (arith, start .pre .0 .near, start .pre .0 .inside)
+    omega (arith, start .pre .table .near, start .pre .table .inside)
 
 le-word-requires : tie.Need-le-word-requires Inv-loop μ-loop
 le-word-requires c κs =
     let start = c .before in
-    (omega (arith, start .pre .0 .inside), omega arith)
+    (omega (arith, start .pre .table .inside), omega arith)
 
 le-word-requires-2 : tie.Need-le-word-requires-2 Inv-loop μ-loop
 le-word-requires-2 c κs =
     let start = c .before .before in
-    (omega (arith, start .pre .0 .inside), omega arith)
+    (omega (arith, start .pre .table .inside), omega arith)
 
 loop-holds : tie.Need-loop-holds Inv-loop μ-loop
 loop-holds c = (omega arith, refl)
@@ -49,27 +49,27 @@ sub-j c = omega arith
 mul-there : tie.Need-mul-there Inv-loop μ-loop
 mul-there c =
     let start = c .before .before .before .before .before in
-    omega (arith, start .pre .0 .near, start .pre .0 .inside)
+    omega (arith, start .pre .table .near, start .pre .table .inside)
 
 add-there : tie.Need-add-there Inv-loop μ-loop
 add-there c =
     let start = c .before .before .before .before .before in
-    omega (arith, start .pre .0 .near, start .pre .0 .inside)
+    omega (arith, start .pre .table .near, start .pre .table .inside)
 
 add-le-word-2 : tie.Need-add-le-word-2 Inv-loop μ-loop
 add-le-word-2 c =
     let start = c .before .before .before .before .before in
-    omega (arith, start .pre .0 .near, start .pre .0 .inside)
+    omega (arith, start .pre .table .near, start .pre .table .inside)
 
 le-word-requires-3 : tie.Need-le-word-requires-3 Inv-loop μ-loop
 le-word-requires-3 c κs =
     let start = c .before .before .before .before .before in
-    (omega (arith, start .pre .0 .inside), omega arith)
+    (omega (arith, start .pre .table .inside), omega arith)
 
 le-word-requires-4 : tie.Need-le-word-requires-4 Inv-loop μ-loop
 le-word-requires-4 c κs =
     let start = c .before .before .before .before .before .before .before in
-    (omega (arith, start .pre .0 .inside), omega arith)
+    (omega (arith, start .pre .table .inside), omega arith)
 
 returns : tie.Need-returns Inv-loop μ-loop
 returns c =
@@ -80,7 +80,7 @@ returns c =
     let at-le-word = at-le-word2 .before in
     let at-known = at-le-word .before in
     let start = at-known .before in
-    fresh-not (start .args .s .now) _ _ _ (start .pre .0)
+    fresh-not (start .args .s .now) _ _ _ (start .pre .table)
     (two-same (start .args .s .now) (record { below = λ i. at-known .shared-slice-known .given i .fits }) _ _ (at-le-word3 .le-word3 .ensures)
     (at-le-word .le-word .ensures) (c .before .before .if1 .taken) (c .before .le-word4 .ensures) (at-le-word2 .le-word2 .ensures) (c .if2 .taken))
     (at-loop-test .loop-test .taken) refl ∙ sym (at-loop .loop .inv .1)
@@ -98,7 +98,7 @@ loop-again c =
     let at-known = at-le-word .before in
     let start = at-known .before in (
       omega arith,
-      at-loop .loop .inv .1 ∙ fresh-more (start .args .s .now) _ _ _ (start .pre .0)
+      at-loop .loop .inv .1 ∙ fresh-more (start .args .s .now) _ _ _ (start .pre .table)
           (two-differ (start .args .s .now) (record { below = λ i. at-known .shared-slice-known .given i .fits }) _ _ (at-le-word3 .le-word3 .ensures)
           (at-le-word .le-word .ensures) (c .before .before .if1 .taken) (c .before .le-word4 .ensures) (at-le-word2 .le-word2 .ensures) (c .if2 .left))
           (at-loop-test .loop-test .taken) refl,
@@ -115,7 +115,7 @@ loop-again-2 c =
     let at-known = at-le-word .before in
     let start = at-known .before in (
       omega arith,
-      at-loop .loop .inv .1 ∙ fresh-more (start .args .s .now) _ _ _ (start .pre .0)
+      at-loop .loop .inv .1 ∙ fresh-more (start .args .s .now) _ _ _ (start .pre .table)
           (eight-differ (start .args .s .now) (record { below = λ i. at-known .shared-slice-known .given i .fits }) _ _ (c .before .le-word3 .ensures)
           (at-le-word .le-word .ensures) (c .if1 .left)) (at-loop-test .loop-test .taken) refl,
     )

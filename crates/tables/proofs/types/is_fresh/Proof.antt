@@ -60,7 +60,7 @@ met-requires c κs =
 differs-requires : tie.Need-differs-requires Inv-loop μ-loop
 differs-requires c κs =
     let at-loop = c .before .before .before in
-    (at-loop .before .before .before .pre, at-loop .loop .inv .0)
+    record { table = at-loop .before .before .before .pre; earlier = at-loop .loop .inv .0 }
 
 returns : tie.Need-returns Inv-loop μ-loop
 returns c =
@@ -84,7 +84,7 @@ loop-again c =
 differs-requires-2 : tie.Need-differs-requires-2 Inv-loop μ-loop
 differs-requires-2 c κs =
     let start = c .before .before .before .before in
-    (start .pre, c .before .loop .inv .0)
+    record { table = start .pre; earlier = c .before .loop .inv .0 }
 
 returns-2 : tie.Need-returns-2 Inv-loop μ-loop
 returns-2 c = c .differs2 .ensures ∙ sym (c .before .before .loop .inv .1)

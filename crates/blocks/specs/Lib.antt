@@ -1,0 +1,5 @@
+pub mod Block
+pub mod Answers
+pub mod Internal
+pub mod Laws
+pub mod Theorems

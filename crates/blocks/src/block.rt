@@ -1,0 +1,23 @@
+// The block by value, what a run puts into it, and the answers of its accesses. specs/Answers.antt gives the paper's number and values of each case.
+pub struct Block {
+    pub bytes: [u8; 16],
+}
+
+// The status bit by its worth, and the registers 2 and 6 to 11.
+pub struct RunRegisters {
+    pub flag: u8,
+    pub cause: u8,
+    pub value: u16,
+    pub calls: u16,
+    pub place: u16,
+}
+
+pub enum Read {
+    Byte(u8),
+    Refused,
+}
+
+pub enum Access {
+    Done,
+    Refused,
+}

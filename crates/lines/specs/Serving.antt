@@ -1,0 +1,56 @@
+-- Four lines, one unit: how a job is served. 02, W6; the queues and whose turn it is: `queues`, Queues.
+use mathlib.Core.Bool.{Bool, true, false}
+use mathlib.Core.List.{List, _++_}
+use Prim.Native.Nat.{ℕ, _+_}
+use lib.ListN.{take, drop}
+use Rattle.program.specs.Limits.{maxCells}
+use Rattle.semantics.specs.Runs.{Buffers, Answer, refused, ran, After}
+use Rattle.largest.specs.Largest.{request, isLargest, lentRun}
+use Rattle.queues.specs.Queues.{Job, State, inside, partOf, Turn, nobody, serves, turnOf, dequeued}
+
+-- "sees only what is left of it, which is nothing if the list lent is shorter than that place"
+abbrev pub restFrom : (place : ℕ) → Buffers → Buffers
+restFrom at b = record { cells = b .cells; posts = drop at (b .posts); frames = b .frames }
+
+-- "the next job writes from the place where the last one stopped"; the entries before it are untouched
+abbrev pub behind : (place : ℕ) → Buffers → After → After
+behind at b a = record {
+  answer = a .answer;
+  buffers = record { cells = a .buffers .cells; posts = take at (b .posts) ++ a .buffers .posts; frames = a .buffers .frames };
+}
+
+-- "one whole eager run each with …, 100 open calls and the largest cell store"; "15 is tested on what is left"
+abbrev pub jobRun : Job → (place : ℕ) (store : List ℕ) → Buffers → After
+jobRun j at store b = behind at b (lentRun (isLargest maxCells (b .cells)) (partOf j store) (request (j .calls)) (restFrom at b))
+
+-- "A job refused when served, first by 28 if the store is shorter then"
+abbrev pub jobAfter : (inside : Bool) → Job → (place : ℕ) (store : List ℕ) → Buffers → After
+jobAfter true j at store b = jobRun j at store b
+jobAfter false j at store b = record { answer = refused 28 0; buffers = b }
+
+-- "the place where the last one stopped": a refused job made no post
+abbrev pub postsOf : Answer → ℕ
+postsOf (refused c p) = 0
+postsOf (ran o k) = k .posts
+
+-- what a serve answers, of which line (0 if of none), and what it leaves
+pub data Told : Type 0 where
+  idle : Told
+  told : Answer → Told
+
+pub record Served : Type 0 where
+  pub answer : Told
+  pub line : ℕ
+  pub state : State
+  pub buffers : Buffers
+
+abbrev pub servedAs : State → (line : ℕ) (rest : List Job) → After → Served
+servedAs s l js a = record { answer = told (a .answer); line = l; state = dequeued s l js (s .place + postsOf (a .answer)); buffers = a .buffers }
+
+-- "with no job nothing changes and the answer says so"
+abbrev pub serveTurn : Turn → State → (store : List ℕ) → Buffers → Served
+serveTurn nobody s store b = record { answer = idle; line = 0; state = s; buffers = b }
+serveTurn (serves l j js) s store b = servedAs s l js (jobAfter (inside j store) j (s .place) store b)
+
+unfoldable pub serveOf : State → (store : List ℕ) → Buffers → Served
+serveOf s store b = serveTurn (turnOf s) s store b

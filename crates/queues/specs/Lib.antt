@@ -1,0 +1,5 @@
+pub mod Queues
+pub mod Answers
+pub mod Internal
+pub mod Laws
+pub mod Cases

@@ -1,0 +1,49 @@
+-- `ranged` has no contract. Shown is that the part of the pairs that it lends is within them and as long as `least` says (part): the list has room for 2,050
+-- numbers, and `least` gives no more.
+use native.Mathlib.Omega.{arith}
+use Rattle.vectors.proofs.PartLaws.{part}
+use borrow.Author.Needs.{needs}
+use Rattle.vectors.proofs.ranged.Statement.{statement}
+use Rattle.vectors.proofs.ranged.Tie as tie
+
+max-pairs-requires : tie.Need-max-pairs-requires
+max-pairs-requires c κs = search needs
+
+least-requires : tie.Need-least-requires
+least-requires c κs = search needs
+
+array-borrow-prefix-pairs : tie.Need-array-borrow-prefix-pairs
+array-borrow-prefix-pairs c = search needs
+
+slice-aggregate-rangings : tie.Need-slice-aggregate-rangings
+slice-aggregate-rangings c =
+    let at-least = c .before in
+    let at-max-pairs = at-least .before in
+    let all = at-max-pairs .max-pairs .result in
+    let lent = at-least .least .result in
+    part lent all (omega (arith, at-least .least .ensures, at-max-pairs .max-pairs .ensures))
+
+rangings-requires : tie.Need-rangings-requires
+rangings-requires c κs = search needs
+
+same-length : tie.Need-same-length
+same-length c = search needs
+
+same-length-2 : tie.Need-same-length-2
+same-length-2 c = search needs
+
+returns : tie.Need-returns
+returns c = search needs
+
+pub ranged-spec : {M : Type 1} → statement M
+ranged-spec =
+    tie.close
+    (tie.spec
+    max-pairs-requires
+    least-requires
+    array-borrow-prefix-pairs
+    slice-aggregate-rangings
+    rangings-requires
+    same-length
+    same-length-2
+    returns)
