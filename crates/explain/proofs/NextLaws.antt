@@ -1,9 +1,9 @@
 -- The next place of the chain from the children by their position. All that these proofs ask of which children are followed is in `followed-is`.
 -- Assumes nothing.
-use mathlib.Core.Bool.{Bool, true, false, cond, true≢false, false≢true}
+use mathlib.Core.Bool.{Bool, true, false, cond, _||_, true≢false, false≢true}
 use mathlib.Core.List.{List, [], _∷_}
 use mathlib.Core.Option.{Option, none, some}
-use mathlib.Core.Path.{_≡_, refl, sym, ap, _∙_}
+use mathlib.Core.Path.{_≡_, refl, sym, ap, _∙_, subst}
 use Prim.Native.Nat.{ℕ, _<_}
 use native.Mathlib.Omega.{arith}
 use lib.Dec.{eqb}
@@ -20,15 +20,16 @@ use Rattle.typing.specs.declared.answer.Inferred.the-variants.{Typed}
 use Rattle.typing.proofs.answer.Inferred.{the-type}
 use Rattle.rules.specs.Inference.{inferredModel, context, termJudgement, Ready}
 use Rattle.rules.specs.declared.bindings.Bindings.{Bindings}
-use Rattle.rules.specs.Known.{Answered}
-use Rattle.typing.specs.Places.{Placed, placed}
+use Rattle.rules.specs.Known.{Known, Answered}
+use Rattle.typing.specs.Places.{Placed, placed, Among, among-first, among-later}
 use Rattle.explain.specs.Explaining.{needing, needs, testsIt, followed, firstNeeding, next}
 use Rattle.places.specs.Internal.{placedAt, Children, childrenOf, childAt, Reached}
-use Rattle.explain.specs.Internal.{followedOf, followedAt, causeAt, nextAt, neededBy, Stepped}
+use Rattle.explain.specs.Laws.Progress.{SomeNeeds, progress}
+use Rattle.explain.specs.Internal.{followedOf, followedAt, needsAt, causeAt, nextAt, neededBy, Stepped}
 use Rattle.places.specs.declared.Place.{Place}
 use Rattle.places.specs.declared.Child.{Child}
 use Rattle.places.proofs.PlaceLaws as each
-use Rattle.places.proofs.PlaceLaws.{_and_, all, most, term-of, tree-is}
+use Rattle.places.proofs.PlaceLaws.{_and_, all, most, term-of, tree-is, not-there}
 use Rattle.explain.proofs.CauseLaws.{untyped-needs}
 
 -- ---- the children that are followed, in order
@@ -122,9 +123,10 @@ module _ (s : List ℕ) (p : ℕ) where
   passed none l e = refl
   passed (some x) l e = rw e
 
--- ---- one child after the other: the next place is among those that are left
+-- ---- one child after the other: the next place is among those that are left, and one of them needs the privilege
 pub record Left (s : List ℕ) (p : ℕ) (due : Option Placed) (os : List (Option Placed)) : Type 0 where
   due-is : due ≡ among s p (those os)
+  someone : SomeNeeds (typesOf s) (authority s) p (those os)
 
 -- a cause ends the chain
 pub cause-ends : {s : List ℕ} {c : Counts} (p : ℕ) (at : Place) {l : List ℕ} {z : Bool} {r : Child} → Answered (typesOf s) z (causeAt s p at) l → z ≡ true
@@ -133,26 +135,67 @@ unfolding next
 cause-ends p at a e f = record { is = rw (f, sym (a .is) ∙ e); following = λ g. absurd (true≢false (sym g ∙ f)) }
 
 -- else one of the children is the next
-pub all-left : (s : List ℕ) (p : ℕ) (at : Place) {l : List ℕ} {z : Bool} → Answered (typesOf s) z (causeAt s p at) l → z ≡ false
+pub all-left : (s : List ℕ) (p : ℕ) (at : Place) {l : List ℕ} {z : Bool} → needsAt s p at ≡ true → Answered (typesOf s) z (causeAt s p at) l → z ≡ false
     → Left s p (nextAt s p at) (in-order (followedAt s p at))
 unfolding next
-all-left s p at a e = record { due-is = rw (sym (a .is) ∙ e) (ap (among s p) (followed-is (typesOf s) (authority s) p (placedAt s at))) }
+all-left s p at h a e = record {
+  due-is = rw (sym (a .is) ∙ e) (ap (among s p) (followed-is (typesOf s) (authority s) p (placedAt s at)));
+  someone = subst (SomeNeeds (typesOf s) (authority s) p) (followed-is (typesOf s) (authority s) p (placedAt s at))
+      (progress (typesOf s) (authority s) p (placedAt s at) h (sym (a .is) ∙ e));
+}
 
-module _ {s : List ℕ} {c : Counts} {p t : ℕ} {o : Option Placed} {os : List (Option Placed)} {due : Option Placed} {y : Child} {l : List ℕ} {z : Bool}
-    (q : Left s p due (o ∷ os)) (w : Reached s c t y o) (a : Answered (typesOf s) z (neededBy s p (childAt s y)) l) where
-  needed-is : neededBy s p o ≡ z
-  needed-is = ap (neededBy s p) (sym (w .is)) ∙ sym (a .is)
+module _ (s : List ℕ) (p : ℕ) where
+  abbrev Someone : List Placed → Type 0
+  Someone l = SomeNeeds (typesOf s) (authority s) p l
 
-  -- a child that does not need the privilege is passed
-  pub others-left : z ≡ false → Left s p due os
-  others-left e = record { due-is = q .due-is ∙ sym (passed s p o (those os) (needed-is ∙ e)) }
+  -- where one does not need it, it is one of the others
+  among-others : (o : Option Placed) (l : List Placed) → neededBy s p o ≡ false → Someone (listed o l) → Someone l
+  among-others none l e h = h
+  among-others (some x) l e h = go (h .among) (h .needed)
+    where
+      go : {y : Placed} → Among y (x ∷ l) → needs (typesOf s) (authority s) p y ≡ true → Someone l
+      go among-first f = absurd (true≢false (sym f ∙ e))
+      go (among-later m) f = record { which = _; among = m; needed = f }
 
-  -- and one that does is the next
-  pub child-next : p < 32 → z ≡ true → Stepped s c p y due l
-  child-next small e = record {
-    is = w .is ∙ taken s p o (those os) (needed-is ∙ e) ∙ sym (q .due-is);
-    following = λ g. record { ready = w .ready g; known = a .known; privilege = small; needing = rw g at (sym (a .is) ∙ e) };
+  -- and where there are no others, it is that one
+  the-last : (o : Option Placed) → Someone (listed o []) → neededBy s p o ≡ true
+  the-last o h = go o (h .among) (h .needed)
+    where
+      go : {y : Placed} (o : Option Placed) → Among y (listed o []) → needs (typesOf s) (authority s) p y ≡ true → neededBy s p o ≡ true
+      go (some x) among-first f = f
+
+module _ {s : List ℕ} {c : Counts} {p t : ℕ} {o : Option Placed} {os : List (Option Placed)} {due : Option Placed} {y : Child} {l : List ℕ}
+    (q : Left s p due (o ∷ os)) (w : Reached s c t y o) where
+  next-is : p < 32 → Known (typesOf s) l → neededBy s p o ≡ true → Stepped s c p y due l
+  next-is small k e = record {
+    is = w .is ∙ taken s p o (those os) e ∙ sym (q .due-is);
+    following = λ g. record { ready = w .ready g; known = k; privilege = small; needing = rw g at (ap (neededBy s p) (w .is) ∙ e) };
   }
 
-pub none-left : {s : List ℕ} {c : Counts} {p : ℕ} {l : List ℕ} {due : Option Placed} {r : Child} → Left s p due [] → r .present ≡ false → Stepped s c p r due l
-none-left q f = record { is = rw f (sym (q .due-is)); following = λ g. absurd (true≢false (sym g ∙ f)) }
+  -- the last that is there is the next
+  pub last-next : p < 32 → Known (typesOf s) l → those os ≡ [] → Stepped s c p y due l
+  last-next small k e = next-is small k (the-last s p o (subst (λ (m : List Placed). SomeNeeds (typesOf s) (authority s) p (listed o m)) e (q .someone)))
+
+  module _ {z : Bool} (a : Answered (typesOf s) z (neededBy s p (childAt s y)) l) where
+    needed-is : neededBy s p o ≡ z
+    needed-is = ap (neededBy s p) (sym (w .is)) ∙ sym (a .is)
+
+    -- a child that does not need the privilege is passed
+    pub others-left : z ≡ false → Left s p due os
+    others-left e = record {
+      due-is = q .due-is ∙ sym (passed s p o (those os) (needed-is ∙ e));
+      someone = among-others s p o (those os) (needed-is ∙ e) (q .someone);
+    }
+
+    -- and one that does is the next
+    pub child-next : p < 32 → z ≡ true → Stepped s c p y due l
+    child-next small e = next-is small (a .known) (needed-is ∙ e)
+
+-- ---- a child that is not there
+module _ {s : List ℕ} {c : Counts} {t : ℕ} {y : Child} {o : Option Placed} (w : Reached s c t y o) (e : y .present ≡ false) where
+  pub not-listed : (l : List Placed) → listed o l ≡ l
+  not-listed l = ap (λ (o : Option Placed). listed o l) (sym (w .is) ∙ not-there s y e)
+
+pub neither : (a b : Bool) → (a || b) ≡ false → (a ≡ false) × (b ≡ false)
+neither true b e = absurd (true≢false e)
+neither false b e = (refl, e)

@@ -55,7 +55,8 @@ fn first_followed(s: &[u8], c: Counts, at: Place, p: u8) -> Child
     first_child(s, c, at)
 }
 
-// The next place of the chain: none after a cause, else the child at the lowest position that needs privilege p.
+// The next place of the chain: none after a cause, else the child at the lowest position that needs privilege p. One of them does, so that the last one
+// is not judged.
 fn next_place(s: &[u8], c: Counts, known: &mut Known, at: Place, p: u8) -> Child
     requires { ⌜ Following (now s) c (now known) p at ⌝ }
     ensures { λ r. ⌜ Stepped (now (s .entry)) c p r (nextAt (now (s .entry)) p at) (now (known .exit)) ⌝ }
@@ -64,18 +65,21 @@ fn next_place(s: &[u8], c: Counts, known: &mut Known, at: Place, p: u8) -> Child
         return absent(at);
     }
     let first = first_followed(s, c, at, p);
+    let second = second_child(s, c, at);
+    let third = third_child(s, c, at);
+    if !(second.present | third.present) {
+        return first;
+    }
     if child_needs(s, c, known, first, p) {
         return first;
     }
-    let second = second_child(s, c, at);
+    if !third.present {
+        return second;
+    }
     if child_needs(s, c, known, second, p) {
         return second;
     }
-    let third = third_child(s, c, at);
-    if child_needs(s, c, known, third, p) {
-        return third;
-    }
-    absent(at)
+    third
 }
 
 // The chain of a readable sheet whose root needs privilege p: at most 32 terms, the sheet's nesting.

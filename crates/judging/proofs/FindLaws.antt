@@ -14,6 +14,7 @@ use Rattle.typing.specs.Laws.Places.{tree-number}
 use Rattle.rules.specs.Inference.{context}
 use Rattle.places.specs.Internal.{placedAt, childrenOf, childrenAt, childAt, Reached}
 use Rattle.places.specs.declared.Child.{Child}
+use Rattle.places.proofs.PlaceLaws.{there, not-there}
 use Rattle.subterms.specs.Smallest.{subterms}
 use Rattle.subterms.specs.Judging.{withNumber}
 use Rattle.subterms.specs.Laws.Subterms.{subtermsIn}
@@ -61,13 +62,7 @@ module _ (T : Types) (t : ℕ) where
   number-in Γ n (binary at op a b) = own-or (placed Γ n (binary at op a b)) at (both (subterms T Γ n a) (subterms T Γ n b))
   number-in Γ n (post at ch g c) = own-or (placed Γ n (post at ch g c)) at (alone (subterms T Γ n c))
 
--- ---- a child that is there, or not
-there : (s : List ℕ) (y : Child) → y .present ≡ true → childAt s y ≡ some (placedAt s (y .place))
-there s y e = rw e refl
-
-not-there : (s : List ℕ) (y : Child) → y .present ≡ false → childAt s y ≡ none
-not-there s y e = rw e refl
-
+-- ---- a child that is not there
 pub nothing-found : (s : List ℕ) {c : Counts} (t : ℕ) (y : Child) → y .present ≡ false → FoundAs s c t (childAt s y) y
 unfolding withNumber
 nothing-found s t y e = record {

@@ -28,7 +28,7 @@ use Rattle.rules.proofs.KnownLaws.{known-none}
 use Rattle.checker.specs.Internal.{ReadyAt}
 use Rattle.checker.proofs.TermLaws.{Child as Below, kind-most, check-child, enable-child, sign-child, post-child, call-first, call-second, test-first, test-second, binary-first, binary-second, if-first, if-second, if-third, function-room, function-child, letrec-room, letrec-body, letrec-rest}
 use Rattle.typing.specs.Places.{Placed, placed}
-use Rattle.places.specs.Internal.{present, Children, childrenOf, Reached}
+use Rattle.places.specs.Internal.{placedAt, present, Children, childrenOf, childAt, Reached}
 use Rattle.places.specs.declared.Child.{Child}
 
 -- ---- what holds at each of the numbers from m on holds at every number among them
@@ -201,3 +201,10 @@ child-falls {s} {c} x y {due} e r = go (y .present) refl
     go : (b : Bool) → y .present ≡ b → cond b (suc (y .place .term)) 0 < fuel x
     go true f = omega (arith, there, r .lower f)
     go false f = omega (arith, there)
+
+-- ---- a child that is there, or not
+pub there : (s : List ℕ) (y : Child) → y .present ≡ true → childAt s y ≡ some (placedAt s (y .place))
+there s y e = rw e refl
+
+pub not-there : (s : List ℕ) (y : Child) → y .present ≡ false → childAt s y ≡ none
+not-there s y e = rw e refl

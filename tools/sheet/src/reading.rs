@@ -17,6 +17,8 @@ pub struct Reading<'a> {
     pub tree: Option<Tree>,
     /// What the library says of each term.
     told: Vec<Told>,
+    /// Over ranges, the lowest and highest of each number of the sheet, in the order of the terms.
+    pairs: &'a [u16],
 }
 
 impl<'a> Reading<'a> {
@@ -37,7 +39,13 @@ impl<'a> Reading<'a> {
             verdict,
             tree,
             told,
+            pairs: &[],
         }
+    }
+
+    /// The same where the numbers of the sheet are known within these limits alone.
+    pub fn over(self, pairs: &'a [u16]) -> Self {
+        Self { pairs, ..self }
     }
 
     pub fn told(&self, term: usize) -> Told {
@@ -81,6 +89,10 @@ impl<'a> Reading<'a> {
                 self.names.principal_in_words(term.small.into())
             ),
             kinds::VARIABLE => format!("variable {}{}", term.parts[0], self.bound(number)),
+            kinds::NUMBER => match self.limits(number) {
+                Some([lowest, highest]) => format!("number {}", range(lowest, highest)),
+                None => self.head(term),
+            },
             // The type of a function is its own, so that it stands there already where types are told.
             kinds::LETREC => self.typed(term),
             kinds::FUNCTION if !self.tells_terms() => self.typed(term),
@@ -93,6 +105,15 @@ impl<'a> Reading<'a> {
             },
             _ => self.head(term),
         }
+    }
+
+    /// Within which limits a number of the sheet is known.
+    fn limits(&self, number: usize) -> Option<[u16; 2]> {
+        let before = self.sheet.terms[..number]
+            .iter()
+            .filter(|term| term.kind == kinds::NUMBER);
+        let at = 2 * before.count();
+        Some([*self.pairs.get(at)?, *self.pairs.get(at + 1)?])
     }
 
     /// A function or letrec with its type written out.
@@ -144,5 +165,14 @@ impl<'a> Reading<'a> {
             kinds::POST if self.sheet.version == Some(2) => format!("{name} on channel {small}"),
             _ => name.to_string(),
         }
+    }
+}
+
+/// A range of numbers; of one alone the number.
+pub fn range(lowest: u16, highest: u16) -> String {
+    if lowest == highest {
+        lowest.to_string()
+    } else {
+        format!("{lowest} to {highest}")
     }
 }

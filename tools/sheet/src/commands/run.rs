@@ -11,7 +11,7 @@ use crate::library::{self, Outcome, Refusal, Request, Run};
 use crate::library::{ENTRY, MAX_CALLS, MAX_CELLS, MAX_DECISIONS, MAX_DEPTH, MAX_POSTS};
 use crate::listing;
 use crate::names::Names;
-use crate::reading::Reading;
+use crate::reading::{range, Reading};
 use crate::sheet::CHANNELS;
 use crate::show::{counted, mark_of};
 
@@ -77,6 +77,7 @@ fn run(arguments: &Arguments, console: &mut Console) -> Result<u8, Failure> {
         Ok(run) => run,
         Err(refusal) => return super::refuse(&reading, refusal, console),
     };
+    let reading = reading.over(pairs.as_deref().unwrap_or(&[]));
     let shown = Shown {
         reading: &reading,
         ranges: pairs.is_some(),
@@ -211,8 +212,10 @@ impl Shown<'_> {
         match (ty == library::BOOLEAN, self.ranges) {
             (true, true) if value == 2 => "a boolean that is undecided".to_string(),
             (true, _) => format!("the boolean {truth}"),
-            (false, true) if value >> 16 != value & 0xFFFF => format!("a number, {}", range(value)),
-            (false, true) => format!("the number {}", range(value)),
+            (false, true) if value >> 16 != value & 0xFFFF => {
+                format!("a number, {}", entry_range(value))
+            }
+            (false, true) => format!("the number {}", entry_range(value)),
             (false, false) => format!("the number {value}"),
         }
     }
@@ -237,7 +240,7 @@ impl Shown<'_> {
             return vec!["no posts".to_string()];
         }
         if self.ranges {
-            let words: Vec<String> = entries.iter().map(|&entry| range(entry)).collect();
+            let words: Vec<String> = entries.iter().map(|&entry| entry_range(entry)).collect();
             return vec![format!("posts on channel 0: {}", words.join(", "))];
         }
         let mut lines = Vec::new();
@@ -252,14 +255,9 @@ impl Shown<'_> {
     }
 }
 
-/// A range of numbers, the lowest in the high half.
-fn range(entry: u32) -> String {
-    let (lowest, highest) = (entry >> 16, entry & 0xFFFF);
-    if lowest == highest {
-        lowest.to_string()
-    } else {
-        format!("{lowest} to {highest}")
-    }
+/// A value or post over ranges, which has the lowest in its upper half.
+fn entry_range(entry: u32) -> String {
+    range((entry >> 16) as u16, (entry & 0xFFFF) as u16)
 }
 
 /// How many decisions a person is shown.
