@@ -16,7 +16,7 @@ ghost use Rattle.typing.specs.Answers.{verdictModel};
 ghost use Rattle.rules.specs.Inference.{inferredModel};
 ghost use Rattle.checker.specs.Internal.{ReadableSheet};
 
-// 01's judge, on any bytes: the reader's refusals 1 to 8 and 31, then the rules' 9 to 12, then 13.
+// 01's judge, on any bytes: the reader's refusals 1 to 8 and 31, then the rules' 9 to 12 and 24 to 26, then 13.
 pub fn typecheck(sheet: &[u8]) -> Verdict
     ensures { λ r. ⌜ verdictModel r ≡ verdict (now (sheet .entry)) ⌝ }
 {

@@ -1,6 +1,6 @@
 // Access control, as one number. An eager run holds a pair: the set that the signing principal may use, and 2^32 times the granted set. A lazy run
 // holds how many numbers of its frame store are in use, two for each frame: the set that its principal may use, and the enabled set. A run's mode is
-// 1 if checks are enforced, and 2 more if it is lazy.
+// 1 if checks are enforced, 2 more if it is lazy, and 4 more if its numbers are intervals.
 ghost use mathlib.Core.Bool.{true, false};
 ghost use mathlib.Core.Path.{_≡_};
 ghost use Prim.Native.Nat.{_<_};
