@@ -18,12 +18,12 @@ typecheck-readable-requires : tie.Need-typecheck-readable-requires
 typecheck-readable-requires c κs =
     let at-decode = c .before .before .before in
     let start = at-decode .before .before in
-    readable-counted (start .args .sheet .now) (at-decode .decode .ensures .0) (c .before .d2 .given .1) (at-decode .decode .ensures .1)
+    readable-counted (start .args .sheet .now) (at-decode .decode .ensures .answer-is) (c .before .d2 .given .1) (at-decode .decode .ensures .counts-are)
 
 returns : tie.Need-returns
 returns c =
     let start = c .before .before .before .before .before in
-    unreadable-is (start .args .sheet .now) (c .before .before .before .decode .ensures .0) (c .before .d .given .1)
+    unreadable-is (start .args .sheet .now) (c .before .before .before .decode .ensures .answer-is) (c .before .d .given .1)
 
 returns-2 : tie.Need-returns-2
 returns-2 c = search needs

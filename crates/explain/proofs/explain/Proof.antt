@@ -21,14 +21,14 @@ explain-readable-requires : tie.Need-explain-readable-requires
 explain-readable-requires c κs =
     let at-decode = c .before .before .before in
     let start = at-decode .before .before in
-    readable-counted (start .args .sheet .now) (at-decode .decode .ensures .0) (c .before .d2 .given .1) (at-decode .decode .ensures .1)
+    readable-counted (start .args .sheet .now) (at-decode .decode .ensures .answer-is) (c .before .d2 .given .1) (at-decode .decode .ensures .counts-are)
 
 returns : tie.Need-returns
 returns c =
     let at-decode = c .before .before .before .before in
     let start = at-decode .before .before in
     unreadable-told (start .args .sheet .now) (start .args .privilege) (c .without-chain .ensures)
-    (unreadable-is (start .args .sheet .now) (at-decode .decode .ensures .0) (c .before .before .d .given .1))
+    (unreadable-is (start .args .sheet .now) (at-decode .decode .ensures .answer-is) (c .before .before .d .given .1))
 
 returns-2 : tie.Need-returns-2
 returns-2 c = search needs

@@ -18,14 +18,14 @@ erase-readable-requires : tie.Need-erase-readable-requires
 erase-readable-requires c κs =
     let at-decode = c .before .before .before .before in
     let start = at-decode .before .before .before in
-    readable-counted (start .args .sheet .now) (at-decode .decode .ensures .0) (c .before .before .d2 .given .1) (at-decode .decode .ensures .1)
+    readable-counted (start .args .sheet .now) (at-decode .decode .ensures .answer-is) (c .before .before .d2 .given .1) (at-decode .decode .ensures .counts-are)
 
 returns : tie.Need-returns
 returns c =
     let at-d = c .before in
     let start = at-d .before .before .before .before .before in
     unreadable-told (start .args .sheet .now) (start .args .buffer .now) (at-d .d .given .0 .0)
-    (unreadable-is (start .args .sheet .now) (c .before .before .before .decode .ensures .0) (at-d .d .given .1))
+    (unreadable-is (start .args .sheet .now) (c .before .before .before .decode .ensures .answer-is) (at-d .d .given .1))
 
 same-length : tie.Need-same-length
 same-length c = search needs
