@@ -14,7 +14,7 @@ use Rattle.registers.specs.Answers.{writtenModel}
 use Rattle.registers.specs.declared.Written.{Written}
 use Rattle.replies.specs.Replies.{unfit, written, notDone, left}
 use Rattle.replies.specs.Laws.{fit, in-place}
-use Rattle.capi.specs.Blocks.{accessed, readReply, accessReply, blockRead, leftBlock, afterWrite, blockWrite}
+use Rattle.capi_block.specs.Blocks.{accessed, readReply, accessReply, blockRead, leftBlock, afterWrite, blockWrite}
 use Rattle.replies.specs.Internal.{replyOf, Put}
 use Rattle.replies.specs.declared.Reply.{Reply}
 

@@ -5,8 +5,8 @@ use mathlib.Core.Path.{refl}
 use Prim.Native.Nat.{_-_}
 use Rattle.semantics.specs.Runs.{zeros}
 use Rattle.replies.specs.Laws.{Copied, written-more, written-over}
-use Rattle.capi.proofs.block.load.Statement.{statement}
-use Rattle.capi.proofs.block.load.Tie as tie
+use Rattle.capi_block.proofs.block.load.Statement.{statement}
+use Rattle.capi_block.proofs.block.load.Tie as tie
 
 abbrev Inv-loop : tie.InvT-loop
 Inv-loop block bytes₀ i₀ bytes i = Copied 16 block bytes₀ i bytes

@@ -5,8 +5,8 @@ use mathlib.Core.Path.{refl}
 use Prim.Native.Nat.{_-_}
 use Rattle.program.specs.Laws.Lists.{sized}
 use Rattle.replies.specs.Laws.{Copied, written-length, written-more, written-over}
-use Rattle.capi.proofs.block.save.Statement.{statement}
-use Rattle.capi.proofs.block.save.Tie as tie
+use Rattle.capi_block.proofs.block.save.Statement.{statement}
+use Rattle.capi_block.proofs.block.save.Tie as tie
 
 abbrev Inv-loop : tie.InvT-loop
 Inv-loop block₀ bytes i₀ block i = Copied 16 bytes block₀ i block
