@@ -1,5 +1,5 @@
 -- The lowest entry above 32 is found in ascending order. All entries below t are at most 32, so that the search from t on finds what the whole
--- search finds (Laws/Search). The entries that are left, n - t, fall.
+-- search finds (Laws/Search). The entries that are left, n - t, fall, since each turn adds 1 to t.
 use mathlib.Core.Path.{refl, sym, _∙_}
 use Prim.Native.Nat.{_-_}
 use native.Mathlib.Omega.{arith}

@@ -1,5 +1,5 @@
 -- The first lower type whose record becomes equal is found in ascending order: none below u does, so that the search from u on finds what the whole
--- search finds (Laws/Search). The types that are left, t - u, fall.
+-- search finds (Laws/Search). The types that are left, t - u, fall, since each turn adds 1 to u.
 use native.Mathlib.Omega.{arith}
 use mathlib.Core.Bool.{not}
 use mathlib.Core.Path.{sym, ap, _∙_}

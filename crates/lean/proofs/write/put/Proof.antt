@@ -1,5 +1,5 @@
 -- The first i bytes are written; pasted-more makes it one more. The list keeps its length, so that every write is within it (pasted-length). The bytes that
--- are left, n - i, fall.
+-- are left, n - i, fall, since each turn adds 1 to i.
 use native.Mathlib.Omega.{arith}
 use Prim.Native.Nat.{_-_}
 use lib.Seq.{paste-zero}

@@ -1,4 +1,4 @@
--- n is the count below t, which a number term adds to (counted-yes). The terms that are left, count - t, fall.
+-- n is the count below t, which a number term adds to (counted-yes). The terms that are left, count - t, fall, since each turn adds 1 to t.
 use native.Mathlib.Omega.{arith}
 use mathlib.Core.Logic.{⊎-elim}
 use mathlib.Core.Path.{refl, sym, _∙_}

@@ -1,4 +1,4 @@
--- So many numbers are zero, and the others as they were, until all are zero. The numbers that are left fall.
+-- So many numbers are zero, and the others as they were, until all are zero. The numbers that are left fall, since each turn clears one.
 use native.Mathlib.Omega.{arith}
 use borrow.Author.Needs.{needs}
 use mathlib.Core.Path.{refl, ap, _∙_}

@@ -1,4 +1,5 @@
--- Each turn passes one frame, from the innermost on, so that the rest decides as the whole. The numbers that are left fall by two.
+-- Each turn passes one frame, from the innermost on, so that the rest decides as the whole. The numbers that are left fall by two, a
+-- frame's.
 use native.Mathlib.Omega.{arith}
 use borrow.Author.Needs.{needs}
 use mathlib.Core.Path.{refl, _∙_}

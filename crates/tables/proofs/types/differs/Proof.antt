@@ -1,5 +1,5 @@
 -- The types are compared from the nearest on: none from j to n - 1 has the record of t, so that the first j decide as the first n. Two records are the
--- same exactly if their two words are (same-record). j falls.
+-- same exactly if their two words are (same-record). j falls by one each turn.
 use mathlib.Core.Path.{refl, sym, _∙_}
 use native.Mathlib.Omega.{arith}
 use Rattle.tables.proofs.TypeLaws.{FreshFrom, fresh-not, fresh-more, fresh-end}
