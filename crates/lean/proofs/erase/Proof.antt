@@ -18,7 +18,8 @@ erase-readable-requires : tie.Need-erase-readable-requires
 erase-readable-requires c κs =
     let at-decode = c .before .before .before .before in
     let start = at-decode .before .before .before in
-    readable-counted (start .args .sheet .now) (at-decode .decode .ensures .answer-is) (c .before .before .d2 .given .1) (at-decode .decode .ensures .counts-are)
+    readable-counted (start .args .sheet .now) (at-decode .decode .ensures .answer-is) (c .before .before .d2 .given .1)
+    (at-decode .decode .ensures .counts-are)
 
 returns : tie.Need-returns
 returns c =
