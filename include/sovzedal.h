@@ -325,7 +325,7 @@ uint32_t sovzedal_term(const uint8_t *sheet, size_t sheet_len,
  *   answer, answer_len  the list for the answer and its length in entries; it tells the chain's length, which is 0 exactly if the privilege is not
  *                       among the needs that sovzedal_typecheck tells
  * Other causes may be behind the one that is told: mend that and ask again.
- * Refusals, in this order: 1 to 13, 24 to 26 and 31, as of sovzedal_typecheck; 30, of a privilege above 31, with the place 0. `chain` is as it was. */
+ * Refusals, in this order: 1 to 8, 31, 9 to 13 and 24 to 26, as of sovzedal_typecheck; 30, of a privilege above 31, with the place 0. `chain` is as it was. */
 uint32_t sovzedal_explain(const uint8_t *sheet, size_t sheet_len,
                           uint32_t privilege,
                           uint16_t *chain, size_t chain_len,
@@ -343,7 +343,7 @@ uint32_t sovzedal_explain(const uint8_t *sheet, size_t sheet_len,
  * allowances and lengths of buffers they end in the same value or stop for the same cause, with the same posts and counts, and a stop of the lean sheet
  * tells the new number of the old one's term. From another stack they need not: the old sheet may be stopped by 17 where the lean one, which has no checks
  * left, goes on. So see to the old needs before the lean sheet is run in its place.
- * Refusals, in this order: 1 to 13, 24 to 26 and 31, as of sovzedal_typecheck; 32, of a sheet of format 2 or with a test, whether a run comes to it or
+ * Refusals, in this order: 1 to 8, 31, 9 to 13 and 24 to 26, as of sovzedal_typecheck; 32, of a sheet of format 2 or with a test, whether a run comes to it or
  * not; 33, of a buffer that is shorter than the lean sheet. The place of 32 and 33 is 0, and by each of these `lean` is as it was. */
 uint32_t sovzedal_erase(const uint8_t *sheet, size_t sheet_len,
                         uint8_t *lean, size_t lean_len,

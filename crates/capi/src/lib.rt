@@ -18,14 +18,7 @@ ghost use Rattle.subterms.specs.Judging.{judging};
 ghost use Rattle.capi_term.specs.Entries.{termReply};
 ghost use Rattle.intervals.specs.Runs.{rangeRun};
 ghost use Rattle.capi_ranges.specs.Entries.{rangeCall};
-ghost use Rattle.capi.specs.Blocks.{blockRead, leftBlock, blockWrite};
-
-mod block;
-
-use block::load;
-use block::of_access;
-use block::of_read;
-use block::save;
+ghost use Rattle.capi_block.specs.Blocks.{blockRead, leftBlock, blockWrite};
 use replies::of_decoded;
 use replies::of_run;
 use replies::of_verdict;
@@ -211,15 +204,7 @@ pub extern "C" fn sovzedal_record_lazy(
 pub extern "C" fn sovzedal_block_read(block: &[u8], address: u32, answer: &mut [u32]) -> u32
     ensures { λ r. ⌜ left r (now (answer .exit)) ≡ blockRead (now (block .entry)) address (now (answer .entry)) ⌝ }
 {
-    if block.len() != 16 {
-        return 3;
-    }
-    if answer.len() < 8 {
-        return 3;
-    }
-    let b = load(block);
-    let x = blocks::read(b, address);
-    put(of_read(x, blocks::interrupt(b)), answer)
+    capi_block::read(block, address, answer)
 }
 
 // A write to a register; 1 to the command runs the sheet, in the largest buffers.
@@ -237,18 +222,7 @@ pub extern "C" fn sovzedal_block_write(
         ≡ blockWrite (now (block .entry)) address value (now (sheet .entry)) (buffersOf (now (cells .entry)) (now (posts .entry)) [])
         (now (answer .entry)) ⌝ }
 {
-    if block.len() != 16 {
-        return 3;
-    }
-    if answer.len() < 8 {
-        return 3;
-    }
-    let old = load(block);
-    let w = registers::write(old, address, value, sheet, cells, posts);
-    let b = w.block;
-    let access = w.access;
-    save(b, block);
-    put(of_access(access, blocks::interrupt(b)), answer)
+    capi_block::write(block, address, value, sheet, cells, posts, answer)
 }
 
 // A job for one of the four lines. Their state is a list of 102 numbers.

@@ -1,10 +1,10 @@
 -- What the entry for a comparison leaves, from the promises of the functions that it calls.
 use mathlib.Core.Bool.{Bool, true, false, cond, _||_}
-use mathlib.Core.List.{List, _++_}
+use mathlib.Core.List.{List}
 use mathlib.Core.Path.{_≡_, refl, sym, ap, _∙_}
 use Prim.Native.Nat.{ℕ, _<_, _≤_}
 use native.Mathlib.Omega.{arith}
-use lib.ListN.{length, drop}
+use lib.ListN.{length}
 use borrow.Author.Tests.{lt-ltb, le-ltb}
 use Rattle.traces.specs.Comparing.{comparison}
 use Rattle.traces.specs.Theorems.{fits-exactly, diverges-exactly}
@@ -13,7 +13,7 @@ use Rattle.compare.specs.Answers.{comparisonModel}
 use Rattle.compare.specs.declared.answer.Comparison.{Comparison}
 use Rattle.compare.specs.declared.answer.Comparison.the-variants.{Fits, Diverges, Malformed}
 use Rattle.replies.specs.Replies.{left, notDone, replied}
-use Rattle.replies.specs.Internal.{replyOf}
+use Rattle.replies.specs.Internal.{replyOf, Put}
 use Rattle.replies.specs.Laws as replies
 use Rattle.replies.specs.declared.Reply.{Reply}
 use Rattle.capi_compare.specs.Entries.{comparisonReply, long, compareCall}
@@ -45,5 +45,5 @@ module _ (u o answer : List ℕ) where
     told Malformed e = omega arith
 
     pub given : 8 ≤ length answer → (x : Comparison) → comparisonModel x ≡ comparison u o → {r : Reply} → replyOf r ≡ comparisonReply (comparisonModel x)
-        → {status : ℕ} {after : List ℕ} → (status ≡ r .status) × (after ≡ r .numbers ++ drop 8 answer) → left status after ≡ compareCall u o answer
+        → {status : ℕ} {after : List ℕ} → Put r answer status after → left status after ≡ compareCall u o answer
     given l x e f put = replies.given answer l (f ∙ ap comparisonReply e) put ∙ held

@@ -14,7 +14,7 @@ use Rattle.program.specs.Layout.{Types, authority, typesOf}
 use Rattle.typing.specs.Verdicts.{Verdict, accepted, rejected, verdict}
 use Rattle.replies.specs.Replies as replies
 use Rattle.replies.specs.Replies.{short}
-use Rattle.replies.specs.Internal.{replyOf}
+use Rattle.replies.specs.Internal.{replyOf, Put}
 use Rattle.replies.specs.Laws.{in-place}
 use Rattle.replies.specs.declared.Reply.{Reply}
 use Rattle.typing.specs.Places.{Placed, placedNumber, rootOf}
@@ -98,7 +98,7 @@ module _ (s : List ℕ) (p : ℕ) (chain answer : List ℕ) where
 
   pub given : maxNesting ≤ length chain → 8 ≤ length answer → (r : Explained) → Told r (explanation s p) → {chain′ : List ℕ}
       → chain′ ≡ listAfter (r .answer) (r .terms) chain → {x : Reply} → replyOf x ≡ replyFor (r .answer) → {status : ℕ} {after : List ℕ}
-      → (status ≡ x .status) × (after ≡ x .numbers ++ drop 8 answer) → leftExplain status after chain′ ≡ explainCall s p chain answer
+      → Put x answer status after → leftExplain status after chain′ ≡ explainCall s p chain answer
   given h g r told {chain′ = chain′} f e put =
       (λ i. record { reply = in-place answer g (e ∙ reply-by (r .terms) (r .answer) as-long) put i; chain = list-after i })
       ∙ ap (explainLeft answer chain) (told .answer-is)

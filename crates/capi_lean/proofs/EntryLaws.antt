@@ -1,11 +1,11 @@
 -- What the entry for the lean sheet leaves, from the promises of the functions that it calls. Assumes nothing.
 use mathlib.Core.Bool.{cond}
-use mathlib.Core.List.{List, _++_}
+use mathlib.Core.List.{List}
 use mathlib.Core.Path.{_≡_, sym, ap, _∙_}
 use Prim.Native.Nat.{ℕ, _<_, _≤_}
-use lib.ListN.{length, drop}
+use lib.ListN.{length}
 use borrow.Author.Tests.{lt-ltb, le-ltb}
-use Rattle.replies.specs.Internal.{replyOf}
+use Rattle.replies.specs.Internal.{replyOf, Put}
 use Rattle.replies.specs.Laws.{in-place}
 use Rattle.replies.specs.declared.Reply.{Reply}
 use Rattle.erasure.specs.Erasure.{erasure}
@@ -21,7 +21,7 @@ module _ (s b answer : List ℕ) where
 
   -- it holds the reply
   pub given : 8 ≤ length answer → (r : Erased) {b′ : List ℕ} → after r b′ ≡ erasure s b → {x : Reply} → replyOf x ≡ eraseReply (erasedModel r)
-      → {status : ℕ} {answer′ : List ℕ} → (status ≡ x .status) × (answer′ ≡ x .numbers ++ drop 8 answer) → leftErase status answer′ b′ ≡ eraseCall s b answer
+      → {status : ℕ} {answer′ : List ℕ} → Put x answer status answer′ → leftErase status answer′ b′ ≡ eraseCall s b answer
   given h r {b′ = b′} told e put =
       (λ i. record { reply = in-place answer h e put i; buffer = b′ }) ∙ ap (eraseLeft answer) told
       ∙ (λ i. cond (sym (le-ltb (length answer) 8 h) i) (leftErase 3 answer b) (eraseLeft answer (erasure s b)))

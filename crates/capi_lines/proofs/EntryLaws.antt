@@ -1,15 +1,15 @@
 -- What an entry for the lines leaves, from the promises of the functions that it calls.
 use mathlib.Core.Bool.{true, false, cond}
-use mathlib.Core.List.{List, [], _∷_, _++_}
+use mathlib.Core.List.{List, []}
 use mathlib.Core.Path.{_≡_, refl, sym, ap, _∙_}
 use Prim.Native.Nat.{ℕ, _<_, _≤_}
-use lib.ListN.{length, set, drop}
+use lib.ListN.{length, set}
 use Rattle.semantics.specs.Runs.{Buffers}
 use Rattle.interp.specs.Answers.{buffersOf, outcomeModel, countsModel}
 use Rattle.interp.specs.declared.answer.Run.the-variants.{Refused, Ran}
 use Rattle.replies.specs.Replies as replies
 use Rattle.replies.specs.Replies.{unfit, writtenNine, left}
-use Rattle.replies.specs.Internal.{replyOf}
+use Rattle.replies.specs.Internal.{replyOf, Put}
 use Rattle.replies.specs.Laws.{fit, in-place, run-eight, in-nine}
 use Rattle.replies.specs.declared.Reply.{Reply}
 use Rattle.queues.specs.Queues.{Job, State, addOf}
@@ -50,7 +50,7 @@ module _ (state answer store : List ℕ) (size : length state ≡ stateNumbers) 
     (load : linesModel old ≡ stateRead state) where
   pub add-given : (r : Added) → addedModel r ≡ addOf (linesModel old) l j store → {state′ : List ℕ}
       → state′ ≡ stateAfter (additionModel (r .answer)) state (linesModel (r .lines)) → {x : Reply} → replyOf x ≡ addReply (additionModel (r .answer))
-      → {status : ℕ} {after : List ℕ} → (status ≡ x .status) × (after ≡ x .numbers ++ drop 8 answer)
+      → {status : ℕ} {after : List ℕ} → Put x answer status after
       → leftAdd status after state′ ≡ linesAdd state l j store answer
   add-given r e f g put =
       (λ i. record { reply = in-place answer room g put i; state = f i })
@@ -65,7 +65,7 @@ reply-eight (told a) = run-eight a
 module _ (state answer store : List ℕ) (size : length state ≡ stateNumbers) (room : 9 ≤ length answer) (b : Buffers) (old : Lines)
     (load : linesModel old ≡ stateRead state) (r : Served) {cells posts : List ℕ} (e : servedModel r cells posts ≡ serveOf (linesModel old) store b) where
   pub serve-given : {state′ : List ℕ} → state′ ≡ servedState (answerModel (r .answer)) state (linesModel (r .lines)) → {x : Reply}
-      → replyOf x ≡ serveReply (answerModel (r .answer)) → {status : ℕ} {after : List ℕ} → (status ≡ x .status) × (after ≡ x .numbers ++ drop 8 answer)
+      → replyOf x ≡ serveReply (answerModel (r .answer)) → {status : ℕ} {after : List ℕ} → Put x answer status after
       → leftServe status (set after 8 (r .line)) state′ (buffersOf cells posts []) ≡ linesServe state store b answer
   serve-given f g {status = status} {after = after} put =
       (λ i. record { reply = whole i; state = f i; buffers = buffersOf cells posts [] })

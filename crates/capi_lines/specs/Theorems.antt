@@ -1,5 +1,5 @@
 -- What an entry writes of a state is read back as that state, so that the entries for C make the same sessions as those of `lines`: zeros are the empty
--- queues, and the states that come of them have jobs whose allowances are numbers of 32 bits.
+-- queues, the states that come of them have jobs whose allowances are numbers of 32 bits, and call for call the lists are what is written of those states.
 use mathlib.Core.Bool.{Bool, true, false, cond}
 use mathlib.Core.List.{List, [], _∷_, _++_}
 use mathlib.Core.Path.{_≡_, refl, sym, ap, _∙_, subst}
@@ -7,12 +7,17 @@ use Prim.Native.Nat.{ℕ, zero, suc, _+_, _%_, _<_, _≤_, min}
 use native.Mathlib.Omega.{arith}
 use lib.Dec.{eqb}
 use lib.ListN.{length, getD, take, replicate}
-use Rattle.queues.specs.Queues.{maxLines, maxJobs, Job, State, start, queueAt, addOf}
+use Rattle.queues.specs.Queues.{maxLines, maxJobs, Job, State, start, queueAt, addConditions, addedTo, addOf, Turn, nobody, serves, turnOf}
 use Rattle.queues.specs.Answers.{noJob}
-use Rattle.program.specs.Screening.{Screening, clear, found}
+use Rattle.program.specs.Screening.{Screening, clear, found, screen}
+use Rattle.semantics.specs.Runs.{Buffers}
+use Rattle.replies.specs.Replies.{notDone}
+use Rattle.replies.specs.Laws.{fit}
+use Rattle.lines.specs.Serving.{serveTurn, serveOf}
 use Rattle.lines.specs.Sessions.{Operation, add, serve, stepped, session, only, accepted, addedBy, addedIn, servedIn, Sound}
 use Rattle.lines.specs.Theorems.{start-sound, session-sound, in-order}
 use Rattle.capi_lines.specs.States.{stateNumbers, maxAllowance, queueRead, stateRead, stateWritten, tabulate, numberAt}
+use Rattle.capi_lines.specs.Entries.{AddLeft, stateAfter, addLeft, linesAdd, ServeLeft, servedState, serveLeft, linesServe}
 
 -- "The queues start empty": a list of zeros is that state
 pub zeros-start : stateRead (replicate stateNumbers 0) ≡ start
@@ -114,7 +119,133 @@ nothing-held (suc (suc zero)) = none-held
 nothing-held (suc (suc (suc zero))) = none-held
 nothing-held (suc (suc (suc (suc l)))) = none-held
 
+-- the states of which what is written is read back
+record Readable (s : State) : Type 0 where
+  sound : Sound s
+  small : (l : ℕ) → Held (queueAt s l)
+
+start-readable : Readable start
+start-readable = record { sound = start-sound; small = nothing-held }
+
+session-readable : (os : List Operation) (s : State) → Readable s → SmallAdds os → Readable (session os s)
+session-readable os s r h = record {
+  sound = session-sound os s (r .sound);
+  small = λ l.
+      held-rest (servedIn l os s) (queueAt (session os s) l)
+      (subst Held (in-order l os s (r .sound)) (held-append (queueAt s l) (addedIn l os s) (r .small l) (added-held l os s h)));
+}
+
 pub session-read-back : (os : List Operation) → SmallAdds os → stateRead (stateWritten (session os start)) ≡ session os start
-session-read-back os h = read-back (session os start) (session-sound os start start-sound) λ l.
-    held-rest (servedIn l os start) (queueAt (session os start) l)
-    (subst Held (in-order l os start start-sound) (held-append (queueAt start l) (addedIn l os start) (nothing-held l) (added-held l os start h)))
+session-read-back os h = let r = session-readable os start start-readable h in read-back (session os start) (r .sound) (r .small)
+
+-- ---- the same session over lists of numbers
+-- an operation, and the list that is lent for its answer
+pub record Call : Type 0 where
+  pub operation : Operation
+  pub answer : List ℕ
+
+abbrev pub operations : List Call → List Operation
+operations [] = []
+operations (c ∷ cs) = c .operation ∷ operations cs
+
+-- the answers have room: eight numbers for an add, nine for a serve
+abbrev pub Room : Operation → (answer : List ℕ) → Type 0
+Room (add l j store) answer = 8 ≤ length answer
+Room (serve store b) answer = 9 ≤ length answer
+
+abbrev pub Rooms : List Call → Type 0
+Rooms [] = Unit {0}
+Rooms (c ∷ cs) = Room (c .operation) (c .answer) × Rooms cs
+
+-- what the entries for C leave of a state
+abbrev pub listStepped : Operation → (answer state : List ℕ) → List ℕ
+listStepped (add l j store) answer n = linesAdd n l j store answer .state
+listStepped (serve store b) answer n = linesServe n store b answer .state
+
+abbrev pub listSession : List Call → (state : List ℕ) → List ℕ
+listSession [] n = n
+listSession (c ∷ cs) n = listSession cs (listStepped (c .operation) (c .answer) n)
+
+-- from zeros
+abbrev pub listAfter : List Call → List ℕ
+listAfter cs = listSession cs (replicate stateNumbers 0)
+
+-- one call, of a list that is read as this state
+module _ (n : List ℕ) (size : length n ≡ stateNumbers) (s : State) (e : stateRead n ≡ s) (store answer : List ℕ) where
+  add-read : 8 ≤ length answer → (l : ℕ) (j : Job) → linesAdd n l j store answer ≡ addLeft n answer (addOf s l j store)
+  add-read room l j = λ i. cond (fit stateNumbers 8 n answer size room i) (record { reply = notDone answer; state = n })
+      (addLeft n answer (addOf (e i) l j store))
+
+  serve-read : 9 ≤ length answer → (b : Buffers) → linesServe n store b answer ≡ serveLeft n answer (serveOf s store b)
+  serve-read room b = λ i. cond (fit stateNumbers 9 n answer size room i) (record { reply = notDone answer; state = n; buffers = b })
+      (serveLeft n answer (serveOf (e i) store b))
+
+-- where an entry leaves the list, the operation leaves the state
+module _ (s : State) (store : List ℕ) where
+  add-written : (l : ℕ) (j : Job)
+      → stateAfter (addOf s l j store .answer) (stateWritten s) (addOf s l j store .state) ≡ stateWritten (addOf s l j store .state)
+  unfolding addOf
+  add-written l j = go (screen (addConditions s l j store))
+    where
+      go : (x : Screening) → stateAfter (addedTo x s l j .answer) (stateWritten s) (addedTo x s l j .state) ≡ stateWritten (addedTo x s l j .state)
+      go clear = refl
+      go (found c p) = refl
+
+  serve-written : (b : Buffers)
+      → servedState (serveOf s store b .answer) (stateWritten s) (serveOf s store b .state) ≡ stateWritten (serveOf s store b .state)
+  unfolding serveOf
+  serve-written b = go (turnOf s)
+    where
+      go : (t : Turn)
+          → servedState (serveTurn t s store b .answer) (stateWritten s) (serveTurn t s store b .state) ≡ stateWritten (serveTurn t s store b .state)
+      go nobody = refl
+      go (serves l j js) = refl
+
+written-length : (s : State) → length (stateWritten s) ≡ stateNumbers
+unfolding stateWritten
+written-length s = refl
+
+same-step : (o : Operation) (answer : List ℕ) (s : State) → Readable s → Room o answer → listStepped o answer (stateWritten s) ≡ stateWritten (stepped o s)
+same-step (add l j store) answer s r room =
+    ap (λ (x : AddLeft). x .state) (add-read (stateWritten s) (written-length s) s (read-back s (r .sound) (r .small)) store answer room l j)
+    ∙ add-written s store l j
+same-step (serve store b) answer s r room =
+    ap (λ (x : ServeLeft). x .state) (serve-read (stateWritten s) (written-length s) s (read-back s (r .sound) (r .small)) store answer room b)
+    ∙ serve-written s store b
+
+first-small : (o : Operation) (os : List Operation) → SmallAdds (o ∷ os) → SmallAdds (o ∷ []) × SmallAdds os
+first-small (add l j store) os h = ((h .0, tt), h .1)
+first-small (serve store b) os h = (tt, h)
+
+same-from : (cs : List Call) → Rooms cs → SmallAdds (operations cs) → (s : State) → Readable s
+    → listSession cs (stateWritten s) ≡ stateWritten (session (operations cs) s)
+same-from [] room h s r = refl
+same-from (c ∷ cs) room h s r =
+    let split = first-small (c .operation) (operations cs) h in
+    ap (listSession cs) (same-step (c .operation) (c .answer) s r (room .0))
+    ∙ same-from cs (room .1) (split .1) (stepped (c .operation) s) (session-readable (c .operation ∷ []) s r (split .0))
+
+start-written : stateWritten start ≡ replicate stateNumbers 0
+unfolding stateWritten
+start-written = refl
+
+module _ (cs : List Call) (room : Rooms cs) (h : SmallAdds (operations cs)) where
+  -- The list that a session leaves is what is written of the state that the same session leaves.
+  pub same-session : listAfter cs ≡ stateWritten (session (operations cs) start)
+  same-session = sym (ap (listSession cs) start-written) ∙ same-from cs room h start start-readable
+
+  same-size : length (listAfter cs) ≡ stateNumbers
+  same-size = ap length same-session ∙ written-length (session (operations cs) start)
+
+  same-state : stateRead (listAfter cs) ≡ session (operations cs) start
+  same-state = ap stateRead same-session ∙ session-read-back (operations cs) h
+
+  -- And the next call returns and writes what the operation on that state answers.
+  module _ (store answer : List ℕ) where
+    pub same-add : 8 ≤ length answer → (l : ℕ) (j : Job)
+        → linesAdd (listAfter cs) l j store answer ≡ addLeft (listAfter cs) answer (addOf (session (operations cs) start) l j store)
+    same-add = add-read (listAfter cs) same-size (session (operations cs) start) same-state store answer
+
+    pub same-serve : 9 ≤ length answer → (b : Buffers)
+        → linesServe (listAfter cs) store b answer ≡ serveLeft (listAfter cs) answer (serveOf (session (operations cs) start) store b)
+    same-serve = serve-read (listAfter cs) same-size (session (operations cs) start) same-state store answer

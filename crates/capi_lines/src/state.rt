@@ -2,11 +2,11 @@
 ghost use mathlib.Core.Path.{_≡_};
 ghost use Prim.Native.Nat.{_+_, _<_, _≤_, min as least};
 ghost use lib.ListN.{length, getD};
-ghost use Rattle.queues.specs.Queues.{maxLines};
 ghost use Rattle.queues.specs.Answers.{jobModel, queueModel, linesModel, additionModel};
 ghost use Rattle.lines.specs.Answers.{answerModel};
 ghost use Rattle.capi_lines.specs.States.{stateNumbers, maxAllowance, jobRead, queueRead, stateRead, jobPart, jobNumber, numberAt, stateWritten};
 ghost use Rattle.capi_lines.specs.Entries.{stateAfter, servedState};
+ghost use Rattle.capi_lines.specs.Internal.{LineAt};
 use lines::answer::Answer;
 use queues::queue::job_at;
 use queues::queue::size;
@@ -37,7 +37,7 @@ fn load_job(state: &[u64], at: usize) -> Job
 }
 
 fn load_queue(state: &[u64], line: usize) -> Queue
-    requires { ⌜ (length (now state) ≡ stateNumbers) × (line < maxLines) ⌝ }
+    requires { ⌜ LineAt (now state) line ⌝ }
     ensures { λ r. ⌜ queueModel r ≡ queueRead (now (state .entry)) line ⌝ }
 {
     let count = state[2 + line] as usize;

@@ -1,9 +1,9 @@
 -- What the entry for a run over ranges leaves, from the promises of the functions that it calls.
 use mathlib.Core.Bool.{cond}
-use mathlib.Core.List.{List, [], _∷_, _++_}
+use mathlib.Core.List.{List, [], _∷_}
 use mathlib.Core.Path.{_≡_, sym, ap, _∙_}
 use Prim.Native.Nat.{ℕ, _+_, _*_, _<_, _≤_}
-use lib.ListN.{length, drop}
+use lib.ListN.{length}
 use borrow.Author.Tests.{lt-ltb, le-ltb}
 use Rattle.semantics.specs.Runs.{Request, Buffers, ground-bool, ground-num, ended, stopped}
 use Rattle.intervals.specs.Intervals.{interval}
@@ -19,7 +19,7 @@ use Rattle.ranges.specs.declared.answer.RangeRun.{RangeRun}
 use Rattle.ranges.specs.declared.answer.RangeRun.the-variants.{Refused, Ran}
 use Rattle.replies.specs.Replies as replies
 use Rattle.replies.specs.Replies.{leftAll}
-use Rattle.replies.specs.Internal.{replyOf, withCounts}
+use Rattle.replies.specs.Internal.{replyOf, withCounts, Put}
 use Rattle.replies.specs.Laws.{in-place}
 use Rattle.replies.specs.declared.Reply.{Reply}
 use Rattle.capi_ranges.specs.Entries.{truthNumber, rangeFinished, rangeReply, rangeLeft, rangeCall}
@@ -56,7 +56,7 @@ module _ (s ps : List ℕ) (q : Request) (b : Buffers) where
   }
 
   pub given : (answer : List ℕ) → 8 ≤ length answer → (r : RangeRun) {cells posts : List ℕ} → afterRange r cells posts ≡ rangeRun s ps q b
-      → {x : Reply} → replyOf x ≡ rangeReply (rangeModel r) → {status : ℕ} {after : List ℕ} → (status ≡ x .status) × (after ≡ x .numbers ++ drop 8 answer)
+      → {x : Reply} → replyOf x ≡ rangeReply (rangeModel r) → {status : ℕ} {after : List ℕ} → Put x answer status after
       → leftAll status after (buffersOf cells posts []) ≡ rangeCall answer b (rangeRun s ps q b)
   given answer h r {cells} {posts} p e put =
       (λ i. record { reply = in-place answer h e put i; buffers = buffersOf cells posts [] })

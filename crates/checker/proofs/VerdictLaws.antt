@@ -22,6 +22,7 @@ use Rattle.typing.specs.declared.answer.Fault.{Fault}
 use Rattle.typing.specs.declared.answer.Inferred.{Inferred}
 use Rattle.typing.specs.declared.answer.Inferred.the-variants.{Typed, Faulty}
 use Rattle.rules.specs.declared.bindings.Bindings.{Bindings}
+use Rattle.checker.specs.Internal.{ReadableSheet}
 
 -- ---- the root's judgement
 pub conclude-fault : (n r : ℕ) {j : Inferred} {f : Fault} → j ≡ Faulty f → rejected (faultCause f) (faultPlace f) ≡ concluded n r (inferredModel j)
@@ -35,6 +36,9 @@ module _ (n r : ℕ) {j : Inferred} {τ N : ℕ} (e : j ≡ Typed τ N) where
   conclude-function h = rw (e, le-ltb τ 2 h) refl
 
 -- ---- a readable sheet
+pub sheet-of : {s : List ℕ} {c : Counts} → ReadableSheet s c → Sheet s c
+sheet-of {s} R = record { well-formed = well-formed s (R .readable); counts = R .counts }
+
 module _ {s : List ℕ} {c : Counts} (S : Sheet s c) where
   pub some-terms : 1 ≤ c .terms
   some-terms = omega (arith, S .counts .terms-are, S .well-formed .terms-least)
@@ -55,6 +59,10 @@ module _ {s : List ℕ} {c : Counts} (S : Sheet s c) where
   unfolding termJudgement
   program-is p q = q ∙ (λ i. concluded (S .counts .terms-are i) (root-is i) ((p ∙ ap (termJudgement s [] 0) root-is) i))
 
+pub verdict-is : {s : List ℕ} {c : Counts} → ReadableSheet s c → {r : Verdict} → r ≡ concluded (terms s) (root s) (judgement s) → r ≡ verdict s
+unfolding verdict
+verdict-is {s} R q = q ∙ ap (λ (x : Screening). ifReadable x λ _. concluded (terms s) (root s) (judgement s)) (sym (R .readable))
+
 -- ---- the reader's answer
 module _ (s : List ℕ) {d : Decoded} (p : decodedModel d ≡ decoding s) where
   pub unreadable-is : {f : Refusal} → d ≡ Refused f → rejected (decodingCause f) (decodingPlace f) ≡ verdict s
@@ -65,9 +73,8 @@ module _ (s : List ℕ) {d : Decoded} (p : decodedModel d ≡ decoding s) where
     readable : decoding s ≡ clear
     readable = sym p ∙ ap decodedModel e
 
-    pub readable-sheet : Counted s d → Sheet s c
-    readable-sheet k = record { well-formed = well-formed s readable; counts = subst (Counted s) e k }
+    pub readable-counted : Counted s d → ReadableSheet s c
+    readable-counted k = record { readable = readable; counts = subst (Counted s) e k }
 
-    pub readable-is : {r : Verdict} → r ≡ concluded (terms s) (root s) (judgement s) → r ≡ verdict s
-    unfolding verdict
-    readable-is q = q ∙ ap (λ (x : Screening). ifReadable x λ _. concluded (terms s) (root s) (judgement s)) (sym readable)
+    pub readable-sheet : Counted s d → Sheet s c
+    readable-sheet k = sheet-of (readable-counted k)

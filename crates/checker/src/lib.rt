@@ -11,26 +11,26 @@ use typing::answer::Fault;
 use typing::answer::Inferred;
 use typing::answer::Verdict;
 ghost use mathlib.Core.Path.{_≡_};
-ghost use Rattle.program.specs.Layout.{terms as termsOf, root as rootOf};
-ghost use Rattle.typing.specs.Verdicts.{concluded, judgement, verdict};
+ghost use Rattle.typing.specs.Verdicts.{concluded, verdict};
 ghost use Rattle.typing.specs.Answers.{verdictModel};
-ghost use Rattle.rules.specs.Inference.{inferredModel, Sheet};
+ghost use Rattle.rules.specs.Inference.{inferredModel};
+ghost use Rattle.checker.specs.Internal.{ReadableSheet};
 
-// 01's judge, on any bytes: the reader's refusals 1 to 8 and 31, then the rules' 9 to 12, then 13.
+// 01's judge, on any bytes: the reader's refusals 1 to 8 and 31, then the rules' 9 to 12 and 24 to 26, then 13.
 pub fn typecheck(sheet: &[u8]) -> Verdict
     ensures { λ r. ⌜ verdictModel r ≡ verdict (now (sheet .entry)) ⌝ }
 {
     let d = decoder::decode(sheet);
     match d {
         Decoded::Refused(f) => Verdict::Unreadable(f),
-        Decoded::Readable(c) => infer_program(sheet, c),
+        Decoded::Readable(c) => typecheck_readable(sheet, c),
     }
 }
 
-// The verdict on a readable sheet with these counts. The root is a sign, so that the principal named here is never looked at.
-fn infer_program(s: &[u8], c: Counts) -> Verdict
-    requires { ⌜ Sheet (now s) c ⌝ }
-    ensures { λ r. ⌜ verdictModel r ≡ concluded (termsOf (now (s .entry))) (rootOf (now (s .entry))) (judgement (now (s .entry))) ⌝ }
+// The same of a readable sheet with its counts, for those who have decoded it. The root is a sign, so that the principal named here is never looked at.
+pub fn typecheck_readable(s: &[u8], c: Counts) -> Verdict
+    requires { ⌜ ReadableSheet (now s) c ⌝ }
+    ensures { λ r. ⌜ verdictModel r ≡ verdict (now (s .entry)) ⌝ }
 {
     let terms = c.terms;
     let root = terms - 1;

@@ -12,9 +12,9 @@ use Rattle.program.specs.Records.{guardRecord}
 use Rattle.program.specs.Laws.Readable.{fields-ok}
 use Rattle.program.specs.Laws.Records.{guard-laid}
 use Rattle.program.specs.Laws.Screening.{first-found, none-screen, first-left}
-use Rattle.program.specs.Answers.{decodingCause, decodingPlace, decodedModel}
-use Rattle.tables.specs.Internal.{Laid, foundOf}
-use Rattle.tables.specs.Internal.{HeaderIs}
+use Rattle.program.specs.Answers.{decodingCause, decodingPlace}
+use Rattle.tables.specs.Internal.{Laid, foundOf, HeaderIs}
+use Rattle.decoder.specs.Answers.{DecodedAs}
 use Rattle.program.specs.declared.answer.Decoded.{Decoded}
 use Rattle.tables.specs.declared.search.Found.{Found}
 use Rattle.tables.specs.declared.search.Found.the-variants.{At, Nothing}
@@ -45,6 +45,6 @@ module _ (s : List ℕ) where
   pub header-laid : {h : Header} {c : Counts} → h ≡ HeaderLaid c → HeaderIs s h → Laid s c
   header-laid e g = subst (HeaderIs s) e g
 
-  pub tables-found : {c : Counts} → Laid s c → (r : Decoded) → decodedModel r ≡ screen (tableConditions s) → decodedModel r ≡ decoding s
+  pub tables-found : {c : Counts} → Laid s c → {r : Decoded} → DecodedAs s (screen (tableConditions s)) r → DecodedAs s (decoding s) r
   unfolding decoding
-  tables-found L r e = e ∙ sym (none-screen (L .none-found) (tableConditions s))
+  tables-found L h = record { answer-is = h .answer-is ∙ sym (none-screen (L .none-found) (tableConditions s)); counts-are = h .counts-are }

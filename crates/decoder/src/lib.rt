@@ -1,9 +1,8 @@
 // The decoder: what any bytes are as a sheet.
-ghost use mathlib.Core.Path.{_≡_};
 ghost use Rattle.program.specs.Screening.{screen};
 ghost use Rattle.program.specs.Decoding.{tableConditions, decoding};
-ghost use Rattle.program.specs.Answers.{decodedModel, Counted};
 ghost use Rattle.tables.specs.Internal.{Laid};
+ghost use Rattle.decoder.specs.Answers.{DecodedAs};
 ghost use Rattle.decoder.specs.Internal.{Tables, PlacedTables, NestedTables};
 
 pub mod guards;
@@ -20,7 +19,7 @@ use tables::search::Found;
 // The guards of a sheet whose terms are right.
 fn guarded(s: &[u8], c: Counts) -> Decoded
     requires { ⌜ NestedTables (now s) c ⌝ }
-    ensures { λ r. ⌜ (decodedModel r ≡ screen (tableConditions (now (s .entry)))) × Counted (now (s .entry)) r ⌝ }
+    ensures { λ r. ⌜ DecodedAs (now (s .entry)) (screen (tableConditions (now (s .entry)))) r ⌝ }
 {
     match guards::bad_guard(s, c) {
         Found::At(channel) => Decoded::Refused(Refusal::BadGuard(channel)),
@@ -31,7 +30,7 @@ fn guarded(s: &[u8], c: Counts) -> Decoded
 // The nesting of a sheet whose records and places are right.
 fn nested(s: &[u8], c: Counts, parents: &[u16; TERM_PLACES]) -> Decoded
     requires { ⌜ PlacedTables (now s) c (now parents) ⌝ }
-    ensures { λ r. ⌜ (decodedModel r ≡ screen (tableConditions (now (s .entry)))) × Counted (now (s .entry)) r ⌝ }
+    ensures { λ r. ⌜ DecodedAs (now (s .entry)) (screen (tableConditions (now (s .entry)))) r ⌝ }
 {
     let n = c.terms;
     let deep = nesting::nestings(parents, n);
@@ -44,7 +43,7 @@ fn nested(s: &[u8], c: Counts, parents: &[u16; TERM_PLACES]) -> Decoded
 // The places of a sheet whose records are right.
 fn placed(s: &[u8], c: Counts) -> Decoded
     requires { ⌜ Tables (now s) c ⌝ }
-    ensures { λ r. ⌜ (decodedModel r ≡ screen (tableConditions (now (s .entry)))) × Counted (now (s .entry)) r ⌝ }
+    ensures { λ r. ⌜ DecodedAs (now (s .entry)) (screen (tableConditions (now (s .entry)))) r ⌝ }
 {
     let parents = places::parents_of(s, c);
     match places::bad_place(s, c, &parents) {
@@ -56,7 +55,7 @@ fn placed(s: &[u8], c: Counts) -> Decoded
 // The two tables of a sheet whose fields are right.
 fn tables(s: &[u8], c: Counts) -> Decoded
     requires { ⌜ Laid (now s) c ⌝ }
-    ensures { λ r. ⌜ (decodedModel r ≡ screen (tableConditions (now (s .entry)))) × Counted (now (s .entry)) r ⌝ }
+    ensures { λ r. ⌜ DecodedAs (now (s .entry)) (screen (tableConditions (now (s .entry)))) r ⌝ }
 {
     match tables::types::bad_type(s, c) {
         Found::At(t) => Decoded::Refused(Refusal::BadType(t)),
@@ -69,8 +68,7 @@ fn tables(s: &[u8], c: Counts) -> Decoded
 
 // What any bytes are as a sheet: 01's reader, with 02's version 2.
 pub fn decode(sheet: &[u8]) -> Decoded
-    ensures { λ r. ⌜ decodedModel r ≡ decoding (now (sheet .entry)) ⌝ }
-    ensures { λ r. ⌜ Counted (now (sheet .entry)) r ⌝ }
+    ensures { λ r. ⌜ DecodedAs (now (sheet .entry)) (decoding (now (sheet .entry))) r ⌝ }
 {
     match tables::header::read_header(sheet) {
         Header::Fault(f) => Decoded::Refused(f),

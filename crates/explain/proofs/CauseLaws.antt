@@ -1,4 +1,4 @@
--- Which terms are causes, from the term's record. Of a call that needs a privilege the function part has a function type. Assumes nothing.
+-- Which terms are causes, from the term's record. Of a call that needs a privilege the function part is typed, with a function type. Assumes nothing.
 use mathlib.Core.Bool.{Bool, true, false, false≢true}
 use mathlib.Core.List.{List}
 use mathlib.Core.Path.{_≡_, refl, sym, ap, _∙_}
@@ -22,7 +22,7 @@ use Rattle.rules.specs.Inference.{inferredModel, context, termJudgement, Sheet,
 use Rattle.rules.specs.Steps.{callStep}
 use Rattle.rules.specs.Laws.Records.{type-parts}
 use Rattle.rules.specs.declared.bindings.Bindings.{Bindings}
-use Rattle.checker.proofs.TermLaws.{post-guard, call-is}
+use Rattle.checker.proofs.TermLaws.{post-guard, call-is, call-stops}
 use Rattle.typing.specs.Places.{placed}
 use Rattle.explain.specs.Explaining.{needing, latentOf, needs, isCause}
 use Rattle.places.proofs.PlaceLaws.{_and_, all, among, at-record, most, term-of, tree-is}
@@ -32,11 +32,7 @@ pub latent-is : {s : List ℕ} {c : Counts} (S : Sheet s c) (p ty : ℕ) → typ
     → r ≡ has p (f .latent) → r ≡ has p (typesOf s .latent ty)
 latent-is S p ty h q g = g ∙ ap (has p) (type-parts S ty h q .latent-is)
 
--- a judgement that is no type has no needs, and no latent set
-pub untyped-latent : (T : Types) (p : ℕ) (j : Inferred) → tagOf the-type j ≡ 1 → false ≡ latentOf T p (inferredModel j)
-untyped-latent T p (Faulty f) h = refl
-untyped-latent T p (Typed τ N) h = absurd (omega (arith, h))
-
+-- a judgement that is no type has no needs
 pub untyped-needs : (p : ℕ) (j : Inferred) → tagOf the-type j ≡ 1 → false ≡ needing p (inferredModel j)
 untyped-needs p (Faulty f) h = refl
 untyped-needs p (Typed τ N) h = absurd (omega (arith, h))
@@ -73,8 +69,9 @@ module _ {s : List ℕ} {c : Counts} {t : ℕ} {b : Bindings} {n : ℕ} (R : Rea
     unfolding isCause termJudgement
     call-cause = ap (latentOf (typesOf s) p) q ∙ ap cause (sym (tree-is R h e))
 
-    pub call-untyped : tagOf the-type j ≡ 1 → false ≡ cause (tree s t)
-    call-untyped g = untyped-latent (typesOf s) p j g ∙ call-cause
+    pub part-typed : needs (typesOf s) (authority s) p (placed (context b) n (tree s t)) ≡ true → tagOf the-type j ≡ 1 → ⊥
+    unfolding needs termJudgement
+    part-typed f g = false≢true (untyped-needs p j g ∙ ap (needing p) (call-stops (at-record R h) (context b) e j q g) ∙ f)
 
     module _ {φ N : ℕ} (g : j ≡ Typed φ N) where
       pub call-typed : {r : Bool} → r ≡ has p (typesOf s .latent φ) → r ≡ cause (tree s t)
@@ -88,9 +85,10 @@ module _ {s : List ℕ} {c : Counts} {t : ℕ} {b : Bindings} {n : ℕ} (R : Rea
   other : {k : ℕ} → false ≡ cause (term-of R h k) → x .kind ≡ k → false ≡ cause (tree s t)
   other q e = q ∙ ap cause (sym (tree-is R h e))
 
-  pub no-cause : (x .kind ≡ 4 → ⊥) → (x .kind ≡ 5 → ⊥) → (x .kind ≡ 7 → ⊥) → (x .kind ≡ 14 → ⊥) → false ≡ cause (tree s t)
+  pub no-cause : (termRecord s c t .kind ≡ 5 → ⊥) → (x .kind ≡ 4 → ⊥) → (x .kind ≡ 7 → ⊥) → (x .kind ≡ 14 → ⊥) → false ≡ cause (tree s t)
   unfolding isCause
-  no-cause n4 n5 n7 n14 = among {P = λ k. x .kind ≡ k → false ≡ cause (tree s t)} {m = 0} {n = 15}
-      (other refl and other refl and other refl and other refl and (λ e. absurd (n4 e)) and (λ e. absurd (n5 e)) and other refl and (λ e. absurd (n7 e))
+  no-cause n5 n4 n7 n14 = among {P = λ k. x .kind ≡ k → false ≡ cause (tree s t)} {m = 0} {n = 15}
+      (other refl and other refl and other refl and other refl and (λ e. absurd (n4 e))
+      and (λ e. absurd (n5 (ap (λ (x : TermRecord). x .kind) (sym h) ∙ e))) and other refl and (λ e. absurd (n7 e))
       and other refl and other refl and other refl and other refl and other refl and other refl and (λ e. absurd (n14 e)) and all)
       (x .kind) (omega arith) (omega (arith, most R h)) refl

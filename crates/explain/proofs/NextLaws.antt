@@ -1,5 +1,5 @@
--- The next place of the chain from the children by their position. All that these proofs ask of which children are followed is in `followed-is`.
--- Assumes nothing.
+-- The next place of the chain from the children by their position. All that these proofs ask of which children are followed is in `followed-is`,
+-- and for a call in `part-needs` and `no-third`. Assumes nothing.
 use mathlib.Core.Bool.{Bool, true, false, cond, _||_, true≢false, false≢true}
 use mathlib.Core.List.{List, [], _∷_}
 use mathlib.Core.Option.{Option, none, some}
@@ -21,16 +21,17 @@ use Rattle.typing.proofs.answer.Inferred.{the-type}
 use Rattle.rules.specs.Inference.{inferredModel, context, termJudgement, Ready}
 use Rattle.rules.specs.declared.bindings.Bindings.{Bindings}
 use Rattle.rules.specs.Known.{Known, Answered}
+use Rattle.checker.specs.Internal.{Judged}
 use Rattle.typing.specs.Places.{Placed, placed, Among, among-first, among-later}
 use Rattle.explain.specs.Explaining.{needing, needs, testsIt, followed, firstNeeding, next}
-use Rattle.places.specs.Internal.{placedAt, Children, childrenOf, childAt, Reached}
+use Rattle.places.specs.Internal.{placedAt, ReadyPlace, Children, childrenOf, childrenAt, childAt, Reached}
 use Rattle.explain.specs.Laws.Progress.{SomeNeeds, progress}
-use Rattle.explain.specs.Internal.{followedOf, followedAt, needsAt, causeAt, nextAt, neededBy, Stepped}
+use Rattle.explain.specs.Internal.{FunctionType, followedOf, followedAt, needsAt, causeAt, nextAt, neededBy, Following, FollowingCall, FollowingOther, Stepped}
 use Rattle.places.specs.declared.Place.{Place}
 use Rattle.places.specs.declared.Child.{Child}
 use Rattle.places.proofs.PlaceLaws as each
 use Rattle.places.proofs.PlaceLaws.{_and_, all, most, term-of, tree-is, not-there}
-use Rattle.explain.proofs.CauseLaws.{untyped-needs}
+use Rattle.explain.proofs.CauseLaws.{untyped-needs, call-typed, part-typed, part-function}
 
 -- ---- the children that are followed, in order
 abbrev listed : Option Placed → List Placed → List Placed
@@ -129,19 +130,19 @@ pub record Left (s : List ℕ) (p : ℕ) (due : Option Placed) (os : List (Optio
   someone : SomeNeeds (typesOf s) (authority s) p (those os)
 
 -- a cause ends the chain
-pub cause-ends : {s : List ℕ} {c : Counts} (p : ℕ) (at : Place) {l : List ℕ} {z : Bool} {r : Child} → Answered (typesOf s) z (causeAt s p at) l → z ≡ true
+pub cause-ends : {s : List ℕ} {c : Counts} (p : ℕ) (at : Place) {l : List ℕ} {z : Bool} {r : Child} → z ≡ causeAt s p at → z ≡ true
     → r .present ≡ false → Stepped s c p r (nextAt s p at) l
 unfolding next
-cause-ends p at a e f = record { is = rw (f, sym (a .is) ∙ e); following = λ g. absurd (true≢false (sym g ∙ f)) }
+cause-ends p at a e f = record { is = rw (f, sym a ∙ e); following = λ g. absurd (true≢false (sym g ∙ f)) }
 
 -- else one of the children is the next
-pub all-left : (s : List ℕ) (p : ℕ) (at : Place) {l : List ℕ} {z : Bool} → needsAt s p at ≡ true → Answered (typesOf s) z (causeAt s p at) l → z ≡ false
+pub all-left : (s : List ℕ) (p : ℕ) (at : Place) {z : Bool} → needsAt s p at ≡ true → z ≡ causeAt s p at → z ≡ false
     → Left s p (nextAt s p at) (in-order (followedAt s p at))
 unfolding next
 all-left s p at h a e = record {
-  due-is = rw (sym (a .is) ∙ e) (ap (among s p) (followed-is (typesOf s) (authority s) p (placedAt s at)));
+  due-is = rw (sym a ∙ e) (ap (among s p) (followed-is (typesOf s) (authority s) p (placedAt s at)));
   someone = subst (SomeNeeds (typesOf s) (authority s) p) (followed-is (typesOf s) (authority s) p (placedAt s at))
-      (progress (typesOf s) (authority s) p (placedAt s at) h (sym (a .is) ∙ e));
+      (progress (typesOf s) (authority s) p (placedAt s at) h (sym a ∙ e));
 }
 
 module _ (s : List ℕ) (p : ℕ) where
@@ -164,6 +165,14 @@ module _ (s : List ℕ) (p : ℕ) where
       go : {y : Placed} (o : Option Placed) → Among y (listed o []) → needs (typesOf s) (authority s) p y ≡ true → neededBy s p o ≡ true
       go (some x) among-first f = f
 
+-- a child that does not need the privilege is passed
+passed-by : {s : List ℕ} {p : ℕ} {o : Option Placed} {os : List (Option Placed)} {due : Option Placed} → Left s p due (o ∷ os) → neededBy s p o ≡ false
+    → Left s p due os
+passed-by {s} {p} {o} {os} q e = record {
+  due-is = q .due-is ∙ sym (passed s p o (those os) e);
+  someone = among-others s p o (those os) e (q .someone);
+}
+
 module _ {s : List ℕ} {c : Counts} {p t : ℕ} {o : Option Placed} {os : List (Option Placed)} {due : Option Placed} {y : Child} {l : List ℕ}
     (q : Left s p due (o ∷ os)) (w : Reached s c t y o) where
   next-is : p < 32 → Known (typesOf s) l → neededBy s p o ≡ true → Stepped s c p y due l
@@ -180,14 +189,10 @@ module _ {s : List ℕ} {c : Counts} {p t : ℕ} {o : Option Placed} {os : List 
     needed-is : neededBy s p o ≡ z
     needed-is = ap (neededBy s p) (sym (w .is)) ∙ sym (a .is)
 
-    -- a child that does not need the privilege is passed
     pub others-left : z ≡ false → Left s p due os
-    others-left e = record {
-      due-is = q .due-is ∙ sym (passed s p o (those os) (needed-is ∙ e));
-      someone = among-others s p o (those os) (needed-is ∙ e) (q .someone);
-    }
+    others-left e = passed-by q (needed-is ∙ e)
 
-    -- and one that does is the next
+    -- one that does is the next
     pub child-next : p < 32 → z ≡ true → Stepped s c p y due l
     child-next small e = next-is small (a .known) (needed-is ∙ e)
 
@@ -199,3 +204,66 @@ module _ {s : List ℕ} {c : Counts} {t : ℕ} {y : Child} {o : Option Placed} (
 pub neither : (a b : Bool) → (a || b) ≡ false → (a ≡ false) × (b ≡ false)
 neither true b e = absurd (true≢false e)
 neither false b e = (refl, e)
+
+-- ---- a place by its term's kind, once the record has been read
+module _ {s : List ℕ} {c : Counts} {l : List ℕ} {p : ℕ} {at : Place} (F : Following s c l p at) {x : TermRecord} (h : x ≡ termRecord s c (at .term)) where
+  pub at-call : x .kind ≡ 5 → FollowingCall s c l p at
+  at-call e = record { following = F; is-call = ap (λ (x : TermRecord). x .kind) (sym h) ∙ e }
+
+  pub at-other : (x .kind ≡ 5 → ⊥) → FollowingOther s c l p at
+  at-other e = record { following = F; no-call = λ f. e (ap (λ (x : TermRecord). x .kind) h ∙ f) }
+
+-- ---- after a call: its function part's judgement tells whether the call is a cause, and whether the function part needs the privilege
+module _ {s : List ℕ} {c : Counts} {k : List ℕ} {p : ℕ} {at : Place} (F : FollowingCall s c k p at) {x : TermRecord} (h : x ≡ termRecord s c (at .term)) where
+  kind-is : x .kind ≡ 5
+  kind-is = ap (λ (x : TermRecord). x .kind) h ∙ F .is-call
+
+  abbrev ready : ReadyPlace s c at
+  ready = F .following .ready
+
+  pub part-ready : Ready s c (x .first) (at .bindings) (at .principal)
+  part-ready = each.call-ready ready h kind-is
+
+  abbrev parts : Term → Children
+  parts z = followedOf (typesOf s) (authority s) p (placed (context (at .bindings)) (at .principal) z)
+
+  no-third : listed (followedAt s p at .third) [] ≡ []
+  no-third = ap (λ (z : Term). listed (parts z .third) []) (tree-is ready h kind-is)
+
+  module _ {l : List ℕ} (j : Inferred) (a : Judged s (context (at .bindings)) (at .principal) (x .first) j l) where
+    part-needs : needing p (inferredModel j) ≡ neededBy s p (followedAt s p at .first)
+    unfolding needs termJudgement
+    part-needs = ap (needing p) (a .is) ∙ ap (λ (z : Term). neededBy s p (parts z .first)) (sym (tree-is ready h kind-is))
+
+    -- the call needs the privilege, so that its function part has no fault
+    pub part-faulty : tagOf the-type j ≡ 1 → {r : Child} → Stepped s c p r (nextAt s p at) l
+    part-faulty g = absurd (part-typed ready h p kind-is j (a .is) (F .following .needing) g)
+
+    module _ {φ N : ℕ} (g : j ≡ Typed φ N) where
+      pub part-type : FunctionType s c φ p
+      part-type = record {
+        sheet = ready .sheet;
+        is-function = part-function ready h p kind-is j (a .is) g (F .following .needing);
+        privilege = F .following .privilege;
+      }
+
+      module _ {z : Bool} (f : z ≡ has p (typesOf s .latent φ)) where
+        call-is-cause : z ≡ causeAt s p at
+        call-is-cause = call-typed ready h p kind-is j (a .is) g f
+
+        pub call-ends : z ≡ true → {r : Child} → r .present ≡ false → Stepped s c p r (nextAt s p at) l
+        call-ends e d = cause-ends p at call-is-cause e d
+
+        module _ (e : z ≡ false) {v : Bool} (d : v ≡ has p N) where
+          both-left : Left s p (nextAt s p at) (in-order (followedAt s p at))
+          both-left = all-left s p at (F .following .needing) call-is-cause e
+
+          part-needed : neededBy s p (followedAt s p at .first) ≡ v
+          part-needed = sym (d ∙ ap (λ (j : Inferred). needing p (inferredModel j)) (sym g) ∙ part-needs)
+
+          pub function-next : v ≡ true → {y : Child} → Reached s c (at .term) y (childrenAt s at .first) → Stepped s c p y (nextAt s p at) l
+          function-next i w = next-is both-left (no-test ready h p (λ ten. omega (arith, ten, kind-is)) w) (F .following .privilege) (a .known)
+              (part-needed ∙ i)
+
+          pub argument-next : v ≡ false → {y : Child} → Reached s c (at .term) y (childrenAt s at .second) → Stepped s c p y (nextAt s p at) l
+          argument-next i w = last-next (passed-by both-left (part-needed ∙ i)) w (F .following .privilege) (a .known) no-third

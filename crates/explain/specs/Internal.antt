@@ -8,6 +8,7 @@ use lib.ListN.{replicate}
 use Rattle.privileges.specs.Sets.{has}
 use Rattle.program.specs.Limits.{maxNesting}
 use Rattle.program.specs.Layout.{Types, authority, typesOf}
+use Rattle.program.specs.Records.{termRecord}
 use Rattle.program.specs.declared.records.Counts.{Counts}
 use Rattle.rules.specs.Inference.{Sheet}
 use Rattle.rules.specs.Known.{Known}
@@ -23,6 +24,12 @@ use Rattle.places.specs.declared.Child.{Child}
 pub record FunctionType (s : List ℕ) (c : Counts) (t p : ℕ) : Type 0 where
   pub sheet : Sheet s c
   pub is-function : typesOf s .isFun t ≡ true
+  pub privilege : p < 32
+
+-- a place whose term is no call, and a privilege
+pub record NoCall (s : List ℕ) (c : Counts) (p : ℕ) (x : Place) : Type 0 where
+  pub ready : ReadyPlace s c x
+  pub no-call : termRecord s c (x .term) .kind ≡ 5 → ⊥
   pub privilege : p < 32
 
 -- ---- the children that may be followed for privilege p: the first child of a test of p is its yes-branch
@@ -56,6 +63,15 @@ pub record Following (s : List ℕ) (c : Counts) (l : List ℕ) (p : ℕ) (x : P
   pub known : Known (typesOf s) l
   pub privilege : p < 32
   pub needing : needsAt s p x ≡ true
+
+-- one whose term is a call, and one whose term is none
+pub record FollowingCall (s : List ℕ) (c : Counts) (l : List ℕ) (p : ℕ) (x : Place) : Type 0 where
+  pub following : Following s c l p x
+  pub is-call : termRecord s c (x .term) .kind ≡ 5
+
+pub record FollowingOther (s : List ℕ) (c : Counts) (l : List ℕ) (p : ℕ) (x : Place) : Type 0 where
+  pub following : Following s c l p x
+  pub no-call : termRecord s c (x .term) .kind ≡ 5 → ⊥
 
 -- a child that may be the next
 pub record Candidate (s : List ℕ) (c : Counts) (l : List ℕ) (p : ℕ) (y : Child) : Type 0 where

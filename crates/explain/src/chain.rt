@@ -1,6 +1,7 @@
 // The chain of terms from the root to a cause.
 use crate::answer::Explained;
 use crate::answer::Explanation;
+use crate::causes::has_latent;
 use crate::causes::is_cause;
 use accessors::term;
 use checker::infer::infer;
@@ -22,7 +23,7 @@ ghost use Rattle.typing.specs.Places.{placedNumber};
 ghost use Rattle.explain.specs.Explaining.{explained, chainOf};
 ghost use Rattle.explain.specs.Answers.{Told};
 ghost use Rattle.places.specs.Internal.{childAt, ReadyPlace, Reached};
-ghost use Rattle.explain.specs.Internal.{followedAt, neededBy, nextAt, Candidate, Following, Stepped, Traceable};
+ghost use Rattle.explain.specs.Internal.{followedAt, neededBy, nextAt, Candidate, Following, FollowingCall, FollowingOther, Stepped, Traceable};
 
 // Whether there is a child that needs privilege p.
 fn child_needs(s: &[u8], c: Counts, known: &mut Known, y: Child, p: u8) -> bool
@@ -55,13 +56,33 @@ fn first_followed(s: &[u8], c: Counts, at: Place, p: u8) -> Child
     first_child(s, c, at)
 }
 
-// The next place of the chain: none after a cause, else the child at the lowest position that needs privilege p. One of them does, so that the last one
-// is not judged.
-fn next_place(s: &[u8], c: Counts, known: &mut Known, at: Place, p: u8) -> Child
-    requires { ⌜ Following (now s) c (now known) p at ⌝ }
+// The next place after a call: none if its function's latent set has privilege p, else the function part if that needs p, else the argument. The function
+// part is judged once for both.
+fn after_call(s: &[u8], c: Counts, known: &mut Known, at: Place, p: u8) -> Child
+    requires { ⌜ FollowingCall (now s) c (now known) p at ⌝ }
     ensures { λ r. ⌜ Stepped (now (s .entry)) c p r (nextAt (now (s .entry)) p at) (now (known .exit)) ⌝ }
 {
-    if is_cause(s, c, known, at, p) {
+    let x = term(s, c, at.term);
+    let j = infer(s, c, known, x.first, at.bindings, at.principal);
+    let Inferred::Typed { ty, needs } = j else {
+        return absent(at);
+    };
+    if has_latent(s, c, ty, p) {
+        return absent(at);
+    }
+    if privileges::contains(p, needs) {
+        return first_child(s, c, at);
+    }
+    second_child(s, c, at)
+}
+
+// The next place after any other term: none after a cause, else the child at the lowest position that needs privilege p. One of them does, so that the
+// last one is not judged.
+fn after_other(s: &[u8], c: Counts, known: &mut Known, at: Place, p: u8) -> Child
+    requires { ⌜ FollowingOther (now s) c (now known) p at ⌝ }
+    ensures { λ r. ⌜ Stepped (now (s .entry)) c p r (nextAt (now (s .entry)) p at) (now (known .exit)) ⌝ }
+{
+    if is_cause(s, c, at, p) {
         return absent(at);
     }
     let first = first_followed(s, c, at, p);
@@ -80,6 +101,18 @@ fn next_place(s: &[u8], c: Counts, known: &mut Known, at: Place, p: u8) -> Child
         return second;
     }
     third
+}
+
+// The next place of the chain. A call goes its own way, since its function part tells whether it is a cause.
+fn next_place(s: &[u8], c: Counts, known: &mut Known, at: Place, p: u8) -> Child
+    requires { ⌜ Following (now s) c (now known) p at ⌝ }
+    ensures { λ r. ⌜ Stepped (now (s .entry)) c p r (nextAt (now (s .entry)) p at) (now (known .exit)) ⌝ }
+{
+    let x = term(s, c, at.term);
+    if x.kind == 5 {
+        return after_call(s, c, known, at, p);
+    }
+    after_other(s, c, known, at, p)
 }
 
 // The chain of a readable sheet whose root needs privilege p: at most 32 terms, the sheet's nesting.

@@ -11,7 +11,7 @@ use program::records::Counts;
 use typing::answer::Verdict;
 ghost use mathlib.Core.Path.{_≡_};
 ghost use lib.Dec.{leb};
-ghost use Rattle.rules.specs.Inference.{Sheet};
+ghost use Rattle.checker.specs.Internal.{ReadableSheet};
 ghost use Rattle.explain.specs.Explaining.{tracedIn, explanation};
 ghost use Rattle.explain.specs.Answers.{Told};
 ghost use Rattle.explain.specs.Internal.{unchained, RootNeeds};
@@ -27,12 +27,12 @@ pub fn explain(sheet: &[u8], privilege: u32) -> Explained
     }
 }
 
-// The same of a readable sheet with its counts; the type checker reads it once more.
+// The same of a readable sheet with its counts.
 fn explain_readable(s: &[u8], c: Counts, privilege: u32) -> Explained
-    requires { ⌜ Sheet (now s) c ⌝ }
+    requires { ⌜ ReadableSheet (now s) c ⌝ }
     ensures { λ r. ⌜ Told r (explanation (now (s .entry)) privilege) ⌝ }
 {
-    let v = checker::typecheck(s);
+    let v = checker::typecheck_readable(s, c);
     match v {
         Verdict::Unreadable(f) => without_chain(Explanation::Unreadable(f)),
         Verdict::Refused(f) => without_chain(Explanation::Refused(f)),

@@ -3,7 +3,7 @@ use mathlib.Core.Bool.{Bool, true, false, not, _&&_}
 use mathlib.Core.List.{List}
 use mathlib.Core.Option.{none, some}
 use mathlib.Core.Path.{_≡_, refl, sym, ap, _∙_}
-use Prim.Native.Nat.{ℕ, _<_, _≤_}
+use Prim.Native.Nat.{ℕ, _-_, _<_, _≤_}
 use native.Mathlib.Omega.{arith}
 use lib.Dec.{eqb}
 use lib.ListN.{getD}
@@ -76,6 +76,11 @@ module _ {s l : List ℕ} {c : Counts} {t u : ℕ} (P : Pair s c l t u) where
 -- ---- the search for the first
 abbrev pub differs : List ℕ → (t u : ℕ) → Bool
 differs s t u = not (alike s (heads s t) t u)
+
+-- no type below u is alike, so that from u on the search finds what the whole search finds
+pub record NoneAlikeBelow (s : List ℕ) (t u : ℕ) : Type 0 where
+  pub below : u ≤ t
+  pub rest-is : lowest (differs s t) 0 t ≡ lowest (differs s t) u (t - u)
 
 pub merging : {s l : List ℕ} {c : Counts} {t n : ℕ} → Sheet s c → Table (newType s) l t → t < n → n ≡ types s → Merging s c l t
 merging S T h e = record { sheet = S; numbers = T; inside = omega arith }

@@ -50,19 +50,25 @@ module _ (b : List ℕ) (at : ℕ) where
 pub paste-over : (b : List ℕ) (at : ℕ) (xs : List ℕ) (n : ℕ) → n ≤ length xs → paste b at xs n ≡ over b at (take n xs)
 paste-over b at xs n h = ap (λ (k : ℕ). take at b ++ take n xs ++ drop (at + k) b) (sym (length-take-le n xs h))
 
--- ---- bytes that are copied one by one, the first i already
+-- ---- n bytes that are copied one by one, the first i already
+pub record Pasted (b : List ℕ) (at : ℕ) (from : List ℕ) (n i : ℕ) (x : List ℕ) : Type 0 where
+  pub below : i ≤ n
+  pub list-is : x ≡ paste b at from i
+
 module _ (b : List ℕ) (at : ℕ) (from : List ℕ) (n : ℕ) (room : at + n ≤ length b) (enough : n ≤ length from) (i : ℕ) {x : List ℕ}
-    (e : x ≡ paste b at from i) where
-  pub pasted-length : i ≤ n → length x ≡ length b
-  pasted-length h = ap length e ∙ length-paste b at from i (omega arith) (omega arith)
+    (P : Pasted b at from n i x) where
+  pub pasted-length : length x ≡ length b
+  pasted-length = ap length (P .list-is) ∙ length-paste b at from i (omega (arith, P .below)) (omega (arith, P .below))
 
-  pub pasted-more : i < n → set x (at + i) (getD from i 0) ≡ paste b at from (i + 1)
-  pasted-more h =
-      ap (λ (y : List ℕ). set y (at + i) (getD from i 0)) e ∙ paste-suc b at from i 0 (omega arith) (omega arith)
-      ∙ ap (paste b at from) (sym (add-one i))
+  pub pasted-more : i < n → Pasted b at from n (i + 1) (set x (at + i) (getD from i 0))
+  pasted-more h = record {
+    below = omega arith;
+    list-is = ap (λ (y : List ℕ). set y (at + i) (getD from i 0)) (P .list-is) ∙ paste-suc b at from i 0 (omega arith) (omega arith)
+        ∙ ap (paste b at from) (sym (add-one i));
+  }
 
-  pub pasted-all : i ≤ n → n ≤ i → x ≡ paste b at from n
-  pasted-all h k = let done : i ≡ n = omega arith in e ∙ ap (paste b at from) done
+  pub pasted-all : n ≤ i → x ≡ paste b at from n
+  pasted-all h = let done : i ≡ n = omega (arith, P .below) in P .list-is ∙ ap (paste b at from) done
 
 -- ---- the records of those that are kept, of one width
 -- a place for all of them

@@ -3,6 +3,7 @@ ghost use mathlib.Core.Path.{_≡_};
 ghost use lib.Dec.{leb};
 ghost use lib.ListN.{length};
 ghost use Rattle.rules.specs.Inference.{Sheet};
+ghost use Rattle.checker.specs.Internal.{ReadableSheet};
 ghost use Rattle.erasure.specs.Lean.{erasable as erasableOf, leanSheet};
 ghost use Rattle.erasure.specs.Erasure.{ifErasable, erasure};
 ghost use Rattle.lean.specs.Answers.{after};
@@ -34,12 +35,12 @@ pub fn erase(sheet: &[u8], buffer: &mut [u8]) -> Erased
     }
 }
 
-// The same of a readable sheet with its counts; the type checker reads it once more.
+// The same of a readable sheet with its counts.
 fn erase_readable(s: &[u8], c: Counts, buffer: &mut [u8]) -> Erased
-    requires { ⌜ Sheet (now s) c ⌝ }
+    requires { ⌜ ReadableSheet (now s) c ⌝ }
     ensures { λ r. ⌜ after r (now (buffer .exit)) ≡ erasure (now (s .entry)) (now (buffer .entry)) ⌝ }
 {
-    let v = checker::typecheck(s);
+    let v = checker::typecheck_readable(s, c);
     match v {
         Verdict::Unreadable(f) => Erased::Unreadable(f),
         Verdict::Refused(f) => Erased::Refused(f),

@@ -1,7 +1,7 @@
 -- What a reader may count on, over any sequence of adds and serves, with any stores and buffers lent for each of them: a job with j jobs before it in its own
 -- queue has its turn within 4 × (j + 1) serves, whatever is added in between; of each line the jobs are served in the order in which they were added, and
--- none is lost or served twice. And of one serve: nobody is served exactly when no line has a job; a refused job leaves the place and the buffers; what stands
--- before the place in the list of posts stays.
+-- none is lost or served twice. And of one serve: the line that is served is the first with a job from the turn on, and then it is the next line's turn;
+-- nobody is served exactly when no line has a job; a refused job leaves the place and the buffers; what stands before the place in the list of posts stays.
 use mathlib.Core.Bool.{Bool, true, false, cond}
 use mathlib.Core.List.{List, [], _∷_, _++_, append-nil, append-assoc}
 use mathlib.Core.Logic.{_⊎_, inl, inr, _↔_}
@@ -22,6 +22,7 @@ use Rattle.largest.specs.Largest.{request, isLargest, lentRun}
 use Rattle.lines.specs.Sessions.{Operation, add, serve, stepped, session, servesIn, only, accepted, addedBy, inTurn, servedBy, addedIn, servedIn, Sound}
 use Rattle.largest.specs.Theorems.{lent-few, lent-untouched, lent-lengths}
 use Rattle.queues.specs.Queues.{maxLines, maxJobs, Job, State, start, queueAt, addConditions, enqueued, addedTo, addOf, inside, Turn, nobody, serves, turnAt, nextLine, turnFrom, turnOf, partOf}
+use Rattle.queues.specs.Theorems.{FirstWaiting, served-first, nobody-waiting}
 use Rattle.lines.specs.Serving.{restFrom, behind, jobRun, jobAfter, postsOf, Told, idle, told, Served, servedAs, serveTurn, serveOf}
 
 -- ---- states that the entries make
@@ -66,22 +67,9 @@ is-open s k j store e =
       room = ltb-true (length (queueAt s k)) maxJobs (unless-none 29 _ (none-cons (none-cons (none-cons none .1) .1) .0));
     }
 
--- the line that has its turn has a job
-record Serving (s : State) (k : ℕ) (j : Job) (js : List Job) : Type 0 where
-  below : k < maxLines
-  front : queueAt s k ≡ j ∷ js
-
-serving : (n : ℕ) (s : State) (t k : ℕ) (j : Job) (js : List Job) → t < maxLines → turnFrom n s t ≡ serves k j js → Serving s k j js
-unfolding turnFrom
-serving zero s t k j js h e = absurd (let z : _≡_ {A = ℕ} 0 1 = cc in omega arith)
-serving (suc n) s t k j js h e = go (queueAt s t) refl e (serving n s (nextLine t) k j js (omega arith))
-  where
-    go : (q : List Job) → queueAt s t ≡ q → turnAt t q (λ _. turnFrom n s (nextLine t)) ≡ serves k j js
-        → (turnFrom n s (nextLine t) ≡ serves k j js → Serving s k j js) → Serving s k j js
-    go [] f g rest = rest g
-    go (x ∷ xs) f g rest =
-        let z : t ≡ k = cc in
-        record { below = omega arith; front = ap (queueAt s) (sym z) ∙ f ∙ (cc) }
+-- the line that has its turn is one of the four
+served-below : {n : ℕ} {s : State} {t k : ℕ} {j : Job} {js : List Job} → FirstWaiting n s t k j js → k < maxLines
+served-below v = omega (arith, v .line-is)
 
 -- ---- each operation makes such a state of such a state
 add-sound : (s : State) (k : ℕ) (j : Job) (store : List ℕ) → Sound s → (x : Screening) → screen (addConditions s k j store) ≡ x → Sound (addedTo x s k j .state)
@@ -97,11 +85,11 @@ add-sound s k j store h (found c p) e = h
 serve-sound : (s : State) (store : List ℕ) (b : Buffers) → Sound s → (t : Turn) → turnOf s ≡ t → Sound (serveTurn t s store b .state)
 serve-sound s store b h nobody e = h
 serve-sound s store b h (serves k j js) e =
-    let v = serving maxLines s (s .turn) k j js (h .turn-below) e in
+    let v = served-first s (h .turn-below) k j js e in
     record {
-      four = still-four (s .queues) (h .four) k (v .below) js;
+      four = still-four (s .queues) (h .four) k (served-below v) js;
       turn-below = omega arith;
-      few = still-few (s .queues) (h .four) k (v .below) js (omega (arith, ap length (v .front), h .few k)) (h .few);
+      few = still-few (s .queues) (h .four) k (served-below v) js (omega (arith, ap length (v .oldest-first), h .few k)) (h .few);
     }
 
 pub step-sound : (o : Operation) (s : State) → Sound s → Sound (stepped o s)
@@ -141,13 +129,13 @@ module _ (l : ℕ) (s : State) (h : Sound s) where
   serve-balance store b nobody e = refl
   serve-balance store b (serves k j js) e = go (ℕ-discrete k l)
     where
-      v : Serving s k j js
-      v = serving maxLines s (s .turn) k j js (h .turn-below) e
+      v : FirstWaiting maxLines s (s .turn) k j js
+      v = served-first s (h .turn-below) k j js e
 
       go : Dec (k ≡ l) → queueAt s l ≡ only l k j ++ getD (set (s .queues) k js) l []
       go (yes y) =
-          ap (queueAt s) (sym y) ∙ v .front ∙ sym (λ i. is-only j y i ++ changed (s .queues) (h .four) k (v .below) js y i)
-      go (no n) = sym (λ i. is-other j n i ++ others (s .queues) (h .four) k (v .below) js n i)
+          ap (queueAt s) (sym y) ∙ v .oldest-first ∙ sym (λ i. is-only j y i ++ changed (s .queues) (h .four) k (served-below v) js y i)
+      go (no n) = sym (λ i. is-other j n i ++ others (s .queues) (h .four) k (served-below v) js n i)
 
   balance : (o : Operation) → queueAt s l ++ addedBy l o s ≡ servedBy l o s ++ queueAt (stepped o s) l
   unfolding addOf serveOf
@@ -215,6 +203,15 @@ first-of : (xs : List Job) (n : ℕ) → n < length xs → (j : Job) × (js : Li
 first-of [] n h = absurd (omega arith)
 first-of (x ∷ xs) n h = (x, xs, refl)
 
+-- an add leaves the turn
+pub add-turn : (k : ℕ) (j : Job) (store : List ℕ) (s : State) → addOf s k j store .state .turn ≡ s .turn
+unfolding addOf
+add-turn k j store s = go (screen (addConditions s k j store))
+  where
+    go : (x : Screening) → addedTo x s k j .state .turn ≡ s .turn
+    go clear = refl
+    go (found c p) = refl
+
 module _ (l : ℕ) (below : l < maxLines) where
   abbrev Reached : List Operation → State → ℕ → Type 0
   Reached os s n = n < length (queueAt s l) → away (s .turn) l + 4 * n < servesIn os → n < length (servedIn l os s)
@@ -257,14 +254,6 @@ module _ (l : ℕ) (below : l < maxLines) where
           let other = ap (inTurn l) (r .turn-is) ∙ is-other (r .job) (another (r .line) (s .turn) l below y) in
           omega (arith, counted other, next s′ (step-sound (serve store b) s h) n (omega (arith, ap length (split other))) (omega (arith, turn-is)))
 
-  add-turn : (k : ℕ) (j : Job) (store : List ℕ) (s : State) → addOf s k j store .state .turn ≡ s .turn
-  unfolding addOf
-  add-turn k j store s = go (screen (addConditions s k j store))
-    where
-      go : (x : Screening) → addedTo x s k j .state .turn ≡ s .turn
-      go clear = refl
-      go (found c p) = refl
-
   reached : (os : List Operation) (s : State) → Sound s → (n : ℕ) → Reached os s n
   reached [] s h n w g = absurd (omega arith)
   reached (add k j store ∷ os) s h n w g =
@@ -289,6 +278,14 @@ module _ (l : ℕ) (below : l < maxLines) where
       }
 
 -- ---- one serve
+-- "Lines are served in turn": this one is the first with a job from the turn on, and then it is the next line's turn. It is line 0's at first (`start`), and
+-- no add moves it (`add-turn`).
+pub record ServedInTurn (s : State) (r : Served) : Type 0 where
+  pub job : Job
+  pub rest : List Job
+  pub first : FirstWaiting maxLines s (s .turn) (r .line) job rest
+  pub next-turn : r .state .turn ≡ nextLine (r .line)
+
 -- "with no job nothing changes and the answer says so"
 abbrev pub AllEmpty : State → Type 0
 AllEmpty s = (l : ℕ) → l < maxLines → queueAt s l ≡ []
@@ -300,23 +297,21 @@ nobody-there (suc n) s t h e =
     (λ i. turnAt t (e t h i) (λ _. turnFrom n s (nextLine t))) ∙ nobody-there n s (nextLine t) (omega arith) e
 
 module _ (s : State) (sound : Sound s) (store : List ℕ) (b : Buffers) where
+  pub served-in-turn : (a : Answer) → serveOf s store b .answer ≡ told a → ServedInTurn s (serveOf s store b)
+  unfolding serveOf
+  served-in-turn a = go (turnOf s) refl
+    where
+      go : (t : Turn) → turnOf s ≡ t → serveTurn t s store b .answer ≡ told a → ServedInTurn s (serveTurn t s store b)
+      go nobody f e = absurd (let y : _≡_ {A = ℕ} 0 1 = cc in omega arith)
+      go (serves l j js) f e = record { job = j; rest = js; first = served-first s (sound .turn-below) l j js f; next-turn = refl }
+
   pub nothing-changes : AllEmpty s → serveOf s store b ≡ record { answer = idle; line = 0; state = s; buffers = b }
   unfolding serveOf
   nothing-changes e = ap (λ (t : Turn). serveTurn t s store b) (nobody-there maxLines s (s .turn) (sound .turn-below) e)
 
-  nobody-empty : turnOf s ≡ nobody → AllEmpty s
-  nobody-empty e l h = go (queueAt s l) refl
-    where
-      go : (q : List Job) → queueAt s l ≡ q → queueAt s l ≡ []
-      go [] f = f
-      go (j ∷ js) f =
-          let r = nearer maxLines s (s .turn) l j js f (sound .turn-below) h (omega arith) in
-          let z : nobody ≡ serves (r .line) (r .job) (r .rest) = sym e ∙ r .turn-is in
-          absurd (let y : _≡_ {A = ℕ} 0 1 = cc in omega arith)
-
   pub idle-exactly : (serveOf s store b .answer ≡ idle) ↔ AllEmpty s
   unfolding serveOf
-  idle-exactly = (λ e. nobody-empty (go (turnOf s) e), λ e. ap (λ (r : Served). r .answer) (nothing-changes e))
+  idle-exactly = (λ e. nobody-waiting s (sound .turn-below) (go (turnOf s) e), λ e. ap (λ (r : Served). r .answer) (nothing-changes e))
     where
       go : (t : Turn) → serveTurn t s store b .answer ≡ idle → t ≡ nobody
       go nobody e = refl

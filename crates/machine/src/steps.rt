@@ -3,6 +3,7 @@ ghost use mathlib.Core.Bool.{true};
 ghost use mathlib.Core.Path.{_≡_};
 ghost use Prim.Native.Nat.{_+_, _-_, min};
 ghost use Rattle.stores.specs.Words.{pick, numberWord, payloadOf, envOf};
+ghost use Rattle.stores.specs.Returns.{Returned};
 ghost use Rattle.machine.specs.Steps.{countSaturated, lessOf, intervalResult, Operated, Guard, Guarded, causeOf, entryOf, listedAs, Appended};
 ghost use Rattle.machine.specs.Table.{wordGuard};
 use crate::notes::note;
@@ -24,7 +25,7 @@ pub fn choose(yes: bool, a: u16, b: u16) -> u16
 
 // A limit in the place of a result past it, which is counted.
 fn saturate(n: &mut [usize; 6], limit: u16) -> u64
-    ensures { λ r. ⌜ (r ≡ numberWord limit) × (now (n .exit) ≡ countSaturated (now (n .entry))) ⌝ }
+    ensures { λ r. ⌜ Returned r (numberWord limit) (now (n .exit)) (countSaturated (now (n .entry))) ⌝ }
 {
     n[4] = wrapping_add_usize(n[4], 1);
     words::number(limit)

@@ -69,7 +69,7 @@ pub fn of_fault(f: Fault) -> Code
     }
 }
 
-// 1 to 8, and 14 to 16.
+// 1 to 8, 31, and 14 to 16.
 pub fn of_refusal(f: interp::answer::Refusal) -> Code
     ensures { λ r. ⌜ CodeIs (refusalCause f) (refusalPlace f) r ⌝ }
 {

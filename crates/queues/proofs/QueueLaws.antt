@@ -42,15 +42,19 @@ pub some-job : (js : List queues.Job) → hasJob js ≡ true → 0 < length js
 some-job [] e = absurd (true≢false (sym e))
 some-job (j ∷ js) e = omega arith
 
+-- of the places up to the last in use the first i hold the jobs behind them, and all others are as they were
+pub record MovedUp (jobs : List Job) (last i : ℕ) (rest : List Job) : Type 0 where
+  pub below : i ≤ last
+  pub moved : rest ≡ take i (drop 1 jobs) ++ drop i jobs
+
 -- one job less: the others have moved up, as many as there are
 module _ (q : Queue) (n : ℕ) (size : SizeIs q n) where
   same-front : take (q .count) (q .jobs) ≡ take n (q .jobs)
   same-front = take-held (q .count) (q .jobs) ∙ ap (λ (k : ℕ). take k (q .jobs)) (sym (size .size-is ∙ length-map (take (q .count) (q .jobs)) jobModel))
 
-  pub one-less : (i : ℕ) {rest : List Job} → length (q .jobs) ≡ maxJobs → hasJob (queueModel q) ≡ true → i ≤ n - 1 → n - 1 ≤ i
-      → rest ≡ take i (drop 1 (q .jobs)) ++ drop i (q .jobs)
+  pub one-less : (i : ℕ) {rest : List Job} → length (q .jobs) ≡ maxJobs → hasJob (queueModel q) ≡ true → MovedUp (q .jobs) (n - 1) i rest → n - 1 ≤ i
       → (none : Job) → queueModel q ≡ jobModel (getD (q .jobs) 0 none) ∷ map jobModel (take (n - 1) rest)
-  one-less i {rest = rest} eight some h g e none = ap (map jobModel) (same-front ∙ go (q .jobs) eight e)
+  one-less i {rest = rest} eight some m g none = ap (map jobModel) (same-front ∙ go (q .jobs) eight (m .moved))
     where
       at-least : 1 ≤ n
       at-least = omega (arith, some-job (queueModel q) some, size .size-is)
@@ -58,8 +62,8 @@ module _ (q : Queue) (n : ℕ) (size : SizeIs q n) where
       go : (jobs : List Job) → length jobs ≡ maxJobs → rest ≡ take i (drop 1 jobs) ++ drop i jobs → take n jobs ≡ getD jobs 0 none ∷ take (n - 1) rest
       go [] l f = absurd (omega arith)
       go (x ∷ xs) l f =
-          let last : n ≡ suc i = omega (arith, at-least) in
-          let before : n - 1 ≡ i = omega arith in
+          let last : n ≡ suc i = omega (arith, at-least, m .below) in
+          let before : n - 1 ≡ i = omega (arith, m .below) in
           ap (λ (k : ℕ). take k (x ∷ xs)) last
           ∙ ap (λ (r : List Job). x ∷ r)
           (sym ((λ k. take (before k) (f k)) ∙ take-at (take i xs) (drop i (x ∷ xs)) i (length-take-le i xs (omega (arith, size .most)))))

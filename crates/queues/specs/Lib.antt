@@ -2,4 +2,5 @@ pub mod Queues
 pub mod Answers
 pub mod Internal
 pub mod Laws
+pub mod Theorems
 pub mod Cases

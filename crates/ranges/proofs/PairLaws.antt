@@ -32,6 +32,11 @@ pub number-by : {s : List ℕ} {c : Counts} {t : ℕ} → TermOf s c t → {x : 
 number-by {s} {c} {t} h e = ap (λ (x : TermRecord). eqb (x .kind) 1) (e ∙ term-is s (h .well-formed) c (h .counts-are) t (h .inside))
 
 -- ---- counting
+-- of the first t of so many terms n are number terms
+pub record CountedBelow (s : List ℕ) (count t n : ℕ) : Type 0 where
+  pub below : t ≤ count
+  pub count-is : n ≡ numbersBelow s t
+
 counted-next : (s : List ℕ) (t : ℕ) {n : ℕ} {b : Bool} → n ≡ numbersBelow s t → b ≡ isNumber s t → cond b 1 0 + n ≡ numbersBelow s (t + 1)
 counted-next s t e f = (λ i. cond (f i) 1 0 + e i) ∙ ap (numbersBelow s) {x = suc t} {y = t + 1} (omega arith)
 
@@ -63,6 +68,11 @@ counted-below s t (suc n) h e = elim (ℕ-discrete t n) [
 ]
 
 -- ---- the pairs in order
+-- the first i of n pairs are in order
+pub record OrderedBelow (ps : List ℕ) (n i : ℕ) : Type 0 where
+  pub below : i ≤ n
+  pub in-order : ordered ps i ≡ true
+
 pub ordered-next : (ps : List ℕ) (i : ℕ) → getD ps (2 * i) 0 ≤ getD ps (2 * i + 1) 0 → ordered ps i ≡ true → ordered ps (i + 1) ≡ true
 ordered-next ps i h e =
     ap (ordered ps) {x = i + 1} {y = suc i} (omega arith)

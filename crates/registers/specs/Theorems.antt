@@ -1,19 +1,21 @@
--- What a reader may count on: the mask and the allowance keep what is written; an address above 15 leaves the block; a write that runs nothing leaves the
--- buffers, and so does a run that is refused; and a block keeps its 16 bytes.
+-- What a reader may count on: the mask and the allowance keep what is written; the command and the bytes from 12 on are zero; an address above 15 leaves the
+-- block; a write that runs nothing leaves the buffers, and so does a run that is refused; and a block keeps its 16 bytes.
 use mathlib.Core.Bool.{Bool, true, false, cond}
 use mathlib.Core.List.{List, [], _∷_}
-use mathlib.Core.Path.{_≡_, refl, sym, ap, _∙_}
+use mathlib.Core.Path.{_≡_, refl, sym, ap, _∙_, subst}
 use Prim.Native.Nat.{ℕ, _+_, _*_, _≤_, _<_}
+use native.Mathlib.Decide.{ℕ-discrete}
 use native.Mathlib.Omega.{arith}
 use lib.Dec.{leb, eqb, lit≤}
 use lib.ListN.{length, length-set}
 use lib.Seq.{getD-set-same, getD-set-other}
-use borrow.Author.Tests.{ne-eqb}
+use borrow.Author.Tests.{leb-true, ne-eqb}
+use Rattle.privileges.specs.Booleans.{and-left, and-right}
 use Rattle.program.specs.Bytes.{byte}
 use Rattle.semantics.specs.Runs.{Buffers, refused}
 use Rattle.largest.specs.Largest.{request}
 use Rattle.largest.specs.Theorems.{lent-untouched}
-use Rattle.blocks.specs.Block.{allowance, registersOf, without, access-refused, isKept, Register, command, status, kept, fixed, absent, registerAt}
+use Rattle.blocks.specs.Block.{newBlock, allowance, RunRegisters, registersOf, without, afterRun, access-refused, isKept, Register, command, status, kept, fixed, absent, registerAt}
 use Rattle.blocks.specs.Laws.{at-kept, at-fixed, at-absent}
 use Rattle.blocks.specs.Theorems.{run-keeps}
 use Rattle.registers.specs.Writes.{areLargest, blockRun, done, ranOn, commanded, writeTo, writeOf}
@@ -79,6 +81,54 @@ module _ (k : ℕ) (from : 3 ≤ k) (to : k ≤ 5) where
 
 pub allowance-survives : {ws : List Write} (block : List ℕ) → Spares 4 ws → Spares 5 ws → allowance (afterAll block ws) ≡ allowance block
 allowance-survives block f g = λ i. survives 4 (lit≤ tt) (lit≤ tt) block f i * 256 + survives 5 (lit≤ tt) (lit≤ tt) block g i
+
+-- ---- "the rest zero", and "command reads as zero": by every sequence of writes to a new block
+-- An address that is none of 1 to 5, and that a run leaves zero, stays zero: a write sets no other.
+module _ (k : ℕ) (apart : (a : ℕ) → 1 ≤ a → a ≤ 5 → k ≡ a → ⊥)
+    (run-zero : (block : List ℕ) (t : RunRegisters) → byte block k ≡ 0 → byte (afterRun block t) k ≡ 0) where
+  commanded-zero : (x : Bool) (block s : List ℕ) (b : Buffers) → byte block k ≡ 0 → byte (commanded x block s b .block) k ≡ 0
+  commanded-zero true block s b e = run-zero block (registersOf (blockRun block s b .answer)) e
+  commanded-zero false block s b e = e
+
+  written-zero : (block : List ℕ) (a v : ℕ) (s : List ℕ) (b : Buffers) → byte block k ≡ 0 → byte (writeOf block a v s b .block) k ≡ 0
+  written-zero block a v s b e = go (eqb a 0) (eqb a 1) (leb a 15) (isKept a) refl
+    where
+      go : (x y z u : Bool) → isKept a ≡ u
+          → byte (writeTo (cond x command (cond y status (cond z (cond u kept fixed) absent))) block a v s b .block) k ≡ 0
+      go true y z u f = commanded-zero (eqb v 1) block s b e
+      go false true z u f = getD-set-other block 1 k (without (byte block 1) v) 0 (apart 1 (lit≤ tt) (lit≤ tt)) ∙ e
+      go false false true true f =
+          let from = leb-true 3 a (and-left (leb 3 a) (leb a 5) f) in
+          let to = leb-true a 5 (and-right (leb 3 a) (leb a 5) f) in
+          getD-set-other block a k v 0 (apart a (omega (arith, from)) to) ∙ e
+      go false false true false f = e
+      go false false false u f = e
+
+  stays-zero : (ws : List Write) (block : List ℕ) → byte block k ≡ 0 → byte (afterAll block ws) k ≡ 0
+  stays-zero [] block e = e
+  stays-zero (w ∷ ws) block e =
+      stays-zero ws (writeOf block (w .address) (w .value) (w .sheet) (w .buffers) .block)
+      (written-zero block (w .address) (w .value) (w .sheet) (w .buffers) e)
+
+pub command-reads-zero : (ws : List Write) → byte (afterAll newBlock ws) 0 ≡ 0
+command-reads-zero ws = stays-zero 0 (λ a h l e. omega (arith, h, e)) (λ block t e. refl) ws newBlock refl
+
+-- the last four addresses
+from-twelve : (P : ℕ → Type 0) → P 12 → P 13 → P 14 → P 15 → (k : ℕ) → 12 ≤ k → k ≤ 15 → P k
+from-twelve P p q r s k h l = go (ℕ-discrete k 12) (ℕ-discrete k 13) (ℕ-discrete k 14)
+  where
+    go : Dec (k ≡ 12) → Dec (k ≡ 13) → Dec (k ≡ 14) → P k
+    go (yes e) b c = subst P (sym e) p
+    go (no a) (yes e) c = subst P (sym e) q
+    go (no a) (no b) (yes e) = subst P (sym e) r
+    go (no a) (no b) (no c) = let e : k ≡ 15 = omega arith in subst P (sym e) s
+
+pub rest-zero : (ws : List Write) (k : ℕ) → 12 ≤ k → k ≤ 15 → byte (afterAll newBlock ws) k ≡ 0
+rest-zero ws = from-twelve (λ k. byte (afterAll newBlock ws) k ≡ 0)
+    (stays-zero 12 (λ a h l e. omega (arith, l, e)) (λ block t e. e) ws newBlock refl)
+    (stays-zero 13 (λ a h l e. omega (arith, l, e)) (λ block t e. e) ws newBlock refl)
+    (stays-zero 14 (λ a h l e. omega (arith, l, e)) (λ block t e. e) ws newBlock refl)
+    (stays-zero 15 (λ a h l e. omega (arith, l, e)) (λ block t e. e) ws newBlock refl)
 
 -- ---- a write that runs nothing leaves both buffers as they were, and so does a run that is refused
 module _ (block : List ℕ) (a v : ℕ) (s : List ℕ) (b : Buffers) where

@@ -1,8 +1,8 @@
 -- What the contracts of internal functions say; no reader of an entry's promise needs it.
-use mathlib.Core.List.{List, [], _∷_}
+use mathlib.Core.List.{List, [], _∷_, _++_}
 use mathlib.Core.Path.{_≡_}
 use Prim.Native.Nat.{ℕ}
-use lib.ListN.{length}
+use lib.ListN.{drop}
 use Rattle.program.specs.Answers.{decodingCause, decodingPlace}
 use Rattle.program.specs.declared.answer.Decoded.{Decoded}
 use Rattle.program.specs.declared.answer.Decoded.the-variants.{Readable, Refused as Unreadable}
@@ -31,3 +31,8 @@ withCounts status c p k v m = record { status = status; numbers = c ∷ p ∷ k 
 abbrev pub Small : Run → Type 0
 Small (Refused f) = Unit {0}
 Small (Ran o m) = Few (countsModel m)
+
+-- the status is the reply's, its eight numbers stand at the front of the list, and the rest of the list is as it was
+pub record Put (x : Reply) (before : List ℕ) (status : ℕ) (after : List ℕ) : Type 0 where
+  pub status-is : status ≡ x .status
+  pub list-is : after ≡ x .numbers ++ drop 8 before

@@ -23,7 +23,7 @@ use Rattle.interp.specs.declared.answer.Run.{Run}
 use Rattle.interp.specs.declared.answer.Run.the-variants.{Refused, Ran}
 use Rattle.replies.specs.Replies as replies
 use Rattle.replies.specs.Replies.{refusal, screened, decodeReply, unfit, runReply, written, writtenNine, notDone, replied, Called, called, left, leftAll}
-use Rattle.replies.specs.Internal.{replyOf, ofDecoded, Small}
+use Rattle.replies.specs.Internal.{replyOf, ofDecoded, Small, Put}
 use Rattle.replies.specs.declared.Reply.{Reply}
 
 -- a promise about the case that a match found
@@ -42,23 +42,26 @@ take-whole (x ∷ xs) zero h = absurd (omega (arith, h))
 take-whole (x ∷ xs) (suc n) h = ap (λ (l : List ℕ). x ∷ l) (take-whole xs n (omega arith))
 
 -- the first n numbers of a list overwritten one by one, the first i already
-module _ (n : ℕ) (numbers before : List ℕ) (i : ℕ) {now : List ℕ} (size : length numbers ≡ n) where
-  pub written-length : n ≤ length before → i ≤ n → now ≡ take i numbers ++ drop i before → length now ≡ length before
-  written-length h k e = ap (λ (l : List ℕ). length l) e ∙ length-append (take i numbers) (drop i before)
-      ∙ omega (arith, length-take i numbers, length-drop i before, size)
+pub record Copied (n : ℕ) (numbers before : List ℕ) (i : ℕ) (now : List ℕ) : Type 0 where
+  pub below : i ≤ n
+  pub copied : now ≡ take i numbers ++ drop i before
 
-  pub written-more : n ≤ length before → i < n → now ≡ take i numbers ++ drop i before → set now i (getD numbers i 0) ≡ take (i + 1) numbers
-      ++ drop (i + 1) before
-  written-more h k e = copy-more numbers before now i (omega (arith, size)) (omega arith) e
+module _ (n : ℕ) (numbers before : List ℕ) (i : ℕ) {now : List ℕ} (size : length numbers ≡ n) (C : Copied n numbers before i now) where
+  pub written-length : n ≤ length before → length now ≡ length before
+  written-length h = ap (λ (l : List ℕ). length l) (C .copied) ∙ length-append (take i numbers) (drop i before)
+      ∙ omega (arith, length-take i numbers, length-drop i before, size, C .below)
 
-  pub written-all : i ≤ n → n ≤ i → now ≡ take i numbers ++ drop i before → now ≡ numbers ++ drop n before
-  written-all h k e =
-      let done : i ≡ n = omega arith in
-      e ∙ ap (λ (k : ℕ). take k numbers ++ drop k before) done ∙ ap (λ (l : List ℕ). l ++ drop n before) (take-whole numbers n size)
+  pub written-more : n ≤ length before → i < n → Copied n numbers before (i + 1) (set now i (getD numbers i 0))
+  written-more h k = record { below = omega arith; copied = copy-more numbers before now i (omega (arith, size)) (omega arith) (C .copied) }
+
+  pub written-all : n ≤ i → now ≡ numbers ++ drop n before
+  written-all k =
+      let done : i ≡ n = omega (arith, C .below) in
+      C .copied ∙ ap (λ (k : ℕ). take k numbers ++ drop k before) done ∙ ap (λ (l : List ℕ). l ++ drop n before) (take-whole numbers n size)
 
   -- where the list has no more than these
-  pub written-over : length before ≡ n → i ≤ n → n ≤ i → now ≡ take i numbers ++ drop i before → now ≡ numbers
-  written-over l h k e = written-all h k e ∙ ap (λ (x : List ℕ). numbers ++ x) (drop-of-length-le before {i = n} (omega arith)) ∙ append-nil numbers
+  pub written-over : length before ≡ n → n ≤ i → now ≡ numbers
+  written-over l k = written-all k ∙ ap (λ (x : List ℕ). numbers ++ x) (drop-of-length-le before {i = n} (omega arith)) ∙ append-nil numbers
 
 -- ---- a list has another size, or the list for the answer is too short
 module _ (size least : ℕ) (list answer : List ℕ) where
@@ -82,15 +85,15 @@ module _ (answer : List ℕ) (h : length answer < 8) where
 
 -- ---- it holds the reply
 module _ (answer : List ℕ) (h : 8 ≤ length answer) {x : Reply} {R : replies.Reply} (e : replyOf x ≡ R) {status : ℕ} {after : List ℕ}
-    (put : (status ≡ x .status) × (after ≡ x .numbers ++ drop 8 answer)) where
+    (put : Put x answer status after) where
   pub in-place : left status after ≡ written R answer
-  in-place = (λ i. left (put .0 i) (put .1 i)) ∙ (λ i. written (e i) answer)
+  in-place = (λ i. left (put .status-is i) (put .list-is i)) ∙ (λ i. written (e i) answer)
 
   pub given : left status after ≡ replied answer R
   given = in-place ∙ (λ i. cond (sym (le-ltb (length answer) 8 h) i) (notDone answer) (written R answer))
 
 module _ (answer : List ℕ) (h : 8 ≤ length answer) (b b′ : Buffers) (a : After) (r : Run) {x : Reply} (e : replyOf x ≡ runReply (runModel r)) {status : ℕ}
-    {after : List ℕ} (put : (status ≡ x .status) × (after ≡ x .numbers ++ drop 8 answer)) where
+    {after : List ℕ} (put : Put x answer status after) where
   abbrev whole : After → Called
   whole y = record { reply = written (runReply (y .answer)) answer; buffers = y .buffers }
 
@@ -111,7 +114,7 @@ module _ (answer : List ℕ) (room : 9 ≤ length answer) (R : replies.Reply) (e
   nine =
       ap (λ (r : List ℕ). set (R .numbers ++ r) 8 n) (drop-cons answer 8 0 (omega arith)) ∙ set-at (R .numbers) (getD answer 8 0) (drop 9 answer) n 8 eight
 
-  pub in-nine : {x : Reply} → replyOf x ≡ R → {status : ℕ} {after : List ℕ} → (status ≡ x .status) × (after ≡ x .numbers ++ drop 8 answer)
+  pub in-nine : {x : Reply} → replyOf x ≡ R → {status : ℕ} {after : List ℕ} → Put x answer status after
       → left status (set after 8 n) ≡ writtenNine R n answer
   in-nine e {status = status} {after = after} put =
       let first : left status after ≡ written R answer = in-place answer (omega arith) e put in

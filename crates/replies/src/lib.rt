@@ -1,13 +1,12 @@
 // The numbers of an answer. specs/Replies.antt says which of the eight is which.
-ghost use mathlib.Core.List.{_++_};
 ghost use mathlib.Core.Path.{_≡_};
 ghost use Prim.Native.Nat.{_≤_};
-ghost use lib.ListN.{length, drop};
+ghost use lib.ListN.{length};
 ghost use Rattle.typing.specs.Answers.{verdictModel};
 ghost use Rattle.interp.specs.Answers.{runModel, outcomeModel, countsModel};
 ghost use Rattle.semantics.specs.Theorems.{Few};
 ghost use Rattle.replies.specs.Replies.{refusal, verdictReply, finished, runReply};
-ghost use Rattle.replies.specs.Internal.{replyOf, ofDecoded, withCounts, Small};
+ghost use Rattle.replies.specs.Internal.{replyOf, ofDecoded, withCounts, Small, Put};
 use interp::answer::Made;
 use interp::answer::Outcome;
 use interp::answer::Run;
@@ -112,7 +111,7 @@ pub fn of_run(x: Run) -> Reply
 // Writes the eight numbers into the caller's list and gives the status.
 pub fn put(reply: Reply, answer: &mut [u32]) -> u32
     requires { ⌜ 8 ≤ length (now answer) ⌝ }
-    ensures { λ r. ⌜ (r ≡ reply .status) × (now (answer .exit) ≡ reply .numbers ++ drop 8 (now (answer .entry))) ⌝ }
+    ensures { λ r. ⌜ Put reply (now (answer .entry)) r (now (answer .exit)) ⌝ }
 {
     let numbers = reply.numbers;
     let mut i = 0;

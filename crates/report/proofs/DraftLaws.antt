@@ -37,13 +37,18 @@ then-held most {b = b} h p q = record {
 }
 
 -- ---- a word, byte by byte
+-- the first i bytes of s are appended
+pub record WordBegun (d : Draft) (s : List ℕ) (i : ℕ) (r : Draft) : Type 0 where
+  pub below : i ≤ length s
+  pub appended : Appended d (take i s) i r
+
 pub more : {d r : Draft} (s : List ℕ) (i : ℕ) → i < length s → Appended d (take i s ++ (getD s i 0 ∷ [])) (i + 1) r → Appended d (take (i + 1) s) (i + 1) r
 more {d = d} {r = r} s i h p = subst (λ (xs : List ℕ). Appended d xs (i + 1) r) (sym (ap (λ (n : ℕ). take n s) (add-one i) ∙ take-suc s i 0 h)) p
 
-pub whole : {d r : Draft} (s : List ℕ) (i : ℕ) → i ≤ length s → length s ≤ i → Appended d (take i s) i r → Appended d s (length s) r
-whole {d = d} {r = r} s i h g p = record {
-  held-is = p .held-is ∙ ap (λ (xs : List ℕ). held d ++ xs) (take-all i s g);
-  len-most = omega (arith, p .len-most);
+pub whole : {d r : Draft} (s : List ℕ) (i : ℕ) → WordBegun d s i r → length s ≤ i → Appended d s (length s) r
+whole {d = d} s i w g = record {
+  held-is = w .appended .held-is ∙ ap (λ (xs : List ℕ). held d ++ xs) (take-all i s g);
+  len-most = omega (arith, w .below, w .appended .len-most);
 }
 
 -- ---- drafts of digits

@@ -20,7 +20,7 @@ use Rattle.interp.specs.declared.answer.Run.{Run}
 use Rattle.interp.specs.declared.answer.Run.the-variants.{Refused, Ran}
 use Rattle.report.specs.Text.{line, acceptance, outcomeText, countsText, refusal, request, largest, answer, ofRun, ofVerdict, printed}
 use Rattle.report.specs.Reports.{Fate, written, tooShort, unfit, Report, leaving, delivered, used, reported}
-use Rattle.report.specs.Internal.{held, Holds, RunReported, Rendered, Delivered}
+use Rattle.report.specs.Internal.{held, Holds, LargestBuffers, RunReported, Rendered, Delivered}
 use Rattle.report.specs.declared.answer.Reported.{Reported}
 use Rattle.report.specs.declared.answer.Reported.the-variants.{Written, TooShort, Unfit}
 use Rattle.numbers.specs.Codes.{CodeIs}
@@ -109,8 +109,8 @@ module _ (s : List ℕ) (b : Buffers) where
     buffers-are = p .buffers-are ∙ ap (λ (v : Verdict). used v s b) e;
   }
 
-pub buffers-largest : (cells posts : List ℕ) → length cells ≡ maxCells → length posts ≡ maxPosts → sizes (buffersOf cells posts []) ≡ largest
-buffers-largest cells posts e f = λ i. record { cells = e i; posts = f i; frames = 0 }
+pub buffers-largest : (cells posts : List ℕ) → LargestBuffers cells posts → sizes (buffersOf cells posts []) ≡ largest
+buffers-largest cells posts h = λ i. record { cells = h .cells-are i; posts = h .posts-are i; frames = 0 }
 
 -- ---- the whole report
 module _ (s cells posts text : List ℕ) where

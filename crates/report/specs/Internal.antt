@@ -4,6 +4,7 @@ use mathlib.Core.Path.{_≡_}
 use Prim.Native.Nat.{ℕ, _+_, _≤_}
 use lib.Dec.{leb}
 use lib.ListN.{length, take}
+use Rattle.program.specs.Limits.{maxCells, maxPosts}
 use Rattle.typing.specs.Verdicts.{verdict}
 use Rattle.semantics.specs.Runs.{Buffers, run}
 use Rattle.interp.specs.Answers.{buffersOf}
@@ -31,6 +32,11 @@ pub record Holds (text : List ℕ) (most : ℕ) (r : Draft) : Type 0 where
   pub len-most : r .len ≤ most
 
 -- ---- the report's steps
+-- buffers of the largest lengths
+pub record LargestBuffers (cells posts : List ℕ) : Type 0 where
+  pub cells-are : length cells ≡ maxCells
+  pub posts-are : length posts ≡ maxPosts
+
 -- the text of an accepted sheet and its run, which leaves the buffers so
 pub record RunReported (s : List ℕ) (terms type needs : ℕ) (b b′ : Buffers) (r : Draft) : Type 0 where
   pub held-is : held r ≡ ofRun (acceptance terms type needs) (run s request b .answer)

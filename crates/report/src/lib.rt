@@ -19,11 +19,9 @@ use typing::answer::Verdict;
 ghost use mathlib.Core.List.{[]};
 ghost use mathlib.Core.Path.{_≡_};
 ghost use Prim.Native.Nat.{_≤_};
-ghost use lib.ListN.{length};
-ghost use Rattle.program.specs.Limits.{maxCells, maxPosts};
 ghost use Rattle.interp.specs.Answers.{buffersOf};
 ghost use Rattle.report.specs.Reports.{leaving, reported};
-ghost use Rattle.report.specs.Internal.{held, RunReported, Rendered, Delivered};
+ghost use Rattle.report.specs.Internal.{held, LargestBuffers, RunReported, Rendered, Delivered};
 
 // Judges the sheet and, if it is accepted, runs it eagerly, checks in force, on an empty stack with the largest allowances, in the lent cell store
 // and list of posts, which must be the largest. The text goes to the front of `text`, if it fits there.
@@ -43,7 +41,7 @@ pub fn report(sheet: &[u8], cells: &mut [u8], posts: &mut [u32], text: &mut [u8]
 
 // The whole text, and the run behind it.
 fn render(sheet: &[u8], cells: &mut [u8], posts: &mut [u32]) -> Draft
-    requires { ⌜ (length (now cells) ≡ maxCells) × (length (now posts) ≡ maxPosts) ⌝ }
+    requires { ⌜ LargestBuffers (now cells) (now posts) ⌝ }
     ensures { λ r. ⌜ Rendered (now (sheet .entry)) (buffersOf (now (cells .entry)) (now (posts .entry)) [])
         (buffersOf (now (cells .exit)) (now (posts .exit)) []) r ⌝ }
 {

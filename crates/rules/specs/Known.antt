@@ -11,6 +11,11 @@ use Rattle.program.specs.declared.records.Counts.{Counts}
 use Rattle.typing.specs.Subtyping.{Subtype}
 use Rattle.rules.specs.Inference.{Sheet}
 
+-- two types of a table, which has at most 256
+pub record TypePair (a b : ℕ) : Type 0 where
+  pub first-below : a < maxTypes
+  pub second-below : b < maxTypes
+
 abbrev pub wordOf : (a b : ℕ) → ℕ
 wordOf a b = a * 8 + b / 32
 

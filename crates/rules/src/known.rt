@@ -2,9 +2,7 @@
 // comparisons each time they meet, since each level has two pairs of parts.
 use program::limits::TYPE_PLACES;
 ghost use mathlib.Core.Path.{_≡_};
-ghost use Prim.Native.Nat.{_<_};
-ghost use Rattle.program.specs.Limits.{maxTypes};
-ghost use Rattle.rules.specs.Known.{knows as knowsOf, noted as notedOf};
+ghost use Rattle.rules.specs.Known.{TypePair, knows as knowsOf, noted as notedOf};
 
 // A row of eight words for each type.
 pub const KNOWN_WORDS: usize = TYPE_PLACES * 8;
@@ -14,7 +12,7 @@ pub type Known = [u32; KNOWN_WORDS];
 
 // Whether a is known to be a subtype of b.
 pub fn knows(known: &Known, a: u16, b: u16) -> bool
-    requires { ⌜ (a < maxTypes) × (b < maxTypes) ⌝ }
+    requires { ⌜ TypePair a b ⌝ }
     ensures { λ r. ⌜ r ≡ knowsOf (now (known .entry)) a b ⌝ }
 {
     let at = (a as usize) * 8 + ((b / 32) as usize);
@@ -23,7 +21,7 @@ pub fn knows(known: &Known, a: u16, b: u16) -> bool
 
 // Notes that a is a subtype of b.
 pub fn note(known: &mut Known, a: u16, b: u16)
-    requires { ⌜ (a < maxTypes) × (b < maxTypes) ⌝ }
+    requires { ⌜ TypePair a b ⌝ }
     ensures { λ _. ⌜ now (known .exit) ≡ notedOf (now (known .entry)) a b ⌝ }
 {
     let at = (a as usize) * 8 + ((b / 32) as usize);

@@ -69,7 +69,7 @@ module _ (s : List ℕ) (q : Request) (b : Buffers) where
       let g : refused d r ≡ refused c p = sym (answer-course _ (course-found d r h)) ∙ e in
       cc
 
-  -- A run is refused exactly when one of 1 to 8 or 14 to 16 is found, and the first of them, in 01's order, is told.
+  -- A run is refused exactly when one of 1 to 8, 31 or 14 to 16 is found, and the first of them, in 01's order, is told.
   pub refused-exactly : (c p : ℕ) → (run s q b .answer ≡ refused c p) ↔ First c p (runConditions s q (sizes b))
   refused-exactly c p = (
     λ e. found-first (runConditions s q (sizes b)) c p (refused-found c p conditions refl e),

@@ -4,6 +4,7 @@ use mathlib.Core.Bool.{false}
 use mathlib.Core.List.{List, [], _∷_, _++_, map}
 use mathlib.Core.Path.{_≡_, refl}
 use Prim.Native.Nat.{ℕ}
+use lib.ListN.{replicate}
 use Rattle.program.specs.Limits.{maxCalls, maxDepth}
 use Rattle.privileges.specs.Sets.{has, meet, union, insert, remove, subset}
 use Rattle.program.specs.Screening.{tell, screen}
@@ -50,6 +51,10 @@ guards : (three : ℕ) → List ℕ
 unfolding bytes
 guards g = bytes g 255
 
+-- a field in the place of tag 5, of a tag and a length, with so many bytes of content, none of them a guard
+inPlace : (tag length content : ℕ) → List ℕ
+inPlace t l n = t ∷ 0 ∷ l ∷ replicate n 255
+
 -- ---- the table
 
 -- on a stack, with checks in force or passed over
@@ -60,7 +65,7 @@ abbrev skipping : Runner → Request
 skipping r = record { runner = r; enforce = false; start = []; calls = maxCalls; depth = maxDepth }
 
 unfoldable pub pages : List Case
-unfolding sheet seven truth unbound on bytes guards
+unfolding sheet seven truth unbound on bytes guards inPlace
 pages =
     -- "A guarded post adds its privilege to the needs"; 3 × 65,536 + 7 is listed where the stack grants it
     deciding (sheet 2 seven (on 3) (guards 1)) (accepted 3 1 2)
@@ -95,7 +100,15 @@ pages =
     ∷ deciding (sheet 1 seven (on 0) (guards 1)) (rejected 2 0)
     ∷ deciding (sheet 2 seven (on 0) []) (rejected 1 0)
     ∷ deciding (sheet 3 seven (on 0) (guards 1)) (rejected 3 0)
-    ∷ deciding (sheet 2 seven (on 0) (guards 1 ++ 0 ∷ [])) (rejected 2 0) ∷ []
+    ∷ deciding (sheet 2 seven (on 0) (guards 1 ++ 0 ∷ [])) (rejected 2 0)
+    -- "The tag, length and cutting refusals cover tag 5": another tag, other lengths, cut content; the tag before the length, and that before the content
+    ∷ deciding (sheet 2 seven (on 0) (inPlace 5 16 16)) (accepted 3 1 0)
+    ∷ deciding (sheet 2 seven (on 0) (inPlace 4 16 16)) (rejected 2 0)
+    ∷ deciding (sheet 2 seven (on 0) (inPlace 5 15 15)) (rejected 4 0)
+    ∷ deciding (sheet 2 seven (on 0) (inPlace 5 32 32)) (rejected 4 0)
+    ∷ deciding (sheet 2 seven (on 0) (inPlace 5 16 15)) (rejected 1 0)
+    ∷ deciding (sheet 2 seven (on 0) (inPlace 4 15 0)) (rejected 2 0)
+    ∷ deciding (sheet 2 seven (on 0) (inPlace 5 15 0)) (rejected 4 0) ∷ []
 
 computed : map (observedBy largest) pages ≡ map due pages
 unfolding pages observedBy verdict decoding screen tell infer subtype subtypeIn wider removeAuthorised course eval apply evalWith addAuthorised has

@@ -9,6 +9,7 @@ use borrow.Author.Tests.{le-leb, lt-leb}
 use Rattle.privileges.specs.Sets.{has, meet, insert}
 use Rattle.stores.specs.Words.{pick}
 use Rattle.stores.specs.Access.{pairOf, lowOf, highOf, lazyMode, walkGrants, framesGrant, grantedOf, signAccess, signFrames, lastOf, firstEnabled, enableAccess, enableFrames, enabledNow, restoreFrames}
+use Rattle.stores.specs.Returns.{Returned}
 
 -- ---- the walk
 module _ (f : List ℕ) (d p : ℕ) (h : 1 < d) where
@@ -47,6 +48,11 @@ module _ (f : List ℕ) (used p : ℕ) where
   unfolding framesGrant
   frames-whole h = sym (simp (le-leb used (length f) h))
 
+-- the walk is down to the first d numbers, which decide as all that are in use
+pub record WalkedTo (f : List ℕ) (used p d : ℕ) : Type 0 where
+  pub below : d ≤ used
+  pub rest-is : walkGrants f d p ≡ walkGrants f used p
+
 -- one less, modulo 2^64
 pub last-of : (n r : ℕ) → r < 18446744073709551616 → n < 18446744073709551616 → (r + 1) % 18446744073709551616 ≡ n → r ≡ lastOf n
 unfolding lastOf
@@ -64,16 +70,16 @@ module _ (mode acc : ℕ) (f : List ℕ) {b : Bool} (q : b ≡ lazyMode mode) wh
     granted-lazy p u e = e ∙ rw (u, mode-lazy) refl
 
     pub sign-lazy : (may : ℕ) {l : ℕ} {g h : List ℕ} → l ≡ lowOf acc → g ≡ set f l may → h ≡ set g (l + 1) 0
-        → (l + 2 ≡ signAccess mode acc may) × (h ≡ signFrames mode acc f may)
+        → Returned (l + 2) (signAccess mode acc may) h (signFrames mode acc f may)
     unfolding signAccess signFrames
-    sign-lazy may t u v = (rw (t, mode-lazy) refl, v ∙ rw (u, t, mode-lazy) refl)
+    sign-lazy may t u v = record { answer-is = rw (t, mode-lazy) refl; lent-is = v ∙ rw (u, t, mode-lazy) refl }
 
     -- i is where the first frame has its enabled set
     module _ {i : ℕ} (at : i ≡ firstEnabled acc) where
       pub enable-lazy : (p : ℕ) {old on : ℕ} {g : List ℕ} → old ≡ getD f i 0 → on ≡ insert p old → g ≡ set f i on
-          → (acc ≡ enableAccess mode acc p) × (g ≡ enableFrames mode acc f p)
+          → Returned acc (enableAccess mode acc p) g (enableFrames mode acc f p)
       unfolding enableAccess enableFrames
-      enable-lazy p u v w = (sym (rw mode-lazy refl), w ∙ rw (v, u, at, mode-lazy) refl)
+      enable-lazy p u v w = record { answer-is = sym (rw mode-lazy refl); lent-is = w ∙ rw (v, u, at, mode-lazy) refl }
 
       pub enabled-lazy : {r : ℕ} → r ≡ getD f i 0 → r ≡ enabledNow mode acc f
       unfolding enabledNow
@@ -91,10 +97,10 @@ module _ (mode acc : ℕ) (f : List ℕ) {b : Bool} (q : b ≡ lazyMode mode) wh
     unfolding grantedOf
     granted-eager p u e = e ∙ rw (u, mode-eager) refl
 
-    pub sign-eager : (may : ℕ) {h r on : ℕ} → h ≡ highOf acc → on ≡ meet h may → r ≡ pairOf may on → (r ≡ signAccess mode acc may)
-        × (f ≡ signFrames mode acc f may)
+    pub sign-eager : (may : ℕ) {h r on : ℕ} → h ≡ highOf acc → on ≡ meet h may → r ≡ pairOf may on
+        → Returned r (signAccess mode acc may) f (signFrames mode acc f may)
     unfolding signAccess signFrames
-    sign-eager may t u v = (v ∙ rw (u, t, mode-eager) refl, sym (rw mode-eager refl))
+    sign-eager may t u v = record { answer-is = v ∙ rw (u, t, mode-eager) refl; lent-is = sym (rw mode-eager refl) }
 
     frames-stay : (p : ℕ) → f ≡ enableFrames mode acc f p
     unfolding enableFrames
@@ -102,13 +108,13 @@ module _ (mode acc : ℕ) (f : List ℕ) {b : Bool} (q : b ≡ lazyMode mode) wh
 
     module _ (p : ℕ) {l : ℕ} {a : Bool} (low : l ≡ lowOf acc) (g : a ≡ has p l) where
       pub enable-yes : {h r on : ℕ} → a ≡ true → h ≡ highOf acc → on ≡ insert p h → r ≡ pairOf l on
-          → (r ≡ enableAccess mode acc p) × (f ≡ enableFrames mode acc f p)
+          → Returned r (enableAccess mode acc p) f (enableFrames mode acc f p)
       unfolding enableAccess
-      enable-yes y t u v = (v ∙ rw (u, t, mode-eager, ← low, ← g, y) refl, frames-stay p)
+      enable-yes y t u v = record { answer-is = v ∙ rw (u, t, mode-eager, ← low, ← g, y) refl; lent-is = frames-stay p }
 
-      pub enable-no : a ≡ false → (acc ≡ enableAccess mode acc p) × (f ≡ enableFrames mode acc f p)
+      pub enable-no : a ≡ false → Returned acc (enableAccess mode acc p) f (enableFrames mode acc f p)
       unfolding enableAccess
-      enable-no y = (sym (rw (mode-eager, ← low, ← g, y) refl), frames-stay p)
+      enable-no y = record { answer-is = sym (rw (mode-eager, ← low, ← g, y) refl); lent-is = frames-stay p }
 
     pub enabled-eager : 0 ≡ enabledNow mode acc f
     unfolding enabledNow

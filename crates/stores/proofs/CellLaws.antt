@@ -87,6 +87,12 @@ module _ (made w behind : ℕ) (l : List ℕ) {r : ℕ} {l′ : List ℕ} (b : B
       go true e = (ltb-true made (length l / 8) e, by-room true e)
       go false e = absurd (n (by-room false e .0))
 
+-- so many are zero, and the others as they were
+pub record Cleared (old new : List ℕ) (i : ℕ) : Type 0 where
+  pub below : i ≤ length old
+  pub long : length new ≡ length old
+  pub cleared : new ≡ replicate i 0 ++ drop i old
+
 -- a list that is filled whole
 pub filled : (a b : List ℕ) (i : ℕ) → a ≡ replicate i 0 ++ drop i b → i ≡ length b → a ≡ replicate (length b) 0
 filled a b i p q = p ∙ rw (drop-of-length-le b {i = i} (omega (arith, q)), append-nil {A = ℕ} (replicate i 0), q) refl

@@ -1,12 +1,13 @@
 // Access control, as one number. An eager run holds a pair: the set that the signing principal may use, and 2^32 times the granted set. A lazy run
 // holds how many numbers of its frame store are in use, two for each frame: the set that its principal may use, and the enabled set. A run's mode is
-// 1 if checks are enforced, and 2 more if it is lazy.
+// 1 if checks are enforced, 2 more if it is lazy, and 4 more if its numbers are intervals.
 ghost use mathlib.Core.Bool.{true, false};
 ghost use mathlib.Core.Path.{_≡_};
 ghost use Prim.Native.Nat.{_<_};
 ghost use lib.ListN.{getD, set};
 ghost use Rattle.stores.specs.Access.{pairOf, lowOf, highOf, enforced, lazyMode, intervalMode, ModeIs, framesGrant, grantedOf, signAccess, signFrames, firstEnabled, enableAccess, enableFrames, enabledNow, restoreFrames};
 ghost use Rattle.stores.specs.Cells.{zerosLike};
+ghost use Rattle.stores.specs.Returns.{Returned};
 
 fn number_at(f: &[u32], i: usize) -> u32
     ensures { λ r. ⌜ r ≡ getD (now (f .entry)) i 0 ⌝ }
@@ -107,7 +108,7 @@ fn frames_grant(frames: &[u32], used: u32, p: u8) -> bool
 // Whether p is granted.
 pub fn granted(frames: &mut [u32], mode: usize, acc: u64, p: u8) -> bool
     requires { ⌜ p < 32 ⌝ }
-    ensures { λ r. ⌜ (r ≡ grantedOf mode acc (now (frames .entry)) p) × (now (frames .exit) ≡ now (frames .entry)) ⌝ }
+    ensures { λ r. ⌜ Returned r (grantedOf mode acc (now (frames .entry)) p) (now (frames .exit)) (now (frames .entry)) ⌝ }
 {
     if is_lazy(mode) {
         return frames_grant(frames, low(acc), p);
@@ -125,7 +126,7 @@ fn first_enabled(acc: u64) -> usize
 
 // What a sign by a principal that may use `may` makes of the access and of the frames.
 pub fn sign(frames: &mut [u32], mode: usize, acc: u64, may: u32) -> u64
-    ensures { λ r. ⌜ (r ≡ signAccess mode acc may) × (now (frames .exit) ≡ signFrames mode acc (now (frames .entry)) may) ⌝ }
+    ensures { λ r. ⌜ Returned r (signAccess mode acc may) (now (frames .exit)) (signFrames mode acc (now (frames .entry)) may) ⌝ }
 {
     if is_lazy(mode) {
         let at = low(acc) as usize;
@@ -139,7 +140,7 @@ pub fn sign(frames: &mut [u32], mode: usize, acc: u64, may: u32) -> u64
 // What an enable makes of the access and of the frames.
 pub fn enable(frames: &mut [u32], mode: usize, acc: u64, p: u8) -> u64
     requires { ⌜ p < 32 ⌝ }
-    ensures { λ r. ⌜ (r ≡ enableAccess mode acc p) × (now (frames .exit) ≡ enableFrames mode acc (now (frames .entry)) p) ⌝ }
+    ensures { λ r. ⌜ Returned r (enableAccess mode acc p) (now (frames .exit)) (enableFrames mode acc (now (frames .entry)) p) ⌝ }
 {
     if is_lazy(mode) {
         let at = first_enabled(acc);
@@ -155,7 +156,7 @@ pub fn enable(frames: &mut [u32], mode: usize, acc: u64, p: u8) -> u64
 
 // The enabled set of the first frame, to be restored when an enable ends.
 pub fn enabled_now(frames: &mut [u32], mode: usize, acc: u64) -> u32
-    ensures { λ r. ⌜ (r ≡ enabledNow mode acc (now (frames .entry))) × (now (frames .exit) ≡ now (frames .entry)) ⌝ }
+    ensures { λ r. ⌜ Returned r (enabledNow mode acc (now (frames .entry))) (now (frames .exit)) (now (frames .entry)) ⌝ }
 {
     if is_lazy(mode) {
         return number_at(frames, first_enabled(acc));

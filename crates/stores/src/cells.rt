@@ -5,6 +5,7 @@ ghost use Prim.Native.Nat.{_+_, _*_, _<_, _≤_};
 ghost use lib.ListN.{length};
 ghost use Rattle.program.specs.Bytes.{word16};
 ghost use Rattle.stores.specs.Cells.{behindOf, walkOf, heldOf, lookOf, set16, cellSet, nextCell, Bound, zerosLike};
+ghost use Rattle.stores.specs.Returns.{Returned};
 use crate::words;
 
 fn get16(s: &[u8], i: usize) -> u16
@@ -65,7 +66,7 @@ fn walk(cells: &[u8], env: u16, k: u16) -> u16
 
 // The value of the variable t that is k bindings away.
 pub fn look(cells: &mut [u8], t: u16, env: u16, k: u16) -> u64
-    ensures { λ r. ⌜ (r ≡ lookOf (now (cells .entry)) t env k) × (now (cells .exit) ≡ now (cells .entry)) ⌝ }
+    ensures { λ r. ⌜ Returned r (lookOf (now (cells .entry)) t env k) (now (cells .exit)) (now (cells .entry)) ⌝ }
 {
     let e = walk(cells, env, k);
     if e == 0 {

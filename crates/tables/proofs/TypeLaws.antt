@@ -24,6 +24,16 @@ use Rattle.program.specs.declared.records.Counts.{Counts}
 use Rattle.program.specs.declared.records.TypeRecord.{TypeRecord}
 
 -- ---- no equal record before
+-- none of the types from j to n - 1 has the record of t, so that the first j decide as the first n
+pub record FreshFrom (s : List ℕ) (t n j : ℕ) : Type 0 where
+  pub below : j ≤ n
+  pub rest-is : fresh s t n ≡ fresh s t j
+
+-- the word stands in none of the records from k to n - 1, the first of which has its place at i
+pub record NotMetFrom (s : List ℕ) (i n eight k : ℕ) : Type 0 where
+  pub below : k ≤ n
+  pub not-met : (m : ℕ) → k ≤ m → m < n → leWord s (i + 10 * m) 8 ≡ eight → ⊥
+
 fresh-step : (s : List ℕ) (t j : ℕ) → 0 < j → fresh s t j ≡ (not (sameBytes s (typeAt s (j - 1)) (typeAt s t) 10) && fresh s t (j - 1))
 fresh-step s t zero h = absurd (omega arith)
 fresh-step s t (suc k) h = let e : suc k - 1 ≡ k = omega arith in ap (λ (x : ℕ). not (sameBytes s (typeAt s x) (typeAt s t) 10) && fresh s t x) (sym e)

@@ -13,6 +13,11 @@ use Rattle.program.specs.Decoding.{sameBytes}
 use Rattle.tables.specs.Internal.{leWord}
 
 -- ---- a word, byte by byte from the last
+-- w is the word of all but the first `left`
+pub record WordFrom (s : List ℕ) (at width left w : ℕ) : Type 0 where
+  pub below : left ≤ width
+  pub word-is : w ≡ leWord s (at + left) (width - left)
+
 pub word-none : (s : List ℕ) (at width : ℕ) → 0 ≡ leWord s (at + width) (width - width)
 unfolding leWord
 word-none s at width = let e : 0 ≡ width - width = omega arith in ap (leWord s (at + width)) e

@@ -37,6 +37,11 @@ pub record Laid (s : List ℕ) (c : Counts) : Type 0 where
   pub counts-are : CountsOf s c
   pub none-found : None (fieldConditions s)
 
+-- a field of records of this size can be sought here: no index is too large, and a length can be divided by the size
+pub record FieldAt (at size : ℕ) : Type 0 where
+  pub near : at < 16384
+  pub positive : 0 < size
+
 pub record FieldHolds (s : List ℕ) (at tag size least most n : ℕ) : Type 0 where
   pub count : n ≡ word16 s (at + 1) / size
   pub least-are : least ≤ n
@@ -96,6 +101,11 @@ pub record Passed (ok : ℕ → Bool) (count n t : ℕ) : Type 0 where
 unfoldable pub leWord : List ℕ → (at width : ℕ) → ℕ
 leWord s i zero = 0
 leWord s i (suc n) = byte s i + 256 * leWord s (i + 1) n
+
+-- so many bytes lie in the sheet, and a number of 64 bits has room for them
+pub record WordAt (s : List ℕ) (at width : ℕ) : Type 0 where
+  pub inside : at + width ≤ length s
+  pub short : width ≤ 8
 
 -- the type table begins at `at`, and the record of type t lies in the sheet
 pub record TableAt (s : List ℕ) (at t : ℕ) : Type 0 where

@@ -2,7 +2,7 @@
 ghost use mathlib.Core.Path.{_≡_};
 ghost use Prim.Native.Nat.{_<_};
 ghost use Rattle.program.specs.Decoding.{holds as holdsOf};
-ghost use Rattle.tables.specs.Internal.{FieldIs, VersionIs, endAt, endConditions, AfterTerms, EndIs, HeaderIs};
+ghost use Rattle.tables.specs.Internal.{FieldAt, FieldIs, VersionIs, endAt, endConditions, AfterTerms, EndIs, HeaderIs};
 use accessors::be16;
 use program::answer::Refusal;
 use program::limits::CHANNEL_PLACES;
@@ -46,7 +46,7 @@ fn holds(len: u16, size: u16, least: u16, most: u16) -> bool
 
 // The field whose tag stands at `at`.
 fn read_field(s: &[u8], at: usize, tag: u8, size: u16, least: u16, most: u16) -> Field
-    requires { ⌜ (at < 16384) × (0 < size) ⌝ }
+    requires { ⌜ FieldAt at size ⌝ }
     ensures { λ r. ⌜ FieldIs (now (s .entry)) at tag size least most r ⌝ }
 {
     if s.len() < at + 3 {

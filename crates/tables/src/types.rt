@@ -7,7 +7,7 @@ ghost use lib.ListN.{length};
 ghost use Rattle.program.specs.Layout.{types};
 ghost use Rattle.program.specs.Screening.{lowest};
 ghost use Rattle.program.specs.Decoding.{fresh, typeOk};
-ghost use Rattle.tables.specs.Internal.{leWord, Laid, TableAt, TypesBefore, DepthsBefore, DepthIs, foundOf};
+ghost use Rattle.tables.specs.Internal.{leWord, WordAt, Laid, TableAt, TypesBefore, DepthsBefore, DepthIs, foundOf};
 use crate::search::Found;
 use accessors::type_record;
 use program::limits::MAX_TYPE_DEPTH;
@@ -26,7 +26,7 @@ pub enum Depth {
 
 // So many bytes, at most 8, as one number, lowest first: words are only compared here, and of this order the compiler makes one load.
 fn le_word(s: &[u8], at: usize, width: usize) -> u64
-    requires { ⌜ (at + width ≤ length (now s)) × (width ≤ 8) ⌝ }
+    requires { ⌜ WordAt (now s) at width ⌝ }
     ensures { λ r. ⌜ r ≡ leWord (now (s .entry)) at width ⌝ }
 {
     let mut w = 0;

@@ -45,6 +45,6 @@ abbrev pub ifBoth : Bool → (unit office : List ℕ) → Comparison
 ifBoth true u o = compared (trace u) (trace o)
 ifBoth false u o = refused 34 0
 
--- "Either record with a part of an entry or a yes-or-no byte above 1 is 34", at place 0, "as wherever a number has none named" (W9)
+-- "Either record with a part of an entry or a yes-or-no byte above 1 is 34", at place 0, "as wherever a number has none named" (01)
 unfoldable pub comparison : (unit office : List ℕ) → Comparison
 comparison u o = ifBoth (wellFormed u && wellFormed o) u o

@@ -1,4 +1,4 @@
--- The rules as an algorithm: the type and least needs of a term, or its first fault, 9 to 12.
+-- The rules as an algorithm: the type and least needs of a term, or its first fault, 9 to 12 and 24 to 26.
 -- 01, "Who can cause which refusal": "Children are judged in the order first, second, third, then the term; 10 before 12".
 use mathlib.Core.Bool.{Bool, true, false, _&&_}
 use mathlib.Core.List.{List, _∷_}

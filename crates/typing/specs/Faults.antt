@@ -1,4 +1,4 @@
--- Where a term stands in another, and what the type faults 24, 25 and 26 say of a term there.
+-- Where a term stands in another, and what the type faults 24, 25, 26 and 10 say of a term there.
 use mathlib.Core.Bool.{true, false}
 use mathlib.Core.List.{List, _∷_}
 use mathlib.Core.Option.{Option}
@@ -43,10 +43,38 @@ pub data Wrong (T : Types) (A : ℕ → ℕ) (Γ : List ℕ) (n : ℕ) : (cause 
   unfit-test : {at p τ N ρ M : ℕ} {y o : Term} → infer T A Γ n y ≡ typed τ N → infer T A Γ n o ≡ typed ρ M
       → subtype T τ ρ ≡ false → subtype T ρ τ ≡ false → Wrong T A Γ n 26 at (test at p y o)
 
--- a fault of a term: some term in it, in its bindings and under its principal, is wrong as the fault's number says
-pub record FaultyPart (T : Types) (A : ℕ → ℕ) (Γ : List ℕ) (n : ℕ) (c : Term) (cause at : ℕ) : Type 0 where
+-- "all other type faults stay 10": what else 01's rules ask of a term's types isn't so. The term's number is `at`, and its children have types. That a
+-- function and a recursive binder name a function's type is the reader's to ask, by 6.
+pub data Ten (T : Types) (A : ℕ → ℕ) (Γ : List ℕ) (n : ℕ) : (at : ℕ) → Term → Type 0 where
+  -- "A body has exactly the result type"
+  other-result : {at ty τ N : ℕ} {body : Term} → infer T A (T .arg ty ∷ Γ) n body ≡ typed τ N → (τ ≡ T .res ty → ⊥)
+      → Ten T A Γ n at (function at ty body)
+  -- "Recursive binder: the body as for a function"
+  other-letrec-result : {at ty τ N ρ M : ℕ} {body rest : Term} → infer T A (T .arg ty ∷ ty ∷ Γ) n body ≡ typed τ N
+      → infer T A (ty ∷ Γ) n rest ≡ typed ρ M → (τ ≡ T .res ty → ⊥) → Ten T A Γ n at (letrec at ty body rest)
+  -- "If: boolean condition"; whatever the branches are
+  not-a-boolean : {at σ N τ M ρ K : ℕ} {c y o : Term} → infer T A Γ n c ≡ typed σ N → infer T A Γ n y ≡ typed τ M → infer T A Γ n o ≡ typed ρ K
+      → (σ ≡ 0 → ⊥) → Ten T A Γ n at (if at c y o)
+  -- "Sum and difference: numbers give a number. Less: numbers give a boolean."
+  left-not-a-number : {at τ N ρ M : ℕ} {op : Op} {a b : Term} → infer T A Γ n a ≡ typed τ N → infer T A Γ n b ≡ typed ρ M → (τ ≡ 1 → ⊥)
+      → Ten T A Γ n at (binary at op a b)
+  right-not-a-number : {at τ N ρ M : ℕ} {op : Op} {a b : Term} → infer T A Γ n a ≡ typed τ N → infer T A Γ n b ≡ typed ρ M → (ρ ≡ 1 → ⊥)
+      → Ten T A Γ n at (binary at op a b)
+  -- "Post: number to number."
+  posted-not-a-number : {at ch τ N : ℕ} {g : Option ℕ} {c : Term} → infer T A Γ n c ≡ typed τ N → (τ ≡ 1 → ⊥) → Ten T A Γ n at (post at ch g c)
+
+-- some term in c, in the bindings and under the principal that it has there, is as `Is` says
+pub record SomePart (T : Types) (Is : List ℕ → ℕ → Term → Type 0) (Γ : List ℕ) (n : ℕ) (c : Term) : Type 0 where
   pub bindings : List ℕ
   pub principal : ℕ
   pub part : Term
   pub within : Within T bindings principal part Γ n c
-  pub wrong : Wrong T A bindings principal cause at part
+  pub is : Is bindings principal part
+
+-- a fault of a term: some term in it is wrong as the fault's number says
+abbrev pub FaultyPart : Types → (ℕ → ℕ) → List ℕ → ℕ → Term → (cause at : ℕ) → Type 0
+FaultyPart T A Γ n c cause at = SomePart T (λ Δ m d. Wrong T A Δ m cause at d) Γ n c
+
+-- and of 10
+abbrev pub TenPart : Types → (ℕ → ℕ) → List ℕ → ℕ → Term → (at : ℕ) → Type 0
+TenPart T A Γ n c at = SomePart T (λ Δ m d. Ten T A Δ m at d) Γ n c

@@ -1,7 +1,7 @@
 -- The theorems about the rules: subtyping is an order that the test decides; a readable sheet is accepted exactly if it has a derivation; the
 -- needs told are the least, and the type told is that of every derivation; what 01's own rules accept is accepted, with no more needs, and what the
 -- rules before W4 accept, with the same type and needs; a sheet of version 1 is judged as if there were no guards, and a guarded post needs its privilege;
--- and 24, 25 and 26 are told only where the types are as they say.
+-- and 24, 25, 26 and 10 are told of a term whose types are as they say, and of no other.
 use mathlib.Core.Bool.{Bool, true, false, cond}
 use mathlib.Core.List.{List, []}
 use mathlib.Core.Logic.{_↔_, _⊎_, inl, inr, ⊎-elim}
@@ -25,12 +25,12 @@ use Rattle.program.specs.Laws.Guards.{program-in-range, program-unguarded}
 use Rattle.typing.specs.Subtyping.{Subtype, sub-same, Wider, wider-second, wider-first, subtype}
 use Rattle.typing.specs.Rules.{Variant, base, afterW1, afterW4, current, Derives, d-post, d-widen}
 use Rattle.typing.specs.Checking.{Judgement, typed, fault, _next_, require, infer}
-use Rattle.typing.specs.Faults.{FaultyPart}
+use Rattle.typing.specs.Faults.{Wrong, Ten, FaultyPart, TenPart}
 use Rattle.typing.specs.Verdicts.{accepted, rejected, concluded, ifReadable, judgement, verdict, SheetDerivesBy, SheetDerives}
 use Rattle.typing.specs.Laws.Subtyping.{sub-trans, sub-antisym, subtype-sound, subtype-complete, wider-above}
 use Rattle.typing.specs.Laws.Checking.{infer-complete, infer-afterW1, infer-derives, typed-least, derives-least}
 use Rattle.typing.specs.Laws.Variants.{guard-needed, relaxed, current-relaxes-base, current-relaxes-afterW4, afterW4-relaxes-current}
-use Rattle.typing.specs.Laws.Faults.{infer-faulty, decoding-readers}
+use Rattle.typing.specs.Laws.Faults.{infer-faulty, infer-ten, wrong-fault, ten-fault, decoding-readers}
 
 -- ---- Theorem 1: subtyping
 
@@ -227,6 +227,37 @@ guarded-post {p = p} (d-post {N = N} d) = (guard-needed p N, (N, d, ⊆-insert p
 guarded-post {p = p} (d-widen d s) = let h = guarded-post d in (s .all p (h .0), (h .1 .0, h .1 .1, ⊆-trans (h .1 .2) s))
 
 -- ---- what W5's numbers say
+-- A term that is a call of what isn't a function, a call with an argument that doesn't fit, or an if or test with branches of which neither fits the other
+-- is told so: by 24, 25 or 26 in that order, at that term. It is 24 whatever the argument is: "at one call 24 goes before 25".
+pub wrong-told : (T : Types) (A : ℕ → ℕ) (Γ : List ℕ) (n cause at : ℕ) (c : Term) → Wrong T A Γ n cause at c → infer T A Γ n c ≡ fault cause at
+wrong-told T A Γ n cause at c w = wrong-fault T A w
+
+-- "all other type faults stay 10, and the place is still the term"; of an if whatever its branches are: "at one if 10 before 26"; of a function or letrec
+-- whatever its body needs: "10 before 12" (01)
+pub ten-told : (T : Types) (A : ℕ → ℕ) (Γ : List ℕ) (n at : ℕ) (c : Term) → Ten T A Γ n at c → infer T A Γ n c ≡ fault 10 at
+ten-told T A Γ n at c t = ten-fault T A t
+
+-- a refusal that is neither the reader's nor the root's is the rules'
+rejected-by-rules : (s : List ℕ) (cause at : ℕ) → verdict s ≡ rejected cause at → 9 ≤ cause → (cause ≡ 13 → ⊥) → (cause ≡ 31 → ⊥)
+    → judgement s ≡ fault cause at
+unfolding verdict
+rejected-by-rules s cause at e l not-13 not-31 = screened (decoding s) refl e
+  where
+    rooted : (b : Bool) (τ N : ℕ) → cond b (accepted (terms s) τ N) (rejected 13 (root s)) ≡ rejected cause at → judgement s ≡ fault cause at
+    rooted true τ N f = rejected≢accepted (sym f)
+    rooted false τ N f = absurd (not-13 (let z : cause ≡ 13 = cc in z))
+
+    judged : (j : Judgement) → judgement s ≡ j → concluded (terms s) (root s) j ≡ rejected cause at → judgement s ≡ fault cause at
+    judged (typed τ N) h f = rooted (ltb τ 2) τ N f
+    judged (fault c p) h f = h ∙ (let z : fault c p ≡ fault cause at = cc in z)
+
+    screened : (d : Screening) → decoding s ≡ d → ifReadable d (λ _. concluded (terms s) (root s) (judgement s)) ≡ rejected cause at
+        → judgement s ≡ fault cause at
+    screened clear h f = judged (judgement s) refl f
+    screened (found c p) h f =
+        let z : c ≡ cause = cc in
+        ⊎-elim (λ k. absurd (omega arith)) (λ k. absurd (not-31 (sym z ∙ k))) (decoding-readers s c p h)
+
 -- a term of the sheet, in the bindings and under the principal that it has there, is wrong as the number says, and its number is `at`
 abbrev pub TypeFault : List ℕ → (cause at : ℕ) → Type 0
 TypeFault s cause at = FaultyPart (typesOf s) (authority s) [] 0 (program s) cause at
@@ -235,20 +266,11 @@ TypeFault s cause at = FaultyPart (typesOf s) (authority s) [] 0 (program s) cau
 -- or test with branches of which neither fits the other, in the bindings and under the principal that it has in the sheet, and its children have types
 -- (Faults: Wrong, Within). No other number from 24 on is told but the reader's 31.
 pub type-faults : (s : List ℕ) (cause at : ℕ) → verdict s ≡ rejected cause at → 24 ≤ cause → (cause ≡ 31 → ⊥) → TypeFault s cause at
-unfolding verdict
-type-faults s cause at e l other = screened (decoding s) refl e
-  where
-    rooted : (b : Bool) (τ N : ℕ) → cond b (accepted (terms s) τ N) (rejected 13 (root s)) ≡ rejected cause at → TypeFault s cause at
-    rooted true τ N f = rejected≢accepted (sym f)
-    rooted false τ N f = absurd (let z : 13 ≡ cause = cc in omega arith)
+type-faults s cause at e l other =
+    infer-faulty (typesOf s) (authority s) [] 0 (program s) cause at (rejected-by-rules s cause at e (omega arith) (λ h. omega arith) other) l
 
-    judged : (j : Judgement) → judgement s ≡ j → concluded (terms s) (root s) j ≡ rejected cause at → TypeFault s cause at
-    judged (typed τ N) h f = rooted (ltb τ 2) τ N f
-    judged (fault c p) h f =
-        infer-faulty (typesOf s) (authority s) [] 0 (program s) cause at (h ∙ (let z : fault c p ≡ fault cause at = cc in z)) l
-
-    screened : (d : Screening) → decoding s ≡ d → ifReadable d (λ _. concluded (terms s) (root s) (judgement s)) ≡ rejected cause at → TypeFault s cause at
-    screened clear h f = judged (judgement s) refl f
-    screened (found c p) h f =
-        let z : c ≡ cause = cc in
-        ⊎-elim (λ k. absurd (omega arith)) (λ k. absurd (other (sym z ∙ k))) (decoding-readers s c p h)
+-- A sheet is refused by 10 at a term only if the body there has another type than the function's result, the condition is no boolean, an operand or what
+-- is posted is no number, in the bindings and under the principal that the term has in the sheet, and its children have types (Faults: Ten).
+pub other-type-faults : (s : List ℕ) (at : ℕ) → verdict s ≡ rejected 10 at → TenPart (typesOf s) (authority s) [] 0 (program s) at
+other-type-faults s at e =
+    infer-ten (typesOf s) (authority s) [] 0 (program s) at (rejected-by-rules s 10 at e (omega arith) (λ h. omega (arith, h)) (λ h. omega (arith, h)))

@@ -1,5 +1,5 @@
--- 01's judge on the bytes of a sheet: the reader's refusals 1 to 8 and 31, then the rules' 9 to 12 at a term, then "13 type of the root", which comes
--- last.
+-- 01's judge on the bytes of a sheet: the reader's refusals 1 to 8 and 31, then the rules' 9 to 12 and 24 to 26 at a term, then "13 type of the
+-- root", which comes last.
 use mathlib.Core.Bool.{cond}
 use mathlib.Core.List.{List, []}
 use Prim.Native.Nat.{ℕ}

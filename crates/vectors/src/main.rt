@@ -24,7 +24,7 @@ use input::read_vector;
 use output::line;
 use output::run_line;
 
-// What is told without a run.
+// What is told without a run; of a piece also the sum of the bytes that are handed back.
 fn judge(sheet: &[u8], term: u32) {
     let mut answer = [0u32; 8];
     let r = capi::sovzedal_decode(sheet, &mut answer);
@@ -32,7 +32,8 @@ fn judge(sheet: &[u8], term: u32) {
     let r2 = capi::sovzedal_typecheck(sheet, &mut answer);
     line(b"typecheck", r2, &answer);
     let r3 = capi::sovzedal_piece(sheet, &mut answer);
-    line(b"piece", r3, &answer);
+    let h = mix_cells(0, piece::record_of(sheet));
+    run_line(b"piece", r3, &answer, h);
     let r4 = capi::sovzedal_term(sheet, term, &mut answer);
     line(b"term", r4, &answer);
 }

@@ -11,9 +11,8 @@ const MOST: Duration = Duration::from_millis(100);
 const ROUNDS: usize = 5;
 
 /// How much longer an explanation may take than a judgement of the sheet: once
-/// for each of 32 levels, and once more for a call on the way, of which the
-/// function part is judged to see its type.
-const MOST_JUDGEMENTS: u32 = 2 * 32;
+/// for each of 32 levels.
+const MOST_JUDGEMENTS: u32 = 32;
 
 /// How much longer the search for the smallest faulty piece may take than a
 /// judgement of a whole sheet: each term is judged once, and there is more to

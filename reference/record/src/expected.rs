@@ -14,7 +14,7 @@ pub fn lines(vector: &Vector) -> String {
     [
         line("decode", decode(sheet).into(), &[]),
         line("typecheck", typecheck(sheet).into(), &[]),
-        line("piece", piece(sheet).into(), &[]),
+        piece_line(sheet),
         line("term", infer_term(sheet, vector.term).into(), &[]),
         eager("eager", vector, Checks::Enforced),
         eager("eager-skip", vector, Checks::Skipped),
@@ -36,6 +36,17 @@ fn line(name: &str, reply: Reply, more: &[u32]) -> String {
     let numbers = numbers.chain(more.iter().copied());
     let words: String = numbers.map(|number| format!(" {number}")).collect();
     format!("{name}{words}\n")
+}
+
+/// With the sum of the bytes that are handed back.
+fn piece_line(sheet: &[u8]) -> String {
+    let told = piece(sheet);
+    let record = match &told {
+        Ok(Some(piece)) => piece.record_in(sheet).to_vec(),
+        _ => Vec::new(),
+    };
+    let Checksum(sum) = Checksum::default().add(record);
+    line("piece", told.into(), &[sum])
 }
 
 /// The number of entries is the ninth of the answer.

@@ -40,6 +40,17 @@ fn functions_exist() {
 }
 
 #[test]
+fn what_a_public_function_requires_is_listed() {
+    let rows = architecture();
+    let listed: Vec<&str> = cells(&rows, &["function"]).flat_map(quoted).collect();
+    let requiring = crates().flat_map(|path| requiring(&path));
+    none(
+        "not listed",
+        requiring.filter(|path| !listed.contains(&path.as_str())),
+    );
+}
+
+#[test]
 fn words_of_promises_exist() {
     let rows = architecture();
     let sources = every_source("src").chain(every_source("specs"));
@@ -208,11 +219,38 @@ fn sources(crate_name: &str, file: &str) -> Vec<String> {
         .collect()
 }
 
+/// The paths of the public functions of a crate that have a `requires`.
+fn requiring(crate_folder: &Path) -> Vec<String> {
+    let name = |path: &Path| path.file_stem().unwrap().to_str().unwrap().to_owned();
+    let sources = fs::read_dir(crate_folder.join("src")).into_iter().flatten();
+    let mut paths = Vec::new();
+    for source in sources.map(|entry| entry.expect("a source").path()) {
+        let module = match name(&source).as_str() {
+            "lib" | "main" => name(crate_folder),
+            file => format!("{}::{file}", name(crate_folder)),
+        };
+        let text = fs::read_to_string(&source).expect("a text");
+        let functions = text.split("\npub fn ").skip(1);
+        for head in functions.filter_map(|text| text.split("\n{\n").next()) {
+            if head.contains("\n    requires ") {
+                let function = head.split(['(', '<']).next().unwrap();
+                paths.push(format!("{module}::{function}"));
+            }
+        }
+    }
+    paths
+}
+
 /// The texts in this folder of every crate.
 fn every_source(folder: &'static str) -> impl Iterator<Item = String> {
+    crates().flat_map(move |path| files(&path.join(folder)))
+}
+
+/// The folders of the crates.
+fn crates() -> impl Iterator<Item = PathBuf> {
     let crates = fs::read_dir(repository().join("crates"));
     let crates = crates.into_iter().flatten();
-    crates.flat_map(move |entry| files(&entry.expect("a crate").path().join(folder)))
+    crates.map(|entry| entry.expect("a crate").path())
 }
 
 /// The texts of all files below a directory, without comments.

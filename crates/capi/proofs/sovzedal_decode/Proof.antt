@@ -31,7 +31,7 @@ returns-2 c =
     let at-if1 = at-decode .before in
     let start = at-if1 .before .before .before in
     given (start .args .answer .now) (at-if1 .if1 .left) (at-of-decoded .of-decoded .ensures ∙ decoded-as (start .args .sheet .now) (at-decode .decode .result)
-    (at-decode .decode .ensures .0) (at-decode .decode .ensures .1)) (c .before .before .put .ensures)
+    (at-decode .decode .ensures .answer-is) (at-decode .decode .ensures .counts-are)) (c .before .before .put .ensures)
 
 pub sovzedal-decode-spec : {M : Type 1} → statement M
 sovzedal-decode-spec =

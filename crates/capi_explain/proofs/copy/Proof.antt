@@ -1,23 +1,21 @@
 -- `copy` writes the 32 terms to the list. The invariant: the first i are the terms, the others as they were, and i is at most 32; written-more makes it one
 -- more. The measure is 32 - i, the places left, and falls since each turn adds 1 to i. When the test fails, i is 32 (written-all).
 use native.Mathlib.Omega.{arith}
-use mathlib.Core.List.{_++_}
-use mathlib.Core.Path.{_≡_, refl}
-use Prim.Native.Nat.{_-_, _≤_}
-use lib.ListN.{take, drop}
+use mathlib.Core.Path.{refl}
+use Prim.Native.Nat.{_-_}
 use Rattle.program.specs.Limits.{maxNesting}
-use Rattle.replies.specs.Laws.{written-length, written-more, written-all}
+use Rattle.replies.specs.Laws.{Copied, written-length, written-more, written-all}
 use Rattle.capi_explain.proofs.copy.Statement.{statement}
 use Rattle.capi_explain.proofs.copy.Tie as tie
 
 abbrev Inv-loop : tie.InvT-loop
-Inv-loop chain₀ terms i₀ chain i = (i ≤ maxNesting) × (chain ≡ take i terms ++ drop i chain₀)
+Inv-loop chain₀ terms i₀ chain i = Copied maxNesting terms chain₀ i chain
 
 abbrev μ-loop : tie.MeasureT-loop
 μ-loop chain₀ terms i₀ chain i = maxNesting - i
 
 loop-holds : tie.Need-loop-holds Inv-loop μ-loop
-loop-holds c = (omega arith, refl)
+loop-holds c = record { below = omega arith; copied = refl }
 
 mul-chain : tie.Need-mul-chain Inv-loop μ-loop
 mul-chain c = omega arith
@@ -37,7 +35,7 @@ slice-write-chain c =
       c .loop-test .taken,
       start .pre,
       written-length maxNesting (start .args .t1) (start .args .chain .now) (at-loop .loop .i)
-          (start .good .0 .1 .0 .1) (start .pre) (at-loop .loop .inv .0) (at-loop .loop .inv .1),
+          (start .good .0 .1 .0 .1) (at-loop .loop .inv) (start .pre),
     )
 
 add-i : tie.Need-add-i Inv-loop μ-loop
@@ -49,25 +47,21 @@ loop-less c = omega (arith, c .loop-test .taken)
 loop-again : tie.Need-loop-again Inv-loop μ-loop
 loop-again c =
     let at-loop = c .before in
-    let start = at-loop .before in (
-      omega (arith, c .loop-test .taken),
-      written-more maxNesting (start .args .t1) (start .args .chain .now) (at-loop .loop .i) (start .good .0 .1 .0 .1)
-          (start .pre) (c .loop-test .taken) (at-loop .loop .inv .1),
-    )
+    let start = at-loop .before in
+    written-more maxNesting (start .args .t1) (start .args .chain .now) (at-loop .loop .i) (start .good .0 .1 .0 .1) (at-loop .loop .inv) (start .pre)
+    (c .loop-test .taken)
 
 same-length : tie.Need-same-length Inv-loop μ-loop
 same-length c =
     let at-loop = c .before in
     let start = at-loop .before in
-    written-length maxNesting (start .args .t1) (start .args .chain .now) (at-loop .loop .i) (start .good .0 .1 .0 .1) (start .pre) (at-loop .loop .inv .0)
-    (at-loop .loop .inv .1)
+    written-length maxNesting (start .args .t1) (start .args .chain .now) (at-loop .loop .i) (start .good .0 .1 .0 .1) (at-loop .loop .inv) (start .pre)
 
 returns : tie.Need-returns Inv-loop μ-loop
 returns c =
     let at-loop = c .before in
     let start = at-loop .before in
-    written-all maxNesting (start .args .t1) (start .args .chain .now) (at-loop .loop .i) (start .good .0 .1 .0 .1) (at-loop .loop .inv .0) (c .loop-test .left)
-    (at-loop .loop .inv .1)
+    written-all maxNesting (start .args .t1) (start .args .chain .now) (at-loop .loop .i) (start .good .0 .1 .0 .1) (at-loop .loop .inv) (c .loop-test .left)
 
 pub copy-spec : {M : Type 1} → statement M
 copy-spec =

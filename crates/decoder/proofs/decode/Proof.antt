@@ -1,5 +1,5 @@
--- A fault of the fields is the first condition that is found (told-header). Where they have none, none of their conditions is found, so that
--- screening the tables tells what screening the whole sheet tells (told-tables).
+-- A fault of the fields is the first condition that is found (header-found). Where they have none, none of their conditions is found, so that
+-- screening the tables tells what screening the whole sheet tells (tables-found).
 use Rattle.decoder.proofs.DecodeLaws.{header-found, header-laid, tables-found}
 use borrow.Author.Needs.{needs}
 use Rattle.decoder.proofs.decode.Statement.{statement}
@@ -22,16 +22,14 @@ tables-requires c κs =
 returns : tie.Need-returns
 returns c =
     let start = c .before .before .before .before .before in
-    (header-found (start .args .sheet .now) (c .before .f .given .1) (c .before .before .before .read-header .ensures), tt)
+    record { answer-is = header-found (start .args .sheet .now) (c .before .f .given .1) (c .before .before .before .read-header .ensures); counts-are = tt }
 
 returns-2 : tie.Need-returns-2
 returns-2 c =
     let at-read-header = c .before .before .before .before in
-    let start = at-read-header .before .before in (
-      tables-found (start .args .sheet .now) (header-laid (start .args .sheet .now) (c .before .before .c .given .1) (at-read-header .read-header .ensures))
-          (c .tables .result) (c .tables .ensures .0),
-      c .tables .ensures .1,
-    )
+    let start = at-read-header .before .before in
+    tables-found (start .args .sheet .now) (header-laid (start .args .sheet .now) (c .before .before .c .given .1) (at-read-header .read-header .ensures))
+    (c .tables .ensures)
 
 pub decode-spec : {M : Type 1} → statement M
 decode-spec =

@@ -17,19 +17,21 @@ enum-told c = search needs
 
 returns : tie.Need-returns
 returns c =
-    let start = c .before .before .before .before .before in (
-      found-31 (start .args .s .now) (start .pre .tables .types-ok .none-found) (start .pre .tables .terms-ok .none-found) (start .pre .places-ok)
-          (start .pre .nesting-ok) (found-at (c .before .channel .given .1) (c .before .before .before .bad-guard .ensures)),
-      tt,
-    )
+    let start = c .before .before .before .before .before in
+    record {
+      answer-is = found-31 (start .args .s .now) (start .pre .tables .types-ok .none-found) (start .pre .tables .terms-ok .none-found) (start .pre .places-ok)
+          (start .pre .nesting-ok) (found-at (c .before .channel .given .1) (c .before .before .before .bad-guard .ensures));
+      counts-are = tt;
+    }
 
 returns-2 : tie.Need-returns-2
 returns-2 c =
-    let start = c .before .before .before .before in (
-      none-found-readable (start .args .s .now) (start .pre .tables .types-ok .none-found) (start .pre .tables .terms-ok .none-found) (start .pre .places-ok)
-          (start .pre .nesting-ok) (found-none (c .enum-told .given .1) (c .before .before .bad-guard .ensures)),
-      start .pre .tables .laid .counts-are,
-    )
+    let start = c .before .before .before .before in
+    record {
+      answer-is = none-found-readable (start .args .s .now) (start .pre .tables .types-ok .none-found) (start .pre .tables .terms-ok .none-found)
+          (start .pre .places-ok) (start .pre .nesting-ok) (found-none (c .enum-told .given .1) (c .before .before .bad-guard .ensures));
+      counts-are = start .pre .tables .laid .counts-are;
+    }
 
 pub guarded-spec : {M : Type 1} → statement M
 guarded-spec =

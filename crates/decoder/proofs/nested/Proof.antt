@@ -48,13 +48,15 @@ guarded-requires c κs =
 returns : tie.Need-returns
 returns c =
     let at-nestings = c .before .before .before .before .before in
-    let start = at-nestings .before .before in (
-      found-8 (start .args .s .now) (start .pre .tables .types-ok .none-found) (start .pre .tables .terms-ok .none-found) (start .pre .places-ok .none-found)
+    let start = at-nestings .before .before in
+    record {
+      answer-is = found-8 (start .args .s .now) (start .pre .tables .types-ok .none-found) (start .pre .tables .terms-ok .none-found)
+          (start .pre .places-ok .none-found)
           (found-at (c .before .t .given .1) (c .before .before .before .too-deep .ensures ∙ deep-at (start .args .s .now) (start .args .parents .now)
           (start .pre .tables .terms-ok) ((fields-ok (start .args .s .now) (start .pre .tables .laid .none-found)) .terms-high) (start .pre .places-ok)
-          (start .pre .tables .laid .counts-are .terms-are) _ (at-nestings .nestings .ensures))),
-      tt,
-    )
+          (start .pre .tables .laid .counts-are .terms-are) _ (at-nestings .nestings .ensures)));
+      counts-are = tt;
+    }
 
 returns-2 : tie.Need-returns-2
 returns-2 c = search needs

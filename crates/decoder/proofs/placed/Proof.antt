@@ -1,4 +1,4 @@
--- A term that is wrongly placed is refusal 7, since types and terms are right (told-7). Where none is found, that and the list of parents is what
+-- A term that is wrongly placed is refusal 7, since types and terms are right (found-7). Where none is found, that and the list of parents is what
 -- `nested` requires, and its answer is the answer.
 use Rattle.program.specs.Laws.Order.{found-7}
 use Rattle.decoder.proofs.DecodeLaws.{found-at, found-none}
@@ -33,11 +33,12 @@ nested-requires c κs =
 
 returns : tie.Need-returns
 returns c =
-    let start = c .before .before .before .before .before .before .before in (
-      found-7 (start .args .s .now) (start .pre .types-ok .none-found) (start .pre .terms-ok .none-found)
-          (found-at (c .before .t .given .1) (c .before .before .before .bad-place .ensures)),
-      tt,
-    )
+    let start = c .before .before .before .before .before .before .before in
+    record {
+      answer-is = found-7 (start .args .s .now) (start .pre .types-ok .none-found) (start .pre .terms-ok .none-found)
+          (found-at (c .before .t .given .1) (c .before .before .before .bad-place .ensures));
+      counts-are = tt;
+    }
 
 returns-2 : tie.Need-returns-2
 returns-2 c = search needs

@@ -37,17 +37,21 @@ placed-requires c κs =
 returns : tie.Need-returns
 returns c =
     let start = c .before .before .before .before .before in
-    (found-5 (start .args .s .now) (found-at (c .before .t .given .1) (c .before .before .before .bad-type .ensures)), tt)
+    record {
+      answer-is = found-5 (start .args .s .now) (found-at (c .before .t .given .1) (c .before .before .before .bad-type .ensures));
+      counts-are = tt;
+    }
 
 returns-2 : tie.Need-returns-2
 returns-2 c =
     let at-enum-told = c .before .before .before .before in
     let at-bad-type = at-enum-told .before .before in
-    let start = at-bad-type .before .before in (
-      found-6 (start .args .s .now) (found-none (at-enum-told .enum-told .given .1) (at-bad-type .bad-type .ensures))
-          (found-at (c .before .t2 .given .1) (c .before .before .before .bad-term .ensures)),
-      tt,
-    )
+    let start = at-bad-type .before .before in
+    record {
+      answer-is = found-6 (start .args .s .now) (found-none (at-enum-told .enum-told .given .1) (at-bad-type .bad-type .ensures))
+          (found-at (c .before .t2 .given .1) (c .before .before .before .bad-term .ensures));
+      counts-are = tt;
+    }
 
 returns-3 : tie.Need-returns-3
 returns-3 c = search needs

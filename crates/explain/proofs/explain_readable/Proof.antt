@@ -1,11 +1,12 @@
 -- By the type checker's verdict; the needs that it accepts the sheet with are those of the root.
 use borrow.Author.Needs.{needs}
+use Rattle.checker.proofs.VerdictLaws.{sheet-of}
 use Rattle.explain.proofs.EntryLaws.{refused-unreadable, refused-fault, accepted-told, accepted-needs}
 use Rattle.explain.proofs.explain_readable.Statement.{statement}
 use Rattle.explain.proofs.explain_readable.Tie as tie
 
-typecheck-requires : tie.Need-typecheck-requires
-typecheck-requires c κs = search needs
+typecheck-readable-requires : tie.Need-typecheck-readable-requires
+typecheck-readable-requires c κs = search needs
 
 enum-known-v : tie.Need-enum-known-v
 enum-known-v c = search needs
@@ -25,34 +26,34 @@ enum-known-v-3 c = search needs
 explain-needs-requires : tie.Need-explain-needs-requires
 explain-needs-requires c κs =
     let start = c .before .before .before .before .before in
-    accepted-needs (start .pre) (c .before .before .before .typecheck .ensures) (c .before .v3 .given .1)
+    accepted-needs (sheet-of (start .pre)) (c .before .before .before .typecheck-readable .ensures) (c .before .v3 .given .1)
 
 returns : tie.Need-returns
 returns c =
-    let at-typecheck = c .before .before .before .before in
-    let start = at-typecheck .before .before in
-    refused-unreadable (start .args .s .now) (start .args .privilege) (at-typecheck .typecheck .ensures) (c .before .before .v .given .1)
+    let at-typecheck-readable = c .before .before .before .before in
+    let start = at-typecheck-readable .before .before in
+    refused-unreadable (start .args .s .now) (start .args .privilege) (at-typecheck-readable .typecheck-readable .ensures) (c .before .before .v .given .1)
     (c .without-chain .ensures)
 
 returns-2 : tie.Need-returns-2
 returns-2 c =
-    let at-typecheck = c .before .before .before .before in
-    let start = at-typecheck .before .before in
-    refused-fault (start .args .s .now) (start .args .privilege) (at-typecheck .typecheck .ensures) (c .before .before .v2 .given .1)
+    let at-typecheck-readable = c .before .before .before .before in
+    let start = at-typecheck-readable .before .before in
+    refused-fault (start .args .s .now) (start .args .privilege) (at-typecheck-readable .typecheck-readable .ensures) (c .before .before .v2 .given .1)
     (c .without-chain2 .ensures)
 
 returns-3 : tie.Need-returns-3
 returns-3 c =
-    let at-typecheck = c .before .before .before .before in
-    let start = at-typecheck .before .before in
-    accepted-told (start .args .s .now) (start .args .privilege) (at-typecheck .typecheck .ensures) (c .before .before .v3 .given .1)
+    let at-typecheck-readable = c .before .before .before .before in
+    let start = at-typecheck-readable .before .before in
+    accepted-told (start .args .s .now) (start .args .privilege) (at-typecheck-readable .typecheck-readable .ensures) (c .before .before .v3 .given .1)
     (c .explain-needs .ensures)
 
 pub explain-readable-spec : {M : Type 1} → statement M
 explain-readable-spec =
     tie.close
     (tie.spec
-    typecheck-requires
+    typecheck-readable-requires
     enum-known-v
     without-chain-requires
     enum-known-v-2

@@ -18,19 +18,20 @@ judge-readable-requires : tie.Need-judge-readable-requires
 judge-readable-requires c κs =
     let decoded = c .before .before .before in
     let start = decoded .before .before in
-    readable-sheet (start .args .sheet .now) (decoded .decode .ensures .0) (c .before .d2 .given .1) (decoded .decode .ensures .1)
+    readable-sheet (start .args .sheet .now) (decoded .decode .ensures .answer-is) (c .before .d2 .given .1) (decoded .decode .ensures .counts-are)
 
 returns : tie.Need-returns
 returns c =
     let decoded = c .before .before .before in
     let start = decoded .before .before in
-    unreadable-judged (start .args .sheet .now) (start .args .term) (decoded .decode .ensures .0) (c .before .d .given .1)
+    unreadable-judged (start .args .sheet .now) (start .args .term) (decoded .decode .ensures .answer-is) (c .before .d .given .1)
 
 returns-2 : tie.Need-returns-2
 returns-2 c =
     let decoded = c .before .before .before .before in
     let start = decoded .before .before in
-    readable-judged (start .args .sheet .now) (start .args .term) (decoded .decode .ensures .0) (c .before .before .d2 .given .1) (c .judge-readable .ensures)
+    readable-judged (start .args .sheet .now) (start .args .term) (decoded .decode .ensures .answer-is) (c .before .before .d2 .given .1)
+    (c .judge-readable .ensures)
 
 pub judge-spec : {M : Type 1} → statement M
 judge-spec =

@@ -38,14 +38,14 @@ returns-2 : tie.Need-returns-2
 returns-2 c =
     let start = c .before .before .before .before .before .before .before .before in
     as-unread (start .args .sheet .now) (start .args .calls) (start .args .cells .now) (start .args .posts .now) (start .args .right)
-    (c .before .before .before .decode .ensures .0) (c .before .d .given .1)
+    (c .before .before .before .decode .ensures .answer-is) (c .before .d .given .1)
 
 returns-3 : tie.Need-returns-3
 returns-3 c =
     let at-if1 = c .before .before .before .before in
     let start = at-if1 .before .before .before .before in
     as-buffers (start .args .sheet .now) (start .args .calls) (start .args .cells .now) (start .args .posts .now) (start .args .right)
-    (c .before .before .before .decode .ensures .0) (at-if1 .if1 .left) (c .before .d2 .given .1)
+    (c .before .before .before .decode .ensures .answer-is) (at-if1 .if1 .left) (c .before .d2 .given .1)
 
 pub run-lent-spec : {M : Type 1} → statement M
 run-lent-spec =

@@ -1,6 +1,6 @@
--- A sheet that the reader refuses has that for its verdict, and one that is read is well-formed and has its counts.
+-- A sheet that the reader refuses has that for its verdict, and one that is read has its counts.
 use borrow.Author.Needs.{needs}
-use Rattle.checker.proofs.VerdictLaws.{unreadable-is, readable-sheet}
+use Rattle.checker.proofs.VerdictLaws.{unreadable-is, readable-counted}
 use Rattle.lean.proofs.EntryLaws.{unreadable-told}
 use Rattle.lean.proofs.erase.Statement.{statement}
 use Rattle.lean.proofs.erase.Tie as tie
@@ -18,14 +18,15 @@ erase-readable-requires : tie.Need-erase-readable-requires
 erase-readable-requires c κs =
     let at-decode = c .before .before .before .before in
     let start = at-decode .before .before .before in
-    readable-sheet (start .args .sheet .now) (at-decode .decode .ensures .0) (c .before .before .d2 .given .1) (at-decode .decode .ensures .1)
+    readable-counted (start .args .sheet .now) (at-decode .decode .ensures .answer-is) (c .before .before .d2 .given .1)
+    (at-decode .decode .ensures .counts-are)
 
 returns : tie.Need-returns
 returns c =
     let at-d = c .before in
     let start = at-d .before .before .before .before .before in
     unreadable-told (start .args .sheet .now) (start .args .buffer .now) (at-d .d .given .0 .0)
-    (unreadable-is (start .args .sheet .now) (c .before .before .before .decode .ensures .0) (at-d .d .given .1))
+    (unreadable-is (start .args .sheet .now) (c .before .before .before .decode .ensures .answer-is) (at-d .d .given .1))
 
 same-length : tie.Need-same-length
 same-length c = search needs

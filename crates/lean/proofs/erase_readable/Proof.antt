@@ -1,11 +1,12 @@
 -- By the type checker's verdict.
 use borrow.Author.Needs.{needs}
+use Rattle.checker.proofs.VerdictLaws.{sheet-of}
 use Rattle.lean.proofs.EntryLaws.{refused-unreadable, refused-fault, accepted-told}
 use Rattle.lean.proofs.erase_readable.Statement.{statement}
 use Rattle.lean.proofs.erase_readable.Tie as tie
 
-typecheck-requires : tie.Need-typecheck-requires
-typecheck-requires c κs = search needs
+typecheck-readable-requires : tie.Need-typecheck-readable-requires
+typecheck-readable-requires c κs = search needs
 
 enum-known-v : tie.Need-enum-known-v
 enum-known-v c = search needs
@@ -17,17 +18,19 @@ enum-told : tie.Need-enum-told
 enum-told c = search needs
 
 erase-accepted-requires : tie.Need-erase-accepted-requires
-erase-accepted-requires c κs = search needs
+erase-accepted-requires c κs =
+    let start = c .before .before .before .before .before .before in
+    sheet-of (start .pre)
 
 returns : tie.Need-returns
 returns c =
     let start = c .before .before .before .before .before .before in
-    refused-unreadable (start .args .s .now) (start .args .buffer .now) (c .before .before .before .typecheck .ensures) (c .before .v .given .1)
+    refused-unreadable (start .args .s .now) (start .args .buffer .now) (c .before .before .before .typecheck-readable .ensures) (c .before .v .given .1)
 
 returns-2 : tie.Need-returns-2
 returns-2 c =
     let start = c .before .before .before .before .before .before in
-    refused-fault (start .args .s .now) (start .args .buffer .now) (c .before .before .before .typecheck .ensures) (c .before .v2 .given .1)
+    refused-fault (start .args .s .now) (start .args .buffer .now) (c .before .before .before .typecheck-readable .ensures) (c .before .v2 .given .1)
 
 same-length : tie.Need-same-length
 same-length c = search needs
@@ -35,16 +38,16 @@ same-length c = search needs
 returns-3 : tie.Need-returns-3
 returns-3 c =
     let at-enum-told = c .before .before .before .before in
-    let at-typecheck = at-enum-told .before .before in
-    let start = at-typecheck .before .before .before in
-    accepted-told (start .args .s .now) (start .args .buffer .now) (at-typecheck .typecheck .ensures) (at-enum-told .enum-told .given .1)
+    let at-typecheck-readable = at-enum-told .before .before in
+    let start = at-typecheck-readable .before .before .before in
+    accepted-told (start .args .s .now) (start .args .buffer .now) (at-typecheck-readable .typecheck-readable .ensures) (at-enum-told .enum-told .given .1)
     (c .before .before .erase-accepted .ensures)
 
 pub erase-readable-spec : {M : Type 1} → statement M
 erase-readable-spec =
     tie.close
     (tie.spec
-    typecheck-requires
+    typecheck-readable-requires
     enum-known-v
     enum-known-v-2
     enum-told

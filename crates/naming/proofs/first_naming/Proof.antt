@@ -1,5 +1,5 @@
 -- The search from t on finds what the whole search finds (Seeking), since no term below t names p (seek-more). A term that does is the lowest (seek-here), and
--- past the last there is none (seek-past). The terms that are left, n - t, fall.
+-- past the last there is none (seek-past). The terms that are left, n - t, fall, since each turn adds 1 to t.
 use native.Mathlib.Omega.{arith}
 use Prim.Native.Nat.{_-_}
 use Rattle.naming.proofs.NamingLaws.{asked-term, NotNamedBelow, seek-start, seek-here, seek-more, seek-past}

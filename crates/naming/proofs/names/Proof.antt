@@ -19,18 +19,18 @@ names-readable-requires : tie.Need-names-readable-requires
 names-readable-requires c κs =
     let at-decode = c .before .before .before in
     let start = at-decode .before .before in
-    readable-sheet (start .args .sheet .now) (at-decode .decode .ensures .0) (c .before .d2 .given .1) (at-decode .decode .ensures .1)
+    readable-sheet (start .args .sheet .now) (at-decode .decode .ensures .answer-is) (c .before .d2 .given .1) (at-decode .decode .ensures .counts-are)
 
 returns : tie.Need-returns
 returns c =
     let start = c .before .before .before .before .before in
-    unreadable-told (start .args .sheet .now) (start .args .privilege) (c .before .before .before .decode .ensures .0) (c .before .d .given .1)
+    unreadable-told (start .args .sheet .now) (start .args .privilege) (c .before .before .before .decode .ensures .answer-is) (c .before .d .given .1)
 
 returns-2 : tie.Need-returns-2
 returns-2 c =
     let at-decode = c .before .before .before .before in
     let start = at-decode .before .before in
-    readable-told (start .args .sheet .now) (start .args .privilege) (at-decode .decode .ensures .0) (c .before .before .d2 .given .1)
+    readable-told (start .args .sheet .now) (start .args .privilege) (at-decode .decode .ensures .answer-is) (c .before .before .d2 .given .1)
     (c .names-readable .ensures)
 
 pub names-spec : {M : Type 1} → statement M

@@ -21,19 +21,19 @@ locate-readable-requires : tie.Need-locate-readable-requires
 locate-readable-requires c κs =
     let decoded = c .before .before .before in
     let start = decoded .before .before in
-    readable-sheet (start .args .sheet .now) (decoded .decode .ensures .0) (c .before .d2 .given .1) (decoded .decode .ensures .1)
+    readable-sheet (start .args .sheet .now) (decoded .decode .ensures .answer-is) (c .before .d2 .given .1) (decoded .decode .ensures .counts-are)
 
 returns : tie.Need-returns
 returns c =
     let decoded = c .before .before .before .before in
     let start = decoded .before .before in
-    unreadable-located (start .args .sheet .now) (decoded .decode .ensures .0) (c .before .before .d .given .1) (c .nowhere .ensures)
+    unreadable-located (start .args .sheet .now) (decoded .decode .ensures .answer-is) (c .before .before .d .given .1) (c .nowhere .ensures)
 
 returns-2 : tie.Need-returns-2
 returns-2 c =
     let decoded = c .before .before .before .before in
     let start = decoded .before .before in
-    readable-located (start .args .sheet .now) (decoded .decode .ensures .0) (c .before .before .d2 .given .1) (c .locate-readable .ensures)
+    readable-located (start .args .sheet .now) (decoded .decode .ensures .answer-is) (c .before .before .d2 .given .1) (c .locate-readable .ensures)
 
 pub locate-spec : {M : Type 1} → statement M
 locate-spec =

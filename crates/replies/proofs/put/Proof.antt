@@ -1,24 +1,22 @@
 -- `put` returns the status, and writes the eight numbers of the reply to the front of the list. The invariant: the first i numbers are the reply's, the
 -- others as they were, and i is at most 8; written-more makes it one number more. The measure is 8 - i, the numbers left, and falls since each turn adds
 -- 1 to i. When the test fails, i is 8 (written-all). The list keeps its length, which is at least 8, so every write is within it (written-length).
-use mathlib.Core.List.{_++_}
-use mathlib.Core.Path.{_≡_, refl}
-use Prim.Native.Nat.{_+_, _≤_, _-_}
+use mathlib.Core.Path.{refl}
+use Prim.Native.Nat.{_-_}
 use native.Mathlib.Omega.{arith}
-use lib.ListN.{take, drop}
 use Rattle.program.specs.Laws.Lists.{sized}
-use Rattle.replies.specs.Laws.{written-length, written-more, written-all}
+use Rattle.replies.specs.Laws.{Copied, written-length, written-more, written-all}
 use Rattle.replies.proofs.put.Statement.{statement}
 use Rattle.replies.proofs.put.Tie as tie
 
 abbrev Inv-loop : tie.InvT-loop
-Inv-loop reply answer₀ numbers i₀ answer i = (i ≤ 8) × (answer ≡ take i numbers ++ drop i answer₀)
+Inv-loop reply answer₀ numbers i₀ answer i = Copied 8 numbers answer₀ i answer
 
 abbrev μ-loop : tie.MeasureT-loop
 μ-loop reply answer₀ numbers i₀ answer i = 8 - i
 
 loop-holds : tie.Need-loop-holds Inv-loop μ-loop
-loop-holds c = (omega arith, refl)
+loop-holds c = record { below = omega arith; copied = refl }
 
 mul-answer : tie.Need-mul-answer Inv-loop μ-loop
 mul-answer c = omega arith
@@ -37,8 +35,8 @@ slice-write-answer c =
       arith,
       c .loop-test .taken,
       start .pre,
-      (written-length 8 (start .args .reply .numbers) (start .args .answer .now) (at-loop .loop .i)
-          (sized (start .args .reply .numbers) 8 (start .good .0 .1 .1 .1 .0 .1 .0 .1)) (start .pre) (at-loop .loop .inv .0) (at-loop .loop .inv .1)),
+      written-length 8 (start .args .reply .numbers) (start .args .answer .now) (at-loop .loop .i)
+          (sized (start .args .reply .numbers) 8 (start .good .0 .1 .1 .1 .0 .1 .0 .1)) (at-loop .loop .inv) (start .pre),
     )
 
 add-i : tie.Need-add-i Inv-loop μ-loop
@@ -50,27 +48,26 @@ loop-less c = omega arith
 loop-again : tie.Need-loop-again Inv-loop μ-loop
 loop-again c =
     let at-loop = c .before in
-    let start = at-loop .before .before in (
-      omega (arith, c .loop-test .taken),
-      written-more 8 (start .args .reply .numbers) (start .args .answer .now) (at-loop .loop .i)
-          (sized (start .args .reply .numbers) 8 (start .good .0 .1 .1 .1 .0 .1 .0 .1)) (start .pre) (c .loop-test .taken) (at-loop .loop .inv .1),
-    )
+    let start = at-loop .before .before in
+    written-more 8 (start .args .reply .numbers) (start .args .answer .now) (at-loop .loop .i)
+    (sized (start .args .reply .numbers) 8 (start .good .0 .1 .1 .1 .0 .1 .0 .1)) (at-loop .loop .inv) (start .pre) (c .loop-test .taken)
 
 same-length : tie.Need-same-length Inv-loop μ-loop
 same-length c =
     let at-loop = c .before in
     let start = at-loop .before .before in
-    (written-length 8 (start .args .reply .numbers) (start .args .answer .now) (at-loop .loop .i)
-    (sized (start .args .reply .numbers) 8 (start .good .0 .1 .1 .1 .0 .1 .0 .1)) (start .pre) (at-loop .loop .inv .0) (at-loop .loop .inv .1))
+    written-length 8 (start .args .reply .numbers) (start .args .answer .now) (at-loop .loop .i)
+    (sized (start .args .reply .numbers) 8 (start .good .0 .1 .1 .1 .0 .1 .0 .1)) (at-loop .loop .inv) (start .pre)
 
 returns : tie.Need-returns Inv-loop μ-loop
 returns c =
     let at-loop = c .before in
-    let start = at-loop .before .before in (
-      refl,
-      written-all 8 (start .args .reply .numbers) (start .args .answer .now) (at-loop .loop .i)
-          (sized (start .args .reply .numbers) 8 (start .good .0 .1 .1 .1 .0 .1 .0 .1)) (at-loop .loop .inv .0) (c .loop-test .left) (at-loop .loop .inv .1),
-    )
+    let start = at-loop .before .before in
+    record {
+      status-is = refl;
+      list-is = written-all 8 (start .args .reply .numbers) (start .args .answer .now) (at-loop .loop .i)
+          (sized (start .args .reply .numbers) 8 (start .good .0 .1 .1 .1 .0 .1 .0 .1)) (at-loop .loop .inv) (c .loop-test .left);
+    }
 
 pub put-spec : {M : Type 1} → statement M
 put-spec =

@@ -1,6 +1,6 @@
 -- The draft of `render` holds the printed text, and the buffers are left as `used` says, by the verdict of `typecheck`: a refused sheet is told and not
--- run (rejected-told), an accepted one is told with its run (accepted-told). The run's answer depends on the lengths of the buffers alone, and these are
--- the largest, as in the definition of the print, by the precondition (lent-largest).
+-- run (rejected-reported), an accepted one is told with its run (accepted-reported). The run's answer depends on the lengths of the buffers alone, and these
+-- are the largest, as in the definition of the print, by the precondition (buffers-largest).
 use mathlib.Core.Path.{sym, ap, _∙_}
 use Rattle.typing.specs.Answers.{verdictModel}
 use Rattle.report.proofs.ReportLaws.{rejected-reported, accepted-reported, buffers-largest}
@@ -62,7 +62,7 @@ returns-3 c =
     let at-typecheck = at-v3 .before .before in
     let start = at-typecheck .before .before .before .before in
     accepted-reported (start .args .sheet .now) _ (sym (ap verdictModel (at-v3 .v3 .given .1)) ∙ at-typecheck .typecheck .ensures)
-    (buffers-largest (start .args .cells .now) (start .args .posts .now) (start .pre .0) (start .pre .1)) (at-run-accepted .run-accepted .ensures)
+    (buffers-largest (start .args .cells .now) (start .args .posts .now) (start .pre)) (at-run-accepted .run-accepted .ensures)
 
 pub render-spec : {M : Type 1} → statement M
 render-spec =

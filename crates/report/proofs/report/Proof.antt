@@ -1,5 +1,5 @@
 -- `report` gives and leaves what `reported` says. Where the cell store (other-cells) or the list of posts (other-posts) has another length than the largest,
--- the answer is `Unfit` and nothing is touched; else `render` makes the printed text and runs the sheet, and `deliver` copies the text (all-told).
+-- the answer is `Unfit` and nothing is touched; else `render` makes the printed text and runs the sheet, and `deliver` copies the text (all-reported).
 use Rattle.report.proofs.ReportLaws.{other-cells, other-posts, all-reported}
 use borrow.Author.Needs.{needs}
 use Rattle.report.proofs.report.Statement.{statement}

@@ -1,5 +1,6 @@
--- `run_accepted` tells the answer of the run that `run_eager` makes: a refused one as a refusal (refused-told), any other as outcome and counts behind the
--- three lines of the acceptance (ran-told). The buffers are as that run leaves them. The texts, at most 53 and 209 bytes long, are within the 224 of a draft.
+-- `run_accepted` tells the answer of the run that `run_eager` makes: a refused one as a refusal (refused-reported), any other as outcome and counts behind the
+-- three lines of the acceptance (ran-reported). The buffers are as that run leaves them. The texts, at most 53 and 209 bytes long, are within the 224 of a
+-- draft.
 use Rattle.report.proofs.ReportLaws.{refused-reported, ran-reported}
 use borrow.Author.Needs.{needs}
 use Rattle.report.proofs.run_accepted.Statement.{statement}

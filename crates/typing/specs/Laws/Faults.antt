@@ -1,5 +1,6 @@
--- A term is refused by 24, 25 or 26 only where the types in it are as these say, and the reader refuses by lower numbers or by 31.
-use mathlib.Core.Bool.{Bool, true, false, cond, _&&_, _||_}
+-- A term is refused by 24, 25, 26 or 10 only where the types in it are as these say, a term whose types are so is refused by that number, and the reader
+-- refuses by lower numbers or by 31.
+use mathlib.Core.Bool.{Bool, true, false, not, cond, _&&_, _||_, false≢true, and-false}
 use mathlib.Core.List.{List, [], _∷_, _++_}
 use mathlib.Core.Logic.{_⊎_, inl, inr}
 use mathlib.Core.Option.{Option, none, some}
@@ -8,7 +9,7 @@ use Prim.Native.Nat.{ℕ, _<_, _≤_}
 use native.Mathlib.Omega.{arith}
 use lib.Dec.{eqb, ltb}
 use lib.ListN.{length}
-use borrow.Author.Tests.{eqb-true, ltb-true}
+use borrow.Author.Tests.{eqb-true, eqb-false, ne-eqb, ltb-true}
 use Rattle.privileges.specs.Booleans.{and-left, and-right}
 use Rattle.privileges.specs.Sets.{subset}
 use Rattle.program.specs.Limits.{maxPrincipals, maxTypes, maxTerms}
@@ -20,16 +21,38 @@ use Rattle.program.specs.Laws.Screening.{found-first}
 use Rattle.typing.specs.Subtyping.{subtype, wider}
 use Rattle.typing.specs.Rules.{bound}
 use Rattle.typing.specs.Checking.{Judgement, typed, fault, _next_, require, variableType, joined, bodyFits, infer}
-use Rattle.typing.specs.Faults.{Within, here, in-function, in-letrec-body, in-letrec-rest, in-call-function, in-call-argument, in-if-condition, in-if-yes, in-if-no, in-check, in-enable, in-sign, in-test-yes, in-test-no, in-left, in-right, in-post, Wrong, not-a-function, unfit-argument, unfit-if, unfit-test, FaultyPart}
+use Rattle.typing.specs.Faults.{Within, here, in-function, in-letrec-body, in-letrec-rest, in-call-function, in-call-argument, in-if-condition, in-if-yes, in-if-no, in-check, in-enable, in-sign, in-test-yes, in-test-no, in-left, in-right, in-post, Wrong, not-a-function, unfit-argument, unfit-if, unfit-test, Ten, other-result, other-letrec-result, not-a-boolean, left-not-a-number, right-not-a-number, posted-not-a-number, SomePart, FaultyPart, TenPart}
 
--- a judgement of a term: typed, a fault with a lower number, or a fault of a part of it
+-- ---- only where the types are so
+
+-- the numbers that are no type fault: 9, 11 and 12
+abbrev other : (cause : ℕ) → Bool
+other cause = ltb cause 24 && not (eqb cause 10)
+
+-- a judgement of a term: typed, a fault with another number, or a type fault of a part of it
 data Explained (T : Types) (A : ℕ → ℕ) (Γ : List ℕ) (n : ℕ) (c : Term) : Judgement → Type 0 where
   well : {τ N : ℕ} → Explained T A Γ n c (typed τ N)
-  lower : {cause at : ℕ} → cause < 24 → Explained T A Γ n c (fault cause at)
+  otherwise : {cause at : ℕ} → other cause ≡ true → Explained T A Γ n c (fault cause at)
+  ten : {at : ℕ} → TenPart T A Γ n c at → Explained T A Γ n c (fault 10 at)
   faulty : {cause at : ℕ} → FaultyPart T A Γ n c cause at → Explained T A Γ n c (fault cause at)
 
+module _ {T : Types} {Is : List ℕ → ℕ → Term → Type 0} {Γ : List ℕ} {n : ℕ} {c : Term} where
+  -- what is within a child is within the term
+  above : {Γ′ : List ℕ} {n′ : ℕ} {c′ : Term}
+      → ((Δ : List ℕ) (m : ℕ) (d : Term) → Within T Δ m d Γ′ n′ c′ → Within T Δ m d Γ n c) → SomePart T Is Γ′ n′ c′ → SomePart T Is Γ n c
+  above up f = record {
+    bindings = f .bindings;
+    principal = f .principal;
+    part = f .part;
+    within = up (f .bindings) (f .principal) (f .part) (f .within);
+    is = f .is;
+  }
+
+  self : Is Γ n c → SomePart T Is Γ n c
+  self h = record { bindings = Γ; principal = n; part = c; within = here; is = h }
+
 module _ {T : Types} {A : ℕ → ℕ} {Γ : List ℕ} {n : ℕ} {c : Term} where
-  -- a child first: what is within it is within the term
+  -- a child first
   next-explained : {Γ′ : List ℕ} {n′ : ℕ} {c′ : Term} (k : ℕ → ℕ → Judgement) → Explained T A Γ′ n′ c′ (infer T A Γ′ n′ c′)
       → ((Δ : List ℕ) (m : ℕ) (d : Term) → Within T Δ m d Γ′ n′ c′ → Within T Δ m d Γ n c)
       → ((τ N : ℕ) → infer T A Γ′ n′ c′ ≡ typed τ N → Explained T A Γ n c (k τ N)) → Explained T A Γ n c (infer T A Γ′ n′ c′ next k)
@@ -37,28 +60,36 @@ module _ {T : Types} {A : ℕ → ℕ} {Γ : List ℕ} {n : ℕ} {c : Term} wher
     where
       go : (j : Judgement) → infer T A Γ′ n′ c′ ≡ j → Explained T A Γ′ n′ c′ j → Explained T A Γ n c (j next k)
       go (typed τ N) e well = h τ N e
-      go (fault cause at) e (lower l) = lower l
-      go (fault cause at) e (faulty f) = faulty (record {
-        bindings = f .bindings;
-        principal = f .principal;
-        part = f .part;
-        within = up (f .bindings) (f .principal) (f .part) (f .within);
-        wrong = f .wrong;
-      })
+      go (fault cause at) e (otherwise o) = otherwise o
+      go (fault cause at) e (ten f) = ten (above up f)
+      go (fault cause at) e (faulty f) = faulty (above up f)
 
   require-explained : (b : Bool) (cause at : ℕ) {j : Judgement} → (b ≡ false → Explained T A Γ n c (fault cause at)) → (b ≡ true → Explained T A Γ n c j)
       → Explained T A Γ n c (require b cause at j)
   require-explained true cause at f h = h refl
   require-explained false cause at f h = f refl
 
-  lower-explained : (b : Bool) (cause at : ℕ) {j : Judgement} → cause < 24 → (b ≡ true → Explained T A Γ n c j) → Explained T A Γ n c (require b cause at j)
-  lower-explained b cause at l h = require-explained b cause at (λ _. lower l) h
+  other-explained : (b : Bool) (cause at : ℕ) {j : Judgement} → other cause ≡ true → Explained T A Γ n c j → Explained T A Γ n c (require b cause at j)
+  other-explained b cause at o t = require-explained b cause at (λ _. otherwise o) (λ _. t)
 
-  body-explained : (at ty τ N : ℕ) {j : Judgement} → Explained T A Γ n c j → Explained T A Γ n c (bodyFits T A at ty τ N j)
-  body-explained at ty τ N t = lower-explained (eqb τ (T .res ty)) 10 at (omega arith) λ _. lower-explained (subset N (T .latent ty)) 12 at (omega arith) λ _. t
+  ten-explained : (x y at : ℕ) {j : Judgement} → ((x ≡ y → ⊥) → Ten T A Γ n at c) → (x ≡ y → Explained T A Γ n c j)
+      → Explained T A Γ n c (require (eqb x y) 10 at j)
+  ten-explained x y at f h = require-explained (eqb x y) 10 at (λ e. ten (self (f (eqb-false x y e)))) (λ e. h (eqb-true x y e))
 
-  self : {cause at : ℕ} → Wrong T A Γ n cause at c → Explained T A Γ n c (fault cause at)
-  self w = faulty (record { bindings = Γ; principal = n; part = c; within = here; wrong = w })
+  -- a body of type τ, by a function or a letrec
+  body-explained : (at ty τ N : ℕ) {j : Judgement} → ((τ ≡ T .res ty → ⊥) → Ten T A Γ n at c) → Explained T A Γ n c j
+      → Explained T A Γ n c (bodyFits T A at ty τ N j)
+  body-explained at ty τ N f t = ten-explained τ (T .res ty) at f λ _. other-explained (subset N (T .latent ty)) 12 at refl t
+
+  -- two operands of the types τ and ρ
+  operands-explained : (τ ρ at : ℕ) {j : Judgement} → ((τ ≡ 1 → ⊥) → Ten T A Γ n at c) → ((ρ ≡ 1 → ⊥) → Ten T A Γ n at c) → Explained T A Γ n c j
+      → Explained T A Γ n c (require (eqb τ 1 && eqb ρ 1) 10 at j)
+  operands-explained τ ρ at {j} f g t = go (eqb τ 1) (eqb ρ 1) refl refl
+    where
+      go : (x y : Bool) → eqb τ 1 ≡ x → eqb ρ 1 ≡ y → Explained T A Γ n c (require (x && y) 10 at j)
+      go true true p q = t
+      go true false p q = ten (self (g (eqb-false ρ 1 q)))
+      go false y p q = ten (self (f (eqb-false τ 1 p)))
 
   -- branches of the types τ and ρ
   branches-explained : (at τ ρ N : ℕ) → (subtype T τ ρ ≡ false → subtype T ρ τ ≡ false → Wrong T A Γ n 26 at c)
@@ -69,10 +100,10 @@ module _ {T : Types} {A : ℕ → ℕ} {Γ : List ℕ} {n : ℕ} {c : Term} wher
       go : (x y : Bool) → subtype T τ ρ ≡ x → subtype T ρ τ ≡ y → Explained T A Γ n c (joined at (cond x (some ρ) (cond y (some τ) none)) N)
       go true y e f = well
       go false true e f = well
-      go false false e f = self (h e f)
+      go false false e f = faulty (self (h e f))
 
   variable-explained : (at : ℕ) (o : Option ℕ) → Explained T A Γ n c (variableType at o)
-  variable-explained at none = lower {cause = 9} (omega arith)
+  variable-explained at none = otherwise {cause = 9} refl
   variable-explained at (some τ) = well
 
 module _ (T : Types) (A : ℕ → ℕ) where
@@ -81,34 +112,70 @@ module _ (T : Types) (A : ℕ → ℕ) where
   explained Γ n (boolean at b) = well
   explained Γ n (number at k) = well
   explained Γ n (variable at i) = variable-explained at (bound Γ i)
-  explained Γ n (function at ty body) = next-explained _ (explained (T .arg ty ∷ Γ) n body) (λ _ _ _ w. in-function w) λ τ N e. body-explained at ty τ N well
+  explained Γ n (function at ty body) = next-explained _ (explained (T .arg ty ∷ Γ) n body) (λ _ _ _ w. in-function w) λ τ N e.
+      body-explained at ty τ N (λ h. other-result e h) well
   explained Γ n (letrec at ty body rest) = next-explained _ (explained (T .arg ty ∷ ty ∷ Γ) n body) (λ _ _ _ w. in-letrec-body w) λ τ N e.
-      next-explained _ (explained (ty ∷ Γ) n rest) (λ _ _ _ w. in-letrec-rest w) λ ρ M e′. body-explained at ty τ N well
+      next-explained _ (explained (ty ∷ Γ) n rest) (λ _ _ _ w. in-letrec-rest w) λ ρ M e′.
+      body-explained at ty τ N (λ h. other-letrec-result e e′ h) well
   explained Γ n (call at f a) = next-explained _ (explained Γ n f) (λ _ _ _ w. in-call-function w) λ φ N e.
-      next-explained _ (explained Γ n a) (λ _ _ _ w. in-call-argument w) λ α M e′. require-explained (T .isFun φ) 24 at (λ h. self (not-a-function e e′ h)) λ h.
-      require-explained (subtype T α (T .arg φ)) 25 at (λ h′. self (unfit-argument e e′ h h′)) λ _. well
+      next-explained _ (explained Γ n a) (λ _ _ _ w. in-call-argument w) λ α M e′.
+      require-explained (T .isFun φ) 24 at (λ h. faulty (self (not-a-function e e′ h))) λ h.
+      require-explained (subtype T α (T .arg φ)) 25 at (λ h′. faulty (self (unfit-argument e e′ h h′))) λ _. well
   explained Γ n (if at c y o) = next-explained _ (explained Γ n c) (λ _ _ _ w. in-if-condition w) λ σ N e.
       next-explained _ (explained Γ n y) (λ _ _ _ w. in-if-yes w) λ τ M e′.
-      next-explained _ (explained Γ n o) (λ _ _ _ w. in-if-no w) λ ρ K e″. lower-explained (eqb σ 0) 10 at (omega arith) λ h. branches-explained at τ ρ _ λ p q.
-      unfit-if (e ∙ ap (λ (x : ℕ). typed x N) (eqb-true σ 0 h)) e′ e″ p q
+      next-explained _ (explained Γ n o) (λ _ _ _ w. in-if-no w) λ ρ K e″.
+      ten-explained σ 0 at (λ h. not-a-boolean e e′ e″ h) λ h. branches-explained at τ ρ _ λ p q.
+      unfit-if (e ∙ ap (λ (x : ℕ). typed x N) h) e′ e″ p q
   explained Γ n (check at p c) = next-explained _ (explained Γ n c) (λ _ _ _ w. in-check w) λ τ N e. well
   explained Γ n (enable at p c) = next-explained _ (explained Γ n c) (λ _ _ _ w. in-enable w) λ τ N e. well
-  explained Γ n (sign at m c) = next-explained _ (explained Γ m c) (λ _ _ _ w. in-sign w) λ τ N e.
-      lower-explained (subset N (A m)) 11 at (omega arith) λ _. well
+  explained Γ n (sign at m c) = next-explained _ (explained Γ m c) (λ _ _ _ w. in-sign w) λ τ N e. other-explained (subset N (A m)) 11 at refl well
   explained Γ n (test at p y o) = next-explained _ (explained Γ n y) (λ _ _ _ w. in-test-yes w) λ τ N e.
       next-explained _ (explained Γ n o) (λ _ _ _ w. in-test-no w) λ ρ M e′.
       branches-explained at τ ρ _ λ q r. unfit-test e e′ q r
   explained Γ n (binary at op a b) = next-explained _ (explained Γ n a) (λ _ _ _ w. in-left w) λ τ N e.
       next-explained _ (explained Γ n b) (λ _ _ _ w. in-right w) λ ρ M e′.
-      lower-explained (eqb τ 1 && eqb ρ 1) 10 at (omega arith) λ _. well
-  explained Γ n (post at ch g c) = next-explained _ (explained Γ n c) (λ _ _ _ w. in-post w) λ τ N e. lower-explained (eqb τ 1) 10 at (omega arith) λ _. well
+      operands-explained τ ρ at (λ h. left-not-a-number e e′ h) (λ h. right-not-a-number e e′ h) well
+  explained Γ n (post at ch g c) = next-explained _ (explained Γ n c) (λ _ _ _ w. in-post w) λ τ N e.
+      ten-explained τ 1 at (λ h. posted-not-a-number e h) λ _. well
 
   pub infer-faulty : (Γ : List ℕ) (n : ℕ) (c : Term) (cause at : ℕ) → infer T A Γ n c ≡ fault cause at → 24 ≤ cause → FaultyPart T A Γ n c cause at
   infer-faulty Γ n c cause at e l = go (subst (Explained T A Γ n c) e (explained Γ n c)) l
     where
       go : {cause at : ℕ} → Explained T A Γ n c (fault cause at) → 24 ≤ cause → FaultyPart T A Γ n c cause at
-      go (lower u) l = absurd (omega arith)
+      go (otherwise {cause} o) l = absurd (omega (arith, ltb-true cause 24 (and-left (ltb cause 24) (not (eqb cause 10)) o)))
+      go (ten f) l = absurd (omega arith)
       go (faulty f) l = f
+
+  wrong-from-24 : {Γ : List ℕ} {n cause at : ℕ} {c : Term} → Wrong T A Γ n cause at c → 24 ≤ cause
+  wrong-from-24 (not-a-function e e′ h) = omega arith
+  wrong-from-24 (unfit-argument e e′ h h′) = omega arith
+  wrong-from-24 (unfit-if e e′ e″ h h′) = omega arith
+  wrong-from-24 (unfit-test e e′ h h′) = omega arith
+
+  pub infer-ten : (Γ : List ℕ) (n : ℕ) (c : Term) (at : ℕ) → infer T A Γ n c ≡ fault 10 at → TenPart T A Γ n c at
+  infer-ten Γ n c at e = go (subst (Explained T A Γ n c) e (explained Γ n c))
+    where
+      go : {at : ℕ} → Explained T A Γ n c (fault 10 at) → TenPart T A Γ n c at
+      go (otherwise o) = absurd (false≢true o)
+      go (ten f) = f
+      go (faulty f) = absurd (omega (arith, wrong-from-24 (f .is)))
+
+  -- ---- where the types are so
+  pub wrong-fault : {Γ : List ℕ} {n cause at : ℕ} {c : Term} → Wrong T A Γ n cause at c → infer T A Γ n c ≡ fault cause at
+  unfolding infer wider
+  wrong-fault (not-a-function e e′ h) = simp (e, e′, h)
+  wrong-fault (unfit-argument e e′ h h′) = simp (e, e′, h, h′)
+  wrong-fault (unfit-if e e′ e″ h h′) = simp (e, e′, e″, h, h′)
+  wrong-fault (unfit-test e e′ h h′) = simp (e, e′, h, h′)
+
+  pub ten-fault : {Γ : List ℕ} {n at : ℕ} {c : Term} → Ten T A Γ n at c → infer T A Γ n c ≡ fault 10 at
+  unfolding infer
+  ten-fault (other-result {ty = ty} {τ = τ} e h) = simp (e, ne-eqb τ (T .res ty) h)
+  ten-fault (other-letrec-result {ty = ty} {τ = τ} e e′ h) = simp (e, e′, ne-eqb τ (T .res ty) h)
+  ten-fault (not-a-boolean {σ = σ} e e′ e″ h) = simp (e, e′, e″, ne-eqb σ 0 h)
+  ten-fault (left-not-a-number {τ = τ} e e′ h) = simp (e, e′, ne-eqb τ 1 h)
+  ten-fault (right-not-a-number {τ = τ} {ρ = ρ} e e′ h) = simp (e, e′, ne-eqb ρ 1 h, and-false)
+  ten-fault (posted-not-a-number {τ = τ} e h) = simp (e, ne-eqb τ 1 h)
 
 -- ---- the reader's numbers are others
 abbrev readers : ℕ → Bool

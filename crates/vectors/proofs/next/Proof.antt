@@ -18,7 +18,7 @@ slice-aggregate-vector : tie.Need-slice-aggregate-vector
 slice-aggregate-vector c =
     let at-read-vector = c .before .before .before in
     let start = at-read-vector .before .before .before .before .before .before in
-    part (at-read-vector .read-vector .result .start) (start .args .start .now) (at-read-vector .read-vector .ensures .0)
+    part (at-read-vector .read-vector .result .start) (start .args .start .now) (at-read-vector .read-vector .ensures .start-most)
 
 slice-relend-prefix-vector-2 : tie.Need-slice-relend-prefix-vector-2
 slice-relend-prefix-vector-2 c = search needs
@@ -27,7 +27,7 @@ slice-aggregate-vector-2 : tie.Need-slice-aggregate-vector-2
 slice-aggregate-vector-2 c =
     let at-read-vector = c .before .before .before .before in
     let start = at-read-vector .before .before .before .before .before .before in
-    part (at-read-vector .read-vector .result .sheet) (start .args .sheet .now) (at-read-vector .read-vector .ensures .1 .0)
+    part (at-read-vector .read-vector .result .sheet) (start .args .sheet .now) (at-read-vector .read-vector .ensures .sheet-most)
 
 slice-relend-prefix-vector-3 : tie.Need-slice-relend-prefix-vector-3
 slice-relend-prefix-vector-3 c = search needs
@@ -36,7 +36,7 @@ slice-aggregate-vector-3 : tie.Need-slice-aggregate-vector-3
 slice-aggregate-vector-3 c =
     let at-read-vector = c .before .before .before .before .before in
     let start = at-read-vector .before .before .before .before .before .before in
-    part (at-read-vector .read-vector .result .cells) (start .args .cells .now) (at-read-vector .read-vector .ensures .1 .1 .0)
+    part (at-read-vector .read-vector .result .cells) (start .args .cells .now) (at-read-vector .read-vector .ensures .cells-most)
 
 slice-relend-prefix-vector-4 : tie.Need-slice-relend-prefix-vector-4
 slice-relend-prefix-vector-4 c = search needs
@@ -45,7 +45,7 @@ slice-aggregate-vector-4 : tie.Need-slice-aggregate-vector-4
 slice-aggregate-vector-4 c =
     let at-read-vector = c .before .before .before .before .before .before in
     let start = at-read-vector .before .before .before .before .before .before in
-    part (at-read-vector .read-vector .result .posts) (start .args .posts .now) (at-read-vector .read-vector .ensures .1 .1 .1 .0)
+    part (at-read-vector .read-vector .result .posts) (start .args .posts .now) (at-read-vector .read-vector .ensures .posts-most)
 
 slice-relend-prefix-vector-5 : tie.Need-slice-relend-prefix-vector-5
 slice-relend-prefix-vector-5 c = search needs
@@ -54,7 +54,7 @@ slice-aggregate-vector-5 : tie.Need-slice-aggregate-vector-5
 slice-aggregate-vector-5 c =
     let at-read-vector = c .before .before .before .before .before .before .before in
     let start = at-read-vector .before .before .before .before .before .before in
-    part (at-read-vector .read-vector .result .frames) (start .args .frames .now) (at-read-vector .read-vector .ensures .1 .1 .1 .1)
+    part (at-read-vector .read-vector .result .frames) (start .args .frames .now) (at-read-vector .read-vector .ensures .frames-most)
 
 vector-requires : tie.Need-vector-requires
 vector-requires c κs = search needs

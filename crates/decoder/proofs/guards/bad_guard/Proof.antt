@@ -1,26 +1,27 @@
 -- The lowest guard at fault is found in ascending order: the byte that is read is the sheet's, in version 1 that of no guard (guard-ok). All guards below
--- the channel are right, so that the search from it on finds what the whole search finds (Laws/Search). The channels that are left fall.
+-- the channel are right, so that the search from it on finds what the whole search finds (Laws/Search). The channels that are left fall,
+-- since each turn goes to the next.
 use native.Mathlib.Omega.{arith}
 use borrow.Author.Needs.{needs}
-use mathlib.Core.Path.{_≡_, sym, _∙_}
-use Prim.Native.Nat.{_≤_, _-_}
+use mathlib.Core.Path.{refl, sym, _∙_}
+use Prim.Native.Nat.{_-_}
 use borrow.Author.Tests.{not-true, not-false}
 use Rattle.program.specs.Limits.{maxChannels}
-use Rattle.program.specs.Screening.{lowest}
 use Rattle.program.specs.Decoding.{guardOk}
 use Rattle.program.specs.Laws.Search.{lowest-here, lowest-more, lowest-past, lowest-starts}
+use Rattle.tables.specs.Internal.{Passed}
 use Rattle.decoder.proofs.DecodeLaws.{guard-ok}
 use Rattle.decoder.proofs.guards.bad_guard.Statement.{statement}
 use Rattle.decoder.proofs.guards.bad_guard.Tie as tie
 
 abbrev Inv-loop : tie.InvT-loop
-Inv-loop s c channel₀ channel = (channel ≤ maxChannels) × (lowest (guardOk s) 0 maxChannels ≡ lowest (guardOk s) channel (maxChannels - channel))
+Inv-loop s c channel₀ channel = Passed (guardOk s) maxChannels maxChannels channel
 
 abbrev μ-loop : tie.MeasureT-loop
 μ-loop s c channel₀ channel = maxChannels - channel
 
 loop-holds : tie.Need-loop-holds Inv-loop μ-loop
-loop-holds c = (omega arith, lowest-starts (guardOk (c .before .args .s .now)) maxChannels)
+loop-holds c = record { below = omega arith; all = refl; rest-is = lowest-starts (guardOk (c .before .args .s .now)) maxChannels }
 
 guard-requires : tie.Need-guard-requires Inv-loop μ-loop
 guard-requires c κs = search needs
@@ -35,7 +36,7 @@ returns c =
     let start = at-loop .before .before in
     lowest-here (guardOk (start .args .s .now)) (at-loop .loop .channel) maxChannels (at-loop-test .loop-test .taken)
     (sym (guard-ok (start .args .s .now) (start .args .c) (start .pre) (at-loop .loop .channel) (at-loop-test .loop-test .taken)
-    (c .before .guard .ensures)) ∙ not-true _ (c .if1 .taken)) ∙ sym (at-loop .loop .inv .1)
+    (c .before .guard .ensures)) ∙ not-true _ (c .if1 .taken)) ∙ sym (at-loop .loop .inv .rest-is)
 
 add-channel : tie.Need-add-channel Inv-loop μ-loop
 add-channel c = omega arith
@@ -47,17 +48,20 @@ loop-again : tie.Need-loop-again Inv-loop μ-loop
 loop-again c =
     let at-loop-test = c .before .before in
     let at-loop = at-loop-test .before in
-    let start = at-loop .before .before in (
-      omega arith,
-      at-loop .loop .inv .1 ∙ lowest-more (guardOk (start .args .s .now)) (at-loop .loop .channel) maxChannels (at-loop-test .loop-test .taken)
+    let start = at-loop .before .before in
+    record {
+      below = omega arith;
+      all = refl;
+      rest-is = at-loop .loop .inv .rest-is ∙ lowest-more (guardOk (start .args .s .now)) (at-loop .loop .channel) maxChannels (at-loop-test .loop-test .taken)
           (sym (guard-ok (start .args .s .now) (start .args .c) (start .pre) (at-loop .loop .channel) (at-loop-test .loop-test .taken)
-          (c .before .guard .ensures)) ∙ not-false _ (c .if1 .left)),
-    )
+          (c .before .guard .ensures)) ∙ not-false _ (c .if1 .left));
+    }
 
 returns-2 : tie.Need-returns-2 Inv-loop μ-loop
 returns-2 c =
     let at-loop = c .before in
-    lowest-past (guardOk (c .before .before .before .args .s .now)) (at-loop .loop .channel) maxChannels (c .loop-test .left) ∙ sym (at-loop .loop .inv .1)
+    lowest-past (guardOk (c .before .before .before .args .s .now)) (at-loop .loop .channel) maxChannels (c .loop-test .left)
+    ∙ sym (at-loop .loop .inv .rest-is)
 
 pub bad-guard-spec : {M : Type 1} → statement M
 bad-guard-spec =

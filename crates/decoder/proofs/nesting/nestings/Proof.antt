@@ -1,5 +1,6 @@
 -- The list has the nesting of every term from t on, held at 33, one more than is allowed. The parent of t - 1 is t or higher, so that its nesting is in
--- the list; t - 1 has one more, or 33 if the parent has 33 (nested-more). t falls, from the root to 0.
+-- the list; t - 1 has one more, or 33 if the parent has 33 (nested-more). t falls by one each turn, from the
+-- root to 0.
 use Prim.Native.Nat.{_-_}
 use native.Mathlib.Omega.{arith}
 use lib.ListN.{length-set, replicate}

@@ -1,5 +1,5 @@
 -- The lowest term that is wrongly placed is found in ascending order. All terms below t are placed right, so that the search from t on
--- finds what the whole search finds (Laws/Search). The terms that are left, n - t, fall.
+-- finds what the whole search finds (Laws/Search). The terms that are left, n - t, fall, since each turn adds 1 to t.
 use borrow.Author.Tests.{not-true, not-false}
 use mathlib.Core.Path.{sym, ap, _∙_}
 use Prim.Native.Nat.{_-_}

@@ -1,5 +1,5 @@
 -- The list has what the first t terms note: 0 for no parent, the parent for one, 65535 for several. A child is lower than its parent, so that it is
--- in the list of 1,024 and a parent is never 0 (links-more). The terms that are left, n - t, fall.
+-- in the list of 1,024 and a parent is never 0 (links-more). The terms that are left, n - t, fall, since each turn adds 1 to t.
 use mathlib.Core.Path.{_≡_, refl, sym, _∙_, subst}
 use Prim.Native.Nat.{ℕ, _-_}
 use native.Mathlib.Omega.{arith}

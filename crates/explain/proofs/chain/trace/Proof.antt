@@ -1,4 +1,5 @@
--- The terms written are the first of the chain, and what follows is the chain from the place that is reached. The places that are left fall.
+-- The terms written are the first of the chain, and what follows is the chain from the place that is reached. The places that
+-- are left of 32 fall, since each turn writes a term.
 use native.Mathlib.Omega.{arith}
 use borrow.Author.Tests.{not-true, not-false}
 use mathlib.Core.Path.{refl}

@@ -21,16 +21,16 @@ admit-readable-requires c κs =
     let start = at-decode .before .before .before in
     record {
       readable = readable (start .args .s .now) (start .args .start .now) (start .args .cells) (start .args .posts) (start .args .frames) (start .args .calls)
-          (start .args .depth) (at-decode .decode .ensures .0) (at-d2 .d2 .given .1);
+          (start .args .depth) (at-decode .decode .ensures .answer-is) (at-d2 .d2 .given .1);
       counts-are = counted (start .args .s .now) (start .args .start .now) (start .args .cells)
-          (start .args .posts) (start .args .frames) (start .args .calls) (start .args .depth) (at-d2 .d2 .given .1) (at-decode .decode .ensures .1);
+          (start .args .posts) (start .args .frames) (start .args .calls) (start .args .depth) (at-d2 .d2 .given .1) (at-decode .decode .ensures .counts-are);
     }
 
 returns : tie.Need-returns
 returns c =
     let start = c .before .before .before .before .before .before in
     unreadable (start .args .s .now) (start .args .start .now) (start .args .cells) (start .args .posts) (start .args .frames) (start .args .calls)
-    (start .args .depth) (c .before .before .before .decode .ensures .0) (c .before .d .given .1)
+    (start .args .depth) (c .before .before .before .decode .ensures .answer-is) (c .before .d .given .1)
 
 returns-2 : tie.Need-returns-2
 returns-2 c = search needs

@@ -1,4 +1,5 @@
--- Each turn lays one frame, from the outermost on, in front of what is left of the store. The numbers of the stack that are left fall by two.
+-- Each turn lays one frame, from the outermost on, in front of what is left of the store. The numbers of the stack that are left fall by two, a
+-- frame's.
 use native.Mathlib.Omega.{arith}
 use borrow.Author.Needs.{needs}
 use mathlib.Core.Path.{refl}

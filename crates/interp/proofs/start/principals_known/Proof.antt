@@ -1,5 +1,5 @@
 -- Each turn passes one frame, from the innermost on: the principals before place i are known, so that the frames from i on decide as the whole stack.
--- i is even, so that a frame is never half. The numbers that are left fall by two.
+-- i is even, so that a frame is never half. The numbers that are left fall by two, a frame's.
 use mathlib.Core.Path.{refl, sym, _∙_}
 use Prim.Native.Nat.{_-_}
 use native.Mathlib.Omega.{arith}

@@ -1,5 +1,6 @@
 -- Each turn adds one frame, from the outermost on: the set is what the frames from place i on grant. A frame grants, of its principal's set, what it
--- enables or the frames behind it grant (grants-more). i is even, so that a frame is never half. The numbers that are left, i, fall by two.
+-- enables or the frames behind it grant (grants-more). i is even, so that a frame is never half. The numbers that are left, i, fall by two, a
+-- frame's.
 use mathlib.Core.Path.{_∙_}
 use native.Mathlib.Omega.{arith}
 use Rattle.program.specs.Records.{authorityRecord}

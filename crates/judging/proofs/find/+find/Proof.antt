@@ -1,6 +1,6 @@
 -- Nothing is found in a child that is absent. Of one that is there, the term itself is found if it has the number (found-here), nothing if its number is
--- lower (found-above), and else what is found in its children, the first of them that has something (found-first, found-second, found-third). What falls is the number of the term that is there, and one more; an
--- absent child has 0.
+-- lower (found-above), and else what is found in its children, the first of them that has something (found-first, found-second, found-third). What falls
+-- is the number of the term that is there, and one more; an absent child has 0.
 use native.Mathlib.Omega.{arith}
 use borrow.Author.Needs.{needs}
 use borrow.Author.Tests.{not-true, not-false}
@@ -64,7 +64,8 @@ find-returns-3 t c =
     let at-if3 = c .before in
     let at-if1 = at-if3 .before .before .before .before in
     let start = at-if1 .before .before .before in
-    found-above (start .args .s .now) (start .args .t) (start .args .y) (not-false _ (at-if1 .if1 .left)) (start .pre .1) (at-if3 .if3 .taken) (c .absent .ensures)
+    found-above (start .args .s .now) (start .args .t) (start .args .y) (not-false _ (at-if1 .if1 .left)) (start .pre .1) (at-if3 .if3 .taken)
+    (c .absent .ensures)
 
 find-first-child-requires : (t : ℕ) → find-lts.Need-first-child-requires (find-claims t) (find-at t) find.Post
 find-first-child-requires t c κs =

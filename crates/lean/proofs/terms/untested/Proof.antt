@@ -1,4 +1,5 @@
--- No term below t is a test (untested-more), and a test settles it (tested). The terms that are left, n - t, fall.
+-- No term below t is a test (untested-more), and a test settles it (tested). The terms that are left, n - t, fall, since each turn adds 1
+-- to t.
 use native.Mathlib.Omega.{arith}
 use borrow.Author.Needs.{needs}
 use mathlib.Core.Path.{_≡_, sym, ap, _∙_}

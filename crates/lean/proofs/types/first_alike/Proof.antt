@@ -1,17 +1,16 @@
 -- The first lower type whose record becomes equal is found in ascending order: none below u does, so that the search from u on finds what the whole
--- search finds (Laws/Search). The types that are left, t - u, fall.
+-- search finds (Laws/Search). The types that are left, t - u, fall, since each turn adds 1 to u.
 use native.Mathlib.Omega.{arith}
 use mathlib.Core.Bool.{not}
-use mathlib.Core.Path.{_≡_, sym, ap, _∙_}
-use Prim.Native.Nat.{_≤_, _-_}
-use Rattle.program.specs.Screening.{lowest}
+use mathlib.Core.Path.{sym, ap, _∙_}
+use Prim.Native.Nat.{_-_}
 use Rattle.program.specs.Laws.Search.{lowest-here, lowest-more, lowest-past, lowest-starts}
-use Rattle.lean.proofs.TypeLaws.{differs, found-head, own-head}
+use Rattle.lean.proofs.TypeLaws.{differs, NoneAlikeBelow, found-head, own-head}
 use Rattle.lean.proofs.types.first_alike.Statement.{statement}
 use Rattle.lean.proofs.types.first_alike.Tie as tie
 
 abbrev Inv-loop : tie.InvT-loop
-Inv-loop s c numbers t u₀ u = (u ≤ t) × (lowest (differs s t) 0 t ≡ lowest (differs s t) u (t - u))
+Inv-loop s c numbers t u₀ u = NoneAlikeBelow s t u
 
 abbrev μ-loop : tie.MeasureT-loop
 μ-loop s c numbers t u₀ u = t - u
@@ -19,7 +18,7 @@ abbrev μ-loop : tie.MeasureT-loop
 loop-holds : tie.Need-loop-holds Inv-loop μ-loop
 loop-holds c =
     let start = c .before in
-    (omega arith, lowest-starts (differs (start .args .s .now) (start .args .t)) (start .args .t))
+    record { below = omega arith; rest-is = lowest-starts (differs (start .args .s .now) (start .args .t)) (start .args .t) }
 
 alike-requires : tie.Need-alike-requires Inv-loop μ-loop
 alike-requires c κs = record { merging = c .before .before .before .pre; below = c .loop-test .taken }
@@ -29,7 +28,7 @@ returns c =
     let at-loop = c .before .before .before in
     let start = at-loop .before .before in
     found-head (start .pre) (lowest-here (differs (start .args .s .now) (start .args .t)) (at-loop .loop .u) (start .args .t)
-    (c .before .before .loop-test .taken) (ap not (sym (c .before .alike .ensures) ∙ c .if1 .taken)) ∙ sym (at-loop .loop .inv .1))
+    (c .before .before .loop-test .taken) (ap not (sym (c .before .alike .ensures) ∙ c .if1 .taken)) ∙ sym (at-loop .loop .inv .rest-is))
 
 add-u : tie.Need-add-u Inv-loop μ-loop
 add-u c = omega arith
@@ -40,18 +39,19 @@ loop-less c = omega arith
 loop-again : tie.Need-loop-again Inv-loop μ-loop
 loop-again c =
     let at-loop = c .before .before .before in
-    let start = at-loop .before .before in (
-      omega arith,
-      at-loop .loop .inv .1 ∙ lowest-more (differs (start .args .s .now) (start .args .t)) (at-loop .loop .u) (start .args .t)
-          (c .before .before .loop-test .taken) (ap not (sym (c .before .alike .ensures) ∙ c .if1 .left)),
-    )
+    let start = at-loop .before .before in
+    record {
+      below = omega arith;
+      rest-is = at-loop .loop .inv .rest-is ∙ lowest-more (differs (start .args .s .now) (start .args .t)) (at-loop .loop .u) (start .args .t)
+          (c .before .before .loop-test .taken) (ap not (sym (c .before .alike .ensures) ∙ c .if1 .left));
+    }
 
 returns-2 : tie.Need-returns-2 Inv-loop μ-loop
 returns-2 c =
     let at-loop = c .before in
     let start = at-loop .before .before in
     own-head (start .pre) (lowest-past (differs (start .args .s .now) (start .args .t)) (at-loop .loop .u) (start .args .t) (c .loop-test .left) ∙ sym
-    (at-loop .loop .inv .1))
+    (at-loop .loop .inv .rest-is))
 
 pub first-alike-spec : {M : Type 1} → statement M
 first-alike-spec =

@@ -1,6 +1,6 @@
 -- The records of those among the first `next` terms that are kept stand one after the other, and the count is how many they are. A term is kept
 -- unless it is a check or an enable (kept-here, gone-here); its record then comes behind the others (gathered-yes). The terms that are left, n - next,
--- fall.
+-- fall, since each turn adds 1 to `next`.
 use native.Mathlib.Omega.{arith}
 use borrow.Author.Needs.{needs}
 use borrow.Author.Tests.{not-true, not-false}

@@ -94,7 +94,7 @@ returns-3 c =
     let at-if3 = at-first-of .before in
     let at-kind-of = at-if3 .before .before .before in
     enter-sign _ _ _ _ _ _ _ _ (at-kind-of .kind-of .ensures) (at-if3 .if3 .taken) (at-first-of .first-of .ensures) (at-authority-of .authority-of .ensures)
-    (at-sign .sign .ensures .0) (at-sign .sign .ensures .1) (c .goes2 .ensures)
+    (at-sign .sign .ensures .answer-is) (at-sign .sign .ensures .lent-is) (c .goes2 .ensures)
 
 small-of-requires : tie.Need-small-of-requires
 small-of-requires c κs = search needs
@@ -148,7 +148,7 @@ returns-5 c =
     let at-small-of = at-if4 .before in
     let at-kind-of = at-small-of .before .before .before .before in
     enter-allowed _ _ _ _ _ _ _ _ (at-kind-of .kind-of .ensures) (at-if4 .if4 .taken) (c .before .first-of3 .ensures) (at-enforces .enforces .ensures)
-    (not-false _ (at-if5 .if5 .left)) (at-small-of .small-of .ensures) (at-granted .granted .ensures .0) (at-granted .granted .ensures .1)
+    (not-false _ (at-if5 .if5 .left)) (at-small-of .small-of .ensures) (at-granted .granted .ensures .answer-is) (at-granted .granted .ensures .lent-is)
     (at-note .note .ensures) (c .before .before .if6 .taken) (c .goes4 .ensures)
 
 stop-requires-2 : tie.Need-stop-requires-2
@@ -176,7 +176,7 @@ returns-6 c =
     let at-small-of = at-if4 .before in
     let at-kind-of = at-small-of .before .before .before .before in
     enter-refused _ _ _ _ _ _ _ _ (at-kind-of .kind-of .ensures) (at-if4 .if4 .taken) (c .before .first-of4 .ensures) (at-enforces .enforces .ensures)
-    (not-false _ (at-if5 .if5 .left)) (at-small-of .small-of .ensures) (at-granted .granted .ensures .0) (at-granted .granted .ensures .1)
+    (not-false _ (at-if5 .if5 .left)) (at-small-of .small-of .ensures) (at-granted .granted .ensures .answer-is) (at-granted .granted .ensures .lent-is)
     (at-note .note .ensures) (c .before .before .before .if6 .left) (c .before .before .stop2 .ensures) (c .halts2 .ensures)
 
 granted-requires-2 : tie.Need-granted-requires-2
@@ -221,8 +221,8 @@ returns-7 c =
     let start = at-kind-of .before .before .before .before in
     enter-test _ _ _ _ _ _ _ _ (at-kind-of .kind-of .ensures)
     (only-test _ (at-kind-of .kind-of .ensures) (start .pre .kind) (at-if1 .if1 .left) (at-if3 .if3 .left) (at-if4 .if4 .left)) (at-small-of .small-of .ensures)
-    (at-granted2 .granted2 .ensures .0) (at-granted2 .granted2 .ensures .1) (at-note2 .note2 .ensures) (c .before .before .before .first-of5 .ensures)
-    (c .before .before .second-of2 .ensures) (c .before .choose .ensures) (c .goes5 .ensures)
+    (at-granted2 .granted2 .ensures .answer-is) (at-granted2 .granted2 .ensures .lent-is) (at-note2 .note2 .ensures)
+    (c .before .before .before .first-of5 .ensures) (c .before .before .second-of2 .ensures) (c .before .choose .ensures) (c .goes5 .ensures)
 
 pub enter-spec : {M : Type 1} → statement M
 enter-spec =

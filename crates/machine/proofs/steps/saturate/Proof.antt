@@ -18,7 +18,10 @@ number-requires : tie.Need-number-requires
 number-requires c κs = search needs
 
 returns : tie.Need-returns
-returns c = (c .number .ensures, ap (set (c .before .before .before .args .n .now) 4) (c .before .wrapping-add-usize .ensures))
+returns c = record {
+  answer-is = c .number .ensures;
+  lent-is = ap (set (c .before .before .before .args .n .now) 4) (c .before .wrapping-add-usize .ensures);
+}
 
 pub saturate-spec : {M : Type 1} → statement M
 saturate-spec =

@@ -1,4 +1,5 @@
--- So many words are there, and the others zero, until all terms have theirs. The terms that are left fall.
+-- So many words are there, and the others zero, until all terms have theirs. The terms that are left fall, since each turn writes the
+-- word of the next.
 use native.Mathlib.Omega.{arith}
 use borrow.Author.Needs.{needs}
 use Prim.Native.Nat.{_-_}

@@ -1,5 +1,5 @@
 -- The number terms below t have their pairs, of which n are laid (laid-pair), and the other words are as they were (laid-other). The terms that are
--- left, count - t, fall.
+-- left, count - t, fall, since each turn adds 1 to t.
 use native.Mathlib.Omega.{arith}
 use borrow.Author.Needs.{needs}
 use mathlib.Core.Logic.{⊎-elim}

@@ -1,21 +1,20 @@
--- The first i pairs are in order (ordered-next); one that is not decides (ordered-not). The pairs that are left, n - i, fall.
+-- The first i pairs are in order (ordered-next); one that is not decides (ordered-not). The pairs that are left, n - i, fall, since each turn adds 1 to
+-- i.
 use native.Mathlib.Omega.{arith}
-use mathlib.Core.Bool.{true}
-use mathlib.Core.Path.{_≡_, refl, sym}
-use Prim.Native.Nat.{_≤_, _-_}
-use Rattle.intervals.specs.Pairs.{ordered}
-use Rattle.ranges.proofs.PairLaws.{ordered-next, ordered-not, ordered-all}
+use mathlib.Core.Path.{refl, sym}
+use Prim.Native.Nat.{_-_}
+use Rattle.ranges.proofs.PairLaws.{OrderedBelow, ordered-next, ordered-not, ordered-all}
 use Rattle.ranges.proofs.pairs.ordered.Statement.{statement}
 use Rattle.ranges.proofs.pairs.ordered.Tie as tie
 
 abbrev Inv-loop : tie.InvT-loop
-Inv-loop pairs count n i₀ i = (i ≤ n) × (ordered pairs i ≡ true)
+Inv-loop pairs count n i₀ i = OrderedBelow pairs n i
 
 abbrev μ-loop : tie.MeasureT-loop
 μ-loop pairs count n i₀ i = n - i
 
 loop-holds : tie.Need-loop-holds Inv-loop μ-loop
-loop-holds c = (omega arith, refl)
+loop-holds c = record { below = omega arith; in-order = refl }
 
 mul-if1 : tie.Need-mul-if1 Inv-loop μ-loop
 mul-if1 c = omega (arith, c .before .before .pre)
@@ -60,14 +59,14 @@ loop-again : tie.Need-loop-again Inv-loop μ-loop
 loop-again c =
     let at-loop = c .before .before .before .before in
     let start = at-loop .before in
-    (omega arith, ordered-next (start .args .pairs .now) (at-loop .loop .i) (c .if1 .left) (at-loop .loop .inv .1))
+    record { below = omega arith; in-order = ordered-next (start .args .pairs .now) (at-loop .loop .i) (c .if1 .left) (at-loop .loop .inv .in-order) }
 
 returns-2 : tie.Need-returns-2 Inv-loop μ-loop
 returns-2 c =
     let at-loop = c .before in
     let start = at-loop .before in
-    ordered-all (start .args .pairs .now) (at-loop .loop .i) (start .args .count) (at-loop .loop .inv .1)
-    (omega (arith, at-loop .loop .inv .0, c .loop-test .left))
+    ordered-all (start .args .pairs .now) (at-loop .loop .i) (start .args .count) (at-loop .loop .inv .in-order)
+    (omega (arith, at-loop .loop .inv .below, c .loop-test .left))
 
 pub ordered-spec : {M : Type 1} → statement M
 ordered-spec =

@@ -1,5 +1,5 @@
--- `outcome` appends the text of an outcome, by a law for each case: a stop (stop-told), an end with a number (number-told), with true (true-told) and with
--- false (false-told). At most 49 bytes, the bound for a stop: 5 for "stop ", 4 for " at ", 20 for each of the two numbers.
+-- `outcome` appends the text of an outcome, by a law for each case: a stop (stop-shown), an end with a number (number-shown), with true (true-shown) and
+-- with false (false-shown). At most 49 bytes, the bound for a stop: 5 for "stop ", 4 for " at ", 20 for each of the two numbers.
 use Rattle.report.proofs.LineLaws.{stop-shown, number-shown, true-shown, false-shown}
 use borrow.Author.Needs.{needs}
 use Rattle.report.proofs.lines.outcome.Statement.{statement}

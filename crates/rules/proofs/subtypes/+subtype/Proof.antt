@@ -80,11 +80,11 @@ subtype-returns-3 t c =
 subtype-knows-requires : (t : ℕ) → subtype-lts.Need-knows-requires (subtype-claims t) (subtype-at t) subtype.Post
 subtype-knows-requires t c κs =
     let at-is-function = c .before .before .before .before in
-    let start = at-is-function .before .before .before in (
-      small (start .pre .1 .sheet) _ (at-is-function .is-function .ensures) (not-false _ (c .before .before .before .if2 .left)),
-      small (start .pre .1 .sheet) _
-          (c .before .before .is-function2 .ensures) (not-false _ (c .before .if3 .left)),
-    )
+    let start = at-is-function .before .before .before in
+    record {
+      first-below = small (start .pre .1 .sheet) _ (at-is-function .is-function .ensures) (not-false _ (c .before .before .before .if2 .left));
+      second-below = small (start .pre .1 .sheet) _ (c .before .before .is-function2 .ensures) (not-false _ (c .before .if3 .left));
+    }
 
 subtype-returns-4 : (t : ℕ) → subtype-lts.Need-returns-4 (subtype-claims t) (subtype-at t) subtype.Post
 subtype-returns-4 t c =
@@ -211,11 +211,11 @@ subtype-note-requires t c κs =
     let at-is-function2 = at-if3 .before in
     let at-if2 = at-is-function2 .before in
     let at-is-function = at-if2 .before in
-    let start = at-is-function .before .before .before in (
-      small (start .pre .1 .sheet) _ (at-is-function .is-function .ensures) (not-false _ (at-if2 .if2 .left)),
-      small (start .pre .1 .sheet) _
-          (at-is-function2 .is-function2 .ensures) (not-false _ (at-if3 .if3 .left)),
-    )
+    let start = at-is-function .before .before .before in
+    record {
+      first-below = small (start .pre .1 .sheet) _ (at-is-function .is-function .ensures) (not-false _ (at-if2 .if2 .left));
+      second-below = small (start .pre .1 .sheet) _ (at-is-function2 .is-function2 .ensures) (not-false _ (at-if3 .if3 .left));
+    }
 
 subtype-returns-8 : (t : ℕ) → subtype-lts.Need-returns-8 (subtype-claims t) (subtype-at t) subtype.Post
 subtype-returns-8 t c =

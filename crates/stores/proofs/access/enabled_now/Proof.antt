@@ -19,13 +19,15 @@ same-length c = search needs
 
 returns : tie.Need-returns
 returns c =
-    let at-is-lazy = c .before .before .before .before in (
-      enabled-lazy _ _ _ (at-is-lazy .is-lazy .ensures) (c .before .before .before .if1 .taken) (c .before .first-enabled .ensures) (c .number-at .ensures),
-      refl,
-    )
+    let at-is-lazy = c .before .before .before .before in
+    record {
+      answer-is = enabled-lazy _ _ _ (at-is-lazy .is-lazy .ensures) (c .before .before .before .if1 .taken) (c .before .first-enabled .ensures)
+          (c .number-at .ensures);
+      lent-is = refl;
+    }
 
 returns-2 : tie.Need-returns-2
-returns-2 c = (enabled-eager _ _ _ (c .before .is-lazy .ensures) (c .if1 .left), refl)
+returns-2 c = record { answer-is = enabled-eager _ _ _ (c .before .is-lazy .ensures) (c .if1 .left); lent-is = refl }
 
 pub enabled-now-spec : {M : Type 1} → statement M
 enabled-now-spec =

@@ -1,17 +1,16 @@
--- Each turn passes one frame, from the innermost on, so that the rest decides as the whole. The numbers that are left fall by two.
+-- Each turn passes one frame, from the innermost on, so that the rest decides as the whole. The numbers that are left fall by two, a
+-- frame's.
 use native.Mathlib.Omega.{arith}
 use borrow.Author.Needs.{needs}
-use mathlib.Core.Path.{_≡_, refl, _∙_}
-use Prim.Native.Nat.{_≤_}
+use mathlib.Core.Path.{refl, _∙_}
 use native.Mathlib.Nat.{le-refl}
 use borrow.Author.Tests.{not-true, not-false}
-use Rattle.stores.specs.Access.{walkGrants}
-use Rattle.stores.proofs.AccessLaws.{walk-no, walk-yes, walk-next, walk-done, frames-short, frames-whole}
+use Rattle.stores.proofs.AccessLaws.{WalkedTo, walk-no, walk-yes, walk-next, walk-done, frames-short, frames-whole}
 use Rattle.stores.proofs.access.frames_grant.Statement.{statement}
 use Rattle.stores.proofs.access.frames_grant.Tie as tie
 
 abbrev Inv-loop : tie.InvT-loop
-Inv-loop frames used p d₀ d = (d ≤ used) × (walkGrants frames d p ≡ walkGrants frames used p)
+Inv-loop frames used p d₀ d = WalkedTo frames used p d
 
 abbrev μ-loop : tie.MeasureT-loop
 μ-loop frames used p d₀ d = d
@@ -20,7 +19,7 @@ returns : tie.Need-returns Inv-loop μ-loop
 returns c = frames-short _ _ _ (c .if1 .taken)
 
 loop-holds : tie.Need-loop-holds Inv-loop μ-loop
-loop-holds c = (le-refl _, refl)
+loop-holds c = record { below = le-refl _; rest-is = refl }
 
 sub-d : tie.Need-sub-d Inv-loop μ-loop
 sub-d c = omega arith
@@ -39,7 +38,7 @@ returns-2 c =
     let at-loop = c .before .before .before .before in
     let at-if1 = at-loop .before in
     walk-no _ _ _ (c .before .before .before .loop-test .taken) (c .before .contains .ensures)
-    (not-true _ (c .if2 .taken)) ∙ at-loop .loop .inv .1 ∙ frames-whole _ _ _ (at-if1 .if1 .left)
+    (not-true _ (c .if2 .taken)) ∙ at-loop .loop .inv .rest-is ∙ frames-whole _ _ _ (at-if1 .if1 .left)
 
 add-contains : tie.Need-add-contains Inv-loop μ-loop
 add-contains c = omega arith
@@ -60,7 +59,7 @@ returns-3 c =
     let at-loop = at-loop-test .before in
     let at-if1 = at-loop .before in
     walk-yes _ _ _ (at-loop-test .loop-test .taken) (at-contains .contains .ensures) (not-false _ (c .before .before .before .if2 .left))
-    (c .before .contains2 .ensures) (c .if3 .taken) ∙ at-loop .loop .inv .1 ∙ frames-whole _ _ _ (at-if1 .if1 .left)
+    (c .before .contains2 .ensures) (c .if3 .taken) ∙ at-loop .loop .inv .rest-is ∙ frames-whole _ _ _ (at-if1 .if1 .left)
 
 loop-less : tie.Need-loop-less Inv-loop μ-loop
 loop-less c = omega arith
@@ -69,14 +68,15 @@ loop-again : tie.Need-loop-again Inv-loop μ-loop
 loop-again c =
     let at-contains = c .before .before .before .before in
     let at-loop-test = at-contains .before .before in
-    let at-loop = at-loop-test .before in (
-      omega arith,
-      walk-next _ _ _ (at-loop-test .loop-test .taken) (at-contains .contains .ensures) (not-false _ (c .before .before .before .if2 .left))
-          (c .before .contains2 .ensures) (c .if3 .left) ∙ at-loop .loop .inv .1,
-    )
+    let at-loop = at-loop-test .before in
+    record {
+      below = omega arith;
+      rest-is = walk-next _ _ _ (at-loop-test .loop-test .taken) (at-contains .contains .ensures) (not-false _ (c .before .before .before .if2 .left))
+          (c .before .contains2 .ensures) (c .if3 .left) ∙ at-loop .loop .inv .rest-is;
+    }
 
 returns-4 : tie.Need-returns-4 Inv-loop μ-loop
-returns-4 c = walk-done _ _ _ (c .loop-test .left) ∙ c .before .loop .inv .1 ∙ frames-whole _ _ _ (c .before .before .if1 .left)
+returns-4 c = walk-done _ _ _ (c .loop-test .left) ∙ c .before .loop .inv .rest-is ∙ frames-whole _ _ _ (c .before .before .if1 .left)
 
 pub frames-grant-spec : {M : Type 1} → statement M
 frames-grant-spec =

@@ -20,7 +20,11 @@ same-length c = search needs
 returns : tie.Need-returns
 returns c =
     let at-is-lazy = c .before .before .before .before in
-    (granted-lazy _ _ _ (at-is-lazy .is-lazy .ensures) (c .before .before .before .if1 .taken) _ (c .before .low .ensures) (c .frames-grant .ensures), refl)
+    record {
+      answer-is = granted-lazy _ _ _ (at-is-lazy .is-lazy .ensures) (c .before .before .before .if1 .taken) _ (c .before .low .ensures)
+          (c .frames-grant .ensures);
+      lent-is = refl;
+    }
 
 high-requires : tie.Need-high-requires
 high-requires c κs = search needs
@@ -29,11 +33,11 @@ contains-requires : tie.Need-contains-requires
 contains-requires c κs = search needs
 
 returns-2 : tie.Need-returns-2
-returns-2 c = (
-  granted-eager _ _ _ (c .before .before .before .is-lazy .ensures) (c .before .before .if1 .left) _ (c .before .high .ensures)
-      (c .contains .ensures),
-  refl,
-)
+returns-2 c = record {
+  answer-is = granted-eager _ _ _ (c .before .before .before .is-lazy .ensures) (c .before .before .if1 .left) _ (c .before .high .ensures)
+      (c .contains .ensures);
+  lent-is = refl;
+}
 
 pub granted-spec : {M : Type 1} → statement M
 granted-spec =

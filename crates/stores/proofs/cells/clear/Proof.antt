@@ -1,22 +1,22 @@
--- So many bytes are zero, and the others as they were, until all are zero. The bytes that are left fall.
+-- So many bytes are zero, and the others as they were, until all are zero. The bytes that are left fall, since each turn clears one.
 use native.Mathlib.Omega.{arith}
-use mathlib.Core.Path.{_≡_, refl, ap, _∙_}
-use mathlib.Core.List.{List, _++_}
-use Prim.Native.Nat.{ℕ, _≤_, _-_}
-use lib.ListN.{length, drop, replicate, set, length-set}
+use mathlib.Core.Path.{refl, ap, _∙_}
+use mathlib.Core.List.{List}
+use Prim.Native.Nat.{ℕ, _-_}
+use lib.ListN.{length, set, length-set}
 use borrow.Author.Fill.{fill-more}
-use Rattle.stores.proofs.CellLaws.{filled}
+use Rattle.stores.proofs.CellLaws.{Cleared, filled}
 use Rattle.stores.proofs.cells.clear.Statement.{statement}
 use Rattle.stores.proofs.cells.clear.Tie as tie
 
 abbrev Inv-loop : tie.InvT-loop
-Inv-loop a₀ i₀ a i = (a ≡ replicate i 0 ++ drop i a₀) × ((i ≤ length a₀) × (length a ≡ length a₀))
+Inv-loop a₀ i₀ a i = Cleared a₀ a i
 
 abbrev μ-loop : tie.MeasureT-loop
 μ-loop a₀ i₀ a i = length a₀ - i
 
 loop-holds : tie.Need-loop-holds Inv-loop μ-loop
-loop-holds c = (refl, (omega arith, refl))
+loop-holds c = record { below = omega arith; long = refl; cleared = refl }
 
 slice-write-a : tie.Need-slice-write-a Inv-loop μ-loop
 slice-write-a c = omega arith
@@ -29,18 +29,21 @@ loop-less c = omega arith
 
 loop-again : tie.Need-loop-again Inv-loop μ-loop
 loop-again c =
-    let at-loop = c .before in (
-      ap (λ (l : List ℕ). set l (at-loop .loop .i) 0) (at-loop .loop .inv .0) ∙ fill-more (at-loop .loop .i) 0 (c .before .before .args .a .now) (omega arith),
-      (omega arith, simp length-set (at-loop .loop .inv .1 .1)),
-    )
+    let at-loop = c .before in
+    record {
+      below = omega arith;
+      long = simp length-set (at-loop .loop .inv .long);
+      cleared = ap (λ (l : List ℕ). set l (at-loop .loop .i) 0) (at-loop .loop .inv .cleared)
+          ∙ fill-more (at-loop .loop .i) 0 (c .before .before .args .a .now) (omega arith);
+    }
 
 same-length : tie.Need-same-length Inv-loop μ-loop
-same-length c = c .before .loop .inv .1 .1
+same-length c = c .before .loop .inv .long
 
 returns : tie.Need-returns Inv-loop μ-loop
 returns c =
     let at-loop = c .before in
-    filled _ (c .before .before .args .a .now) (at-loop .loop .i) (at-loop .loop .inv .0) (omega arith)
+    filled _ (c .before .before .args .a .now) (at-loop .loop .i) (at-loop .loop .inv .cleared) (omega arith)
 
 pub clear-spec : {M : Type 1} → statement M
 clear-spec =

@@ -1,4 +1,4 @@
--- Each turn goes one cell behind, so that what is left of the walk leads to the same cell. The steps that are left fall.
+-- Each turn goes one cell behind, so that what is left of the walk leads to the same cell. The steps that are left fall, since each turn takes one.
 use native.Mathlib.Omega.{arith}
 use borrow.Author.Needs.{needs}
 use mathlib.Core.Path.{_≡_, refl}

@@ -1,5 +1,5 @@
 -- The lowest term record at fault is found in ascending order, as a shape is wrong exactly if its record is (wrong-is). All records below t are right,
--- so that the search from t on finds what the whole search finds (Laws/Search). The terms that are left, n - t, fall.
+-- so that the search from t on finds what the whole search finds (Laws/Search). The terms that are left, n - t, fall, since each turn adds 1 to t.
 use borrow.Author.Needs.{needs}
 use mathlib.Core.Path.{sym, ap, _∙_}
 use Prim.Native.Nat.{_-_}

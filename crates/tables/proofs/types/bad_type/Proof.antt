@@ -1,5 +1,6 @@
 -- The lowest type record at fault is found in ascending order. All types below t are right and their depths stand in the list, which has room for
--- 256, the most types of a sheet, so that the search from t on finds what the whole search finds (Laws/Search). The types that are left, n - t, fall.
+-- 256, the most types of a sheet, so that the search from t on finds what the whole search finds (Laws/Search). The types that are left, n - t, fall, since
+-- each turn adds 1 to t.
 use borrow.Author.Needs.{needs}
 use mathlib.Core.Path.{refl, sym, ap, _∙_, subst}
 use Prim.Native.Nat.{_-_}

@@ -1,21 +1,19 @@
 -- The bytes are taken from the last on: w is the word of those after the first `left`. Where one more is taken it has at most 7, so that it is
--- below 256^7 and no operation on 64 bits overflows. `left` falls.
-use mathlib.Core.Path.{_≡_}
-use Prim.Native.Nat.{_+_, _-_, _≤_}
+-- below 256^7 and no operation on 64 bits overflows. `left` falls by one each turn.
+use Prim.Native.Nat.{_+_, _-_}
 use native.Mathlib.Omega.{arith}
-use Rattle.tables.specs.Internal.{leWord}
-use Rattle.tables.proofs.WordLaws.{word-none, word-more, word-all, word-fits}
+use Rattle.tables.proofs.WordLaws.{WordFrom, word-none, word-more, word-all, word-fits}
 use Rattle.tables.proofs.types.le_word.Statement.{statement}
 use Rattle.tables.proofs.types.le_word.Tie as tie
 
 abbrev Inv-loop : tie.InvT-loop
-Inv-loop s at width w₀ left₀ w left = (left ≤ width) × (w ≡ leWord s (at + left) (width - left))
+Inv-loop s at width w₀ left₀ w left = WordFrom s at width left w
 
 abbrev μ-loop : tie.MeasureT-loop
 μ-loop s at width w₀ left₀ w left = left
 
 loop-holds : tie.Need-loop-holds Inv-loop μ-loop
-loop-holds c = (omega arith, word-none (c .args .s .now) (c .args .at) (c .args .width))
+loop-holds c = record { below = omega arith; word-is = word-none (c .args .s .now) (c .args .at) (c .args .width) }
 
 sub-left : tie.Need-sub-left Inv-loop μ-loop
 sub-left c = omega arith
@@ -59,16 +57,17 @@ loop-less c = omega arith
 loop-again : tie.Need-loop-again Inv-loop μ-loop
 loop-again c =
     let at-loop = c .before .before in
-    let start = at-loop .before in (
-      omega arith,
-      word-more (start .args .s .now) (start .args .at) (start .args .width) (at-loop .loop .left) (at-loop .loop .inv .1) (omega arith)
-          (at-loop .loop .inv .0),
-    )
+    let start = at-loop .before in
+    record {
+      below = omega arith;
+      word-is = word-more (start .args .s .now) (start .args .at) (start .args .width) (at-loop .loop .left) (at-loop .loop .inv .word-is) (omega arith)
+          (at-loop .loop .inv .below);
+    }
 
 returns : tie.Need-returns Inv-loop μ-loop
 returns c =
     let start = c .before .before in
-    word-all (start .args .s .now) (start .args .at) (start .args .width) (c .before .loop .left) (c .before .loop .inv .1) (omega arith)
+    word-all (start .args .s .now) (start .args .at) (start .args .width) (c .before .loop .left) (c .before .loop .inv .word-is) (omega arith)
 
 pub le-word-spec : {M : Type 1} → statement M
 le-word-spec =

@@ -2,10 +2,10 @@
 use borrow.Author.Needs.{needs}
 use Rattle.blocks.specs.Answers.{readModel}
 use Rattle.blocks.specs.declared.block.Read.{Read}
-use Rattle.capi.specs.Blocks.{readReply}
+use Rattle.capi_block.specs.Blocks.{readReply}
 use Rattle.replies.specs.Laws.{by}
-use Rattle.capi.proofs.block.of_read.Statement.{statement}
-use Rattle.capi.proofs.block.of_read.Tie as tie
+use Rattle.capi_block.proofs.block.of_read.Statement.{statement}
+use Rattle.capi_block.proofs.block.of_read.Tie as tie
 
 enum-known-x : tie.Need-enum-known-x
 enum-known-x c = search needs

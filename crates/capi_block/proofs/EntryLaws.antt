@@ -1,9 +1,9 @@
 -- What the entries for a register block leave, from the promises of the functions that they call.
 use mathlib.Core.Bool.{Bool, true, false, cond}
-use mathlib.Core.List.{List, [], _∷_, _++_}
+use mathlib.Core.List.{List, [], _∷_}
 use mathlib.Core.Path.{_≡_, refl, sym, ap, _∙_}
 use Prim.Native.Nat.{ℕ, _≤_}
-use lib.ListN.{length, drop}
+use lib.ListN.{length}
 use mir.Val.{boolByte}
 use Rattle.semantics.specs.Runs.{Buffers}
 use Rattle.interp.specs.Answers.{buffersOf}
@@ -12,11 +12,10 @@ use Rattle.blocks.specs.Answers.{accessModel}
 use Rattle.registers.specs.Writes.{writeOf}
 use Rattle.registers.specs.Answers.{writtenModel}
 use Rattle.registers.specs.declared.Written.{Written}
-use Rattle.replies.specs.Replies as replies
 use Rattle.replies.specs.Replies.{unfit, written, notDone, left}
-use Rattle.replies.specs.Laws.{fit}
-use Rattle.capi.specs.Blocks.{accessed, readReply, accessReply, blockRead, leftBlock, afterWrite, blockWrite}
-use Rattle.replies.specs.Internal.{replyOf}
+use Rattle.replies.specs.Laws.{fit, in-place}
+use Rattle.capi_block.specs.Blocks.{accessed, readReply, accessReply, blockRead, leftBlock, afterWrite, blockWrite}
+use Rattle.replies.specs.Internal.{replyOf, Put}
 use Rattle.replies.specs.declared.Reply.{Reply}
 
 pub replied-by : (status cause byte : ℕ) (r : Bool)
@@ -34,20 +33,17 @@ module _ (block answer : List ℕ) where
 
   -- ---- the access is done
   module _ (size : length block ≡ 16) (room : 8 ≤ length answer) {loaded : List ℕ} (load : loaded ≡ block) {x : Reply} {status : ℕ} {after : List ℕ}
-      (put : (status ≡ x .status) × (after ≡ x .numbers ++ drop 8 answer)) where
-    in-place : {R : replies.Reply} → replyOf x ≡ R → left status after ≡ written R answer
-    in-place e = (λ i. left (put .0 i) (put .1 i)) ∙ (λ i. written (e i) answer)
-
+      (put : Put x answer status after) where
     pub read-given : (a : ℕ) {m : Reading} {r : Bool} → m ≡ readOf loaded a → r ≡ raised loaded → replyOf x ≡ readReply m r
         → left status after ≡ blockRead block a answer
     read-given a f g e =
-        in-place (e ∙ (λ i. readReply ((f ∙ ap (λ (l : List ℕ). readOf l a) load) i) ((g ∙ ap raised load) i)))
+        in-place answer room (e ∙ (λ i. readReply ((f ∙ ap (λ (l : List ℕ). readOf l a) load) i) ((g ∙ ap raised load) i))) put
         ∙ (λ i. cond (sym (fit 16 8 block answer size room) i) (notDone answer) (written (readReply (readOf block a) (raised block)) answer))
 
     pub write-given : (a v : ℕ) (s : List ℕ) (b : Buffers) (w : Written) {cells posts block′ : List ℕ} {r : Bool}
         → writtenModel w cells posts ≡ writeOf loaded a v s b → block′ ≡ w .block .bytes → r ≡ raised (w .block .bytes)
         → replyOf x ≡ accessReply (accessModel (w .access)) r → leftBlock status after block′ (buffersOf cells posts []) ≡ blockWrite block a v s b answer
     write-given a v s b w {cells = cells} {posts = posts} f g h e =
-        (λ i. record { reply = in-place (e ∙ ap (accessReply (accessModel (w .access))) h) i; block = g i; buffers = buffersOf cells posts [] })
+        (λ i. record { reply = in-place answer room (e ∙ ap (accessReply (accessModel (w .access))) h) put i; block = g i; buffers = buffersOf cells posts [] })
         ∙ ap (afterWrite answer) (f ∙ ap (λ (l : List ℕ). writeOf l a v s b) load)
         ∙ (λ i. cond (sym (fit 16 8 block answer size room) i) (leftBlock 3 answer block b) (afterWrite answer (writeOf block a v s b)))

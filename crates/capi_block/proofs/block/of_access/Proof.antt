@@ -2,10 +2,10 @@
 use borrow.Author.Needs.{needs}
 use Rattle.blocks.specs.Answers.{accessModel}
 use Rattle.blocks.specs.declared.block.Access.{Access}
-use Rattle.capi.specs.Blocks.{accessReply}
+use Rattle.capi_block.specs.Blocks.{accessReply}
 use Rattle.replies.specs.Laws.{by}
-use Rattle.capi.proofs.block.of_access.Statement.{statement}
-use Rattle.capi.proofs.block.of_access.Tie as tie
+use Rattle.capi_block.proofs.block.of_access.Statement.{statement}
+use Rattle.capi_block.proofs.block.of_access.Tie as tie
 
 enum-told : tie.Need-enum-told
 enum-told c = search needs

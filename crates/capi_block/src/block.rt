@@ -2,7 +2,7 @@
 ghost use mathlib.Core.Path.{_≡_};
 ghost use lib.ListN.{length};
 ghost use Rattle.blocks.specs.Answers.{readModel, accessModel};
-ghost use Rattle.capi.specs.Blocks.{accessed as accessedOf, readReply, accessReply};
+ghost use Rattle.capi_block.specs.Blocks.{accessed as accessedOf, readReply, accessReply};
 ghost use Rattle.replies.specs.Internal.{replyOf};
 use blocks::block::Access;
 use blocks::block::Block;

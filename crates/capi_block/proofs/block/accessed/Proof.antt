@@ -1,8 +1,8 @@
 -- The numbers of the code are the definition's; a boolean's byte is 1 or 0 (replied-by).
 use borrow.Author.Needs.{needs}
-use Rattle.capi.proofs.BlockLaws.{replied-by}
-use Rattle.capi.proofs.block.accessed.Statement.{statement}
-use Rattle.capi.proofs.block.accessed.Tie as tie
+use Rattle.capi_block.proofs.EntryLaws.{replied-by}
+use Rattle.capi_block.proofs.block.accessed.Statement.{statement}
+use Rattle.capi_block.proofs.block.accessed.Tie as tie
 
 cast-t5 : tie.Need-cast-t5
 cast-t5 c = search needs

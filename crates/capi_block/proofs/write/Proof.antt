@@ -1,12 +1,12 @@
--- `sovzedal_block_write` returns 3 and leaves everything as it was where the block has another length than 16 (other-size) or the list is shorter than
+-- `write` returns 3 and leaves everything as it was where the block has another length than 16 (other-size) or the list is shorter than
 -- eight (too-short). Else the buffers are as `write` leaves them, `save` puts its block into the caller's, and `put` leaves the reply (write-given).
 use borrow.Author.Needs.{needs}
 use mathlib.Core.List.{[]}
 use Rattle.interp.specs.Answers.{buffersOf}
 use Rattle.replies.specs.Laws.{other-size, too-short}
-use Rattle.capi.proofs.BlockLaws.{write-away, write-given}
-use Rattle.capi.proofs.sovzedal_block_write.Statement.{statement}
-use Rattle.capi.proofs.sovzedal_block_write.Tie as tie
+use Rattle.capi_block.proofs.EntryLaws.{write-away, write-given}
+use Rattle.capi_block.proofs.write.Statement.{statement}
+use Rattle.capi_block.proofs.write.Tie as tie
 
 returns : tie.Need-returns
 returns c =
@@ -70,8 +70,8 @@ returns-3 c =
     (buffersOf (start .args .cells .now) (start .args .posts .now) []) (at-write .write .result) (at-write .write .ensures) (at-save .save .ensures)
     (at-interrupt .interrupt .ensures) (at-of-access .of-access .ensures)
 
-pub sovzedal-block-write-spec : {M : Type 1} → statement M
-sovzedal-block-write-spec =
+pub write-spec : {M : Type 1} → statement M
+write-spec =
     tie.close
     (tie.spec
     returns

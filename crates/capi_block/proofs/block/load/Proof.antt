@@ -1,23 +1,21 @@
 -- `load` copies the list's 16 bytes. The invariant: the first i are the list's, the others as they were, and i is at most 16; written-more makes it one byte
 -- more. The measure is 16 - i, the bytes left, and falls since each turn adds 1 to i. When the test fails, i is 16 (written-over).
 use native.Mathlib.Omega.{arith}
-use mathlib.Core.List.{_++_}
-use mathlib.Core.Path.{_≡_, refl}
-use Prim.Native.Nat.{_-_, _≤_}
-use lib.ListN.{take, drop}
+use mathlib.Core.Path.{refl}
+use Prim.Native.Nat.{_-_}
 use Rattle.semantics.specs.Runs.{zeros}
-use Rattle.replies.specs.Laws.{written-more, written-over}
-use Rattle.capi.proofs.block.load.Statement.{statement}
-use Rattle.capi.proofs.block.load.Tie as tie
+use Rattle.replies.specs.Laws.{Copied, written-more, written-over}
+use Rattle.capi_block.proofs.block.load.Statement.{statement}
+use Rattle.capi_block.proofs.block.load.Tie as tie
 
 abbrev Inv-loop : tie.InvT-loop
-Inv-loop block bytes₀ i₀ bytes i = (i ≤ 16) × (bytes ≡ take i block ++ drop i bytes₀)
+Inv-loop block bytes₀ i₀ bytes i = Copied 16 block bytes₀ i bytes
 
 abbrev μ-loop : tie.MeasureT-loop
 μ-loop block bytes₀ i₀ bytes i = 16 - i
 
 loop-holds : tie.Need-loop-holds Inv-loop μ-loop
-loop-holds c = (omega arith, refl)
+loop-holds c = record { below = omega arith; copied = refl }
 
 shared-slice-read-bytes : tie.Need-shared-slice-read-bytes Inv-loop μ-loop
 shared-slice-read-bytes c = omega (arith, c .before .before .before .pre, c .before .loop-test .taken)
@@ -35,18 +33,14 @@ loop-again : tie.Need-loop-again Inv-loop μ-loop
 loop-again c =
     let at-loop-test = c .before in
     let at-loop = at-loop-test .before in
-    let start = at-loop .before in (
-      omega (arith, at-loop-test .loop-test .taken),
-      written-more 16 (start .args .block .now) (zeros 16) (at-loop .loop .i) (start .pre) (omega arith)
-          (at-loop-test .loop-test .taken) (at-loop .loop .inv .1),
-    )
+    let start = at-loop .before in
+    written-more 16 (start .args .block .now) (zeros 16) (at-loop .loop .i) (start .pre) (at-loop .loop .inv) (omega arith) (at-loop-test .loop-test .taken)
 
 returns : tie.Need-returns Inv-loop μ-loop
 returns c =
     let at-loop = c .before in
     let start = at-loop .before in
-    written-over 16 (start .args .block .now) (zeros 16) (at-loop .loop .i) (start .pre) refl (at-loop .loop .inv .0) (c .loop-test .left)
-    (at-loop .loop .inv .1)
+    written-over 16 (start .args .block .now) (zeros 16) (at-loop .loop .i) (start .pre) (at-loop .loop .inv) refl (c .loop-test .left)
 
 pub load-spec : {M : Type 1} → statement M
 load-spec =

@@ -1,23 +1,21 @@
 -- `save` writes the block's 16 bytes to the list. The invariant: the first i are the block's, the others as they were, and i is at most 16; written-more makes
 -- it one byte more. The measure is 16 - i, the bytes left, and falls since each turn adds 1 to i. When the test fails, i is 16 (written-over).
 use native.Mathlib.Omega.{arith}
-use mathlib.Core.List.{_++_}
-use mathlib.Core.Path.{_≡_, refl}
-use Prim.Native.Nat.{_-_, _≤_}
-use lib.ListN.{take, drop}
+use mathlib.Core.Path.{refl}
+use Prim.Native.Nat.{_-_}
 use Rattle.program.specs.Laws.Lists.{sized}
-use Rattle.replies.specs.Laws.{written-length, written-more, written-over}
-use Rattle.capi.proofs.block.save.Statement.{statement}
-use Rattle.capi.proofs.block.save.Tie as tie
+use Rattle.replies.specs.Laws.{Copied, written-length, written-more, written-over}
+use Rattle.capi_block.proofs.block.save.Statement.{statement}
+use Rattle.capi_block.proofs.block.save.Tie as tie
 
 abbrev Inv-loop : tie.InvT-loop
-Inv-loop block₀ bytes i₀ block i = (i ≤ 16) × (block ≡ take i bytes ++ drop i block₀)
+Inv-loop block₀ bytes i₀ block i = Copied 16 bytes block₀ i block
 
 abbrev μ-loop : tie.MeasureT-loop
 μ-loop block₀ bytes i₀ block i = 16 - i
 
 loop-holds : tie.Need-loop-holds Inv-loop μ-loop
-loop-holds c = (omega arith, refl)
+loop-holds c = record { below = omega arith; copied = refl }
 
 array-read-block : tie.Need-array-read-block Inv-loop μ-loop
 array-read-block c = omega (arith, c .loop-test .taken)
@@ -31,7 +29,7 @@ slice-write-block c =
       c .loop-test .taken,
       start .pre,
       written-length 16 (start .args .b .bytes) (start .args .block .now) (at-loop .loop .i)
-          (sized (start .args .b .bytes) 16 (start .good .0 .1 .1 .0 .1 .0 .1)) (omega (arith, start .pre)) (at-loop .loop .inv .0) (at-loop .loop .inv .1),
+          (sized (start .args .b .bytes) 16 (start .good .0 .1 .1 .0 .1 .0 .1)) (at-loop .loop .inv) (omega (arith, start .pre)),
     )
 
 add-i : tie.Need-add-i Inv-loop μ-loop
@@ -43,25 +41,23 @@ loop-less c = omega arith
 loop-again : tie.Need-loop-again Inv-loop μ-loop
 loop-again c =
     let at-loop = c .before in
-    let start = at-loop .before .before in (
-      omega (arith, c .loop-test .taken),
-      written-more 16 (start .args .b .bytes) (start .args .block .now) (at-loop .loop .i)
-          (sized (start .args .b .bytes) 16 (start .good .0 .1 .1 .0 .1 .0 .1)) (omega (arith, start .pre)) (c .loop-test .taken) (at-loop .loop .inv .1),
-    )
+    let start = at-loop .before .before in
+    written-more 16 (start .args .b .bytes) (start .args .block .now) (at-loop .loop .i) (sized (start .args .b .bytes) 16 (start .good .0 .1 .1 .0 .1 .0 .1))
+    (at-loop .loop .inv) (omega (arith, start .pre)) (c .loop-test .taken)
 
 same-length : tie.Need-same-length Inv-loop μ-loop
 same-length c =
     let at-loop = c .before in
     let start = at-loop .before .before in
     written-length 16 (start .args .b .bytes) (start .args .block .now) (at-loop .loop .i) (sized (start .args .b .bytes) 16 (start .good .0 .1 .1 .0 .1 .0 .1))
-    (omega (arith, start .pre)) (at-loop .loop .inv .0) (at-loop .loop .inv .1)
+    (at-loop .loop .inv) (omega (arith, start .pre))
 
 returns : tie.Need-returns Inv-loop μ-loop
 returns c =
     let at-loop = c .before in
     let start = at-loop .before .before in
     written-over 16 (start .args .b .bytes) (start .args .block .now) (at-loop .loop .i) (sized (start .args .b .bytes) 16 (start .good .0 .1 .1 .0 .1 .0 .1))
-    (start .pre) (at-loop .loop .inv .0) (c .loop-test .left) (at-loop .loop .inv .1)
+    (at-loop .loop .inv) (start .pre) (c .loop-test .left)
 
 pub save-spec : {M : Type 1} → statement M
 save-spec =

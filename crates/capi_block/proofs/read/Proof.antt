@@ -1,10 +1,10 @@
--- `sovzedal_block_read` returns 3 and leaves the list as it was where the block has another length than 16 (other-size) or the list is shorter than eight
+-- `read` returns 3 and leaves the list as it was where the block has another length than 16 (other-size) or the list is shorter than eight
 -- (too-short). Else `put` leaves the reply to what `read` and `interrupt` tell of the block that `load` gives, which is the caller's (read-given).
 use borrow.Author.Needs.{needs}
 use Rattle.replies.specs.Laws.{other-size, too-short}
-use Rattle.capi.proofs.BlockLaws.{read-away, read-given}
-use Rattle.capi.proofs.sovzedal_block_read.Statement.{statement}
-use Rattle.capi.proofs.sovzedal_block_read.Tie as tie
+use Rattle.capi_block.proofs.EntryLaws.{read-away, read-given}
+use Rattle.capi_block.proofs.read.Statement.{statement}
+use Rattle.capi_block.proofs.read.Tie as tie
 
 returns : tie.Need-returns
 returns c =
@@ -50,8 +50,8 @@ returns-3 c =
     read-given (start .args .block .now) (start .args .answer .now) (at-if1 .if1 .left) (at-if2 .if2 .left) (at-load .load .ensures)
     (c .before .before .put .ensures) (start .args .address) (at-read .read .ensures) (at-interrupt .interrupt .ensures) (at-of-read .of-read .ensures)
 
-pub sovzedal-block-read-spec : {M : Type 1} → statement M
-sovzedal-block-read-spec =
+pub read-spec : {M : Type 1} → statement M
+read-spec =
     tie.close
     (tie.spec
     returns

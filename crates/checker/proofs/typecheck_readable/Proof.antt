@@ -1,0 +1,26 @@
+-- The root is a term, principal 0 is one of the sheet's, and judging the root adds fewer than 32 bindings (root-room), as `infer` requires; of the types
+-- nothing is known yet (known-none). The verdict that is concluded from the root's judgement is then the sheet's (program-is, verdict-is).
+use native.Mathlib.Omega.{arith}
+use borrow.Author.Needs.{needs}
+use mathlib.Core.Path.{refl}
+use Rattle.rules.proofs.KnownLaws.{known-none}
+use Rattle.checker.proofs.VerdictLaws.{sheet-of, some-terms, root-ready, program-is, verdict-is}
+use Rattle.checker.proofs.typecheck_readable.Statement.{statement}
+use Rattle.checker.proofs.typecheck_readable.Tie as tie
+
+sub-root : tie.Need-sub-root
+sub-root c = omega (arith, some-terms (sheet-of (c .before .pre)))
+
+infer-requires : tie.Need-infer-requires
+infer-requires c κs = record { ready = root-ready (sheet-of (c .before .before .pre)) _ refl; known = known-none _ _ refl }
+
+conclude-requires : tie.Need-conclude-requires
+conclude-requires c κs = search needs
+
+returns : tie.Need-returns
+returns c =
+    let start = c .before .before .before .before in
+    verdict-is (start .pre) (program-is (sheet-of (start .pre)) (c .before .infer .ensures .is) (c .conclude .ensures))
+
+pub typecheck-readable-spec : {M : Type 1} → statement M
+typecheck-readable-spec = tie.close (tie.spec sub-root infer-requires conclude-requires returns)
