@@ -1,6 +1,6 @@
 -- The theorems about whole runs: what a stack grants as a set is what 01's sentence grants; a run is refused exactly on 01's conditions; every buffer
--- keeps its length; the counts stay within the largest allowances and buffers, and the count of held sums below 2^32; 17 is told at checks and guarded posts
--- alone, and posts are of the sheet's channels; version 1 has neither guards nor channels.
+-- keeps its length; the counts stay within the largest allowances and buffers, and the count of held sums below 2^32; the posts made stand in the lent list
+-- and the stores are zero; 17 is told at checks and guarded posts alone, and posts are of the sheet's channels; version 1 has neither guards nor channels.
 use mathlib.Core.Bool.{Bool, true, false, _&&_}
 use mathlib.Core.List.{List, _++_, reverse}
 use mathlib.Core.Logic.{_↔_}
@@ -9,7 +9,8 @@ use mathlib.Core.Path.{_≡_, refl, sym, ap, _∙_, subst}
 use Prim.Native.Nat.{ℕ, suc, _+_, _*_, _<_, _≤_}
 use native.Mathlib.Omega.{arith}
 use lib.Dec.{leb}
-use lib.ListN.{length, drop, length-replicate, length-append, length-drop, length-reverse}
+use lib.ListN.{length, take, drop, length-replicate, length-append, length-drop, length-reverse}
+use lib.Seq.{take-append-seam, drop-append-seam}
 use borrow.Author.Tests.{leb-true}
 use Rattle.program.specs.Limits.{maxTerms, maxCells, maxPosts, maxCalls, maxDepth, maxSaturated}
 use Rattle.privileges.specs.Sets.{has}
@@ -24,10 +25,10 @@ use Rattle.program.specs.Laws.Screening.{found-first, first-found, clear-none, 
 use Rattle.program.specs.Laws.Readable.{WellFormed, well-formed}
 use Rattle.program.specs.Laws.Guards.{without-guards}
 use Rattle.semantics.specs.Domains.{Domain, Interpretation, standard, postEntry}
-use Rattle.semantics.specs.Values.{num, Env, empty, Log, logPost, Budget, budget, ResultOf, ends}
+use Rattle.semantics.specs.Values.{num, Env, empty, Log, logPost, Budget, budget, ResultOf, Result, ends}
 use Rattle.semantics.specs.Meaning.{Control, Mode, plain, _then_, postValue, eventIf, listsChecks, evalWith, eval}
 use Rattle.semantics.specs.Access.{Frame, chk, privs, lazyControl, rights, eagerControl}
-use Rattle.semantics.specs.Runs.{Runner, eager, lazy, Request, Buffers, Sizes, sizes, stack, framesOk, runConditions, initial, evaluationOver, evaluation, Course, rejected, started, settled, course, Outcome, stopped, Counts, AnswerOf, refused, ran, left, counts, answerOf, inOrder, postsMade, clearedFrames, buffersAfter, After, run}
+use Rattle.semantics.specs.Runs.{Runner, eager, lazy, Request, Buffers, Sizes, sizes, stack, framesOk, runConditions, initial, evaluationOver, evaluation, Course, rejected, started, settled, course, Outcome, stopped, Counts, AnswerOf, refused, ran, left, counts, answerOf, inOrder, postsMade, zeros, clearedFrames, buffersAfter, After, run}
 use Rattle.semantics.specs.Laws.Access.{privs-chk}
 use Rattle.semantics.specs.Laws.Budgets.{places, Spent, spends}
 use Rattle.semantics.specs.Laws.Saturation.{saturatedIn, evaluation-load}
@@ -211,10 +212,49 @@ abbrev pub countsIn : {D : Domain} → Counts → AnswerOf D → Counts
 countsIn k (refused c p) = k
 countsIn k (ran o k′) = k′
 
+-- the counts told are those of the evaluation
+counts-told : (s : List ℕ) (q : Request) (b : Buffers) (o : Outcome) (k : Counts) → run s q b .answer ≡ ran o k
+    → counts q (sizes b) (left (evaluation (q .runner) s q (sizes b))) ≡ k
+counts-told s q b o k e = ap (countsIn k) (sym (answer-course s q b _ (course-clear s q b (starts-screened s q b (o, k, e)))) ∙ e)
+
 pub counts-few : (s : List ℕ) (q : Request) (b : Buffers) (o : Outcome) (k : Counts) → run s q b .answer ≡ ran o k → Few k
 counts-few s q b o k e =
-    let clear-of = starts-screened s q b (o, k, e) in
-    subst Few (ap (countsIn k) (sym (answer-course s q b _ (course-clear s q b clear-of)) ∙ e))
-    (clear-few s q b clear-of (left (evaluation (q .runner) s q (sizes b)))
+    subst Few (counts-told s q b o k e)
+    (clear-few s q b (starts-screened s q b (o, k, e)) (left (evaluation (q .runner) s q (sizes b)))
     (evaluation-spends standard (plain (q .enforce)) (q .runner) s q (sizes b))
     (omega (arith, evaluation-load s (started-well s q b (o, k, e)) (plain (q .enforce)) (q .runner) q (sizes b))))
+
+-- What a run that starts leaves in the buffers b: "Posts made so far stand in the lent list and its other entries are untouched; cell and frame stores are
+-- all zero." A refused run leaves every buffer as it was: refused-untouched.
+pub record Leaves (r : Runner) (made : List ℕ) (b d : Buffers) : Type 0 where
+  pub posts-first : take (length made) (d .posts) ≡ made
+  pub rest-untouched : drop (length made) (d .posts) ≡ drop (length made) (b .posts)
+  pub cells-zero : d .cells ≡ zeros (length (b .cells))
+  pub frames-zero : r ≡ lazy → d .frames ≡ zeros (length (b .frames))
+  -- an eager run has no frame store
+  pub frames-kept : r ≡ eager → d .frames ≡ b .frames
+
+leaves : (r : Runner) (b : Buffers) (x : Result) → Leaves r (postsMade (started x)) b (buffersAfter r b (started x))
+leaves r b x =
+    let made = inOrder (left x) in
+    record {
+      posts-first = take-append-seam made (drop (length made) (b .posts));
+      rest-untouched = drop-append-seam made (drop (length made) (b .posts));
+      cells-zero = refl;
+      frames-zero = ap (λ (y : Runner). clearedFrames y (b .frames));
+      frames-kept = ap (λ (y : Runner). clearedFrames y (b .frames));
+    }
+
+posts-counted : (q : Request) (z : Sizes) (u : Budget) → counts q z u .posts ≡ length (inOrder u)
+posts-counted q z (budget c d r l) = sym (length-reverse (l .posts))
+
+-- The list is that of the posts made, in order, and the count told is its length.
+pub run-leaves : (s : List ℕ) (q : Request) (b : Buffers) (o : Outcome) (k : Counts) → run s q b .answer ≡ ran o k
+    → (k .posts ≡ length (postsMade (course s q (sizes b)))) × Leaves (q .runner) (postsMade (course s q (sizes b))) b (run s q b .buffers)
+unfolding run
+run-leaves s q b o k e =
+    let x = evaluation (q .runner) s q (sizes b) in
+    let goes : started x ≡ course s q (sizes b) = sym (course-clear s q b (starts-screened s q b (o, k, e))) in (
+      ap (λ (c : Counts). c .posts) (sym (counts-told s q b o k e)) ∙ posts-counted q (sizes b) (left x) ∙ ap (λ (c : Course). length (postsMade c)) goes,
+      subst (λ (c : Course). Leaves (q .runner) (postsMade c) b (buffersAfter (q .runner) b c)) goes (leaves (q .runner) b x),
+    )
