@@ -5,12 +5,12 @@ use mathlib.Core.List.{List}
 use mathlib.Core.Logic.{_↔_}
 use mathlib.Core.Option.{none, some}
 use mathlib.Core.Path.{_≡_, refl, sym, ap, _∙_, subst, subst₂}
-use Prim.Native.Nat.{ℕ, suc, _-_, _/_, _≤_}
+use Prim.Native.Nat.{ℕ, suc, _-_, _/_, _<_, _≤_}
 use native.Mathlib.Omega.{arith}
 use lib.Dec.{leb, ltb}
 use lib.ListN.{length}
 use borrow.Author.Tests.{leb-true, leb-false, lt-ltb, le-ltb}
-use Rattle.program.specs.Layout.{authority, root}
+use Rattle.program.specs.Layout.{authority, terms, root}
 use Rattle.program.specs.Terms.{program}
 use Rattle.program.specs.Screening.{Screening, clear, found, screen, First}
 use Rattle.program.specs.Laws.Screening.{clear-none, none-clear, none-append, none-cons, unless-none, found-first, first-found}
@@ -25,10 +25,11 @@ use Rattle.semantics.specs.Theorems.{clear-well, evaluation-spends, after-sizes
 use Rattle.semantics.specs.Laws.Saturation.{saturatedIn}
 use Rattle.soundness.specs.Laws.Runs.{posts-listed}
 use Rattle.intervals.specs.Intervals.{Interval, sumOf, differenceOf, lessOf, intervals}
-use Rattle.intervals.specs.Pairs.{pairOf, pairsOk, ranged}
+use Rattle.intervals.specs.Pairs.{isNumber, pairOf, pairsOk, ranged}
 use Rattle.intervals.specs.Runs.{rangeConditions, rangeCourse, rangeRun}
 use Rattle.intervals.specs.Claims.{Inside, Words, Choice, chosen, chosenCourse, chosenRun, inside-number, inside-decided, inside-undecided, InsideOutcome, inside-end, same-stop, InsideAnswer, inside-answer, InsidePosts, no-posts, next-post, Contains, Decided}
 use Rattle.intervals.specs.Laws.Arithmetic.{Agrees, agrees-known, agrees-none, agreed, sum-inside, difference-inside, less-agrees}
+use Rattle.intervals.specs.Laws.Pairs.{pair-ordered}
 use Rattle.intervals.specs.Laws.Containment.{InsideBudget, inside-budget, v-truth, v-number, v-closure, InsideResult, r-ends, r-stops, r-undecided, inside}
 use Rattle.intervals.specs.Laws.Counts.{evaluation-uncounted}
 use Rattle.intervals.specs.Laws.Sheets.{version-1, program-fits, inside-reverse}
@@ -37,6 +38,13 @@ use Rattle.intervals.specs.Laws.Sheets.{version-1, program-fits, inside-
 -- a range that has a lowest not above its highest
 abbrev pub Nonempty : Interval → Type 0
 Nonempty i = i .low ≤ i .high
+
+-- "a lowest above its highest … is 35": once the pairs have passed it, no number term's range is empty, and no sum or difference of such ranges is
+pub pair-nonempty : (s ps : List ℕ) → pairsOk s ps ≡ true → (t : ℕ) → t < terms s → isNumber s t ≡ true → Nonempty (pairOf s ps t)
+pair-nonempty s ps ok t l e = pair-ordered s ps ok t l e
+
+pub stays-nonempty : (i j : Interval) → Nonempty i → Nonempty j → Nonempty (sumOf i j) × Nonempty (differenceOf i j)
+stays-nonempty i j hi hj = (omega (arith, hi, hj), omega (arith, hi, hj))
 
 -- k is "the range from the least to the greatest of its results … over all pairs of values from its two ranges"
 pub record Spans (operation : ℕ → ℕ → ℕ) (i j k : Interval) : Type 0 where
@@ -171,6 +179,11 @@ module _ (s ps : List ℕ) (q : Request) (b : Buffers) where
 pub own-numbers : (s : List ℕ) (q : Request) (b : Buffers) → chosenRun (λ at n. n) s q b ≡ run s q b
 unfolding chosenRun chosenCourse run course
 own-numbers s q b = refl
+
+-- There is a choice wherever the pairs have passed 35: the lowest of each. So what is said of every choice (contains, and contains-plain of SheetTheorems.antt)
+-- is said of something.
+pub a-choice : (s ps : List ℕ) → pairsOk s ps ≡ true → Choice s ps (λ t n. pairOf s ps t .low)
+a-choice s ps ok = record { inside = λ t l e. lowest (pairOf s ps t) (pair-nonempty s ps ok t l e) }
 
 same-length : {xs ys : List ℕ} → InsidePosts xs ys → length xs ≡ length ys
 same-length no-posts = refl

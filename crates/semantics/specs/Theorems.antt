@@ -1,6 +1,7 @@
 -- The theorems about whole runs: what a stack grants as a set is what 01's sentence grants; a run is refused exactly on 01's conditions; every buffer
 -- keeps its length; the counts stay within the largest allowances and buffers, and the count of held sums below 2^32; the posts made stand in the lent list
--- and the stores are zero; 17 is told at checks and guarded posts alone, and posts are of the sheet's channels; version 1 has neither guards nor channels.
+-- and the stores are zero; 17 is told at checks and guarded posts alone, and posts are of the sheet's channels; version 1 has neither guards nor channels; a
+-- sum or difference is counted as held unless it is the exact one.
 use mathlib.Core.Bool.{Bool, true, false, _&&_}
 use mathlib.Core.List.{List, _++_, reverse}
 use mathlib.Core.Logic.{_↔_}
@@ -11,20 +12,20 @@ use native.Mathlib.Omega.{arith}
 use lib.Dec.{leb}
 use lib.ListN.{length, take, drop, length-replicate, length-append, length-drop, length-reverse}
 use lib.Seq.{take-append-seam, drop-append-seam}
-use borrow.Author.Tests.{leb-true}
+use borrow.Author.Tests.{leb-true, ltb-false, le-ltb}
 use Rattle.program.specs.Limits.{maxTerms, maxCells, maxPosts, maxCalls, maxDepth, maxSaturated}
 use Rattle.privileges.specs.Sets.{has}
 use Rattle.privileges.specs.Booleans.{and-left, and-right}
 use Rattle.program.specs.Bytes.{Bytes}
 use Rattle.program.specs.Layout.{version, root, kindByte, small, authority}
 use Rattle.program.specs.Formats.{Check, kindOf}
-use Rattle.program.specs.Terms.{Term, post, program}
+use Rattle.program.specs.Terms.{sum, difference, Term, post, program}
 use Rattle.program.specs.Screening.{Screening, clear, found, screen, First, None}
 use Rattle.program.specs.Decoding.{decodingConditions, decoding}
 use Rattle.program.specs.Laws.Screening.{found-first, first-found, clear-none, none-clear, none-append, none-cons, unless-none}
 use Rattle.program.specs.Laws.Readable.{WellFormed, well-formed}
 use Rattle.program.specs.Laws.Guards.{without-guards}
-use Rattle.semantics.specs.Domains.{Domain, Interpretation, standard, postEntry}
+use Rattle.semantics.specs.Domains.{Domain, Interpretation, saturates, postEntry, exact, standard}
 use Rattle.semantics.specs.Values.{num, Env, empty, Log, logPost, Budget, budget, ResultOf, Result, ends}
 use Rattle.semantics.specs.Meaning.{Control, Mode, plain, _then_, postValue, eventIf, listsChecks, evalWith, eval}
 use Rattle.semantics.specs.Access.{Frame, chk, privs, lazyControl, rights, eagerControl}
@@ -148,6 +149,15 @@ plain-post X M depth at c st e u n k d r l h =
     let z : postEntry 0 n ≡ n = omega arith in
     (λ i. h i then λ v u₁. postValue at 0 true (no-event (listsChecks M) at (X .grants st) i) v u₁)
     ∙ ap (λ (x : ℕ). ends (num n) (budget k d r (logPost x l))) z
+
+-- ---- Which results are held
+-- 02, W10: "Sum and difference now also say whether the exact result was outside 0 to 65,535." For all numbers: one is not counted as held exactly if it is
+-- the exact result. A difference is that if it and the second number make the first.
+pub sum-held : (m n : ℕ) → (saturates sum m n ≡ false) ↔ (exact .sum m n ≡ m + n)
+sum-held m n = (λ e. omega (arith, ltb-false 65535 (m + n) e), λ e. le-ltb 65535 (m + n) (omega arith))
+
+pub difference-held : (m n : ℕ) → (saturates difference m n ≡ false) ↔ (exact .difference m n + n ≡ m)
+difference-held m n = (λ e. omega (arith, ltb-false m n e), λ e. le-ltb m n (omega arith))
 
 -- ---- What a run leaves
 -- Every buffer keeps its length, whatever becomes of the run: the posts made find their places in the lent list.
