@@ -6,3 +6,4 @@ pub mod Budgets
 pub mod Saturation
 pub mod Posts
 pub mod Tracing
+pub mod Refusals

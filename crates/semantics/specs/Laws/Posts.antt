@@ -30,7 +30,7 @@ pub each-all : {A : Type 0} {E : A → Type 0} (F : A → Type 0) → ((x : A) �
 each-all F f [] h = tt
 each-all F f (x ∷ xs) h = (f x (h .0), each-all F f xs (h .1))
 
-each-reversed : {A : Type 0} (E : A → Type 0) (xs ys : List A) → Each E xs → Each E ys → Each E (reverseAux xs ys)
+pub each-reversed : {A : Type 0} (E : A → Type 0) (xs ys : List A) → Each E xs → Each E ys → Each E (reverseAux xs ys)
 each-reversed E [] ys h g = g
 each-reversed E (x ∷ xs) ys h g = each-reversed E xs (x ∷ ys) (h .1) (h .0, g)
 
@@ -228,7 +228,7 @@ pub record Decision (s : List ℕ) (t p : ℕ) : Type 0 where
   pub a-term : t < terms s
   pub asks : Asks s t p
 
-ended≢stopped : {g : Ground} {c t : ℕ} → ended g ≡ stopped c t → ⊥
+pub ended≢stopped : {g : Ground} {c t : ℕ} → ended g ≡ stopped c t → ⊥
 ended≢stopped e = absurd (let z : _≡_ {A = ℕ} 0 1 = cc in omega arith)
 
 module _ (s : List ℕ) (bytes : Bytes s) (w : WellFormed s) where
