@@ -6,7 +6,7 @@ use mathlib.Core.Path.{_≡_, refl, sym, ap, _∙_, subst}
 use Prim.Native.Nat.{ℕ, zero, suc, _+_, _%_, _<_, _≤_, min}
 use native.Mathlib.Omega.{arith}
 use lib.Dec.{eqb}
-use lib.ListN.{length, getD, take, replicate}
+use lib.ListN.{length, getD, take, replicate, length-take}
 use Rattle.queues.specs.Queues.{maxLines, maxJobs, Job, State, start, queueAt, addConditions, addedTo, addOf, Turn, nobody, serves, turnOf}
 use Rattle.queues.specs.Answers.{noJob}
 use Rattle.program.specs.Screening.{Screening, clear, found, screen}
@@ -16,13 +16,28 @@ use Rattle.replies.specs.Laws.{fit}
 use Rattle.lines.specs.Serving.{serveTurn, serveOf}
 use Rattle.lines.specs.Sessions.{Operation, add, serve, stepped, session, only, accepted, addedBy, addedIn, servedIn, Sound}
 use Rattle.lines.specs.Theorems.{start-sound, session-sound, in-order}
-use Rattle.capi_lines.specs.States.{stateNumbers, maxAllowance, queueRead, stateRead, stateWritten, tabulate, numberAt}
+use Rattle.capi_lines.specs.States.{stateNumbers, maxAllowance, placesRead, queueRead, stateRead, stateWritten, tabulate, numberAt}
 use Rattle.capi_lines.specs.Entries.{AddLeft, stateAfter, addLeft, linesAdd, ServeLeft, servedState, serveLeft, linesServe}
 
 -- "The queues start empty": a list of zeros is that state
 pub zeros-start : stateRead (replicate stateNumbers 0) ≡ start
 unfolding stateRead
 zeros-start = refl
+
+-- any list is read as a state of which the theorems of `lines` hold, whoever wrote it
+pub read-sound : (n : List ℕ) → Sound (stateRead n)
+unfolding stateRead
+read-sound n = record { four = refl; turn-below = omega arith; few = few }
+  where
+    eight : (l : ℕ) → length (queueRead n l) ≤ maxJobs
+    eight l = omega (arith, length-take (getD n (2 + l) 0) (placesRead n l))
+
+    few : (l : ℕ) → length (queueAt (stateRead n) l) ≤ maxJobs
+    few zero = eight 0
+    few (suc zero) = eight 1
+    few (suc (suc zero)) = eight 2
+    few (suc (suc (suc zero))) = eight 3
+    few (suc (suc (suc (suc l)))) = omega arith
 
 -- the jobs have allowances of 32 bits
 abbrev pub Held : List Job → Type 0
