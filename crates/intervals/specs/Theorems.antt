@@ -1,8 +1,8 @@
--- The theorems of 02's W14: what operations on ranges give, and that a run over ranges contains the plain run for every choice. Claims.antt says what the
--- words mean.
+-- The theorems of 02's W14: what operations on ranges give, by which causes a run over ranges stops, and that it contains the plain run for every choice.
+-- Claims.antt says what the words mean.
 use mathlib.Core.Bool.{Bool, true, false, cond, true≢false}
 use mathlib.Core.List.{List}
-use mathlib.Core.Logic.{_↔_}
+use mathlib.Core.Logic.{_↔_, _⊎_, inl, inr, ⊎-elim}
 use mathlib.Core.Option.{none, some}
 use mathlib.Core.Path.{_≡_, refl, sym, ap, _∙_, subst, subst₂}
 use Prim.Native.Nat.{ℕ, suc, _-_, _/_, _<_, _≤_}
@@ -22,6 +22,7 @@ use Rattle.semantics.specs.Meaning.{plain}
 use Rattle.semantics.specs.Access.{lazyControl, eagerControl}
 use Rattle.semantics.specs.Runs.{Runner, eager, lazy, Request, Buffers, Sizes, sizes, runConditions, evaluationOver, rejected, started, settled, OutcomeOf, Outcome, stopped, Counts, AnswerOf, refused, ran, outcome, left, counts, inOrder, AfterOf, afterCourse, course, run}
 use Rattle.semantics.specs.Theorems.{clear-well, evaluation-spends, after-sizes, Few, clear-few, countsIn}
+use Rattle.semantics.specs.Laws.Stops.{IfAt, evaluation-stop, stop-told}
 use Rattle.semantics.specs.Laws.Saturation.{saturatedIn}
 use Rattle.soundness.specs.Laws.Runs.{posts-listed}
 use Rattle.intervals.specs.Intervals.{Interval, sumOf, differenceOf, lessOf, intervals}
@@ -136,6 +137,19 @@ module _ (s ps : List ℕ) (q : Request) (b : Buffers) where
   ran-clear o k clear h e = refl
   ran-clear o k (found c p) h e = ran≢refused (sym e ∙ answered (run-found c p h))
 
+  -- the plain run's conditions are among them
+  plain-clear : conditions ≡ clear → screen (runConditions s q (sizes b)) ≡ clear
+  plain-clear e = none-clear (none-append (runConditions s q (sizes b)) _ (clear-none (rangeConditions s ps q (sizes b)) e) .0)
+
+  -- ---- By which causes it stops
+  -- 02, W14: "An if with an undecided condition stops by 36 at the if"; every other stop is one of 01's, 17 to 22.
+  pub range-stopped-by : (c t : ℕ) (k : Counts) → answerIs (ran (stopped c t) k) → ((17 ≤ c) × (c ≤ 22)) ⊎ ((c ≡ 36) × IfAt s t)
+  range-stopped-by c t k e =
+      let clearly = ran-clear (stopped c t) k conditions refl e in
+      let same : ran _ _ ≡ ran (stopped c t) k = sym (answered (run-clear clearly)) ∙ e in
+      let stop = evaluation-stop s (clear-well s q b (plain-clear clearly)) (ranged s ps) (plain (q .enforce)) q (sizes b) (q .runner) c t cc in
+      ⊎-elim (λ h. inl h) (λ u. inr (u .0, u .1)) (stop-told s c t stop)
+
 -- ---- What a run over ranges leaves and counts
 module _ (s ps : List ℕ) (q : Request) (b : Buffers) where
   -- every buffer keeps its length
@@ -151,8 +165,7 @@ module _ (s ps : List ℕ) (q : Request) (b : Buffers) where
   -- how large the counts of a run are that starts
   pub few-clear : screen (rangeConditions s ps q (sizes b)) ≡ clear → Few (counts q (sizes b) budgetLeft)
   few-clear e =
-      let none-of = none-append (runConditions s q (sizes b)) _ (clear-none (rangeConditions s ps q (sizes b)) e) in
-      clear-few s q b (none-clear (none-of .0)) budgetLeft (evaluation-spends (ranged s ps) (plain (q .enforce)) (q .runner) s q (sizes b))
+      clear-few s q b (plain-clear s ps q b e) budgetLeft (evaluation-spends (ranged s ps) (plain (q .enforce)) (q .runner) s q (sizes b))
       (omega (arith, evaluation-uncounted s ps (plain (q .enforce)) (q .runner) q (sizes b)))
 
   module _ (o : OutcomeOf intervals) (k : Counts) (e : rangeRun s ps q b .answer ≡ ran o k) where

@@ -1,7 +1,7 @@
 -- The theorems about whole runs: what a stack grants as a set is what 01's sentence grants; a run is refused exactly on 01's conditions; every buffer
 -- keeps its length; the counts stay within the largest allowances and buffers, and the count of held sums below 2^32; the posts made stand in the lent list
--- and the stores are zero; 17 is told at checks and guarded posts alone, and posts are of the sheet's channels; version 1 has neither guards nor channels; a
--- sum or difference is counted as held unless it is the exact one.
+-- and the stores are zero; a run stops by 17 to 22 alone, by 17 at checks and guarded posts alone, and posts are of the sheet's channels; version 1 has
+-- neither guards nor channels; a sum or difference is counted as held unless it is the exact one.
 use mathlib.Core.Bool.{Bool, true, false, _&&_}
 use mathlib.Core.List.{List, _++_, reverse}
 use mathlib.Core.Logic.{_↔_}
@@ -30,10 +30,12 @@ use Rattle.semantics.specs.Values.{num, Env, empty, Log, logPost, Budget
 use Rattle.semantics.specs.Meaning.{Control, Mode, plain, _then_, postValue, eventIf, listsChecks, evalWith, eval}
 use Rattle.semantics.specs.Access.{Frame, chk, privs, lazyControl, rights, eagerControl}
 use Rattle.semantics.specs.Runs.{Runner, eager, lazy, Request, Buffers, Sizes, sizes, stack, framesOk, runConditions, initial, evaluationOver, evaluation, Course, rejected, started, settled, course, Outcome, stopped, Counts, AnswerOf, refused, ran, left, counts, answerOf, inOrder, postsMade, zeros, clearedFrames, buffersAfter, After, run}
+use Rattle.semantics.specs.Laws.Bodies.{Stop}
+use Rattle.semantics.specs.Laws.Stops.{MayRefuse, at-check, at-guard, Recorded, evaluation-stop, refusing, stop-exact}
 use Rattle.semantics.specs.Laws.Access.{privs-chk}
 use Rattle.semantics.specs.Laws.Budgets.{places, Spent, spends}
 use Rattle.semantics.specs.Laws.Saturation.{saturatedIn, evaluation-load}
-use Rattle.semantics.specs.Laws.Posts.{Each, each-all, MayRefuse, at-check, at-guard, OnChannel, evaluation-refused, evaluation-posts}
+use Rattle.semantics.specs.Laws.Posts.{Each, each-all, OnChannel, evaluation-posts}
 
 -- ---- What a stack grants
 -- The eager runner starts with the set `privs`; a privilege is in it exactly if the stack grants it by 01's sentence, which is `chk`.
@@ -109,14 +111,23 @@ module _ (s : List ℕ) (q : Request) (b : Buffers) where
       let within : (leb (q .calls) maxCalls && leb (q .depth) maxDepth) ≡ true = unless-none 16 _ (none-cons (none-cons (none-cons callers .1) .1) .0) in
       leb-true (q .calls) maxCalls (search (within, and-left))
 
+-- ---- By which causes a run stops
+module _ (s : List ℕ) (q : Request) (b : Buffers) where
+  stop-of : (c t : ℕ) (k : Counts) → run s q b .answer ≡ ran (stopped c t) k → Stop exact (Recorded s) c t
+  stop-of c t k e =
+      let st : Starts s q b = (_, _, e) in
+      let same : ran _ _ ≡ ran (stopped c t) k = sym (answer-course s q b _ (course-clear s q b (starts-screened s q b st))) ∙ e in
+      evaluation-stop s (started-well s q b st) standard (plain (q .enforce)) q (sizes b) (q .runner) c t cc
+
+  -- 01 lists the stops 17 to 22. W14's 36 is no stop of a plain run, whose conditions are yes or no.
+  pub stopped-by : (c t : ℕ) (k : Counts) → run s q b .answer ≡ ran (stopped c t) k → (17 ≤ c) × (c ≤ 22)
+  stopped-by c t k e = stop-exact s c t (stop-of c t k e)
+
 -- ---- Where a run is refused by 17, and what it posts
 module _ (s : List ℕ) (bytes : Bytes s) (q : Request) (b : Buffers) where
   -- 17 is told at a check, or at a post whose channel has a guard.
   pub refused-by-17 : (t : ℕ) (k : Counts) → run s q b .answer ≡ ran (stopped 17 t) k → MayRefuse s t
-  refused-by-17 t k e =
-      let st : Starts s q b = (_, _, e) in
-      let same : ran _ _ ≡ ran (stopped 17 t) k = sym (answer-course s q b _ (course-clear s q b (starts-screened s q b st))) ∙ e in
-      evaluation-refused s bytes (started-well s q b st) (plain (q .enforce)) (q .runner) q (sizes b) t cc
+  refused-by-17 t k e = refusing s t (stop-of s q b 17 t k e)
 
   -- Every post is a channel of the sheet's version and a 16-bit number: "channel × 65,536 + number".
   pub posts-on-channels : Starts s q b → Each (OnChannel s) (postsMade (course s q (sizes b)))

@@ -18,7 +18,8 @@ use Rattle.semantics.specs.Access.{privs, lazyControl, rights, eagerCont
 use Rattle.semantics.specs.Runs.{Runner, eager, lazy, Request, Sizes, stack, initial, evaluationIn, stopped, outcome, left}
 use Rattle.semantics.specs.Recording.{decidedIn}
 use Rattle.semantics.specs.Laws.Bodies.{EveryBody, EveryBodyIn, Bodies, bodies-end, entered-bodies, BodiesAll, eval-bodies, apply-bodies}
-use Rattle.semantics.specs.Laws.Posts.{Each, each-reversed, ended≢stopped}
+use Rattle.semantics.specs.Laws.Posts.{Each, each-reversed}
+use Rattle.semantics.specs.Laws.Stops.{ended≢stopped}
 
 -- what is listed of a decision at term `at` about privilege p
 abbrev deciding : (at p : ℕ) (yes : Bool) → Event
@@ -144,7 +145,7 @@ module _ (T : ℕ → Type 0) where
     abbrev AnsweredAll : Application standard X → Type 0
     AnsweredAll f = (at : ℕ) (v w : Value) (st : X .State) (u : Budget) → EveryBody Tests v → EveryBody Tests w → Passed u → Answered (f at v w st u)
 
-    module _ (f : Application standard X) (a : BodiesAll Tests X M f) (g : AnsweredAll f) where
+    module _ (f : Application standard X) (a : BodiesAll Tests standard X M f) (g : AnsweredAll f) where
       eval-answered : (c : Term) → Every Tests c → (st : X .State) (e : Env) (u : Budget) → EveryBodyIn Tests e → Passed u
           → Answered (evalWith standard X M f c st e u)
       unfolding evalWith
@@ -155,11 +156,11 @@ module _ (T : ℕ → Type 0) where
       eval-answered (letrec at ty body rest) k st e u h p =
           answered-cell at _ (λ w q. eval-answered rest (k .2) st (bind (closure true ty body e) e) w ((k .1, h), h) q) u p
       eval-answered (call at c d) k st e u h p =
-          answered-then _ _ (eval-answered c (k .1) st e u h p) (eval-bodies Tests X M f a c (k .1) st e u h)
-          (λ v w hv q. answered-then _ _ (eval-answered d (k .2) st e w h q) (eval-bodies Tests X M f a d (k .2) st e w h)
+          answered-then _ _ (eval-answered c (k .1) st e u h p) (eval-bodies Tests standard X M f a c (k .1) st e u h)
+          (λ v w hv q. answered-then _ _ (eval-answered d (k .2) st e w h q) (eval-bodies Tests standard X M f a d (k .2) st e w h)
           (λ x y hx o. g at v x st y hv hx o))
       eval-answered (if at c y n) k st e u h p =
-          answered-then _ _ (eval-answered c (k .1) st e u h p) (eval-bodies Tests X M f a c (k .1) st e u h)
+          answered-then _ _ (eval-answered c (k .1) st e u h p) (eval-bodies Tests standard X M f a c (k .1) st e u h)
           (λ v w hv q. answered-branch at v _ _ w q (eval-answered y (k .2) st e w h q) (eval-answered n (k .3) st e w h q))
       eval-answered (check at r c) k st e u h p =
           answered-asked enforce at (X .grants st) (some r) _ (λ w q. eval-answered c (k .1) st e w h q) u p
@@ -170,11 +171,11 @@ module _ (T : ℕ → Type 0) where
           let q = tested at r (X .grants st r) (k .0) u p in
           answered-choose (X .grants st r) _ _ w (eval-answered y (k .1) st e w h q) (eval-answered n (k .2) st e w h q)
       eval-answered (binary at op c d) k st e u h p =
-          answered-then _ _ (eval-answered c (k .1) st e u h p) (eval-bodies Tests X M f a c (k .1) st e u h)
-          (λ v w hv q. answered-then _ _ (eval-answered d (k .2) st e w h q) (eval-bodies Tests X M f a d (k .2) st e w h)
+          answered-then _ _ (eval-answered c (k .1) st e u h p) (eval-bodies Tests standard X M f a c (k .1) st e u h)
+          (λ v w hv q. answered-then _ _ (eval-answered d (k .2) st e w h q) (eval-bodies Tests standard X M f a d (k .2) st e w h)
           (λ x y hx o. answered-compute at op v x y o))
       eval-answered (post at ch r c) k st e u h p =
-          answered-then _ _ (eval-answered c (k .1) st e u h p) (eval-bodies Tests X M f a c (k .1) st e u h)
+          answered-then _ _ (eval-answered c (k .1) st e u h p) (eval-bodies Tests standard X M f a c (k .1) st e u h)
           (λ v w hv q. answered-post enforce at ch (X .grants st) r v w q)
 
     apply-answered : (k : ℕ) → AnsweredAll (apply standard X M k)
@@ -182,11 +183,11 @@ module _ (T : ℕ → Type 0) where
     apply-answered zero at v w st u hv hw p = answered-deep at v u p
     apply-answered (suc k) at v w st u hv hw p =
         answered-enter at v w _
-        (λ body e x kb he q. eval-answered (apply standard X M k) (apply-bodies Tests X M k) (apply-answered k) body kb st e x he q) u hv hw p
+        (λ body e x kb he q. eval-answered (apply standard X M k) (apply-bodies Tests standard X M k) (apply-answered k) body kb st e x he q) u hv hw p
 
     answered : (depth : ℕ) (c : Term) → Every Tests c → (st : X .State) (u : Budget) → Passed u → Answered (eval standard X M depth c st empty u)
     unfolding eval
-    answered k c h st u p = eval-answered (apply standard X M k) (apply-bodies Tests X M k) (apply-answered k) c h st empty u tt p
+    answered k c h st u p = eval-answered (apply standard X M k) (apply-bodies Tests standard X M k) (apply-answered k) c h st empty u tt p
 
   -- ---- what is told and listed, in the order met
   passed-listed : (u : Budget) → Passed u → Each GoesOn (decidedIn u)
