@@ -27,7 +27,8 @@ use Rattle.semantics.specs.Runs.{Request, Buffers, Sizes, sizes, runCond
 use Rattle.semantics.specs.Recording.{tracedCourse, decidedIn, decisionsMade, decisions, Recorded, withEntries, recordedWith, recording}
 use Rattle.semantics.specs.Laws.Tracing.{forget, evaluation-forgets, outcome-forgotten, counts-forgotten, posts-forgotten}
 use Rattle.semantics.specs.Laws.Saturation.{listedIn, evaluation-load}
-use Rattle.semantics.specs.Laws.Posts.{Each, Asks, by-check, by-test, by-guard, Decision, evaluation-decides}
+use Rattle.semantics.specs.Claims.{Each, Asks, by-check, by-test, by-guard, Decision}
+use Rattle.semantics.specs.Laws.Posts.{evaluation-decides}
 use Rattle.semantics.specs.Laws.Refusals.{refused-last, others-go-on}
 use Rattle.semantics.specs.Theorems.{Starts, refused-exactly, starts-screened, clear-well, clear-calls}
 

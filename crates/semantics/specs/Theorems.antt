@@ -31,11 +31,12 @@ use Rattle.semantics.specs.Meaning.{Control, Mode, plain, _then_, postVa
 use Rattle.semantics.specs.Access.{Frame, chk, privs, lazyControl, rights, eagerControl}
 use Rattle.semantics.specs.Runs.{Runner, eager, lazy, Request, Buffers, Sizes, sizes, stack, framesOk, runConditions, initial, evaluationOver, evaluation, Course, rejected, started, settled, course, Outcome, stopped, Counts, AnswerOf, refused, ran, left, counts, answerOf, inOrder, postsMade, zeros, clearedFrames, buffersAfter, After, run}
 use Rattle.semantics.specs.Laws.Bodies.{Stop}
-use Rattle.semantics.specs.Laws.Stops.{MayRefuse, at-check, at-guard, Recorded, evaluation-stop, refusing, stop-exact}
+use Rattle.semantics.specs.Claims.{Each, MayRefuse, at-check, at-guard, OnChannel}
+use Rattle.semantics.specs.Laws.Stops.{Recorded, evaluation-stop, refusing, stop-exact}
 use Rattle.semantics.specs.Laws.Access.{privs-chk}
 use Rattle.semantics.specs.Laws.Budgets.{places, Spent, spends}
 use Rattle.semantics.specs.Laws.Saturation.{saturatedIn, evaluation-load}
-use Rattle.semantics.specs.Laws.Posts.{Each, each-all, OnChannel, evaluation-posts}
+use Rattle.semantics.specs.Laws.Posts.{each-all, evaluation-posts}
 
 -- ---- What a stack grants
 -- The eager runner starts with the set `privs`; a privilege is in it exactly if the stack grants it by 01's sentence, which is `chk`.

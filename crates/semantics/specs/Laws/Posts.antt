@@ -20,11 +20,7 @@ use Rattle.semantics.specs.Meaning.{Control, Mode, _then_, choose, found
 use Rattle.semantics.specs.Access.{privs, lazyControl, rights, eagerControl}
 use Rattle.semantics.specs.Runs.{Runner, eager, lazy, Request, Sizes, stack, initial, evaluationIn, left, inOrder}
 use Rattle.semantics.specs.Recording.{decidedIn}
-
--- what every entry of a list has
-abbrev pub Each : {A : Type 0} → (A → Type 0) → List A → Type 0
-Each E [] = Unit {0}
-Each E (x ∷ xs) = E x × Each E xs
+use Rattle.semantics.specs.Claims.{Each, OnChannel, Asks, by-check, by-test, by-guard, Decision}
 
 pub each-all : {A : Type 0} {E : A → Type 0} (F : A → Type 0) → ((x : A) → E x → F x) → (xs : List A) → Each E xs → Each F xs
 each-all F f [] h = tt
@@ -192,21 +188,6 @@ module _ (E : ℕ → Type 0) (D : (at p : ℕ) → Type 0) where
     kept k c h st u p = eval-kept (apply standard X M k) (apply-kept k) c h st empty u tt p
 
 -- ---- the program of a readable sheet
-
--- "channel × 65,536 + number", of a channel that the sheet's version has
-pub record OnChannel (s : List ℕ) (x : ℕ) : Type 0 where
-  pub below : x < channels s * 65536
-
--- 02, W12: "each check, test and guard": term t asks for privilege p
-pub data Asks (s : List ℕ) (t p : ℕ) : Type 0 where
-  by-check : kindOf (kindByte s t) ≡ Check → small s t ≡ p → Asks s t p
-  by-test : kindOf (kindByte s t) ≡ Test → small s t ≡ p → Asks s t p
-  by-guard : kindOf (kindByte s t) ≡ Post → guardOf s (small s t) ≡ some p → Asks s t p
-
--- a decision of a run: about a privilege that one of the sheet's terms asks for
-pub record Decision (s : List ℕ) (t p : ℕ) : Type 0 where
-  pub a-term : t < terms s
-  pub asks : Asks s t p
 
 module _ (s : List ℕ) (bytes : Bytes s) (w : WellFormed s) where
   word-low : (i : ℕ) → word16 s i < 65536

@@ -18,7 +18,8 @@ use Rattle.semantics.specs.Access.{privs, lazyControl, rights, eagerCont
 use Rattle.semantics.specs.Runs.{Runner, eager, lazy, Request, Sizes, stack, initial, evaluationIn, stopped, outcome, left}
 use Rattle.semantics.specs.Recording.{decidedIn}
 use Rattle.semantics.specs.Laws.Bodies.{EveryBody, EveryBodyIn, Bodies, bodies-end, entered-bodies, BodiesAll, eval-bodies, apply-bodies}
-use Rattle.semantics.specs.Laws.Posts.{Each, each-reversed}
+use Rattle.semantics.specs.Claims.{Each}
+use Rattle.semantics.specs.Laws.Posts.{each-reversed}
 use Rattle.semantics.specs.Laws.Stops.{ended≢stopped}
 
 -- what is listed of a decision at term `at` about privilege p

@@ -15,17 +15,8 @@ use Rattle.semantics.specs.Values.{bool, num, closure, empty, ResultOf}
 use Rattle.semantics.specs.Meaning.{Mode}
 use Rattle.semantics.specs.Access.{privs, lazyControl, rights, eagerControl}
 use Rattle.semantics.specs.Runs.{Runner, eager, lazy, Request, Sizes, stack, initial, evaluationOver, GroundOf, OutcomeOf, ended, stopped, outcome}
+use Rattle.semantics.specs.Claims.{MayRefuse, at-check, at-guard, IfAt}
 use Rattle.semantics.specs.Laws.Bodies.{Stop, stop-check, stop-guard, stop-other, stop-undecided, Bodies, bodies-end, bodies-stop, bodies}
-
--- "17 refused check"; 02, W8: a guarded post "is refused by 17"
-pub data MayRefuse (s : List ℕ) (t : ℕ) : Type 0 where
-  at-check : kindOf (kindByte s t) ≡ Check → MayRefuse s t
-  at-guard : (p : ℕ) → kindOf (kindByte s t) ≡ Post → guardOf s (small s t) ≡ some p → MayRefuse s t
-
--- one of the sheet's terms is an if
-pub record IfAt (s : List ℕ) (t : ℕ) : Type 0 where
-  pub a-term : t < terms s
-  pub an-if : kindOf (kindByte s t) ≡ If
 
 -- what the record with a term's number tells of the terms where 17 and 36 are told
 abbrev pub Recorded : List ℕ → Term → Type 0
