@@ -68,7 +68,7 @@ cut-printed s = go (decLt maxSheet (length s))
     go : Dec (maxSheet < length s) → printed (take (maxSheet + 1) s) ≡ printed s
     go (yes l) =
         let r = longer-refused s l in
-        unfit-printed (take (maxSheet + 1) s) (r .0) (r .1 .0) (cut-alike s ∙ r .1 .1) ∙ sym (unfit-printed s (r .0) (r .1 .0) (r .1 .1))
+        unfit-printed (take (maxSheet + 1) s) (r .0) (r .1) (cut-alike s ∙ r .2) ∙ sym (unfit-printed s (r .0) (r .1) (r .2))
     go (no l) = ap printed (take-all (maxSheet + 1) s (omega arith))
 
 -- ---- how long a text is
