@@ -16,7 +16,7 @@ use Rattle.program.specs.Screening.{Screening, clear, found, screen, First}
 use Rattle.program.specs.Laws.Screening.{clear-none, none-clear, none-append, none-cons, unless-none, found-first, first-found}
 use Rattle.program.specs.Laws.Readable.{WellFormed}
 use Rattle.program.specs.Laws.Guards.{program-unguarded}
-use Rattle.semantics.specs.Domains.{exact}
+use Rattle.semantics.specs.Domains.{single}
 use Rattle.semantics.specs.Values.{Budget, budget, ResultOf, Result}
 use Rattle.semantics.specs.Meaning.{plain}
 use Rattle.semantics.specs.Access.{lazyControl, eagerControl}
@@ -60,14 +60,14 @@ lowest i h = record { least = omega arith; most = h }
 highest : (i : Interval) → Nonempty i → Inside i (i .high)
 highest i h = record { least = h; most = omega arith }
 
-pub sum-spans : (i j : Interval) → Nonempty i → Nonempty j → Spans (exact .sum) i j (sumOf i j)
+pub sum-spans : (i j : Interval) → Nonempty i → Nonempty j → Spans (single .sum) i j (sumOf i j)
 sum-spans i j hi hj = record {
   every = λ m n hm hn. sum-inside i j m n hm hn;
   least = (i .low, j .low, lowest i hi, lowest j hj, refl);
   greatest = (i .high, j .high, highest i hi, highest j hj, refl);
 }
 
-pub difference-spans : (i j : Interval) → Nonempty i → Nonempty j → Spans (exact .difference) i j (differenceOf i j)
+pub difference-spans : (i j : Interval) → Nonempty i → Nonempty j → Spans (single .difference) i j (differenceOf i j)
 difference-spans i j hi hj = record {
   every = λ m n hm hn. difference-inside i j m n hm hn;
   least = (i .low, j .high, lowest i hi, highest j hj, refl);
@@ -76,7 +76,7 @@ difference-spans i j hi hj = record {
 
 -- "Less is undecided unless every pair of values from its two ranges agrees": it is yes or no exactly if every pair says so
 pub less-decides : (i j : Interval) → Nonempty i → Nonempty j → (b : Bool)
-    → (lessOf i j ≡ some b) ↔ ((m n : ℕ) → Inside i m → Inside j n → exact .less m n ≡ b)
+    → (lessOf i j ≡ some b) ↔ ((m n : ℕ) → Inside i m → Inside j n → single .less m n ≡ b)
 less-decides i j hi hj b = (
   λ e m n hm hn. agreed (subst (λ t. Agrees t (ltb m n)) e (less-agrees i j m n hm hn)),
   λ h. go h (ltb (i .high) (j .low)) refl (leb (j .high) (i .low)) refl,

@@ -32,7 +32,7 @@ use Rattle.queues.specs.Laws.{none as noQueue, queue-is}
 use Rattle.queues.specs.declared.state.Queue.{Queue}
 use Rattle.queues.specs.declared.state.Lines.{Lines}
 use Rattle.queues.specs.Theorems.{FirstWaiting, served-first, nobody-waiting}
-use Rattle.lines.specs.Serving.{restFrom, behind, jobRun, jobAfter, postsOf, Told, idle, told, Served, servedAs, serveTurn, serveOf}
+use Rattle.lines.specs.Serving.{restFrom, behind, jobRun, jobAfter, postCount, Told, idle, told, Served, servedAs, serveTurn, serveOf}
 
 -- ---- states that the entries make
 none-waits : (l : ℕ) → queueAt start l ≡ []
@@ -403,7 +403,7 @@ module _ (s : State) (store : List ℕ) (b : Buffers) where
       go nobody e = absurd (let y : _≡_ {A = ℕ} 0 1 = cc in omega arith)
       go (serves l j js) e =
           let f : jobAfter (inside j store) j (s .place) store b .answer ≡ refused c p = cc in
-          record { place-stays = omega (arith, ap postsOf f); buffers-stay = job-left (inside j store) j c p f }
+          record { place-stays = omega (arith, ap postCount f); buffers-stay = job-left (inside j store) j c p f }
 
   -- The counts that are told are those of a run.
   job-few : (inside : Bool) (j : Job) (o : Outcome) (k : Counts) → jobAfter inside j (s .place) store b .answer ≡ ran o k → Few k
@@ -521,7 +521,7 @@ module _ (s : State) (store : List ℕ) (b : Buffers) (l : ℕ) (j : Job) (rest 
   outside-told e =
       by-inside e ∙ (λ i. record { answer = told (refused 28 0); line = l; state = dequeued s l rest (add-zero (s .place) i); buffers = b })
 
-  -- "15 is tested on what is left": of a readable sheet, whatever its allowance
+  -- "15 is tested on what is left": of a readable sheet in the store, with the largest cell store lent, whatever its allowance
   module _ (within : inside j store ≡ true) (readable : Readable (partOf j store)) (largest : length (b .cells) ≡ maxCells) where
     is-run : serveOf s store b .answer ≡ told (run P Q R .answer)
     is-run =
@@ -560,7 +560,7 @@ module _ (s : State) (store : List ℕ) (b : Buffers) (l : ℕ) (j : Job) (rest 
       let as-long : length (A .buffers .posts) ≡ length (R .posts) = ap (λ (z : Sizes). z .posts) (lent-lengths P Q R (isLargest maxCells (b .cells))) in
       let at : drop (s .place) (take (s .place) (b .posts) ++ A .buffers .posts) ≡ made ++ drop (k .posts) (R .posts) =
       drop-front (s .place) (b .posts) (A .buffers .posts) as-long ∙ L .list-is in
-      let on : s .place + postsOf (A .answer) ≡ s .place + k .posts = ap (λ (x : Answer). s .place + postsOf x) e in
+      let on : s .place + postCount (A .answer) ≡ s .place + k .posts = ap (λ (x : Answer). s .place + postCount x) e in
       record {
         moved = on;
         as-many = L .as-many;

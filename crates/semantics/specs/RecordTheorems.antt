@@ -161,6 +161,7 @@ each-taken E zero xs h = tt
 each-taken E (suc n) [] h = tt
 each-taken E (suc n) (x ∷ xs) h = (h .0, each-taken E n xs (h .1))
 
+-- Of a list of bytes:
 module _ (s : List ℕ) (bytes : Bytes s) (q : Request) (b : Buffers) where
   pub decisions-asked : Each (IsDecision s) (decisions s q (sizes b))
   decisions-asked = go (screen (runConditions s q (sizes b))) refl

@@ -25,14 +25,14 @@ use Rattle.program.specs.Decoding.{decodingConditions, decoding}
 use Rattle.program.specs.Laws.Screening.{found-first, first-found, clear-none, none-clear, none-append, none-cons, unless-none}
 use Rattle.program.specs.Laws.Readable.{WellFormed, well-formed}
 use Rattle.program.specs.Laws.Guards.{without-guards}
-use Rattle.semantics.specs.Domains.{Domain, Interpretation, saturates, postEntry, exact, standard}
+use Rattle.semantics.specs.Domains.{Domain, Interpretation, saturates, postEntry, single, standard}
 use Rattle.semantics.specs.Values.{num, Env, empty, Log, logPost, Budget, budget, ResultOf, Result, ends}
 use Rattle.semantics.specs.Meaning.{Control, Mode, plain, _then_, postValue, eventIf, listsChecks, evalWith, eval}
 use Rattle.semantics.specs.Access.{Frame, chk, privs, lazyControl, rights, eagerControl}
 use Rattle.semantics.specs.Runs.{Runner, eager, lazy, Request, Buffers, Sizes, sizes, stack, framesOk, runConditions, initial, evaluationOver, evaluation, Course, rejected, started, settled, course, Outcome, stopped, Counts, AnswerOf, refused, ran, left, counts, answerOf, inOrder, postsMade, zeros, clearedFrames, buffersAfter, After, run}
 use Rattle.semantics.specs.Laws.Bodies.{Stop}
 use Rattle.semantics.specs.Claims.{Each, MayRefuse, at-check, at-guard, OnChannel}
-use Rattle.semantics.specs.Laws.Stops.{Recorded, evaluation-stop, refusing, stop-exact}
+use Rattle.semantics.specs.Laws.Stops.{Recorded, evaluation-stop, refusing, stop-single}
 use Rattle.semantics.specs.Laws.Access.{privs-chk}
 use Rattle.semantics.specs.Laws.Budgets.{places, Spent, spends}
 use Rattle.semantics.specs.Laws.Saturation.{saturatedIn, evaluation-load}
@@ -114,7 +114,7 @@ module _ (s : List ℕ) (q : Request) (b : Buffers) where
 
 -- ---- By which causes a run stops
 module _ (s : List ℕ) (q : Request) (b : Buffers) where
-  stop-of : (c t : ℕ) (k : Counts) → run s q b .answer ≡ ran (stopped c t) k → Stop exact (Recorded s) c t
+  stop-of : (c t : ℕ) (k : Counts) → run s q b .answer ≡ ran (stopped c t) k → Stop single (Recorded s) c t
   stop-of c t k e =
       let st : Starts s q b = (_, _, e) in
       let same : ran _ _ ≡ ran (stopped c t) k = sym (answer-course s q b _ (course-clear s q b (starts-screened s q b st))) ∙ e in
@@ -122,9 +122,9 @@ module _ (s : List ℕ) (q : Request) (b : Buffers) where
 
   -- 01 lists the stops 17 to 22. W14's 36 is no stop of a plain run, whose conditions are yes or no.
   pub stopped-by : (c t : ℕ) (k : Counts) → run s q b .answer ≡ ran (stopped c t) k → (17 ≤ c) × (c ≤ 22)
-  stopped-by c t k e = stop-exact s c t (stop-of c t k e)
+  stopped-by c t k e = stop-single s c t (stop-of c t k e)
 
--- ---- Where a run is refused by 17, and what it posts
+-- ---- Where a run of a list of bytes is refused by 17, and what it posts
 module _ (s : List ℕ) (bytes : Bytes s) (q : Request) (b : Buffers) where
   -- 17 is told at a check, or at a post whose channel has a guard.
   pub refused-by-17 : (t : ℕ) (k : Counts) → run s q b .answer ≡ ran (stopped 17 t) k → MayRefuse s t
@@ -165,10 +165,10 @@ plain-post X M depth at c st e u n k d r l h =
 -- ---- Which results are held
 -- 02, W10: "Sum and difference now also say whether the exact result was outside 0 to 65,535." For all numbers: one is not counted as held exactly if it is
 -- the exact result. A difference is that if it and the second number make the first.
-pub sum-held : (m n : ℕ) → (saturates sum m n ≡ false) ↔ (exact .sum m n ≡ m + n)
+pub sum-held : (m n : ℕ) → (saturates sum m n ≡ false) ↔ (single .sum m n ≡ m + n)
 sum-held m n = (λ e. omega (arith, ltb-false 65535 (m + n) e), λ e. le-ltb 65535 (m + n) (omega arith))
 
-pub difference-held : (m n : ℕ) → (saturates difference m n ≡ false) ↔ (exact .difference m n + n ≡ m)
+pub difference-held : (m n : ℕ) → (saturates difference m n ≡ false) ↔ (single .difference m n + n ≡ m)
 difference-held m n = (λ e. omega (arith, ltb-false m n e), λ e. le-ltb m n (omega arith))
 
 -- ---- What a run leaves

@@ -10,7 +10,7 @@ use Rattle.program.specs.Formats.{Kind, Boolean, Number, Variable, Function, Le
 use Rattle.program.specs.Terms.{Term, boolean, number, variable, function, letrec, call, if, check, enable, sign, test, binary, post, node, treeTo, program, Every}
 use Rattle.program.specs.Laws.Readable.{WellFormed}
 use Rattle.program.specs.Laws.Trees.{program-every}
-use Rattle.semantics.specs.Domains.{Domain, exact, Interpretation}
+use Rattle.semantics.specs.Domains.{Domain, single, Interpretation}
 use Rattle.semantics.specs.Values.{bool, num, closure, empty, ResultOf}
 use Rattle.semantics.specs.Meaning.{Mode}
 use Rattle.semantics.specs.Access.{privs, lazyControl, rights, eagerControl}
@@ -99,5 +99,5 @@ module _ (s : List ℕ) where
   stop-told c t (stop-undecided {b = b} e d h) = inr (e, h, b, d)
 
   -- which numbers and booleans do not
-  pub stop-exact : (c t : ℕ) → Stop exact (Recorded s) c t → (17 ≤ c) × (c ≤ 22)
-  stop-exact c t h = ⊎-elim (λ k. k) (λ u. absurd (Option·none-ne-some (u .2) (sym (u .3)))) (stop-told c t h)
+  pub stop-single : (c t : ℕ) → Stop single (Recorded s) c t → (17 ≤ c) × (c ≤ 22)
+  stop-single c t h = ⊎-elim (λ k. k) (λ u. absurd (Option·none-ne-some (u .2) (sym (u .3)))) (stop-told c t h)
