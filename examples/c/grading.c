@@ -13,11 +13,17 @@
 #include <stdio.h>
 
 #include "hex.h"
+#include "number.h"
 
 enum {
     RECORD = 8,        /* bytes of a term */
     NUMBER_KIND = 1,   /* the kind of a number term, whose number is in the bytes 2 and 3 */
     MAX_TERMS = 1024
+};
+
+/* What an argument gives. */
+struct limits {
+    uint32_t term, lowest, highest;
 };
 
 static uint8_t cells[SOVZEDAL_MAX_CELLS];
@@ -55,19 +61,43 @@ static void read_limits(void)
     }
 }
 
-/* Takes the limits of an argument. Returns whether there are some. */
+/* Reads an argument TERM=LOWEST-HIGHEST. Returns whether it is one. */
+static int parse_limits(const char *argument, struct limits *limits)
+{
+    const char *at = read_number(argument, '=', UINT32_MAX, &limits->term);
+
+    if (at != NULL) {
+        at = read_number(at + 1, '-', UINT16_MAX, &limits->lowest);
+    }
+    if (at != NULL) {
+        at = read_number(at + 1, '\0', UINT16_MAX, &limits->highest);
+    }
+    return at != NULL;
+}
+
+/* Whether each of these arguments, up to the NULL behind them, is one. */
+static int are_limits(char **arguments)
+{
+    struct limits limits;
+
+    while (*arguments != NULL && parse_limits(*arguments, &limits)) {
+        arguments++;
+    }
+    return *arguments == NULL;
+}
+
+/* Takes the limits of an argument. Returns whether they are those of a number
+ * term. */
 static int take_limits(const char *argument)
 {
-    unsigned term, low, high;
-    char rest;
+    struct limits limits;
 
-    if (sscanf(argument, "%u=%u-%u%c", &term, &low, &high, &rest) != 3
-        || !is_number(term) || low > 65535 || high > 65535) {
+    if (!parse_limits(argument, &limits) || !is_number(limits.term)) {
         fprintf(stderr, "%s: not the limits of a number term\n", argument);
         return 0;
     }
-    lowest[term] = (uint16_t)low;
-    highest[term] = (uint16_t)high;
+    lowest[limits.term] = (uint16_t)limits.lowest;
+    highest[limits.term] = (uint16_t)limits.highest;
     return 1;
 }
 
@@ -170,7 +200,7 @@ int main(int argc, char **argv)
     long read;
     int k;
 
-    if (argc < 2) {
+    if (argc < 2 || !are_limits(argv + 2)) {
         fprintf(stderr, "usage: grading FILE [TERM=LOWEST-HIGHEST]...\n");
         return 2;
     }

@@ -29,7 +29,7 @@ static void skip_line(FILE *file)
 }
 
 /* Fills `sheet`, as far as it goes, from a .hex file. Returns the number of
- * bytes, or -1 if the file is no .hex file. */
+ * bytes, or -1 if reading fails or the file is no .hex file. */
 static long read_sheet(FILE *file)
 {
     size_t digits = 0;
@@ -49,7 +49,7 @@ static long read_sheet(FILE *file)
     return ferror(file) || digits % 2 != 0 ? -1 : (long)(digits / 2);
 }
 
-/* The same by the file's name. Says so if it cannot be read. */
+/* The same by the file's name. Says why if there is no sheet. */
 static long load_sheet(const char *path)
 {
     FILE *file = fopen(path, "r");
@@ -60,10 +60,12 @@ static long load_sheet(const char *path)
         return -1;
     }
     sheet_len = read_sheet(file);
-    fclose(file);
-    if (sheet_len < 0) {
+    if (ferror(file)) {
+        perror(path);
+    } else if (sheet_len < 0) {
         fprintf(stderr, "%s: not two hexadecimal digits a byte\n", path);
     }
+    fclose(file);
     return sheet_len;
 }
 

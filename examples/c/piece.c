@@ -8,13 +8,13 @@
  *
  * The exit status is 0 if there is no piece and each term asked for has a type,
  * 1 if there is one, a term has none or the sheet is not readable, and 2 if the
- * file could not be read.
+ * file or an argument could not be read.
  */
 #include <inttypes.h>
 #include <stdio.h>
-#include <stdlib.h>
 
 #include "hex.h"
+#include "number.h"
 
 static size_t sheet_len;
 
@@ -99,12 +99,30 @@ static int print_piece(void)
     return 1;
 }
 
+/* A number past the last term is one, too: the library refuses it. */
+static int read_term(const char *argument, uint32_t *term)
+{
+    return read_number(argument, '\0', UINT32_MAX, term) != NULL;
+}
+
+/* Whether each of these arguments, up to the NULL behind them, is a number. */
+static int are_terms(char **arguments)
+{
+    uint32_t term;
+
+    while (*arguments != NULL && read_term(*arguments, &term)) {
+        arguments++;
+    }
+    return *arguments == NULL;
+}
+
 int main(int argc, char **argv)
 {
+    uint32_t term;
     long length;
     int status, argument;
 
-    if (argc < 2) {
+    if (argc < 2 || !are_terms(argv + 2)) {
         fprintf(stderr, "usage: piece FILE [TERM...]\n");
         return 2;
     }
@@ -114,9 +132,7 @@ int main(int argc, char **argv)
     }
     sheet_len = (size_t)length;
     status = print_piece();
-    for (argument = 2; argument < argc; argument++) {
-        uint32_t term = (uint32_t)strtoul(argv[argument], NULL, 10);
-
+    for (argument = 2; argument < argc && read_term(argv[argument], &term); argument++) {
         printf("term %" PRIu32 ": ", term);
         status |= print_judgement(term);
     }

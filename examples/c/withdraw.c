@@ -4,14 +4,14 @@
  *     withdraw PRIVILEGE FILE...
  *
  * The exit status is 0 if no sheet names it, 1 if one does or was refused, and 2
- * if a file could not be read.
+ * if a file or the privilege could not be read.
  */
 #include <inttypes.h>
 #include <stdio.h>
-#include <stdlib.h>
 #include <string.h>
 
 #include "hex.h"
+#include "number.h"
 
 enum {
     TERM_RECORD = 8,  /* bytes of a term's record, the second of which is a sign's principal */
@@ -121,11 +121,10 @@ int main(int argc, char **argv)
     uint32_t privilege;
     int file, unnamed = 1;
 
-    if (argc < 3) {
+    if (argc < 3 || read_number(argv[1], '\0', UINT32_MAX, &privilege) == NULL) {
         fprintf(stderr, "usage: withdraw PRIVILEGE FILE...\n");
         return 2;
     }
-    privilege = (uint32_t)strtoul(argv[1], NULL, 10);
     for (file = 2; file < argc; file++) {
         long sheet_len = load_sheet(argv[file]);
 

@@ -1,11 +1,12 @@
--- What a reader may count on: after a run the status has one bit of three, what has no meaning in the answer is zero, and the mask and the allowance are as
--- they were; the interrupt is raised exactly while status and mask share a bit; and a read gives the byte at any address up to 15.
+-- What a reader may count on: after a run the status has one bit of three, cause, value, calls and term or place are read as they are told, what has no
+-- meaning in the answer is zero, and the mask and the allowance are as they were; the interrupt is raised exactly while status and mask share a bit; and a
+-- read gives the byte at any address up to 15.
 use mathlib.Core.Bool.{true, not, cond, true≢false}
 use mathlib.Core.List.{List}
 use mathlib.Core.Logic.{_⊎_, inl, inr, _↔_}
 use mathlib.Core.Path.{_≡_, refl, sym, ap, _∙_}
 use Prim.Native.Nat.{ℕ, zero, suc, _^_, _≤_, _<_}
-use native.Mathlib.Nat.{lt-of-le-of-lt}
+use native.Mathlib.Nat.{lt-of-le-of-lt, div-add-mod'}
 use native.Mathlib.Omega.{arith}
 use lib.Bits.{and-le-l}
 use lib.Dec.{eqb, lit<}
@@ -13,7 +14,7 @@ use borrow.Author.Tests.{le-leb, lt-leb, ne-eqb, eqb-false, not-true}
 use Rattle.privileges.specs.Sets.{has, meet}
 use Rattle.privileges.specs.Booleans.{and-left, and-right, and-both}
 use Rattle.privileges.specs.Laws.{has-none, has-meet}
-use Rattle.program.specs.Bytes.{byte}
+use Rattle.program.specs.Bytes.{byte, word16}
 use Rattle.semantics.specs.Runs.{Ground, ended, stopped, Counts, Answer, refused, ran}
 use Rattle.blocks.specs.Block.{RunRegisters, registersOf, withFlag, afterRun, read-byte, read-refused, readOf, raised}
 use Rattle.blocks.specs.Laws.{flag-low, flag-high, SomeBit, NoBit, find-bit, no-bit}
@@ -49,6 +50,22 @@ module _ (block : List ℕ) (a : Answer) where
   -- the other five stay
   pub other-bits : (k : ℕ) → 3 ≤ k → has k (byte (afterRun block (registersOf a)) 1) ≡ has k (byte block 1)
   other-bits k h = flagged k ∙ flag-high k (byte block 1) (bitOf a) h (bit-small a)
+
+-- ---- "2 cause, … 6 and 7 value …, 8 and 9 calls made, 10 and 11 term or place … Pairs have the highest byte first."
+-- what a block is read as; of its status, one-bit and other-bits say it
+pub record Registers (block : List ℕ) (t : RunRegisters) : Type 0 where
+  pub cause-told : byte block 2 ≡ t .cause
+  pub value-told : word16 block 6 ≡ t .value
+  pub calls-told : word16 block 8 ≡ t .calls
+  pub place-told : word16 block 10 ≡ t .place
+
+pub registers-told : (block : List ℕ) (t : RunRegisters) → Registers (afterRun block t) t
+registers-told block t = record {
+  cause-told = refl;
+  value-told = div-add-mod' (t .value) 256;
+  calls-told = div-add-mod' (t .calls) 256;
+  place-told = div-add-mod' (t .place) 256;
+}
 
 -- ---- "of 2 and 6 to 11, what has no meaning in that answer becomes zero"
 module _ (block : List ℕ) where

@@ -19,20 +19,13 @@ ghost use Rattle.capi_term.specs.Entries.{termReply};
 ghost use Rattle.intervals.specs.Runs.{rangeRun};
 ghost use Rattle.capi_ranges.specs.Entries.{rangeCall};
 ghost use Rattle.capi_block.specs.Blocks.{blockRead, leftBlock, blockWrite};
-use replies::of_decoded;
-use replies::of_run;
-use replies::of_verdict;
-use replies::put;
 
 // What any bytes are as a sheet.
 #[no_mangle]
 pub extern "C" fn sovzedal_decode(sheet: &[u8], answer: &mut [u32]) -> u32
     ensures { λ r. ⌜ left r (now (answer .exit)) ≡ replied (now (answer .entry)) (decodeReply (now (sheet .entry))) ⌝ }
 {
-    if answer.len() < 8 {
-        return 3;
-    }
-    put(of_decoded(decoder::decode(sheet)), answer)
+    capi_base::decode(sheet, answer)
 }
 
 // The type checker's verdict on a sheet.
@@ -40,10 +33,7 @@ pub extern "C" fn sovzedal_decode(sheet: &[u8], answer: &mut [u32]) -> u32
 pub extern "C" fn sovzedal_typecheck(sheet: &[u8], answer: &mut [u32]) -> u32
     ensures { λ r. ⌜ left r (now (answer .exit)) ≡ replied (now (answer .entry)) (typecheckReply (now (sheet .entry))) ⌝ }
 {
-    if answer.len() < 8 {
-        return 3;
-    }
-    put(of_verdict(checker::typecheck(sheet)), answer)
+    capi_base::typecheck(sheet, answer)
 }
 
 // A run that holds the granted set.
@@ -63,11 +53,7 @@ pub extern "C" fn sovzedal_run_eager(
         (run (now (sheet .entry)) (requestOf eagerRunner (enforces enforce) (now (start .entry)) calls depth)
         (buffersOf (now (cells .entry)) (now (posts .entry)) [])) ⌝ }
 {
-    if answer.len() < 8 {
-        return 3;
-    }
-    let r = interp::run_eager(sheet, start, calls, depth, enforce != 0, cells, posts);
-    put(of_run(r), answer)
+    capi_base::eager(sheet, start, calls, depth, enforce, cells, posts, answer)
 }
 
 // A run that walks the frames of a store of 6,496 numbers.
@@ -88,20 +74,17 @@ pub extern "C" fn sovzedal_run_lazy(
         (run (now (sheet .entry)) (requestOf lazyRunner (enforces enforce) (now (start .entry)) calls depth)
         (buffersOf (now (cells .entry)) (now (posts .entry)) (now (frames .entry)))) ⌝ }
 {
-    if answer.len() < 8 {
-        return 3;
-    }
-    let r = interp::run_lazy(
+    capi_base::lazy(
         sheet,
         start,
         calls,
         depth,
-        enforce != 0,
+        enforce,
         cells,
         posts,
         frames,
-    );
-    put(of_run(r), answer)
+        answer,
+    )
 }
 
 // A run over ranges: a pair, lowest and highest, for each number term.

@@ -50,7 +50,7 @@ jobPart zero j = j .offset
 jobPart (suc zero) j = j .length
 jobPart (suc (suc n)) j = j .calls
 
--- the numbers of the jobs, from the first line's on; zero where no job waits
+-- the numbers of the jobs, from the first line's on; zero where no job waits: number i of the 96 is of line i / 24, job i % 24 / 3, part i % 3
 abbrev pub jobNumber : State → (i : ℕ) → ℕ
 jobNumber s i = jobPart (i % 3) (getD (queueAt s (i / 24)) (i % 24 / 3) noJob)
 

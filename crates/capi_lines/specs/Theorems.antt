@@ -6,7 +6,7 @@ use mathlib.Core.Path.{_≡_, refl, sym, ap, _∙_, subst}
 use Prim.Native.Nat.{ℕ, zero, suc, _+_, _%_, _<_, _≤_, min}
 use native.Mathlib.Omega.{arith}
 use lib.Dec.{eqb}
-use lib.ListN.{length, getD, take, replicate}
+use lib.ListN.{length, getD, take, replicate, length-take}
 use Rattle.queues.specs.Queues.{maxLines, maxJobs, Job, State, start, queueAt, addConditions, addedTo, addOf, Turn, nobody, serves, turnOf}
 use Rattle.queues.specs.Answers.{noJob}
 use Rattle.program.specs.Screening.{Screening, clear, found, screen}
@@ -16,7 +16,7 @@ use Rattle.replies.specs.Laws.{fit}
 use Rattle.lines.specs.Serving.{serveTurn, serveOf}
 use Rattle.lines.specs.Sessions.{Operation, add, serve, stepped, session, only, accepted, addedBy, addedIn, servedIn, Sound}
 use Rattle.lines.specs.Theorems.{start-sound, session-sound, in-order}
-use Rattle.capi_lines.specs.States.{stateNumbers, maxAllowance, queueRead, stateRead, stateWritten, tabulate, numberAt}
+use Rattle.capi_lines.specs.States.{stateNumbers, maxAllowance, placesRead, queueRead, stateRead, stateWritten, tabulate, numberAt}
 use Rattle.capi_lines.specs.Entries.{AddLeft, stateAfter, addLeft, linesAdd, ServeLeft, servedState, serveLeft, linesServe}
 
 -- "The queues start empty": a list of zeros is that state
@@ -24,20 +24,35 @@ pub zeros-start : stateRead (replicate stateNumbers 0) ≡ start
 unfolding stateRead
 zeros-start = refl
 
--- the jobs have allowances of 32 bits
-abbrev pub Held : List Job → Type 0
-Held js = (k : ℕ) → getD js k noJob .calls ≤ maxAllowance
+-- any list is read as a state of which the theorems of `lines` hold, whoever wrote it
+pub read-sound : (n : List ℕ) → Sound (stateRead n)
+unfolding stateRead
+read-sound n = record { four = refl; turn-below = omega arith; few = few }
+  where
+    eight : (l : ℕ) → length (queueRead n l) ≤ maxJobs
+    eight l = omega (arith, length-take (getD n (2 + l) 0) (placesRead n l))
 
-abbrev held : Job → Job
-held j = record { offset = j .offset; length = j .length; calls = min (j .calls) maxAllowance }
+    few : (l : ℕ) → length (queueAt (stateRead n) l) ≤ maxJobs
+    few zero = eight 0
+    few (suc zero) = eight 1
+    few (suc (suc zero)) = eight 2
+    few (suc (suc (suc zero))) = eight 3
+    few (suc (suc (suc (suc l)))) = omega arith
+
+-- the jobs have allowances of 32 bits
+abbrev pub SmallAllowances : List Job → Type 0
+SmallAllowances js = (k : ℕ) → getD js k noJob .calls ≤ maxAllowance
+
+abbrev cutAllowance : Job → Job
+cutAllowance j = record { offset = j .offset; length = j .length; calls = min (j .calls) maxAllowance }
 
 abbrev placesOf : List Job → List Job
 placesOf js =
-    held (getD js 0 noJob) ∷ held (getD js 1 noJob) ∷ held (getD js 2 noJob) ∷ held (getD js 3 noJob)
-    ∷ held (getD js 4 noJob) ∷ held (getD js 5 noJob) ∷ held (getD js 6 noJob) ∷ held (getD js 7 noJob) ∷ []
+    cutAllowance (getD js 0 noJob) ∷ cutAllowance (getD js 1 noJob) ∷ cutAllowance (getD js 2 noJob) ∷ cutAllowance (getD js 3 noJob)
+    ∷ cutAllowance (getD js 4 noJob) ∷ cutAllowance (getD js 5 noJob) ∷ cutAllowance (getD js 6 noJob) ∷ cutAllowance (getD js 7 noJob) ∷ []
 
-module _ (js : List Job) (small : Held js) where
-  same : (k : ℕ) → held (getD js k noJob) ≡ getD js k noJob
+module _ (js : List Job) (small : SmallAllowances js) where
+  same : (k : ℕ) → cutAllowance (getD js k noJob) ≡ getD js k noJob
   same k =
       let e : min (getD js k noJob .calls) maxAllowance ≡ getD js k noJob .calls = omega (arith, small k) in
       λ i. record { offset = getD js k noJob .offset; length = getD js k noJob .length; calls = e i }
@@ -68,7 +83,7 @@ four (a ∷ b ∷ c ∷ []) h = absurd (omega arith)
 four (a ∷ b ∷ c ∷ d ∷ []) h = refl
 four (a ∷ b ∷ c ∷ d ∷ e ∷ qs) h = absurd (omega arith)
 
-pub read-back : (s : State) → Sound s → ((l : ℕ) → Held (queueAt s l)) → stateRead (stateWritten s) ≡ s
+pub read-back : (s : State) → Sound s → ((l : ℕ) → SmallAllowances (queueAt s l)) → stateRead (stateWritten s) ≡ s
 unfolding stateRead stateWritten
 read-back s sound small =
     let e : s .turn % maxLines ≡ s .turn = omega (arith, sound .turn-below) in
@@ -84,55 +99,55 @@ SmallAdds [] = Unit {0}
 SmallAdds (add l j store ∷ os) = (j .calls ≤ maxAllowance) × SmallAdds os
 SmallAdds (serve store b ∷ os) = SmallAdds os
 
-held-append : (xs ys : List Job) → Held xs → Held ys → Held (xs ++ ys)
-held-append [] ys h g k = g k
-held-append (x ∷ xs) ys h g zero = h 0
-held-append (x ∷ xs) ys h g (suc k) = held-append xs ys (λ m. h (suc m)) g k
+small-append : (xs ys : List Job) → SmallAllowances xs → SmallAllowances ys → SmallAllowances (xs ++ ys)
+small-append [] ys h g k = g k
+small-append (x ∷ xs) ys h g zero = h 0
+small-append (x ∷ xs) ys h g (suc k) = small-append xs ys (λ m. h (suc m)) g k
 
-held-rest : (xs ys : List Job) → Held (xs ++ ys) → Held ys
-held-rest [] ys h k = h k
-held-rest (x ∷ xs) ys h k = held-rest xs ys (λ m. h (suc m)) k
+small-rest : (xs ys : List Job) → SmallAllowances (xs ++ ys) → SmallAllowances ys
+small-rest [] ys h k = h k
+small-rest (x ∷ xs) ys h k = small-rest xs ys (λ m. h (suc m)) k
 
-none-held : Held []
-none-held k = omega arith
+none-small : SmallAllowances []
+none-small k = omega arith
 
-only-held : (j : Job) → j .calls ≤ maxAllowance → (b : Bool) → Held (cond b (j ∷ []) [])
-only-held j h true zero = h
-only-held j h true (suc k) = omega arith
-only-held j h false k = omega arith
+only-small : (j : Job) → j .calls ≤ maxAllowance → (b : Bool) → SmallAllowances (cond b (j ∷ []) [])
+only-small j h true zero = h
+only-small j h true (suc k) = omega arith
+only-small j h false k = omega arith
 
-accepted-held : (x : Screening) (l k : ℕ) (j : Job) → j .calls ≤ maxAllowance → Held (accepted x l k j)
-accepted-held clear l k j h = only-held j h (eqb k l)
-accepted-held (found c p) l k j h = none-held
+accepted-small : (x : Screening) (l k : ℕ) (j : Job) → j .calls ≤ maxAllowance → SmallAllowances (accepted x l k j)
+accepted-small clear l k j h = only-small j h (eqb k l)
+accepted-small (found c p) l k j h = none-small
 
-added-held : (l : ℕ) (os : List Operation) (s : State) → SmallAdds os → Held (addedIn l os s)
-added-held l [] s h = none-held
-added-held l (add k j store ∷ os) s h =
-    held-append (addedBy l (add k j store) s) (addedIn l os (stepped (add k j store) s)) (accepted-held (addOf s k j store .answer) l k j (h .0))
-    (added-held l os (stepped (add k j store) s) (h .1))
-added-held l (serve store b ∷ os) s h = added-held l os (stepped (serve store b) s) h
+added-small : (l : ℕ) (os : List Operation) (s : State) → SmallAdds os → SmallAllowances (addedIn l os s)
+added-small l [] s h = none-small
+added-small l (add k j store ∷ os) s h =
+    small-append (addedBy l (add k j store) s) (addedIn l os (stepped (add k j store) s)) (accepted-small (addOf s k j store .answer) l k j (h .0))
+    (added-small l os (stepped (add k j store) s) (h .1))
+added-small l (serve store b ∷ os) s h = added-small l os (stepped (serve store b) s) h
 
-nothing-held : (l : ℕ) → Held (queueAt start l)
-nothing-held zero = none-held
-nothing-held (suc zero) = none-held
-nothing-held (suc (suc zero)) = none-held
-nothing-held (suc (suc (suc zero))) = none-held
-nothing-held (suc (suc (suc (suc l)))) = none-held
+nothing-small : (l : ℕ) → SmallAllowances (queueAt start l)
+nothing-small zero = none-small
+nothing-small (suc zero) = none-small
+nothing-small (suc (suc zero)) = none-small
+nothing-small (suc (suc (suc zero))) = none-small
+nothing-small (suc (suc (suc (suc l)))) = none-small
 
 -- the states of which what is written is read back
 record Readable (s : State) : Type 0 where
   sound : Sound s
-  small : (l : ℕ) → Held (queueAt s l)
+  small : (l : ℕ) → SmallAllowances (queueAt s l)
 
 start-readable : Readable start
-start-readable = record { sound = start-sound; small = nothing-held }
+start-readable = record { sound = start-sound; small = nothing-small }
 
 session-readable : (os : List Operation) (s : State) → Readable s → SmallAdds os → Readable (session os s)
 session-readable os s r h = record {
   sound = session-sound os s (r .sound);
   small = λ l.
-      held-rest (servedIn l os s) (queueAt (session os s) l)
-      (subst Held (in-order l os s (r .sound)) (held-append (queueAt s l) (addedIn l os s) (r .small l) (added-held l os s h)));
+      small-rest (servedIn l os s) (queueAt (session os s) l)
+      (subst SmallAllowances (in-order l os s (r .sound)) (small-append (queueAt s l) (addedIn l os s) (r .small l) (added-small l os s h)));
 }
 
 pub session-read-back : (os : List Operation) → SmallAdds os → stateRead (stateWritten (session os start)) ≡ session os start

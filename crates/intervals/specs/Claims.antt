@@ -9,7 +9,7 @@ use Prim.Native.Nat.{ℕ, _<_, _≤_}
 use lib.ListN.{getD}
 use Rattle.program.specs.Layout.{terms, first}
 use Rattle.program.specs.Screening.{screen}
-use Rattle.semantics.specs.Domains.{exact, Interpretation}
+use Rattle.semantics.specs.Domains.{single, Interpretation}
 use Rattle.semantics.specs.Meaning.{plain}
 use Rattle.semantics.specs.Runs.{Request, Buffers, Sizes, sizes, runConditions, evaluationOver, Course, settled, GroundOf, Ground, ground-bool, ground-num, OutcomeOf, Outcome, ended, stopped, Counts, AnswerOf, Answer, ran, AfterOf, After, afterCourse}
 use Rattle.soundness.specs.Claims.{postsOf}
@@ -29,7 +29,7 @@ pub record Choice (s pairs : List ℕ) (ρ : (at n : ℕ) → ℕ) : Type 0 wher
 
 -- "the plain run" for a choice: number terms stand for what is chosen. The run of a sheet is the one for its own numbers (Theorems.antt: own-numbers).
 abbrev pub chosen : (ρ : (at n : ℕ) → ℕ) → Interpretation
-chosen ρ = record { domain = exact; literal = ρ }
+chosen ρ = record { domain = single; literal = ρ }
 
 unfoldable pub chosenCourse : (ρ : (at n : ℕ) → ℕ) → List ℕ → Request → Sizes → Course
 chosenCourse ρ s q z = settled (screen (runConditions s q z)) λ _. evaluationOver (chosen ρ) (plain (q .enforce)) (q .runner) s q z

@@ -3,7 +3,7 @@ use mathlib.Core.Bool.{Bool, true, false, cond}
 use mathlib.Core.Option.{Option, none, some}
 use Prim.Native.Nat.{ℕ, _+_, _*_}
 use lib.Dec.{leb, ltb}
-use Rattle.semantics.specs.Domains.{Domain, exact}
+use Rattle.semantics.specs.Domains.{Domain, single}
 
 pub record Interval : Type 0 where
   pub low : ℕ
@@ -15,10 +15,10 @@ interval a b = record { low = a; high = b }
 -- "A sum or difference has the range from the least to the greatest of its results, held ones too, over all pairs of values from its two ranges." A sum grows
 -- with both of its parts, a difference with the first, and it falls with the second. Theorems.antt: sum-spans, difference-spans.
 abbrev pub sumOf : Interval → Interval → Interval
-sumOf i j = interval (exact .sum (i .low) (j .low)) (exact .sum (i .high) (j .high))
+sumOf i j = interval (single .sum (i .low) (j .low)) (single .sum (i .high) (j .high))
 
 abbrev pub differenceOf : Interval → Interval → Interval
-differenceOf i j = interval (exact .difference (i .low) (j .high)) (exact .difference (i .high) (j .low))
+differenceOf i j = interval (single .difference (i .low) (j .high)) (single .difference (i .high) (j .low))
 
 -- "Less is undecided unless every pair of values from its two ranges agrees." Yes, no, or none where it is undecided. Theorems.antt: less-decides.
 abbrev pub lessOf : Interval → Interval → Option Bool

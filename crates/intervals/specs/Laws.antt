@@ -1,5 +1,6 @@
 -- What is proved of the definitions. Nothing here has to be believed.
 pub mod Arithmetic
+pub mod Pairs
 pub mod Containment
 pub mod Sheets
 pub mod Counts

@@ -50,7 +50,7 @@ module _ (ρ : (term : ℕ) → ℕ) (s : List ℕ) where
   unfolding decoding
   reads-alike = λ i. screen (same-conditions s (withNumbers ρ s) (alike ρ s) i)
 
-  -- "which is readable exactly if the sheet is"
+  -- so that it is readable exactly if the sheet is
   pub readable-exactly : Readable (withNumbers ρ s) ↔ Readable s
   readable-exactly = (λ r. sym reads-alike ∙ r, λ r. reads-alike ∙ r)
 

@@ -1,34 +1,37 @@
--- The theorems of 02's W14: what operations on ranges give, and that a run over ranges contains the plain run for every choice. Claims.antt says what the
--- words mean.
+-- The theorems of 02's W14: what operations on ranges give, by which causes a run over ranges stops, and that it contains the plain run for every choice.
+-- Claims.antt says what the words mean.
 use mathlib.Core.Bool.{Bool, true, false, cond, true≢false}
 use mathlib.Core.List.{List}
-use mathlib.Core.Logic.{_↔_}
+use mathlib.Core.Logic.{_↔_, _⊎_, inl, inr, ⊎-elim}
 use mathlib.Core.Option.{none, some}
 use mathlib.Core.Path.{_≡_, refl, sym, ap, _∙_, subst, subst₂}
-use Prim.Native.Nat.{ℕ, suc, _-_, _/_, _≤_}
+use Prim.Native.Nat.{ℕ, suc, _-_, _/_, _<_, _≤_}
 use native.Mathlib.Omega.{arith}
 use lib.Dec.{leb, ltb}
 use lib.ListN.{length}
 use borrow.Author.Tests.{leb-true, leb-false, lt-ltb, le-ltb}
-use Rattle.program.specs.Layout.{authority, root}
+use Rattle.program.specs.Layout.{authority, terms, root}
 use Rattle.program.specs.Terms.{program}
 use Rattle.program.specs.Screening.{Screening, clear, found, screen, First}
 use Rattle.program.specs.Laws.Screening.{clear-none, none-clear, none-append, none-cons, unless-none, found-first, first-found}
 use Rattle.program.specs.Laws.Readable.{WellFormed}
 use Rattle.program.specs.Laws.Guards.{program-unguarded}
-use Rattle.semantics.specs.Domains.{exact}
+use Rattle.semantics.specs.Domains.{single}
 use Rattle.semantics.specs.Values.{Budget, budget, ResultOf, Result}
 use Rattle.semantics.specs.Meaning.{plain}
 use Rattle.semantics.specs.Access.{lazyControl, eagerControl}
 use Rattle.semantics.specs.Runs.{Runner, eager, lazy, Request, Buffers, Sizes, sizes, runConditions, evaluationOver, rejected, started, settled, OutcomeOf, Outcome, stopped, Counts, AnswerOf, refused, ran, outcome, left, counts, inOrder, AfterOf, afterCourse, course, run}
 use Rattle.semantics.specs.Theorems.{clear-well, evaluation-spends, after-sizes, Few, clear-few, countsIn}
+use Rattle.semantics.specs.Claims.{IfAt}
+use Rattle.semantics.specs.Laws.Stops.{evaluation-stop, stop-told}
 use Rattle.semantics.specs.Laws.Saturation.{saturatedIn}
 use Rattle.soundness.specs.Laws.Runs.{posts-listed}
 use Rattle.intervals.specs.Intervals.{Interval, sumOf, differenceOf, lessOf, intervals}
-use Rattle.intervals.specs.Pairs.{pairOf, pairsOk, ranged}
+use Rattle.intervals.specs.Pairs.{isNumber, pairOf, pairsOk, ranged}
 use Rattle.intervals.specs.Runs.{rangeConditions, rangeCourse, rangeRun}
 use Rattle.intervals.specs.Claims.{Inside, Words, Choice, chosen, chosenCourse, chosenRun, inside-number, inside-decided, inside-undecided, InsideOutcome, inside-end, same-stop, InsideAnswer, inside-answer, InsidePosts, no-posts, next-post, Contains, Decided}
 use Rattle.intervals.specs.Laws.Arithmetic.{Agrees, agrees-known, agrees-none, agreed, sum-inside, difference-inside, less-agrees}
+use Rattle.intervals.specs.Laws.Pairs.{pair-ordered}
 use Rattle.intervals.specs.Laws.Containment.{InsideBudget, inside-budget, v-truth, v-number, v-closure, InsideResult, r-ends, r-stops, r-undecided, inside}
 use Rattle.intervals.specs.Laws.Counts.{evaluation-uncounted}
 use Rattle.intervals.specs.Laws.Sheets.{version-1, program-fits, inside-reverse}
@@ -37,6 +40,13 @@ use Rattle.intervals.specs.Laws.Sheets.{version-1, program-fits, inside-
 -- a range that has a lowest not above its highest
 abbrev pub Nonempty : Interval → Type 0
 Nonempty i = i .low ≤ i .high
+
+-- "a lowest above its highest … is 35": once the pairs have passed it, no number term's range is empty, and no sum or difference of such ranges is
+pub pair-nonempty : (s ps : List ℕ) → pairsOk s ps ≡ true → (t : ℕ) → t < terms s → isNumber s t ≡ true → Nonempty (pairOf s ps t)
+pair-nonempty s ps ok t l e = pair-ordered s ps ok t l e
+
+pub stays-nonempty : (i j : Interval) → Nonempty i → Nonempty j → Nonempty (sumOf i j) × Nonempty (differenceOf i j)
+stays-nonempty i j hi hj = (omega (arith, hi, hj), omega (arith, hi, hj))
 
 -- k is "the range from the least to the greatest of its results … over all pairs of values from its two ranges"
 pub record Spans (operation : ℕ → ℕ → ℕ) (i j k : Interval) : Type 0 where
@@ -50,14 +60,14 @@ lowest i h = record { least = omega arith; most = h }
 highest : (i : Interval) → Nonempty i → Inside i (i .high)
 highest i h = record { least = h; most = omega arith }
 
-pub sum-spans : (i j : Interval) → Nonempty i → Nonempty j → Spans (exact .sum) i j (sumOf i j)
+pub sum-spans : (i j : Interval) → Nonempty i → Nonempty j → Spans (single .sum) i j (sumOf i j)
 sum-spans i j hi hj = record {
   every = λ m n hm hn. sum-inside i j m n hm hn;
   least = (i .low, j .low, lowest i hi, lowest j hj, refl);
   greatest = (i .high, j .high, highest i hi, highest j hj, refl);
 }
 
-pub difference-spans : (i j : Interval) → Nonempty i → Nonempty j → Spans (exact .difference) i j (differenceOf i j)
+pub difference-spans : (i j : Interval) → Nonempty i → Nonempty j → Spans (single .difference) i j (differenceOf i j)
 difference-spans i j hi hj = record {
   every = λ m n hm hn. difference-inside i j m n hm hn;
   least = (i .low, j .high, lowest i hi, highest j hj, refl);
@@ -66,7 +76,7 @@ difference-spans i j hi hj = record {
 
 -- "Less is undecided unless every pair of values from its two ranges agrees": it is yes or no exactly if every pair says so
 pub less-decides : (i j : Interval) → Nonempty i → Nonempty j → (b : Bool)
-    → (lessOf i j ≡ some b) ↔ ((m n : ℕ) → Inside i m → Inside j n → exact .less m n ≡ b)
+    → (lessOf i j ≡ some b) ↔ ((m n : ℕ) → Inside i m → Inside j n → single .less m n ≡ b)
 less-decides i j hi hj b = (
   λ e m n hm hn. agreed (subst (λ t. Agrees t (ltb m n)) e (less-agrees i j m n hm hn)),
   λ h. go h (ltb (i .high) (j .low)) refl (leb (j .high) (i .low)) refl,
@@ -128,6 +138,19 @@ module _ (s ps : List ℕ) (q : Request) (b : Buffers) where
   ran-clear o k clear h e = refl
   ran-clear o k (found c p) h e = ran≢refused (sym e ∙ answered (run-found c p h))
 
+  -- the plain run's conditions are among them
+  plain-clear : conditions ≡ clear → screen (runConditions s q (sizes b)) ≡ clear
+  plain-clear e = none-clear (none-append (runConditions s q (sizes b)) _ (clear-none (rangeConditions s ps q (sizes b)) e) .0)
+
+  -- ---- By which causes it stops
+  -- 02, W14: "An if with an undecided condition stops by 36 at the if"; every other stop is one of 01's, 17 to 22.
+  pub range-stopped-by : (c t : ℕ) (k : Counts) → answerIs (ran (stopped c t) k) → ((17 ≤ c) × (c ≤ 22)) ⊎ ((c ≡ 36) × IfAt s t)
+  range-stopped-by c t k e =
+      let clearly = ran-clear (stopped c t) k conditions refl e in
+      let same : ran _ _ ≡ ran (stopped c t) k = sym (answered (run-clear clearly)) ∙ e in
+      let stop = evaluation-stop s (clear-well s q b (plain-clear clearly)) (ranged s ps) (plain (q .enforce)) q (sizes b) (q .runner) c t cc in
+      ⊎-elim (λ h. inl h) (λ u. inr (u .0, u .1)) (stop-told s c t stop)
+
 -- ---- What a run over ranges leaves and counts
 module _ (s ps : List ℕ) (q : Request) (b : Buffers) where
   -- every buffer keeps its length
@@ -143,8 +166,7 @@ module _ (s ps : List ℕ) (q : Request) (b : Buffers) where
   -- how large the counts of a run are that starts
   pub few-clear : screen (rangeConditions s ps q (sizes b)) ≡ clear → Few (counts q (sizes b) budgetLeft)
   few-clear e =
-      let none-of = none-append (runConditions s q (sizes b)) _ (clear-none (rangeConditions s ps q (sizes b)) e) in
-      clear-few s q b (none-clear (none-of .0)) budgetLeft (evaluation-spends (ranged s ps) (plain (q .enforce)) (q .runner) s q (sizes b))
+      clear-few s q b (plain-clear s ps q b e) budgetLeft (evaluation-spends (ranged s ps) (plain (q .enforce)) (q .runner) s q (sizes b))
       (omega (arith, evaluation-uncounted s ps (plain (q .enforce)) (q .runner) q (sizes b)))
 
   module _ (o : OutcomeOf intervals) (k : Counts) (e : rangeRun s ps q b .answer ≡ ran o k) where
@@ -171,6 +193,11 @@ module _ (s ps : List ℕ) (q : Request) (b : Buffers) where
 pub own-numbers : (s : List ℕ) (q : Request) (b : Buffers) → chosenRun (λ at n. n) s q b ≡ run s q b
 unfolding chosenRun chosenCourse run course
 own-numbers s q b = refl
+
+-- There is a choice wherever the pairs have passed 35: the lowest of each. So what is said of every choice (contains, and contains-plain of SheetTheorems.antt)
+-- is said of something.
+pub a-choice : (s ps : List ℕ) → pairsOk s ps ≡ true → Choice s ps (λ t n. pairOf s ps t .low)
+a-choice s ps ok = record { inside = λ t l e. lowest (pairOf s ps t) (pair-nonempty s ps ok t l e) }
 
 same-length : {xs ys : List ℕ} → InsidePosts xs ys → length xs ≡ length ys
 same-length no-posts = refl

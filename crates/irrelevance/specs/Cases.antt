@@ -63,7 +63,7 @@ askings =
     -- by the guard, and by both: the lowest is told
     ∷ asking (sheet 8 2 1 255) 1 (named 3)
     ∷ asking (sheet 8 1 1 255) 1 (named 3)
-    -- "30 for a privilege above 31", after the sheet's own refusals
+    -- "a privilege above 31 is 30" (W7), after the sheet's own refusals
     ∷ asking without 32 (refused 30 0)
     ∷ asking (sheet 8 2 32 255) 32 (refused 31 3)
     ∷ asking [] 32 (refused 1 0) ∷ []

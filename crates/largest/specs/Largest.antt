@@ -18,7 +18,7 @@ request calls = requestOf eager true [] calls maxDepth
 abbrev pub isLargest : (most : ℕ) (lent : List ℕ) → Bool
 isLargest most xs = eqb (length xs) most
 
--- 15 in the turn that it has in any run, after 1 to 8 and 14 and before 16
+-- 15 in the turn that it has in any run, after 1 to 8, 31 and 14 and before 16
 abbrev pub lentConditions : (right : Bool) → List ℕ → Request → List Condition
 lentConditions right s q = decodingConditions s ++ unless 14 (startOk s q) ∷ unless 15 right ∷ []
 

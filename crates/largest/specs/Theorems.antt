@@ -70,7 +70,7 @@ module _ (s : List ℕ) (q : Request) (b : Buffers) where
   readable-runs r true e = lent-by true (lent-asks r true e)
   readable-runs r false e = lent-by true (lent-asks r true e) ∙ sym (run-by 14 0 (run-asks r e))
 
-  -- 1 to 8 come first,
+  -- 1 to 8 and 31 come first,
   pub unreadable-first : (right : Bool) (c p : ℕ) → decoding s ≡ found c p → lentRun right s q b ≡ refusedRun c p
   unfolding decoding
   unreadable-first right c p e = lent-by right (screen-found (decodingConditions s) _ c p e)

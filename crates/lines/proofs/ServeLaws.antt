@@ -17,7 +17,7 @@ use Rattle.interp.specs.declared.answer.Run.{Run}
 use Rattle.interp.specs.declared.answer.Run.the-variants.{Refused, Ran}
 use Rattle.largest.specs.Largest.{request, isLargest}
 use Rattle.queues.specs.Queues.{maxLines, Job, State, inside, Turn, nobody, serves, turnAt, turnOf, partOf, dequeued}
-use Rattle.lines.specs.Serving.{restFrom, jobRun, jobAfter, postsOf, idle, told, Served, servedAs, serveTurn, serveOf}
+use Rattle.lines.specs.Serving.{restFrom, jobRun, jobAfter, postCount, idle, told, Served, servedAs, serveTurn, serveOf}
 use Rattle.queues.specs.Answers.{jobModel, queueModel, linesModel}
 use Rattle.queues.specs.Internal.{hasJob, Next}
 use Rattle.lines.specs.Internal.{Movable}
@@ -29,15 +29,15 @@ use Rattle.queues.specs.Laws.{none, queue-is}
 -- ---- the place moves
 -- what is required of a run's posts, once it is known that it was not refused
 pub made-room : (q : Lines) (l : ℕ) (x : Run) {o : Outcome} {m : Made} → Movable q l x → x ≡ Ran o m → q .place + m .posts < 2 ^ 64
-made-room q l x h e = subst (λ (r : Run). q .place + postsOf (runModel r) < 2 ^ 64) e (h .room)
+made-room q l x h e = subst (λ (r : Run). q .place + postCount (runModel r) < 2 ^ 64) e (h .room)
 
 -- by the posts that the run made
 module _ (s : State) (l : ℕ) (rest : List Job) (place : ℕ) {x : Run} {s′ : State} where
-  pub by-refused : {f : Refusal} → x ≡ Refused f → s′ ≡ dequeued s l rest place → s′ ≡ dequeued s l rest (place + postsOf (runModel x))
-  by-refused e h = h ∙ ap (dequeued s l rest) (sym (ap (λ (r : Run). place + postsOf (runModel r)) e ∙ add-zero place))
+  pub by-refused : {f : Refusal} → x ≡ Refused f → s′ ≡ dequeued s l rest place → s′ ≡ dequeued s l rest (place + postCount (runModel x))
+  by-refused e h = h ∙ ap (dequeued s l rest) (sym (ap (λ (r : Run). place + postCount (runModel r)) e ∙ add-zero place))
 
-  pub by-ran : {o : Outcome} {m : Made} → x ≡ Ran o m → s′ ≡ dequeued s l rest (place + m .posts) → s′ ≡ dequeued s l rest (place + postsOf (runModel x))
-  by-ran e h = h ∙ ap (dequeued s l rest) (sym (ap (λ (r : Run). place + postsOf (runModel r)) e))
+  pub by-ran : {o : Outcome} {m : Made} → x ≡ Ran o m → s′ ≡ dequeued s l rest (place + m .posts) → s′ ≡ dequeued s l rest (place + postCount (runModel x))
+  by-ran e h = h ∙ ap (dequeued s l rest) (sym (ap (λ (r : Run). place + postCount (runModel r)) e))
 
 -- ---- a serve
 module _ (q : Lines) (l : ℕ) (next : Next q l) (store cells posts : List ℕ) where
@@ -76,7 +76,7 @@ module _ (q : Lines) (l : ℕ) (next : Next q l) (store cells posts : List ℕ) 
           ∙ sym (by-inside (sym f ∙ e))
 
       pub run-served : (x : Bool) → x ≡ inside J store → x ≡ true → (r : Run) {cells′ posts′ : List ℕ} {s : State}
-          → after r cells′ posts′ [] ≡ jobRun J (q .place) store B → s ≡ dequeued S l R (q .place + postsOf (runModel r))
+          → after r cells′ posts′ [] ≡ jobRun J (q .place) store B → s ≡ dequeued S l R (q .place + postCount (runModel r))
           → record { answer = told (runModel r); line = l; state = s; buffers = buffersOf cells′ posts′ [] } ≡ serveOf S store B
       run-served x e f r {cells′ = cells′} {posts′ = posts′} h g =
           (λ i. record { answer = told (runModel r); line = l; state = g i; buffers = buffersOf cells′ posts′ [] }) ∙ ap (servedAs S l R) h
@@ -87,7 +87,7 @@ module _ (q : Lines) (l : ℕ) (next : Next q l) (store cells posts : List ℕ) 
           → Movable q l r
       may-move r h p n = record { below = below; room = go r (ap (λ (a : After). a .answer) h) }
         where
-          go : (r : Run) → runModel r ≡ jobRun J (q .place) store B .answer → q .place + postsOf (runModel r) < 2 ^ 64
+          go : (r : Run) → runModel r ≡ jobRun J (q .place) store B .answer → q .place + postCount (runModel r) < 2 ^ 64
           go (Refused f) e = omega arith
           go (Ran o m) e =
               omega (

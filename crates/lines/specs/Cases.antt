@@ -70,7 +70,9 @@ pub other-cells : serveOf after2 store (buffersOf [] [] []) .answer ≡ told (re
 unfolding serveOf turnFrom lentRun run screen tell course eval apply evalWith addAuthorised has meet union insert remove subset
 other-cells = refl
 
-pub many-places : (serveOf after2 store (lent (zeros 257)) .line ≡ 1) × (serveOf after2 store (lent (zeros 258)) .answer ≡ told (refused 15 0))
+pub many-places :
+    (serveOf after2 store (lent (zeros 257)) .answer ≡ told (ran (ended (ground-num 7)) (record { calls = 0; cells = 0; posts = 1; saturated = 0 })))
+    × (serveOf after2 store (lent (zeros 258)) .answer ≡ told (refused 15 0))
 unfolding serveOf turnFrom lentRun run screen tell course eval apply evalWith addAuthorised has meet union insert remove subset
 many-places = (refl, refl)
 

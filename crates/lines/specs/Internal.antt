@@ -4,9 +4,9 @@ use Rattle.interp.specs.Answers.{runModel}
 use Rattle.interp.specs.declared.answer.Run.{Run}
 use Rattle.queues.specs.Queues.{maxLines}
 use Rattle.queues.specs.declared.state.Lines.{Lines}
-use Rattle.lines.specs.Serving.{postsOf}
+use Rattle.lines.specs.Serving.{postCount}
 
 -- a line, and a place that has room for the posts of a run behind it
 pub record Movable (q : Lines) (line : ℕ) (r : Run) : Type 0 where
   pub below : line < maxLines
-  pub room : q .place + postsOf (runModel r) < 2 ^ 64
+  pub room : q .place + postCount (runModel r) < 2 ^ 64

@@ -29,9 +29,9 @@ jobAfter true j at store b = jobRun j at store b
 jobAfter false j at store b = record { answer = refused 28 0; buffers = b }
 
 -- "the place where the last one stopped": a refused job made no post
-abbrev pub postsOf : Answer → ℕ
-postsOf (refused c p) = 0
-postsOf (ran o k) = k .posts
+abbrev pub postCount : Answer → ℕ
+postCount (refused c p) = 0
+postCount (ran o k) = k .posts
 
 -- what a serve answers, of which line (0 if of none), and what it leaves
 pub data Told : Type 0 where
@@ -45,7 +45,7 @@ pub record Served : Type 0 where
   pub buffers : Buffers
 
 abbrev pub servedAs : State → (line : ℕ) (rest : List Job) → After → Served
-servedAs s l js a = record { answer = told (a .answer); line = l; state = dequeued s l js (s .place + postsOf (a .answer)); buffers = a .buffers }
+servedAs s l js a = record { answer = told (a .answer); line = l; state = dequeued s l js (s .place + postCount (a .answer)); buffers = a .buffers }
 
 -- "with no job nothing changes and the answer says so"
 abbrev pub serveTurn : Turn → State → (store : List ℕ) → Buffers → Served

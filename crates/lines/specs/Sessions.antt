@@ -1,4 +1,5 @@
--- Sequences of adds and serves, with any stores and buffers lent for each of them, and what they add to a line and serve of it.
+-- Sequences of adds and serves, with any stores and buffers lent for each of them, and what they add to a line and serve of it. 02, W6: "only these
+-- entries change them", "whatever the other lines queue".
 use mathlib.Core.Bool.{cond}
 use mathlib.Core.List.{List, [], _∷_, _++_}
 use mathlib.Core.Path.{_≡_}
@@ -57,7 +58,7 @@ abbrev pub servedIn : (line : ℕ) → List Operation → State → List Job
 servedIn l [] s = []
 servedIn l (o ∷ os) s = servedBy l o s ++ servedIn l os (stepped o s)
 
--- the states that the entries make of such states
+-- four queues of at most eight jobs, and a turn that is one of the lines: so at first, and after every add and serve (Theorems: start-sound, step-sound)
 pub record Sound (s : State) : Type 0 where
   pub four : length (s .queues) ≡ maxLines
   pub turn-below : s .turn < maxLines

@@ -1,29 +1,38 @@
 -- What a reader may count on, over any sequence of adds and serves, with any stores and buffers lent for each of them: a job with j jobs before it in its own
 -- queue has its turn within 4 × (j + 1) serves, whatever is added in between; of each line the jobs are served in the order in which they were added, and
 -- none is lost or served twice. And of one serve: the line that is served is the first with a job from the turn on, and then it is the next line's turn;
--- nobody is served exactly when no line has a job; a refused job leaves the place and the buffers; what stands before the place in the list of posts stays.
-use mathlib.Core.Bool.{Bool, true, false, cond}
-use mathlib.Core.List.{List, [], _∷_, _++_, append-nil, append-assoc}
+-- nobody is served exactly when no line has a job; a refused job leaves the place and the buffers; what stands before the place in the list of posts stays,
+-- and the job's posts stand from it on. A job whose part no longer lies in the store is told 28, and 15 is told of what is left of the list.
+use mathlib.Core.Bool.{Bool, true, false, cond, _&&_, true≢false}
+use mathlib.Core.List.{List, [], _∷_, _++_, reverse, append-nil, append-assoc}
 use mathlib.Core.Logic.{_⊎_, inl, inr, _↔_}
 use mathlib.Core.Path.{_≡_, refl, sym, ap, _∙_, subst}
 use Prim.Native.Nat.{ℕ, zero, suc, _+_, _-_, _*_, _%_, _<_, _≤_}
-use native.Mathlib.Decide.{ℕ-discrete}
+use native.Mathlib.Decide.{ℕ-discrete, decLt}
+use native.Mathlib.Nat.{add-zero}
 use native.Mathlib.Omega.{arith}
-use lib.Dec.{eqb, ltb}
-use lib.ListN.{length, getD, set, take, drop, length-append, length-take, length-drop, length-set, take-append-drop, List·getD-append}
-use lib.Seq.{getD-set-same, getD-set-other}
-use borrow.Author.Tests.{eq-eqb, ne-eqb, ltb-true}
-use Rattle.program.specs.Screening.{Screening, clear, found, screen, unless}
-use Rattle.program.specs.Laws.Screening.{clear-none, none-cons, unless-none}
-use Rattle.program.specs.Limits.{maxCells}
-use Rattle.semantics.specs.Runs.{Buffers, Sizes, sizes, Outcome, Counts, Answer, refused, ran, After}
-use Rattle.semantics.specs.Theorems.{Few}
-use Rattle.largest.specs.Largest.{request, isLargest, lentRun}
+use lib.Dec.{eqb, leb, ltb}
+use lib.ListN.{length, getD, set, take, drop, length-append, length-map, length-take, length-drop, length-reverse, length-set, take-append-drop, List·getD-append, List·getD-eq-default}
+use lib.Seq.{getD-set-same, getD-set-other, take-at, drop-at, drop-drop}
+use borrow.Author.Tests.{eq-eqb, ne-eqb, ltb-true, leb-false, le-leb, lt-leb}
+use Rattle.program.specs.Layout.{root}
+use Rattle.program.specs.Screening.{Screening, clear, found, tell, screen, unless}
+use Rattle.program.specs.Decoding.{decodingConditions, decoding, Readable}
+use Rattle.program.specs.Laws.Screening.{found≢clear, found-first, first-found, clear-none, none-cons, screen-clear, unless-none}
+use Rattle.program.specs.Limits.{maxCells, maxPosts}
+use Rattle.semantics.specs.Values.{Budget, budget}
+use Rattle.semantics.specs.Runs.{Request, Buffers, Sizes, sizes, startOk, buffersOk, limitsOk, runConditions, Course, rejected, started, course, Outcome, Counts, Answer, refused, ran, left, counts, answerOf, inOrder, postsMade, buffersAfter, After, run}
+use Rattle.semantics.specs.Theorems.{refused-exactly, Few, countsIn}
+use Rattle.largest.specs.Largest.{request, isLargest, lentConditions, unlessFound, lentRun}
 use Rattle.lines.specs.Sessions.{Operation, add, serve, stepped, session, servesIn, only, accepted, addedBy, inTurn, servedBy, addedIn, servedIn, Sound}
-use Rattle.largest.specs.Theorems.{lent-few, lent-untouched, lent-lengths}
-use Rattle.queues.specs.Queues.{maxLines, maxJobs, Job, State, start, queueAt, addConditions, enqueued, addedTo, addOf, inside, Turn, nobody, serves, turnAt, nextLine, turnFrom, turnOf, partOf}
+use Rattle.largest.specs.Theorems.{same-run, lent-few, lent-untouched, lent-lengths}
+use Rattle.queues.specs.Queues.{maxLines, maxJobs, Job, State, start, queueAt, addConditions, enqueued, addedTo, addOf, inside, Turn, nobody, serves, turnAt, nextLine, turnFrom, turnOf, partOf, dequeued}
+use Rattle.queues.specs.Answers.{jobModel, queueModel, linesModel}
+use Rattle.queues.specs.Laws.{none as noQueue, queue-is}
+use Rattle.queues.specs.declared.state.Queue.{Queue}
+use Rattle.queues.specs.declared.state.Lines.{Lines}
 use Rattle.queues.specs.Theorems.{FirstWaiting, served-first, nobody-waiting}
-use Rattle.lines.specs.Serving.{restFrom, behind, jobRun, jobAfter, postsOf, Told, idle, told, Served, servedAs, serveTurn, serveOf}
+use Rattle.lines.specs.Serving.{restFrom, behind, jobRun, jobAfter, postCount, Told, idle, told, Served, servedAs, serveTurn, serveOf}
 
 -- ---- states that the entries make
 none-waits : (l : ℕ) → queueAt start l ≡ []
@@ -35,6 +44,27 @@ none-waits (suc (suc (suc (suc l)))) = refl
 
 pub start-sound : Sound start
 start-sound = record { four = refl; turn-below = omega arith; few = λ l. omega (arith, ap length (none-waits l)) }
+
+-- Any struct is read as one, whoever made it: it has four queues of eight places.
+pub read-sound : (q : Lines) → length (q .queues) ≡ maxLines → ((l : ℕ) → l < maxLines → length (getD (q .queues) l noQueue .jobs) ≡ maxJobs)
+    → Sound (linesModel q)
+read-sound q four eight = record {
+  four = length-map (q .queues) queueModel ∙ four;
+  turn-below = omega arith;
+  few = λ l.
+      let h = getD (q .queues) l noQueue in
+      omega (
+        arith,
+        ap length (queue-is q l),
+        length-map (take (h .count) (h .jobs)) jobModel,
+        length-take (h .count) (h .jobs),
+        places l (decLt l maxLines),
+      );
+}
+  where
+    places : (l : ℕ) → Dec (l < maxLines) → length (getD (q .queues) l noQueue .jobs) ≤ maxJobs
+    places l (yes h) = omega (arith, eight l h)
+    places l (no h) = omega (arith, ap (λ (x : Queue). length (x .jobs)) (List·getD-eq-default (q .queues) noQueue {n = l} (omega (arith, four))))
 
 -- one queue is another one
 module _ (qs : List (List Job)) (four : length qs ≡ maxLines) (k : ℕ) (below : k < maxLines) (js : List Job) where
@@ -285,6 +315,8 @@ pub record ServedInTurn (s : State) (r : Served) : Type 0 where
   pub rest : List Job
   pub first : FirstWaiting maxLines s (s .turn) (r .line) job rest
   pub next-turn : r .state .turn ≡ nextLine (r .line)
+  pub rest-left : queueAt (r .state) (r .line) ≡ rest
+  pub others-stay : (l : ℕ) → (r .line ≡ l → ⊥) → queueAt (r .state) l ≡ queueAt s l
 
 -- "with no job nothing changes and the answer says so"
 abbrev pub AllEmpty : State → Type 0
@@ -303,7 +335,16 @@ module _ (s : State) (sound : Sound s) (store : List ℕ) (b : Buffers) where
     where
       go : (t : Turn) → turnOf s ≡ t → serveTurn t s store b .answer ≡ told a → ServedInTurn s (serveTurn t s store b)
       go nobody f e = absurd (let y : _≡_ {A = ℕ} 0 1 = cc in omega arith)
-      go (serves l j js) f e = record { job = j; rest = js; first = served-first s (sound .turn-below) l j js f; next-turn = refl }
+      go (serves l j js) f e =
+          let v = served-first s (sound .turn-below) l j js f in
+          record {
+            job = j;
+            rest = js;
+            first = v;
+            next-turn = refl;
+            rest-left = changed (s .queues) (sound .four) l (served-below v) js refl;
+            others-stay = λ m ne. others (s .queues) (sound .four) l (served-below v) js ne;
+          }
 
   pub nothing-changes : AllEmpty s → serveOf s store b ≡ record { answer = idle; line = 0; state = s; buffers = b }
   unfolding serveOf
@@ -335,6 +376,12 @@ take-front (suc n) [] [] h = refl
 take-front (suc n) [] (y ∷ ys) h = absurd (omega arith)
 take-front (suc n) (x ∷ xs) ys h = ap (λ (l : List ℕ). x ∷ l) (take-front n xs ys h)
 
+drop-front : (n : ℕ) (xs ys : List ℕ) → length ys ≡ length (drop n xs) → drop n (take n xs ++ ys) ≡ ys
+drop-front zero xs ys h = refl
+drop-front (suc n) [] [] h = refl
+drop-front (suc n) [] (y ∷ ys) h = absurd (omega arith)
+drop-front (suc n) (x ∷ xs) ys h = drop-front n xs ys h
+
 module _ (s : State) (store : List ℕ) (b : Buffers) where
   run-left : (j : Job) (c p : ℕ) → jobRun j (s .place) store b .answer ≡ refused c p
       → jobRun j (s .place) store b ≡ record { answer = refused c p; buffers = b }
@@ -356,7 +403,7 @@ module _ (s : State) (store : List ℕ) (b : Buffers) where
       go nobody e = absurd (let y : _≡_ {A = ℕ} 0 1 = cc in omega arith)
       go (serves l j js) e =
           let f : jobAfter (inside j store) j (s .place) store b .answer ≡ refused c p = cc in
-          record { place-stays = omega (arith, ap postsOf f); buffers-stay = job-left (inside j store) j c p f }
+          record { place-stays = omega (arith, ap postCount f); buffers-stay = job-left (inside j store) j c p f }
 
   -- The counts that are told are those of a run.
   job-few : (inside : Bool) (j : Job) (o : Outcome) (k : Counts) → jobAfter inside j (s .place) store b .answer ≡ ran o k → Few k
@@ -403,3 +450,133 @@ module _ (s : State) (store : List ℕ) (b : Buffers) where
       go : (t : Turn) → Kept (serveTurn t s store b)
       go nobody = record { lengths = refl; before = refl }
       go (serves l j js) = by-inside (inside j store) l j js
+
+-- ---- the job whose turn it is
+-- once the sheet and the start stack are past, 15 is told exactly when the list is too long
+fifteen-asked : (x y : Bool) → (screen (unless 14 true ∷ unless 15 (true && x && true) ∷ unless 16 y ∷ []) ≡ found 15 0) ↔ (x ≡ false)
+unfolding screen tell
+fifteen-asked true true = (λ e. absurd (found≢clear (sym e)), λ e. absurd (true≢false e))
+fifteen-asked true false = (λ e. absurd (let z : _≡_ {A = ℕ} 16 15 = cc in omega arith), λ e. absurd (true≢false e))
+fifteen-asked false y = (λ e. refl, λ e. refl)
+
+-- what a run that starts leaves in the list lent to it: its posts, as many as it tells, and then what stood there
+record Listed (made : List ℕ) (k : Counts) (before after : List ℕ) : Type 0 where
+  as-many : length made ≡ k .posts
+  list-is : after ≡ made ++ drop (k .posts) before
+
+module _ (sheet : List ℕ) (q : Request) (b : Buffers) where
+  run-listed : (o : Outcome) (k : Counts) → run sheet q b .answer ≡ ran o k
+      → Listed (postsMade (course sheet q (sizes b))) k (b .posts) (run sheet q b .buffers .posts)
+  unfolding run
+  run-listed o k = go (course sheet q (sizes b))
+    where
+      by-budget : (u : Budget) → counts q (sizes b) u .posts ≡ k .posts → Listed (inOrder u) k (b .posts) (inOrder u ++ drop (length (inOrder u)) (b .posts))
+      by-budget (budget c d m log) e =
+          let n : length (reverse (log .posts)) ≡ k .posts = length-reverse (log .posts) ∙ e in
+          record { as-many = n; list-is = λ i. reverse (log .posts) ++ drop (n i) (b .posts) }
+
+      go : (x : Course) → answerOf (root sheet) q (sizes b) x ≡ ran o k → Listed (postsMade x) k (b .posts) (buffersAfter (q .runner) b x .posts)
+      go (rejected c p) e = absurd (let y : _≡_ {A = ℕ} 0 1 = cc in omega arith)
+      go (started x) e = by-budget (left x) (ap (λ (a : Answer). countsIn k a .posts) e)
+
+  lent-listed : (right : Bool) (o : Outcome) (k : Counts) → lentRun right sheet q b .answer ≡ ran o k
+      → Listed (postsMade (course sheet q (sizes b))) k (b .posts) (lentRun right sheet q b .buffers .posts)
+  unfolding lentRun
+  lent-listed right o k = go (screen (lentConditions right sheet q))
+    where
+      go : (x : Screening) → unlessFound x b (λ _. run sheet q b) .answer ≡ ran o k
+          → Listed (postsMade (course sheet q (sizes b))) k (b .posts) (unlessFound x b (λ _. run sheet q b) .buffers .posts)
+      go clear e = run-listed o k e
+      go (found c p) e = absurd (let y : _≡_ {A = ℕ} 0 1 = cc in omega arith)
+
+-- the posts that a job's run makes, in order
+abbrev pub jobPosts : Job → (place : ℕ) (store : List ℕ) → Buffers → List ℕ
+jobPosts j at store b = postsMade (course (partOf j store) (request (j .calls)) (sizes (restFrom at b)))
+
+-- "the next job writes from the place where the last one stopped": the place moves by the posts told, they stand in the list from the old place on, and what
+-- is behind them is as it was. What is before them: `serve-keeps`.
+pub record Followed (s : State) (store : List ℕ) (b : Buffers) (j : Job) (k : Counts) (r : Served) : Type 0 where
+  pub moved : r .state .place ≡ s .place + k .posts
+  pub as-many : length (jobPosts j (s .place) store b) ≡ k .posts
+  pub stand : take (k .posts) (drop (s .place) (r .buffers .posts)) ≡ jobPosts j (s .place) store b
+  pub behind-stay : drop (r .state .place) (r .buffers .posts) ≡ drop (r .state .place) (b .posts)
+
+module _ (s : State) (store : List ℕ) (b : Buffers) (l : ℕ) (j : Job) (rest : List Job) (turn : turnOf s ≡ serves l j rest) where
+  abbrev P : List ℕ
+  P = partOf j store
+
+  abbrev Q : Request
+  Q = request (j .calls)
+
+  abbrev R : Buffers
+  R = restFrom (s .place) b
+
+  by-inside : {x : Bool} → inside j store ≡ x → serveOf s store b ≡ servedAs s l rest (jobAfter x j (s .place) store b)
+  unfolding serveOf
+  by-inside e = (λ i. serveTurn (turn i) s store b) ∙ (λ i. servedAs s l rest (jobAfter (e i) j (s .place) store b))
+
+  -- "A job refused when served, first by 28 if the store is shorter then, uses up its turn and its number is told"
+  pub outside-told : inside j store ≡ false
+      → serveOf s store b ≡ record { answer = told (refused 28 0); line = l; state = dequeued s l rest (s .place); buffers = b }
+  outside-told e =
+      by-inside e ∙ (λ i. record { answer = told (refused 28 0); line = l; state = dequeued s l rest (add-zero (s .place) i); buffers = b })
+
+  -- "15 is tested on what is left": of a readable sheet in the store, with the largest cell store lent, whatever its allowance
+  module _ (within : inside j store ≡ true) (readable : Readable (partOf j store)) (largest : length (b .cells) ≡ maxCells) where
+    is-run : serveOf s store b .answer ≡ told (run P Q R .answer)
+    is-run =
+        ap (λ (r : Served). r .answer) (by-inside within) ∙ (λ i. told (lentRun (eq-eqb (length (b .cells)) maxCells largest i) P Q R .answer))
+        ∙ ap (λ (a : After). told (a .answer)) (same-run P Q R)
+
+    asked : screen (runConditions P Q (sizes R))
+        ≡ screen (unless 14 true ∷ unless 15 (true && leb (length (R .posts)) maxPosts && true) ∷ unless 16 (limitsOk Q) ∷ [])
+    unfolding decoding
+    asked =
+        screen-clear (decodingConditions P) (unless 14 (startOk P Q) ∷ unless 15 (buffersOk (Q .runner) (sizes R)) ∷ unless 16 (limitsOk Q) ∷ []) readable
+        ∙ (λ i. screen (unless 14 true ∷ unless 15 (le-leb (length (b .cells)) maxCells (omega arith) i && leb (length (R .posts)) maxPosts && true)
+        ∷ unless 16 (limitsOk Q) ∷ []))
+
+    pub fifteen-on-the-rest : (serveOf s store b .answer ≡ told (refused 15 0)) ↔ (maxPosts < length (restFrom (s .place) b .posts))
+    fifteen-on-the-rest = (
+      λ e.
+          let f : told (run P Q R .answer) ≡ told (refused 15 0) = sym is-run ∙ e in
+          leb-false (length (R .posts)) maxPosts (exactly .0 (sym asked ∙ first-found (refused-exactly P Q R 15 0 .0 (cc)))),
+      λ h.
+          let f = asked ∙ exactly .1 (lt-leb (length (R .posts)) maxPosts h) in
+          is-run ∙ ap told (refused-exactly P Q R 15 0 .1 (found-first (runConditions P Q (sizes R)) 15 0 f)),
+    )
+      where
+        exactly : (screen (unless 14 true ∷ unless 15 (true && leb (length (R .posts)) maxPosts && true) ∷ unless 16 (limitsOk Q) ∷ []) ≡ found 15 0)
+            ↔ (leb (length (R .posts)) maxPosts ≡ false)
+        exactly = fifteen-asked (leb (length (R .posts)) maxPosts) (limitsOk Q)
+
+  abbrev A : After
+  A = lentRun (isLargest maxCells (b .cells)) P Q R
+
+  by-run : (o : Outcome) (k : Counts) → A .answer ≡ ran o k → Followed s store b j k (servedAs s l rest (behind (s .place) b A))
+  by-run o k e =
+      let made = jobPosts j (s .place) store b in
+      let L = lent-listed P Q R (isLargest maxCells (b .cells)) o k e in
+      let as-long : length (A .buffers .posts) ≡ length (R .posts) = ap (λ (z : Sizes). z .posts) (lent-lengths P Q R (isLargest maxCells (b .cells))) in
+      let at : drop (s .place) (take (s .place) (b .posts) ++ A .buffers .posts) ≡ made ++ drop (k .posts) (R .posts) =
+      drop-front (s .place) (b .posts) (A .buffers .posts) as-long ∙ L .list-is in
+      let on : s .place + postCount (A .answer) ≡ s .place + k .posts = ap (λ (x : Answer). s .place + postCount x) e in
+      record {
+        moved = on;
+        as-many = L .as-many;
+        stand = ap (take (k .posts)) at ∙ take-at made _ (k .posts) (L .as-many);
+        behind-stay =
+            ap (λ (n : ℕ). drop n (take (s .place) (b .posts) ++ A .buffers .posts)) on ∙ sym (drop-drop (k .posts) (s .place) _)
+            ∙ ap (drop (k .posts)) at ∙ drop-at made _ (k .posts) (L .as-many) ∙ drop-drop (k .posts) (s .place) (b .posts)
+            ∙ sym (ap (λ (n : ℕ). drop n (b .posts)) on);
+      }
+
+  pub posts-follow : (o : Outcome) (k : Counts) → serveOf s store b .answer ≡ told (ran o k) → Followed s store b j k (serveOf s store b)
+  posts-follow o k e = go (inside j store) refl
+    where
+      answer-is : {x : Bool} → inside j store ≡ x → told (jobAfter x j (s .place) store b .answer) ≡ told (ran o k)
+      answer-is f = sym (ap (λ (r : Served). r .answer) (by-inside f)) ∙ e
+
+      go : (x : Bool) → inside j store ≡ x → Followed s store b j k (serveOf s store b)
+      go true f = let g = answer-is f in subst (Followed s store b j k) (sym (by-inside f)) (by-run o k (cc))
+      go false f = let g = answer-is f in absurd (let y : _≡_ {A = ℕ} 0 1 = cc in omega arith)

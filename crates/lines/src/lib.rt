@@ -6,7 +6,7 @@ ghost use Prim.Native.Nat.{_+_, min as least};
 ghost use Rattle.interp.specs.Answers.{after, buffersOf, runModel};
 ghost use Rattle.queues.specs.Queues.{inside as insideOf, dequeued};
 ghost use Rattle.queues.specs.Answers.{jobModel, queueModel, linesModel};
-ghost use Rattle.lines.specs.Serving.{jobRun, postsOf, serveOf};
+ghost use Rattle.lines.specs.Serving.{jobRun, postCount, serveOf};
 ghost use Rattle.lines.specs.Answers.{servedModel};
 ghost use Rattle.lines.specs.Internal.{Movable};
 
@@ -48,7 +48,7 @@ fn run_job(job: Job, place: usize, store: &[u8], cells: &mut [u8], posts: &mut [
 // The place moves by the posts that a run made. One that was refused made none.
 fn passed(q: Lines, line: usize, rest: Queue, x: Run) -> Lines
     requires { ⌜ Movable q line x ⌝ }
-    ensures { λ r. ⌜ linesModel r ≡ dequeued (linesModel q) line (queueModel rest) (q .place + postsOf (runModel x)) ⌝ }
+    ensures { λ r. ⌜ linesModel r ≡ dequeued (linesModel q) line (queueModel rest) (q .place + postCount (runModel x)) ⌝ }
 {
     match x {
         Run::Refused(f) => turned(q, line, rest, q.place),

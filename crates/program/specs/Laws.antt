@@ -10,4 +10,5 @@ pub mod Trees
 pub mod Nesting
 pub mod Sizes
 pub mod Guards
+pub mod Longest
 pub mod Records

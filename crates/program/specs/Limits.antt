@@ -18,6 +18,14 @@ maxChannels = 16
 abbrev pub noGuard : ℕ
 noGuard = 255
 
+-- Bytes of the longest sheet. Of version 1, 10,894: the version, the principals, the types and the terms, a field each with a header of three bytes. 02, W8:
+-- "The program reads up to 10,913 bytes", the fifth field with a byte for each channel.
+abbrev pub maxSheet1 : ℕ
+maxSheet1 = 4 * 3 + 2 + 4 * maxPrincipals + 10 * maxTypes + 8 * maxTerms
+
+abbrev pub maxSheet : ℕ
+maxSheet = maxSheet1 + 3 + maxChannels
+
 -- of types, "nested at most 12 deep"; of terms, "Nesting is at most 32"
 abbrev pub maxTypeDepth : ℕ
 maxTypeDepth = 12

@@ -1,4 +1,4 @@
--- A sheet's terms as a tree.
+-- A sheet's terms as a tree: 01's table under "The kind byte picks one of fifteen terms", by each record's parts. "The last term is the root."
 use mathlib.Core.Bool.{Bool, false}
 use mathlib.Core.List.{List}
 use mathlib.Core.Option.{Option, none, some}
@@ -59,7 +59,7 @@ tree s t = treeTo s (suc t) t
 abbrev pub program : List ℕ → Term
 program s = tree s (root s)
 
--- the number of terms in a tree, itself counted
+-- 02, W13: the number of terms in a tree, "itself counted"
 abbrev pub size : Term → ℕ
 size (boolean at b) = 1
 size (number at n) = 1

@@ -1,10 +1,38 @@
--- What a reader may count on, of whose turn it is: the line that is served is the first with a job from the turn on, the lines between are empty, and it is
--- its oldest job that is served; and if nobody is served all four lines are empty.
+-- What a reader may count on. Of an add: it is refused exactly when 27, 28 or 29 holds, by the first of them, and then nothing changes. Of whose turn it is:
+-- the line that is served is the first with a job from the turn on, the lines between are empty, and it is its oldest job that is served; and if nobody is
+-- served all four lines are empty.
 use mathlib.Core.List.{List, [], _∷_}
+use mathlib.Core.Logic.{_↔_}
 use mathlib.Core.Path.{_≡_, refl, sym, ap, _∙_}
 use Prim.Native.Nat.{ℕ, zero, suc, _+_, _-_, _%_, _<_}
 use native.Mathlib.Omega.{arith}
-use Rattle.queues.specs.Queues.{maxLines, Job, State, queueAt, Turn, nobody, serves, turnAt, nextLine, turnFrom, turnOf}
+use Rattle.program.specs.Screening.{Screening, clear, found, screen, First}
+use Rattle.program.specs.Laws.Screening.{found≢clear, found-first, first-found}
+use Rattle.queues.specs.Queues.{maxLines, Job, State, queueAt, addConditions, addedTo, addOf, Turn, nobody, serves, turnAt, nextLine, turnFrom, turnOf}
+
+-- ---- a job is added
+module _ (s : State) (l : ℕ) (j : Job) (store : List ℕ) where
+  answer-is : (x : Screening) → addedTo x s l j .answer ≡ x
+  answer-is clear = refl
+  answer-is (found c p) = refl
+
+  -- "A line other than 0 to 3 is 27, a part outside the store 28 and a full queue 29, tested in that order": the first that holds is told, and none otherwise
+  pub add-refused-exactly : (c p : ℕ) → (addOf s l j store .answer ≡ found c p) ↔ First c p (addConditions s l j store)
+  unfolding addOf
+  add-refused-exactly c p =
+      let told = answer-is (screen (addConditions s l j store)) in
+      (λ e. found-first (addConditions s l j store) c p (sym told ∙ e), λ f. told ∙ first-found f)
+
+  -- "and the queues don't change", nor the turn nor the place
+  pub add-refused-leaves : (c p : ℕ) → addOf s l j store .answer ≡ found c p → addOf s l j store .state ≡ s
+  unfolding addOf
+  add-refused-leaves c p = go (screen (addConditions s l j store))
+    where
+      go : (x : Screening) → addedTo x s l j .answer ≡ found c p → addedTo x s l j .state ≡ s
+      go clear e = absurd (found≢clear (sym e))
+      go (found d r) e = refl
+
+-- ---- whose turn it is
 
 -- so many lines from this one on have no job
 abbrev pub EmptyFrom : State → (line count : ℕ) → Type 0

@@ -5,10 +5,10 @@ use mathlib.Core.Path.{_≡_, refl, sym, ap, _∙_, subst}
 use Prim.Native.Nat.{ℕ, zero, suc, _+_, _*_, _<_, _≤_}
 use native.Mathlib.Decide.{ℕ-discrete, decLt}
 use native.Mathlib.Omega.{arith}
-use lib.Dec.{leb, eqb}
+use lib.Dec.{eqb}
 use lib.ListN.{length, getD, set, length-set}
 use lib.Seq.{getD-set-same, getD-set-other}
-use borrow.Author.Tests.{le-leb, lt-leb, eq-eqb, ne-eqb, eqb-true}
+use borrow.Author.Tests.{le-leb, eq-eqb, ne-eqb, eqb-true}
 use Rattle.privileges.specs.Booleans.{and-left, and-right}
 use Rattle.program.specs.Layout.{version, terms, kindByte}
 use Rattle.program.specs.Records.{CountsOf, termRecord}
@@ -18,6 +18,7 @@ use Rattle.program.specs.declared.records.Counts.{Counts}
 use Rattle.program.specs.declared.records.TermRecord.{TermRecord}
 use Rattle.intervals.specs.Intervals.{Interval}
 use Rattle.intervals.specs.Pairs.{isNumber, numbersBelow, pairOf, ordered, pairsOk}
+use Rattle.intervals.specs.Laws.Pairs.{ordered-at}
 use Rattle.stores.specs.Words.{intervalWord}
 use Rattle.machine.specs.Table.{wordKind, Decoded}
 use Rattle.machine.specs.Store.{shapeOf}
@@ -57,16 +58,6 @@ pub counted-most : (s : List ℕ) (t : ℕ) → numbersBelow s t ≤ t
 counted-most s zero = omega arith
 counted-most s (suc t) = omega (arith, one-most (isNumber s t), counted-most s t)
 
--- a number term below n is counted
-pub counted-below : (s : List ℕ) (t n : ℕ) → t < n → isNumber s t ≡ true → numbersBelow s t < numbersBelow s n
-counted-below s t zero h e = absurd (omega arith)
-counted-below s t (suc n) h e = elim (ℕ-discrete t n) [
-  | yes p ↦ (let q : numbersBelow s t ≡ numbersBelow s n = ap (numbersBelow s) p in
-      let one : _≡_ {A = ℕ} (cond (isNumber s n) 1 0) 1 = ap (λ (b : Bool). cond b 1 0) (ap (isNumber s) (sym p) ∙ e) in
-      omega (arith, q, one))
-  | no p ↦ omega (arith, counted-below s t n (omega arith) e)
-]
-
 -- ---- the pairs in order
 -- the first i of n pairs are in order
 pub record OrderedBelow (ps : List ℕ) (n i : ℕ) : Type 0 where
@@ -81,18 +72,12 @@ ordered-next ps i h e =
 pub ordered-all : (ps : List ℕ) (i n : ℕ) → ordered ps i ≡ true → i ≡ n → true ≡ ordered ps n
 ordered-all ps i n e q = sym e ∙ ap (ordered ps) q
 
-and-false : (b : Bool) → (b && false) ≡ false
-and-false true = refl
-and-false false = refl
-
 pub ordered-not : (ps : List ℕ) (i n : ℕ) → i < n → getD ps (2 * i + 1) 0 < getD ps (2 * i) 0 → ordered ps n ≡ false
-ordered-not ps i zero h l = absurd (omega arith)
-ordered-not ps i (suc n) h l = elim (ℕ-discrete i n) [
-  | yes p ↦ (let worse : getD ps (2 * n + 1) 0 < getD ps (2 * n) 0 = subst (λ (k : ℕ). getD ps (2 * k + 1) 0 < getD ps (2 * k) 0) p l in
-      ap (λ (b : Bool). b && ordered ps n) (lt-leb (getD ps (2 * n) 0) (getD ps (2 * n + 1) 0) worse))
-  | no p ↦ ap (λ (b : Bool). leb (getD ps (2 * n) 0) (getD ps (2 * n + 1) 0) && b) (ordered-not ps i n (omega arith) l)
-      ∙ and-false (leb (getD ps (2 * n) 0) (getD ps (2 * n + 1) 0))
-]
+ordered-not ps i n h l = go (ordered ps n) refl
+  where
+    go : (b : Bool) → ordered ps n ≡ b → b ≡ false
+    go true e = absurd (omega (arith, l, ordered-at ps i n h e))
+    go false e = refl
 
 -- ---- all three tests
 module _ (s ps : List ℕ) where

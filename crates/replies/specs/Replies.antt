@@ -10,7 +10,7 @@ use Rattle.program.specs.Decoding.{decoding}
 use Rattle.typing.specs.Verdicts.{Verdict, accepted, rejected, verdict}
 use Rattle.semantics.specs.Runs.{Buffers, ground-bool, ground-num, Outcome, ended, stopped, Counts, Answer, refused, ran, After}
 
--- 0: readable, accepted or ended; 1: stopped; 2: refused
+-- 0: done, with an answer; 1: a run stopped; 2: refused; 3: nothing was done (notDone); 4: no line has a job (capi_lines alone)
 pub record Reply : Type 0 where
   pub status : ℕ
   pub numbers : List ℕ

@@ -1,19 +1,22 @@
--- What a reader may count on: 20 decimal digits are enough, the run of an accepted sheet starts, no text is longer than 209 bytes, and what was
--- written is the text.
+-- What a reader may count on: 20 decimal digits are enough, the run of an accepted sheet starts, an input longer than any sheet is told like its
+-- beginning, no text is longer than 209 bytes, and what was written is the text.
 use mathlib.Core.Bool.{Bool, true, false, cond}
 use mathlib.Core.List.{List, [], _∷_, _++_}
 use mathlib.Core.Path.{_≡_, refl, sym, ap, _∙_}
-use Prim.Native.Nat.{ℕ, zero, suc, _/_, _%_, _^_, _<_, _≤_, zero-le}
+use Prim.Native.Nat.{ℕ, zero, suc, _+_, _/_, _%_, _^_, _<_, _≤_, zero-le}
 use native.Mathlib.Nat.{pow-succ', div-lt-iff-lt-mul}
+use native.Mathlib.Decide.{decLt}
 use native.Mathlib.Omega.{arith}
 use lib.Dec.{ltb, leb, eqb, lit<}
 use lib.ListN.{length, take, drop, length-append}
-use lib.Seq.{take-at}
+use lib.Seq.{take-at, take-all}
 use borrow.Author.Tests.{lt-ltb, le-ltb, le-leb}
+use Rattle.program.specs.Limits.{maxSheet}
 use Rattle.program.specs.Layout.{root}
-use Rattle.program.specs.Screening.{clear, tell, screen, unless}
+use Rattle.program.specs.Screening.{clear, found, tell, screen, unless}
 use Rattle.program.specs.Decoding.{decodingConditions, decoding, Readable}
 use Rattle.program.specs.Laws.Screening.{screen-clear}
+use Rattle.program.specs.Laws.Longest.{cut-alike, longer-refused}
 use Rattle.typing.specs.Verdicts.{Verdict, accepted, rejected, verdict}
 use Rattle.typing.specs.Theorems.{acceptance as acceptance-theorem}
 use Rattle.semantics.specs.Runs.{eager, Buffers, startOk, buffersOk, limitsOk, runConditions, evaluation, settled, course, ground-bool, ground-num, Outcome, ended, stopped, Counts, Answer, refused, ran, answerOf}
@@ -52,6 +55,21 @@ accepted-runs s n τ N e = (
   _,
   λ i. answerOf (root s) request largest (settled (starts s (acceptance-theorem s n τ N e .readable) i) (λ _. evaluation eager s request largest)),
 )
+
+-- ---- an input longer than any sheet
+unfit-printed : (s : List ℕ) (c p : ℕ) → decoding s ≡ found c p → printed s ≡ refusal c p
+unfolding printed verdict
+unfit-printed s c p e = rw e
+
+-- "longer: it reads one byte more and the reader refuses": the text for the first 10,914 bytes is that for the whole input
+pub cut-printed : (s : List ℕ) → printed (take (maxSheet + 1) s) ≡ printed s
+cut-printed s = go (decLt maxSheet (length s))
+  where
+    go : Dec (maxSheet < length s) → printed (take (maxSheet + 1) s) ≡ printed s
+    go (yes l) =
+        let r = longer-refused s l in
+        unfit-printed (take (maxSheet + 1) s) (r .0) (r .1) (cut-alike s ∙ r .2) ∙ sym (unfit-printed s (r .0) (r .1) (r .2))
+    go (no l) = ap printed (take-all (maxSheet + 1) s (omega arith))
 
 -- ---- how long a text is
 length-last : (b : Bool) (xs : List ℕ) (x k : ℕ) → length xs ≤ k → length (cond b [] xs ++ (x ∷ [])) ≤ suc k

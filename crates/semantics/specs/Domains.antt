@@ -37,9 +37,9 @@ saturates less m n = false
 abbrev pub postEntry : (channel number : ℕ) → ℕ
 postEntry ch n = ch * 65536 + n
 
--- "Sums are held at 65,535, differences at 0."
-abbrev pub exact : Domain
-exact = record {
+-- each value is one number or one truth value: "Sums are held at 65,535, differences at 0."
+abbrev pub single : Domain
+single = record {
   Number = ℕ;
   Truth = Bool;
   truth = λ b. b;
@@ -53,4 +53,4 @@ exact = record {
 
 -- a number term stands for the number of its record
 abbrev pub standard : Interpretation
-standard = record { domain = exact; literal = λ at n. n }
+standard = record { domain = single; literal = λ at n. n }

@@ -5,6 +5,7 @@ pub mod Names
 pub mod Access
 pub mod Runs
 pub mod Recording
+pub mod Claims
 pub mod Blunders
 pub mod Decisions
 pub mod Laws

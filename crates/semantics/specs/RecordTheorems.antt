@@ -1,6 +1,6 @@
 -- The theorems about runs with a record, 02, W12: listing decisions changes neither answer nor buffers; what stands in the record, and what is untouched;
--- every entry is a decision of one of the sheet's terms, and fits its bytes; how many there can be.
-use mathlib.Core.Bool.{true}
+-- every entry is a decision of one of the sheet's terms, and fits its bytes; which of them are no; how many there can be.
+use mathlib.Core.Bool.{true, false}
 use mathlib.Core.List.{List, [], _∷_, _++_}
 use mathlib.Core.Path.{_≡_, refl, sym, ap, _∙_, subst}
 use Prim.Native.Nat.{ℕ, zero, suc, _+_, _*_, _/_, _<_, _≤_, min}
@@ -23,11 +23,13 @@ use Rattle.traces.specs.Claims.{Storable, storable-none, storable-more}
 use Rattle.traces.specs.Laws.Records.{bytes-length}
 use Rattle.semantics.specs.Values.{Budget, budget, Result}
 use Rattle.semantics.specs.Meaning.{traced}
-use Rattle.semantics.specs.Runs.{Request, Buffers, Sizes, sizes, runConditions, evaluation, evaluationIn, Course, rejected, started, settled, course, refused, ran, left, answerOf, zeros, clearedFrames, buffersAfter, After, run}
+use Rattle.semantics.specs.Runs.{Request, Buffers, Sizes, sizes, runConditions, evaluation, evaluationIn, Course, rejected, started, settled, course, Outcome, Counts, stopped, outcome, refused, ran, left, counts, answerOf, zeros, clearedFrames, buffersAfter, After, run}
 use Rattle.semantics.specs.Recording.{tracedCourse, decidedIn, decisionsMade, decisions, Recorded, withEntries, recordedWith, recording}
 use Rattle.semantics.specs.Laws.Tracing.{forget, evaluation-forgets, outcome-forgotten, counts-forgotten, posts-forgotten}
 use Rattle.semantics.specs.Laws.Saturation.{listedIn, evaluation-load}
-use Rattle.semantics.specs.Laws.Posts.{Each, Asks, by-check, by-test, by-guard, Decision, evaluation-decides}
+use Rattle.semantics.specs.Claims.{Each, Asks, by-check, by-test, by-guard, Decision}
+use Rattle.semantics.specs.Laws.Posts.{evaluation-decides}
+use Rattle.semantics.specs.Laws.Refusals.{refused-last, others-go-on}
 use Rattle.semantics.specs.Theorems.{Starts, refused-exactly, starts-screened, clear-well, clear-calls}
 
 -- ---- the answer: "Its answer is as without a record"
@@ -159,6 +161,7 @@ each-taken E zero xs h = tt
 each-taken E (suc n) [] h = tt
 each-taken E (suc n) (x ∷ xs) h = (h .0, each-taken E n xs (h .1))
 
+-- Of a list of bytes:
 module _ (s : List ℕ) (bytes : Bytes s) (q : Request) (b : Buffers) where
   pub decisions-asked : Each (IsDecision s) (decisions s q (sizes b))
   decisions-asked = go (screen (runConditions s q (sizes b))) refl
@@ -175,6 +178,45 @@ module _ (s : List ℕ) (bytes : Bytes s) (q : Request) (b : Buffers) where
 
   pub entries-fit : Starts s q b → (t : List ℕ) → Storable (recorded (length t) (decisions s q (sizes b)))
   entries-fit st t = storable s (clear-well s q b (starts-screened s q b st)) (recorded (length t) (decisions s q (sizes b))) (entries-asked t)
+
+-- ---- "and yes or no": a run goes on after a check or guard that is yes, and after a test
+-- a decision that is no is of a test, so that each check and guard is yes
+abbrev pub NoOfTest : (s : List ℕ) → Event → Type 0
+NoOfTest s e = e .decided ≡ false → kindOf (kindByte s (e .term)) ≡ Test
+
+-- the last decision is a no at term t, and each check and guard before it is yes
+pub record EndsInNo (s : List ℕ) (t : ℕ) (es : List Event) : Type 0 where
+  pub before : List Event
+  pub privilege : ℕ
+  pub last-is : es ≡ before ++ record { term = t; privilege = privilege; decided = false } ∷ []
+  pub yes-before : Each (NoOfTest s) before
+
+module _ (s : List ℕ) (q : Request) (b : Buffers) where
+  abbrev result : Result
+  result = evaluationIn (traced (q .enforce)) (q .runner) s q (sizes b)
+
+  traced-answer : screen (runConditions s q (sizes b)) ≡ clear → run s q b .answer ≡ ran (outcome (root s) result) (counts q (sizes b) (left result))
+  traced-answer h = sym (ap (λ (a : After). a .answer) (as-without s q b)) ∙ ap (answerOf (root s) q (sizes b)) (traced-clear s q (sizes b) h)
+
+  -- "17 refused check", or guard: a run that is stopped by 17 at a term has a no there as its last decision, and each check and guard before is yes.
+  pub refused-no : (t : ℕ) (k : Counts) → run s q b .answer ≡ ran (stopped 17 t) k → EndsInNo s t (decisions s q (sizes b))
+  refused-no t k e =
+      let h = starts-screened s q b (_, _, e) in
+      let same : ran _ _ ≡ ran (stopped 17 t) k = sym (traced-answer h) ∙ e in
+      let x = refused-last s (clear-well s q b h) (q .enforce) q (sizes b) (q .runner) (root s) t cc in
+      subst (λ (c : Course). EndsInNo s t (decisionsMade c)) (sym (traced-clear s q (sizes b) h))
+      (record { before = x .0; privilege = x .1; last-is = x .2; yes-before = x .3 })
+
+  -- In every other run, whatever it ends in, each check and guard is yes.
+  pub others-yes : ((t : ℕ) (k : Counts) → run s q b .answer ≡ ran (stopped 17 t) k → ⊥) → Each (NoOfTest s) (decisions s q (sizes b))
+  others-yes n = go (screen (runConditions s q (sizes b))) refl
+    where
+      go : (x : Screening) → screen (runConditions s q (sizes b)) ≡ x → Each (NoOfTest s) (decisions s q (sizes b))
+      go clear h =
+          subst (λ (c : Course). Each (NoOfTest s) (decisionsMade c)) (sym (traced-clear s q (sizes b) h))
+          (others-go-on s (clear-well s q b h) (q .enforce) q (sizes b) (q .runner) (root s)
+          (λ t e. n t (counts q (sizes b) (left result)) (traced-answer h ∙ ap (λ (o : Outcome). ran o (counts q (sizes b) (left result))) e)))
+      go (found c p) h = subst (λ (c : Course). Each (NoOfTest s) (decisionsMade c)) (sym (traced-found s q (sizes b) c p h)) tt
 
 -- ---- how many decisions a run makes: at most 4,195,328, so that a record of four times as many bytes is complete
 listed-length : (u : Budget) → length (decidedIn u) ≡ listedIn u

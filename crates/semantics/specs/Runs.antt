@@ -9,7 +9,7 @@ use Rattle.program.specs.Layout.{principals, authority, root}
 use Rattle.program.specs.Terms.{program}
 use Rattle.program.specs.Screening.{Condition, Screening, clear, found, screen, unless}
 use Rattle.program.specs.Decoding.{decodingConditions}
-use Rattle.semantics.specs.Domains.{Domain, exact, Interpretation, standard}
+use Rattle.semantics.specs.Domains.{Domain, single, Interpretation, standard}
 use Rattle.semantics.specs.Values.{bool, num, closure, empty, emptyLog, Budget, budget, ResultOf, Result, ends, stops}
 use Rattle.semantics.specs.Meaning.{Mode, plain, eval}
 use Rattle.semantics.specs.Access.{Frame, frame, privs, lazyControl, rights, eagerControl}
@@ -97,7 +97,7 @@ pub data CourseOf (D : Domain) : Type 0 where
   started : ResultOf D → CourseOf D
 
 abbrev pub Course : Type 0
-Course = CourseOf exact
+Course = CourseOf single
 
 abbrev pub settled : {D : Domain} → Screening → (Unit {0} → ResultOf D) → CourseOf D
 settled clear k = started (k tt)
@@ -130,13 +130,13 @@ pub data AnswerOf (D : Domain) : Type 0 where
 
 -- 01's
 abbrev pub Ground : Type 0
-Ground = GroundOf exact
+Ground = GroundOf single
 
 abbrev pub Outcome : Type 0
-Outcome = OutcomeOf exact
+Outcome = OutcomeOf single
 
 abbrev pub Answer : Type 0
-Answer = AnswerOf exact
+Answer = AnswerOf single
 
 -- 18 also for "a root that gives a function"
 abbrev pub outcome : {D : Domain} (root : ℕ) → ResultOf D → OutcomeOf D
@@ -192,7 +192,7 @@ pub record AfterOf (D : Domain) : Type 0 where
   pub buffers : Buffers
 
 abbrev pub After : Type 0
-After = AfterOf exact
+After = AfterOf single
 
 -- what a course leaves
 abbrev pub afterCourse : {D : Domain} → List ℕ → Request → Buffers → CourseOf D → AfterOf D

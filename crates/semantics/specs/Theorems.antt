@@ -1,6 +1,7 @@
 -- The theorems about whole runs: what a stack grants as a set is what 01's sentence grants; a run is refused exactly on 01's conditions; every buffer
--- keeps its length; the counts stay within the largest allowances and buffers, and the count of held sums below 2^32; 17 is told at checks and guarded posts
--- alone, and posts are of the sheet's channels; version 1 has neither guards nor channels.
+-- keeps its length; the counts stay within the largest allowances and buffers, and the count of held sums below 2^32; the posts made stand in the lent list
+-- and the stores are zero; a run stops by 17 to 22 alone, by 17 at checks and guarded posts alone, and posts are of the sheet's channels; version 1 has
+-- neither guards nor channels; a sum or difference is counted as held unless it is the exact one.
 use mathlib.Core.Bool.{Bool, true, false, _&&_}
 use mathlib.Core.List.{List, _++_, reverse}
 use mathlib.Core.Logic.{_↔_}
@@ -9,29 +10,33 @@ use mathlib.Core.Path.{_≡_, refl, sym, ap, _∙_, subst}
 use Prim.Native.Nat.{ℕ, suc, _+_, _*_, _<_, _≤_}
 use native.Mathlib.Omega.{arith}
 use lib.Dec.{leb}
-use lib.ListN.{length, drop, length-replicate, length-append, length-drop, length-reverse}
-use borrow.Author.Tests.{leb-true}
+use lib.ListN.{length, take, drop, length-replicate, length-append, length-drop, length-reverse}
+use lib.Seq.{take-append-seam, drop-append-seam}
+use borrow.Author.Tests.{leb-true, ltb-false, le-ltb}
 use Rattle.program.specs.Limits.{maxTerms, maxCells, maxPosts, maxCalls, maxDepth, maxSaturated}
 use Rattle.privileges.specs.Sets.{has}
 use Rattle.privileges.specs.Booleans.{and-left, and-right}
 use Rattle.program.specs.Bytes.{Bytes}
 use Rattle.program.specs.Layout.{version, root, kindByte, small, authority}
 use Rattle.program.specs.Formats.{Check, kindOf}
-use Rattle.program.specs.Terms.{Term, post, program}
+use Rattle.program.specs.Terms.{sum, difference, Term, post, program}
 use Rattle.program.specs.Screening.{Screening, clear, found, screen, First, None}
 use Rattle.program.specs.Decoding.{decodingConditions, decoding}
 use Rattle.program.specs.Laws.Screening.{found-first, first-found, clear-none, none-clear, none-append, none-cons, unless-none}
 use Rattle.program.specs.Laws.Readable.{WellFormed, well-formed}
 use Rattle.program.specs.Laws.Guards.{without-guards}
-use Rattle.semantics.specs.Domains.{Domain, Interpretation, standard, postEntry}
-use Rattle.semantics.specs.Values.{num, Env, empty, Log, logPost, Budget, budget, ResultOf, ends}
+use Rattle.semantics.specs.Domains.{Domain, Interpretation, saturates, postEntry, single, standard}
+use Rattle.semantics.specs.Values.{num, Env, empty, Log, logPost, Budget, budget, ResultOf, Result, ends}
 use Rattle.semantics.specs.Meaning.{Control, Mode, plain, _then_, postValue, eventIf, listsChecks, evalWith, eval}
 use Rattle.semantics.specs.Access.{Frame, chk, privs, lazyControl, rights, eagerControl}
-use Rattle.semantics.specs.Runs.{Runner, eager, lazy, Request, Buffers, Sizes, sizes, stack, framesOk, runConditions, initial, evaluationOver, evaluation, Course, rejected, started, settled, course, Outcome, stopped, Counts, AnswerOf, refused, ran, left, counts, answerOf, inOrder, postsMade, clearedFrames, buffersAfter, After, run}
+use Rattle.semantics.specs.Runs.{Runner, eager, lazy, Request, Buffers, Sizes, sizes, stack, framesOk, runConditions, initial, evaluationOver, evaluation, Course, rejected, started, settled, course, Outcome, stopped, Counts, AnswerOf, refused, ran, left, counts, answerOf, inOrder, postsMade, zeros, clearedFrames, buffersAfter, After, run}
+use Rattle.semantics.specs.Laws.Bodies.{Stop}
+use Rattle.semantics.specs.Claims.{Each, MayRefuse, at-check, at-guard, OnChannel}
+use Rattle.semantics.specs.Laws.Stops.{Recorded, evaluation-stop, refusing, stop-single}
 use Rattle.semantics.specs.Laws.Access.{privs-chk}
 use Rattle.semantics.specs.Laws.Budgets.{places, Spent, spends}
 use Rattle.semantics.specs.Laws.Saturation.{saturatedIn, evaluation-load}
-use Rattle.semantics.specs.Laws.Posts.{Each, each-all, MayRefuse, at-check, at-guard, OnChannel, evaluation-refused, evaluation-posts}
+use Rattle.semantics.specs.Laws.Posts.{each-all, evaluation-posts}
 
 -- ---- What a stack grants
 -- The eager runner starts with the set `privs`; a privilege is in it exactly if the stack grants it by 01's sentence, which is `chk`.
@@ -107,14 +112,23 @@ module _ (s : List ℕ) (q : Request) (b : Buffers) where
       let within : (leb (q .calls) maxCalls && leb (q .depth) maxDepth) ≡ true = unless-none 16 _ (none-cons (none-cons (none-cons callers .1) .1) .0) in
       leb-true (q .calls) maxCalls (search (within, and-left))
 
--- ---- Where a run is refused by 17, and what it posts
+-- ---- By which causes a run stops
+module _ (s : List ℕ) (q : Request) (b : Buffers) where
+  stop-of : (c t : ℕ) (k : Counts) → run s q b .answer ≡ ran (stopped c t) k → Stop single (Recorded s) c t
+  stop-of c t k e =
+      let st : Starts s q b = (_, _, e) in
+      let same : ran _ _ ≡ ran (stopped c t) k = sym (answer-course s q b _ (course-clear s q b (starts-screened s q b st))) ∙ e in
+      evaluation-stop s (started-well s q b st) standard (plain (q .enforce)) q (sizes b) (q .runner) c t cc
+
+  -- 01 lists the stops 17 to 22. W14's 36 is no stop of a plain run, whose conditions are yes or no.
+  pub stopped-by : (c t : ℕ) (k : Counts) → run s q b .answer ≡ ran (stopped c t) k → (17 ≤ c) × (c ≤ 22)
+  stopped-by c t k e = stop-single s c t (stop-of c t k e)
+
+-- ---- Where a run of a list of bytes is refused by 17, and what it posts
 module _ (s : List ℕ) (bytes : Bytes s) (q : Request) (b : Buffers) where
   -- 17 is told at a check, or at a post whose channel has a guard.
   pub refused-by-17 : (t : ℕ) (k : Counts) → run s q b .answer ≡ ran (stopped 17 t) k → MayRefuse s t
-  refused-by-17 t k e =
-      let st : Starts s q b = (_, _, e) in
-      let same : ran _ _ ≡ ran (stopped 17 t) k = sym (answer-course s q b _ (course-clear s q b (starts-screened s q b st))) ∙ e in
-      evaluation-refused s bytes (started-well s q b st) (plain (q .enforce)) (q .runner) q (sizes b) t cc
+  refused-by-17 t k e = refusing s t (stop-of s q b 17 t k e)
 
   -- Every post is a channel of the sheet's version and a 16-bit number: "channel × 65,536 + number".
   pub posts-on-channels : Starts s q b → Each (OnChannel s) (postsMade (course s q (sizes b)))
@@ -147,6 +161,15 @@ plain-post X M depth at c st e u n k d r l h =
     let z : postEntry 0 n ≡ n = omega arith in
     (λ i. h i then λ v u₁. postValue at 0 true (no-event (listsChecks M) at (X .grants st) i) v u₁)
     ∙ ap (λ (x : ℕ). ends (num n) (budget k d r (logPost x l))) z
+
+-- ---- Which results are held
+-- 02, W10: "Sum and difference now also say whether the exact result was outside 0 to 65,535." For all numbers: one is not counted as held exactly if it is
+-- the exact result. A difference is that if it and the second number make the first.
+pub sum-held : (m n : ℕ) → (saturates sum m n ≡ false) ↔ (single .sum m n ≡ m + n)
+sum-held m n = (λ e. omega (arith, ltb-false 65535 (m + n) e), λ e. le-ltb 65535 (m + n) (omega arith))
+
+pub difference-held : (m n : ℕ) → (saturates difference m n ≡ false) ↔ (single .difference m n + n ≡ m)
+difference-held m n = (λ e. omega (arith, ltb-false m n e), λ e. le-ltb m n (omega arith))
 
 -- ---- What a run leaves
 -- Every buffer keeps its length, whatever becomes of the run: the posts made find their places in the lent list.
@@ -211,10 +234,49 @@ abbrev pub countsIn : {D : Domain} → Counts → AnswerOf D → Counts
 countsIn k (refused c p) = k
 countsIn k (ran o k′) = k′
 
+-- the counts told are those of the evaluation
+counts-told : (s : List ℕ) (q : Request) (b : Buffers) (o : Outcome) (k : Counts) → run s q b .answer ≡ ran o k
+    → counts q (sizes b) (left (evaluation (q .runner) s q (sizes b))) ≡ k
+counts-told s q b o k e = ap (countsIn k) (sym (answer-course s q b _ (course-clear s q b (starts-screened s q b (o, k, e)))) ∙ e)
+
 pub counts-few : (s : List ℕ) (q : Request) (b : Buffers) (o : Outcome) (k : Counts) → run s q b .answer ≡ ran o k → Few k
 counts-few s q b o k e =
-    let clear-of = starts-screened s q b (o, k, e) in
-    subst Few (ap (countsIn k) (sym (answer-course s q b _ (course-clear s q b clear-of)) ∙ e))
-    (clear-few s q b clear-of (left (evaluation (q .runner) s q (sizes b)))
+    subst Few (counts-told s q b o k e)
+    (clear-few s q b (starts-screened s q b (o, k, e)) (left (evaluation (q .runner) s q (sizes b)))
     (evaluation-spends standard (plain (q .enforce)) (q .runner) s q (sizes b))
     (omega (arith, evaluation-load s (started-well s q b (o, k, e)) (plain (q .enforce)) (q .runner) q (sizes b))))
+
+-- What a run that starts leaves in the buffers b: "Posts made so far stand in the lent list and its other entries are untouched; cell and frame stores are
+-- all zero." A refused run leaves every buffer as it was: refused-untouched.
+pub record Leaves (r : Runner) (made : List ℕ) (b d : Buffers) : Type 0 where
+  pub posts-first : take (length made) (d .posts) ≡ made
+  pub rest-untouched : drop (length made) (d .posts) ≡ drop (length made) (b .posts)
+  pub cells-zero : d .cells ≡ zeros (length (b .cells))
+  pub frames-zero : r ≡ lazy → d .frames ≡ zeros (length (b .frames))
+  -- an eager run has no frame store
+  pub frames-kept : r ≡ eager → d .frames ≡ b .frames
+
+leaves : (r : Runner) (b : Buffers) (x : Result) → Leaves r (postsMade (started x)) b (buffersAfter r b (started x))
+leaves r b x =
+    let made = inOrder (left x) in
+    record {
+      posts-first = take-append-seam made (drop (length made) (b .posts));
+      rest-untouched = drop-append-seam made (drop (length made) (b .posts));
+      cells-zero = refl;
+      frames-zero = ap (λ (y : Runner). clearedFrames y (b .frames));
+      frames-kept = ap (λ (y : Runner). clearedFrames y (b .frames));
+    }
+
+posts-counted : (q : Request) (z : Sizes) (u : Budget) → counts q z u .posts ≡ length (inOrder u)
+posts-counted q z (budget c d r l) = sym (length-reverse (l .posts))
+
+-- The list is that of the posts made, in order, and the count told is its length.
+pub run-leaves : (s : List ℕ) (q : Request) (b : Buffers) (o : Outcome) (k : Counts) → run s q b .answer ≡ ran o k
+    → (k .posts ≡ length (postsMade (course s q (sizes b)))) × Leaves (q .runner) (postsMade (course s q (sizes b))) b (run s q b .buffers)
+unfolding run
+run-leaves s q b o k e =
+    let x = evaluation (q .runner) s q (sizes b) in
+    let goes : started x ≡ course s q (sizes b) = sym (course-clear s q b (starts-screened s q b (o, k, e))) in (
+      ap (λ (c : Counts). c .posts) (sym (counts-told s q b o k e)) ∙ posts-counted q (sizes b) (left x) ∙ ap (λ (c : Course). length (postsMade c)) goes,
+      subst (λ (c : Course). Leaves (q .runner) (postsMade c) b (buffersAfter (q .runner) b c)) goes (leaves (q .runner) b x),
+    )

@@ -5,7 +5,7 @@ use mathlib.Core.Option.{Option, none, some}
 use Prim.Native.Nat.{ℕ, zero, suc}
 use Rattle.program.specs.Terms.{Term}
 use Rattle.traces.specs.Traces.{Event}
-use Rattle.semantics.specs.Domains.{Domain, exact}
+use Rattle.semantics.specs.Domains.{Domain, single}
 
 -- Over any domain. A closure is a function type's number, a body and the environment where it was made. It is recursive if a letrec made it: then its body
 -- also sees the function itself.
@@ -21,10 +21,10 @@ mutual
 
 -- 01's
 abbrev pub Value : Type 0
-Value = ValueOf exact
+Value = ValueOf single
 
 abbrev pub Env : Type 0
-Env = EnvOf exact
+Env = EnvOf single
 
 abbrev pub lookup : {D : Domain} → EnvOf D → (i : ℕ) → Option (ValueOf D)
 lookup empty i = none
@@ -65,4 +65,4 @@ pub data ResultOf (D : Domain) : Type 0 where
   stops : (cause at : ℕ) → Budget → ResultOf D
 
 abbrev pub Result : Type 0
-Result = ResultOf exact
+Result = ResultOf single

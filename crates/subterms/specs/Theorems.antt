@@ -10,18 +10,23 @@ use lib.Dec.{leb, ltb}
 use lib.ListN.{length}
 use borrow.Author.Tests.{lt-leb}
 use Rattle.program.specs.Layout.{terms, root, authority, typesOf}
-use Rattle.program.specs.Terms.{program}
+use Rattle.program.specs.Terms.{tree, program}
 use Rattle.program.specs.Screening.{Screening, clear, found}
 use Rattle.program.specs.Decoding.{decoding, Readable}
 use Rattle.program.specs.Laws.Readable.{well-formed}
+use Rattle.program.specs.Laws.Types.{lower-types}
+use Rattle.program.specs.Laws.Trees.{program-standard}
 use Rattle.typing.specs.Places.{placed}
-use Rattle.typing.specs.Checking.{Judgement, typed, fault}
+use Rattle.typing.specs.Rules.{current, Derives}
+use Rattle.typing.specs.Checking.{Judgement, typed, fault, infer}
 use Rattle.typing.specs.Verdicts as verdicts
 use Rattle.typing.specs.Verdicts.{accepted, rejected, concluded, judgement, verdict}
+use Rattle.typing.specs.Laws.Checking.{infer-complete, infer-derives}
 use Rattle.typing.specs.Laws.Faults.{decoding-readers}
 use Rattle.subterms.specs.Smallest.{subterms, Refused, smallestOf, Piece, smallest, no-piece, unreadable, told, ifReadable, pieceOf, recordPlace, recordLength}
-use Rattle.subterms.specs.Claims.{byRules, HasFault, has-fault, Stands, SmallestPiece}
+use Rattle.subterms.specs.Claims.{byRules, HasFault, has-fault, Stands, Faulty, SmallestPiece}
 use Rattle.subterms.specs.Laws.Judgements.{ruled}
+use Rattle.subterms.specs.Laws.Numbers.{within-standard}
 use Rattle.subterms.specs.Laws.Pieces.{smallest-piece, root-refused, some-refused}
 use Rattle.subterms.specs.Laws.Standing.{place, once}
 
@@ -32,6 +37,23 @@ every-term-stands s r u l = let p = place s (well-formed s r) u l in (p .binding
 
 pub stands-once : (s : List ℕ) → Readable s → (u : ℕ) (Γ Δ : List ℕ) (n m : ℕ) → Stands s Γ n u → Stands s Δ m u → (Γ ≡ Δ) × (n ≡ m)
 stands-once s r u Γ Δ n m v w = once s (well-formed s r) u Γ Δ n m v w
+
+-- "that is refused there": a term is, exactly if the rules give no derivation of it in the bindings and under the principal it has in the sheet.
+pub refused-there : (s : List ℕ) → Readable s → (Γ : List ℕ) (n u : ℕ) → Stands s Γ n u
+    → Faulty s Γ n u ↔ ((τ N : ℕ) → Derives current (typesOf s) (authority s) Γ n (tree s u) τ N → ⊥)
+refused-there s r Γ n u v = (forth, λ h. back (infer (typesOf s) (authority s) Γ n (tree s u)) refl h)
+  where
+    forth : Faulty s Γ n u → (τ N : ℕ) → Derives current (typesOf s) (authority s) Γ n (tree s u) τ N → ⊥
+    forth (has-fault e) τ N d =
+        let x = infer-complete (typesOf s) (authority s) (lower-types s (well-formed s r)) d in
+        absurd (let z : fault _ _ ≡ typed _ _ = sym e ∙ x .is in let y : _≡_ {A = ℕ} 0 1 = cc in omega arith)
+
+    back : (j : Judgement) → infer (typesOf s) (authority s) Γ n (tree s u) ≡ j
+        → ((τ N : ℕ) → Derives current (typesOf s) (authority s) Γ n (tree s u) τ N → ⊥) → Faulty s Γ n u
+    back (fault cause at) e h = has-fault e
+    back (typed τ N) e h =
+        let w = well-formed s r in
+        absurd (h τ N (infer-derives (typesOf s) (authority s) (lower-types s w) (within-standard (typesOf s) v (program-standard s w)) e))
 
 -- ---- which answer is given when
 -- "a sheet refused by the rules 9 to 12 or 24 to 26"

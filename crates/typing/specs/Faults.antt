@@ -1,12 +1,14 @@
--- Where a term stands in another, and what the type faults 24, 25, 26 and 10 say of a term there.
+-- Where a term stands in another, and what the rules' faults say of a term there: the type faults 24, 25, 26 and 10, and 9, 11 and 12.
 use mathlib.Core.Bool.{true, false}
 use mathlib.Core.List.{List, _∷_}
 use mathlib.Core.Option.{Option}
 use mathlib.Core.Path.{_≡_}
-use Prim.Native.Nat.{ℕ}
+use Prim.Native.Nat.{ℕ, _≤_}
+use lib.ListN.{length}
+use Rattle.privileges.specs.Sets.{_⊆_}
 use Rattle.program.specs.Layout.{Types}
-use Rattle.program.specs.Terms.{Op, Term, function, letrec, call, if, check, enable, sign, test, binary, post}
-use Rattle.typing.specs.Subtyping.{subtype}
+use Rattle.program.specs.Terms.{Op, Term, variable, function, letrec, call, if, check, enable, sign, test, binary, post}
+use Rattle.typing.specs.Subtyping.{Subtype}
 use Rattle.typing.specs.Checking.{typed, infer}
 
 -- Term d, in the bindings Δ and under the principal m, is the term c in Γ under n, or stands in it: a binder's parts have its bindings before the others,
@@ -31,17 +33,17 @@ pub data Within (T : Types) (Δ : List ℕ) (m : ℕ) (d : Term) : (Γ : List �
   in-post : {Γ : List ℕ} {n at ch : ℕ} {g : Option ℕ} {c : Term} → Within T Δ m d Γ n c → Within T Δ m d Γ n (post at ch g c)
 
 -- 02, W5: "A call whose function part isn't a function, an argument that doesn't fit, and branches of which neither fits the other". The term's number
--- is `at`, and its children have types.
+-- is `at`, and its children have types. "Fits" is 01's sentence, the relation, and not the algorithm's test.
 pub data Wrong (T : Types) (A : ℕ → ℕ) (Γ : List ℕ) (n : ℕ) : (cause at : ℕ) → Term → Type 0 where
   not-a-function : {at φ N α M : ℕ} {f a : Term} → infer T A Γ n f ≡ typed φ N → infer T A Γ n a ≡ typed α M → T .isFun φ ≡ false
       → Wrong T A Γ n 24 at (call at f a)
   unfit-argument : {at φ N α M : ℕ} {f a : Term} → infer T A Γ n f ≡ typed φ N → infer T A Γ n a ≡ typed α M → T .isFun φ ≡ true
-      → subtype T α (T .arg φ) ≡ false → Wrong T A Γ n 25 at (call at f a)
+      → (Subtype T α (T .arg φ) → ⊥) → Wrong T A Γ n 25 at (call at f a)
   -- the condition is a boolean: "at one if 10 before 26"
   unfit-if : {at N τ M ρ K : ℕ} {c y o : Term} → infer T A Γ n c ≡ typed 0 N → infer T A Γ n y ≡ typed τ M → infer T A Γ n o ≡ typed ρ K
-      → subtype T τ ρ ≡ false → subtype T ρ τ ≡ false → Wrong T A Γ n 26 at (if at c y o)
+      → (Subtype T τ ρ → ⊥) → (Subtype T ρ τ → ⊥) → Wrong T A Γ n 26 at (if at c y o)
   unfit-test : {at p τ N ρ M : ℕ} {y o : Term} → infer T A Γ n y ≡ typed τ N → infer T A Γ n o ≡ typed ρ M
-      → subtype T τ ρ ≡ false → subtype T ρ τ ≡ false → Wrong T A Γ n 26 at (test at p y o)
+      → (Subtype T τ ρ → ⊥) → (Subtype T ρ τ → ⊥) → Wrong T A Γ n 26 at (test at p y o)
 
 -- "all other type faults stay 10": what else 01's rules ask of a term's types isn't so. The term's number is `at`, and its children have types. That a
 -- function and a recursive binder name a function's type is the reader's to ask, by 6.
@@ -63,6 +65,19 @@ pub data Ten (T : Types) (A : ℕ → ℕ) (Γ : List ℕ) (n : ℕ) : (at : ℕ
   -- "Post: number to number."
   posted-not-a-number : {at ch τ N : ℕ} {g : Option ℕ} {c : Term} → infer T A Γ n c ≡ typed τ N → (τ ≡ 1 → ⊥) → Ten T A Γ n at (post at ch g c)
 
+-- The rules' other numbers: a variable past the bindings, needs of a sign and needs of a body. The term's number is `at`, and its children have types.
+pub data Beyond (T : Types) (A : ℕ → ℕ) (Γ : List ℕ) (n : ℕ) : (cause at : ℕ) → Term → Type 0 where
+  -- "variable: first, 0 for the nearest binding"; "9 variable past the bindings"
+  past-bindings : {at i : ℕ} → length Γ ≤ i → Beyond T A Γ n 9 at (variable at i)
+  -- "Sign n: its child's type and needs, which lie in A(n)"; "11 needs of a sign"
+  sign-needs : {at m τ N : ℕ} {c : Term} → infer T A Γ m c ≡ typed τ N → (N ⊆ A m → ⊥) → Beyond T A Γ n 11 at (sign at m c)
+  -- "A body has exactly the result type; its needs lie in the latent set"; "12 needs of a body". Its type is right: "10 before 12"
+  body-needs : {at ty N : ℕ} {body : Term} → infer T A (T .arg ty ∷ Γ) n body ≡ typed (T .res ty) N → (N ⊆ T .latent ty → ⊥)
+      → Beyond T A Γ n 12 at (function at ty body)
+  -- "Recursive binder: the body as for a function"
+  letrec-body-needs : {at ty N ρ M : ℕ} {body rest : Term} → infer T A (T .arg ty ∷ ty ∷ Γ) n body ≡ typed (T .res ty) N
+      → infer T A (ty ∷ Γ) n rest ≡ typed ρ M → (N ⊆ T .latent ty → ⊥) → Beyond T A Γ n 12 at (letrec at ty body rest)
+
 -- some term in c, in the bindings and under the principal that it has there, is as `Is` says
 pub record SomePart (T : Types) (Is : List ℕ → ℕ → Term → Type 0) (Γ : List ℕ) (n : ℕ) (c : Term) : Type 0 where
   pub bindings : List ℕ
@@ -78,3 +93,7 @@ FaultyPart T A Γ n c cause at = SomePart T (λ Δ m d. Wrong T A Δ m cause at 
 -- and of 10
 abbrev pub TenPart : Types → (ℕ → ℕ) → List ℕ → ℕ → Term → (at : ℕ) → Type 0
 TenPart T A Γ n c at = SomePart T (λ Δ m d. Ten T A Δ m at d) Γ n c
+
+-- and of 9, 11 and 12
+abbrev pub BeyondPart : Types → (ℕ → ℕ) → List ℕ → ℕ → Term → (cause at : ℕ) → Type 0
+BeyondPart T A Γ n c cause at = SomePart T (λ Δ m d. Beyond T A Δ m cause at d) Γ n c

@@ -50,7 +50,8 @@ pub record Variant : Type 1 where
 abbrev pub base : Variant
 base = record { yesNeeds = λ p N. N; Branches = Same; guardNeeds = postNeeds }
 
--- 02, W1: "a test of p takes p out of the needs of its yes-branch before the union"
+-- 02, W1: "a test of p takes p out of the needs of its yes-branch before the union". The rules before W4; on a sheet of version 2 a guard counts as in
+-- the rules in force, as in `base`.
 abbrev pub afterW1 : Variant
 afterW1 = record { yesNeeds = λ p N. remove p N; Branches = Same; guardNeeds = postNeeds }
 

@@ -1,7 +1,7 @@
 -- The theorems about the rules: subtyping is an order that the test decides; a readable sheet is accepted exactly if it has a derivation; the
 -- needs told are the least, and the type told is that of every derivation; what 01's own rules accept is accepted, with no more needs, and what the
 -- rules before W4 accept, with the same type and needs; a sheet of version 1 is judged as if there were no guards, and a guarded post needs its privilege;
--- and 24, 25, 26 and 10 are told of a term whose types are as they say, and of no other.
+-- 24, 25, 26 and 10 are told of a term whose types are as they say, and of no other, and so with 9, 11 and 12; and 13 exactly if the root is a function.
 use mathlib.Core.Bool.{Bool, true, false, cond}
 use mathlib.Core.List.{List, []}
 use mathlib.Core.Logic.{_↔_, _⊎_, inl, inr, ⊎-elim}
@@ -10,7 +10,7 @@ use mathlib.Core.Path.{_≡_, refl, sym, ap, _∙_, subst}
 use Prim.Native.Nat.{ℕ, _<_, _≤_}
 use native.Mathlib.Omega.{arith}
 use lib.Dec.{ltb, eqb}
-use borrow.Author.Tests.{ltb-true, lt-ltb}
+use borrow.Author.Tests.{ltb-true, ltb-false, lt-ltb, le-ltb}
 use Rattle.privileges.specs.Sets.{has, _⊆_}
 use Rattle.privileges.specs.Laws.{⊆-antisym, ⊆-trans, ⊆-insert}
 use Rattle.program.specs.Bytes.{Bytes}
@@ -18,19 +18,20 @@ use Rattle.program.specs.Layout.{version, authority, terms, root, Types, typesO
 use Rattle.program.specs.Terms.{Term, post, program}
 use Rattle.program.specs.Screening.{Screening, clear, found}
 use Rattle.program.specs.Decoding.{decoding, Readable}
-use Rattle.program.specs.Laws.Readable.{well-formed}
-use Rattle.program.specs.Laws.Types.{lower-types, distinct-types}
+use Rattle.program.specs.Laws.Readable.{WellFormed, well-formed}
+use Rattle.program.specs.Laws.Types.{Lower, function-type, lower-types, distinct-types}
 use Rattle.program.specs.Laws.Trees.{program-standard}
 use Rattle.program.specs.Laws.Guards.{program-in-range, program-unguarded}
 use Rattle.typing.specs.Subtyping.{Subtype, sub-same, Wider, wider-second, wider-first, subtype}
 use Rattle.typing.specs.Rules.{Variant, base, afterW1, afterW4, current, Derives, d-post, d-widen}
 use Rattle.typing.specs.Checking.{Judgement, typed, fault, _next_, require, infer}
-use Rattle.typing.specs.Faults.{Wrong, Ten, FaultyPart, TenPart}
+use Rattle.typing.specs.Faults.{Wrong, Ten, Beyond, FaultyPart, TenPart, BeyondPart}
 use Rattle.typing.specs.Verdicts.{accepted, rejected, concluded, ifReadable, judgement, verdict, SheetDerivesBy, SheetDerives}
 use Rattle.typing.specs.Laws.Subtyping.{sub-trans, sub-antisym, subtype-sound, subtype-complete, wider-above}
 use Rattle.typing.specs.Laws.Checking.{infer-complete, infer-afterW1, infer-derives, typed-least, derives-least}
 use Rattle.typing.specs.Laws.Variants.{guard-needed, relaxed, current-relaxes-base, current-relaxes-afterW4, afterW4-relaxes-current}
-use Rattle.typing.specs.Laws.Faults.{infer-faulty, infer-ten, wrong-fault, ten-fault, decoding-readers}
+use Rattle.typing.specs.Laws.Types.{neither-function}
+use Rattle.typing.specs.Laws.Faults.{infer-faulty, infer-ten, infer-beyond, infer-not-13, wrong-fault, ten-fault, beyond-fault, decoding-readers}
 
 -- ---- Theorem 1: subtyping
 
@@ -144,11 +145,13 @@ pub record AcceptedInside (s : List ℕ) (τ N : ℕ) : Type 0 where
   pub is : verdict s ≡ accepted (terms s) τ needs
   pub inside : needs ⊆ N
 
-typed-accepted : (s : List ℕ) → Readable s → (τ N : ℕ) → τ < 2 → judgement s ≡ typed τ N → verdict s ≡ accepted (terms s) τ N
+readable-verdict : (s : List ℕ) → Readable s → (j : Judgement) → judgement s ≡ j → verdict s ≡ concluded (terms s) (root s) j
 unfolding verdict
+readable-verdict s r j e = λ i. ifReadable (r i) (λ _. concluded (terms s) (root s) (e i))
+
+typed-accepted : (s : List ℕ) → Readable s → (τ N : ℕ) → τ < 2 → judgement s ≡ typed τ N → verdict s ≡ accepted (terms s) τ N
 typed-accepted s r τ N l e =
-    (λ i. ifReadable (r i) (λ _. concluded (terms s) (root s) (e i)))
-    ∙ λ i. cond (lt-ltb τ 2 l i) (accepted (terms s) τ N) (rejected 13 (root s))
+    readable-verdict s r (typed τ N) e ∙ λ i. cond (lt-ltb τ 2 l i) (accepted (terms s) τ N) (rejected 13 (root s))
 
 derived-accepted : (s : List ℕ) → Readable s → (τ N : ℕ) → τ < 2 → SheetDerives s τ N → AcceptedInside s τ N
 derived-accepted s r τ N l d =
@@ -237,9 +240,12 @@ wrong-told T A Γ n cause at c w = wrong-fault T A w
 pub ten-told : (T : Types) (A : ℕ → ℕ) (Γ : List ℕ) (n at : ℕ) (c : Term) → Ten T A Γ n at c → infer T A Γ n c ≡ fault 10 at
 ten-told T A Γ n at c t = ten-fault T A t
 
--- a refusal that is neither the reader's nor the root's is the rules'
-rejected-by-rules : (s : List ℕ) (cause at : ℕ) → verdict s ≡ rejected cause at → 9 ≤ cause → (cause ≡ 13 → ⊥) → (cause ≡ 31 → ⊥)
-    → judgement s ≡ fault cause at
+-- a refusal that is neither the reader's nor the root's is the rules', of a readable sheet
+record Ruled (s : List ℕ) (cause at : ℕ) : Type 0 where
+  readable : Readable s
+  is : judgement s ≡ fault cause at
+
+rejected-by-rules : (s : List ℕ) (cause at : ℕ) → verdict s ≡ rejected cause at → 9 ≤ cause → (cause ≡ 13 → ⊥) → (cause ≡ 31 → ⊥) → Ruled s cause at
 unfolding verdict
 rejected-by-rules s cause at e l not-13 not-31 = screened (decoding s) refl e
   where
@@ -251,9 +257,8 @@ rejected-by-rules s cause at e l not-13 not-31 = screened (decoding s) refl e
     judged (typed τ N) h f = rooted (ltb τ 2) τ N f
     judged (fault c p) h f = h ∙ (let z : fault c p ≡ fault cause at = cc in z)
 
-    screened : (d : Screening) → decoding s ≡ d → ifReadable d (λ _. concluded (terms s) (root s) (judgement s)) ≡ rejected cause at
-        → judgement s ≡ fault cause at
-    screened clear h f = judged (judgement s) refl f
+    screened : (d : Screening) → decoding s ≡ d → ifReadable d (λ _. concluded (terms s) (root s) (judgement s)) ≡ rejected cause at → Ruled s cause at
+    screened clear h f = record { readable = h; is = judged (judgement s) refl f }
     screened (found c p) h f =
         let z : c ≡ cause = cc in
         ⊎-elim (λ k. absurd (omega arith)) (λ k. absurd (not-31 (sym z ∙ k))) (decoding-readers s c p h)
@@ -267,10 +272,59 @@ TypeFault s cause at = FaultyPart (typesOf s) (authority s) [] 0 (program s) cau
 -- (Faults: Wrong, Within). No other number from 24 on is told but the reader's 31.
 pub type-faults : (s : List ℕ) (cause at : ℕ) → verdict s ≡ rejected cause at → 24 ≤ cause → (cause ≡ 31 → ⊥) → TypeFault s cause at
 type-faults s cause at e l other =
-    infer-faulty (typesOf s) (authority s) [] 0 (program s) cause at (rejected-by-rules s cause at e (omega arith) (λ h. omega arith) other) l
+    let h = rejected-by-rules s cause at e (omega arith) (λ h. omega arith) other in
+    infer-faulty (typesOf s) (authority s) (lower-types s (well-formed s (h .readable))) [] 0 (program s) cause at (h .is) l
 
 -- A sheet is refused by 10 at a term only if the body there has another type than the function's result, the condition is no boolean, an operand or what
 -- is posted is no number, in the bindings and under the principal that the term has in the sheet, and its children have types (Faults: Ten).
 pub other-type-faults : (s : List ℕ) (at : ℕ) → verdict s ≡ rejected 10 at → TenPart (typesOf s) (authority s) [] 0 (program s) at
 other-type-faults s at e =
-    infer-ten (typesOf s) (authority s) [] 0 (program s) at (rejected-by-rules s 10 at e (omega arith) (λ h. omega (arith, h)) (λ h. omega (arith, h)))
+    let h = rejected-by-rules s 10 at e (omega arith) (λ h. omega (arith, h)) (λ h. omega (arith, h)) in
+    infer-ten (typesOf s) (authority s) (lower-types s (well-formed s (h .readable))) [] 0 (program s) 10 at (h .is) refl
+
+-- ---- what 01's other numbers say
+-- "9 variable past the bindings, … 11 needs of a sign, 12 needs of a body": a term that is so, and whose children have types, is told so, at that term
+pub beyond-told : (T : Types) (A : ℕ → ℕ) (Γ : List ℕ) (n cause at : ℕ) (c : Term) → Beyond T A Γ n cause at c → infer T A Γ n c ≡ fault cause at
+beyond-told T A Γ n cause at c b = beyond-fault T A b
+
+-- A sheet is refused by 9, 11 or 12 at a term only if that term is a variable past the bindings, a sign whose child needs what isn't in A of its principal,
+-- or a function or recursive binder whose body needs what isn't in the latent set, in the bindings and under the principal that it has in the sheet, and
+-- its children have types (Faults: Beyond). No other number from 9 to 23 is told but 10 and 13.
+pub other-faults : (s : List ℕ) (cause at : ℕ) → verdict s ≡ rejected cause at → 9 ≤ cause → cause < 24 → (cause ≡ 10 → ⊥) → (cause ≡ 13 → ⊥)
+    → BeyondPart (typesOf s) (authority s) [] 0 (program s) cause at
+other-faults s cause at e l u not-10 not-13 =
+    let h = rejected-by-rules s cause at e l not-13 (λ h. omega arith) in
+    infer-beyond (typesOf s) (authority s) (lower-types s (well-formed s (h .readable))) [] 0 (program s) cause at (h .is) u not-10
+
+-- a derivation gives the sheet's root a function
+abbrev pub FunctionDerivable : List ℕ → Type 0
+FunctionDerivable s = (τ : ℕ) × (N : ℕ) × (typesOf s .isFun τ ≡ true) × SheetDerives s τ N
+
+-- "13 type of the root": "The root has type 0 or 1", and is told of, at the root, exactly if a derivation gives it a function; "13 last", after every
+-- fault of a term
+pub thirteen-exactly : (s : List ℕ) → Readable s → (at : ℕ) → (verdict s ≡ rejected 13 at) ↔ ((at ≡ root s) × FunctionDerivable s)
+thirteen-exactly s r at = (λ e. judged (judgement s) refl (sym (readable-verdict s r (judgement s) refl) ∙ e), back)
+  where
+    w : WellFormed s
+    w = well-formed s r
+
+    L : Lower (typesOf s)
+    L = lower-types s w
+
+    rooted : (b : Bool) (τ N : ℕ) → ltb τ 2 ≡ b → judgement s ≡ typed τ N
+        → cond b (accepted (terms s) τ N) (rejected 13 (root s)) ≡ rejected 13 at → (at ≡ root s) × FunctionDerivable s
+    rooted true τ N h j f = rejected≢accepted (sym f)
+    rooted false τ N h j f =
+        let d = infer-derives (typesOf s) (authority s) L (program-standard s w) j in
+        (cc, (τ, N, neither-function s w d (ltb-false τ 2 h), d))
+
+    judged : (j : Judgement) → judgement s ≡ j → concluded (terms s) (root s) j ≡ rejected 13 at → (at ≡ root s) × FunctionDerivable s
+    judged (typed τ N) h f = rooted (ltb τ 2) τ N refl h f
+    judged (fault c p) h f = absurd (infer-not-13 (typesOf s) (authority s) L [] 0 (program s) c p h (let z : c ≡ 13 = cc in z))
+
+    back : (at ≡ root s) × FunctionDerivable s → verdict s ≡ rejected 13 at
+    back (e, (τ, N, f, d)) =
+        let x = infer-complete (typesOf s) (authority s) L d in
+        readable-verdict s r (typed τ (x .least)) (x .is)
+        ∙ (λ i. cond (le-ltb τ 2 (function-type s w τ f .low) i) (accepted (terms s) τ (x .least)) (rejected 13 (root s)))
+        ∙ ap (rejected 13) (sym e)

@@ -1,5 +1,5 @@
-// Runs the recorded sheets of its standard input through the entries for C and prints every answer in numbers. reference/record writes that input, and
-// the expected output beside it from an implementation of its own.
+// Runs the recorded sheets of its standard input through the functions that the entries for C hand on to, and prints every answer in numbers.
+// reference/record writes that input, and the expected output beside it from an implementation of its own.
 mod buffers;
 mod input;
 mod output;
@@ -27,14 +27,14 @@ use output::run_line;
 // What is told without a run; of a piece also the sum of the bytes that are handed back.
 fn judge(sheet: &[u8], term: u32) {
     let mut answer = [0u32; 8];
-    let r = capi::sovzedal_decode(sheet, &mut answer);
+    let r = capi_base::decode(sheet, &mut answer);
     line(b"decode", r, &answer);
-    let r2 = capi::sovzedal_typecheck(sheet, &mut answer);
+    let r2 = capi_base::typecheck(sheet, &mut answer);
     line(b"typecheck", r2, &answer);
-    let r3 = capi::sovzedal_piece(sheet, &mut answer);
+    let r3 = capi_piece::piece(sheet, &mut answer);
     let h = mix_cells(0, piece::record_of(sheet));
     run_line(b"piece", r3, &answer, h);
-    let r4 = capi::sovzedal_term(sheet, term, &mut answer);
+    let r4 = capi_term::term(sheet, term, &mut answer);
     line(b"term", r4, &answer);
 }
 
@@ -52,7 +52,7 @@ fn eager(
     fill_cells(cells);
     fill_numbers(posts, 2, 3);
     let mut answer = [0u32; 8];
-    let r = capi::sovzedal_run_eager(
+    let r = capi_base::eager(
         sheet,
         start,
         calls,
@@ -80,7 +80,7 @@ fn lazy(
 ) {
     fill_all(cells, posts, frames);
     let mut answer = [0u32; 8];
-    let r = capi::sovzedal_run_lazy(
+    let r = capi_base::lazy(
         sheet,
         start,
         calls,
@@ -110,7 +110,7 @@ fn record_eager(
     fill_numbers(posts, 2, 3);
     let mut noted = [6u8; 42];
     let mut answer = [0u32; 9];
-    let r = capi::sovzedal_record_eager(
+    let r = capi_record::eager(
         sheet,
         start,
         calls,
@@ -139,7 +139,7 @@ fn record_lazy(
     fill_all(cells, posts, frames);
     let mut noted = [6u8; 42];
     let mut answer = [0u32; 9];
-    let r = capi::sovzedal_record_lazy(
+    let r = capi_record::lazy(
         sheet,
         start,
         calls,
@@ -170,7 +170,7 @@ fn ranging(
     fill_cells(cells);
     fill_numbers(posts, 2, 3);
     let mut answer = [0u32; 8];
-    let r = capi::sovzedal_run_ranges(
+    let r = capi_ranges::ranges(
         sheet,
         pairs,
         start,

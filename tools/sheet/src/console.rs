@@ -1,8 +1,10 @@
-//! Files and standard streams. A file is read before anything is written, and written over only where `-o` names it.
+//! Files and standard streams. A file is read before anything is written, and written over only where `-o` names it and it was
+//! not read.
 
 use std::ffi::{OsStr, OsString};
 use std::fs::{self, File, OpenOptions};
 use std::io::{self, ErrorKind, Read, Write};
+use std::path::PathBuf;
 
 use crate::hex;
 use crate::library::MAX_SHEET;
@@ -10,6 +12,8 @@ use crate::names::Names;
 
 /// Names standard input and standard output.
 pub const STREAM: &str = "-";
+/// Standard input as a file, where it comes from one.
+const INPUT: &str = "/dev/stdin";
 
 /// More hexadecimal text than any sheet takes, comments included.
 const MAX_TEXT: usize = 16 << 20;
@@ -31,6 +35,8 @@ pub struct Console<'a> {
     pub errors: &'a mut dyn Write,
     /// Standard input can be read once.
     pub taken: bool,
+    /// The files that were read.
+    pub sources: Vec<PathBuf>,
 }
 
 impl Console<'_> {
@@ -52,8 +58,10 @@ impl Console<'_> {
                 return Err(Failure::Usage("standard input can be read once".into()));
             }
             self.taken = true;
+            self.sources.extend(source(INPUT.as_ref()));
             (&mut *self.input).take(limit).read_to_end(&mut bytes)
         } else {
+            self.sources.extend(source(path));
             File::open(path).and_then(|file| file.take(limit).read_to_end(&mut bytes))
         };
         done.map_err(|error| file(path, &error.to_string()))?;
@@ -94,6 +102,9 @@ impl Console<'_> {
         if path == STREAM {
             return self.write(bytes);
         }
+        if source(path).is_some_and(|path| self.sources.contains(&path)) {
+            return Err(file(path, "it was read, and is not written over"));
+        }
         fs::write(path, bytes).map_err(|error| file(path, &error.to_string()))
     }
 
@@ -116,6 +127,16 @@ impl Console<'_> {
             .write_all(bytes)
             .and_then(|()| self.output.flush());
         written.map_err(|error| unwritten(&error))
+    }
+
+    /// Says something to people: on standard output, unless that is where data go.
+    pub fn say(&mut self, words: &str, data: Option<&OsString>) -> Result<(), Failure> {
+        if data.is_some_and(|path| path == STREAM) {
+            // If nobody listens there, nothing more can be done.
+            let _ = self.errors.write_all(words.as_bytes());
+            return Ok(());
+        }
+        self.write(words.as_bytes())
     }
 
     /// Says what was written into a file; nothing where standard output has it.
@@ -149,6 +170,13 @@ pub fn shown(path: &OsStr) -> String {
         .collect()
 }
 
-fn has_hex_name(path: &OsStr) -> bool {
-    path.as_encoded_bytes().ends_with(b".hex")
+/// Whether a file has hexadecimal text by its name.
+pub fn has_hex_name(path: &OsStr) -> bool {
+    let ending = path.as_encoded_bytes().last_chunk();
+    ending.is_some_and(|ending: &[u8; 4]| ending.eq_ignore_ascii_case(b".hex"))
+}
+
+/// A file by its full name, without links, so that two names of it can be compared.
+fn source(path: &OsStr) -> Option<PathBuf> {
+    fs::canonicalize(path).ok().filter(|path| path.is_file())
 }

@@ -1,6 +1,7 @@
 //! A sheet as commented hex, in the form of the examples. All its bytes are there, whatever they are.
 
 use crate::hex;
+use crate::names;
 use crate::reading::Reading;
 use crate::sheet::{Field, HEADER, NO_GUARD, PRINCIPAL, TERM, TYPE};
 use crate::show::counted;
@@ -136,7 +137,7 @@ fn dump_guards(text: &mut String, reading: &Reading, content: &[u8]) {
         };
         let what = match open {
             0 => reading.names.privilege_in_words(guard.into()),
-            _ => "no guard".to_string(),
+            _ => names::NO_GUARD.to_string(),
         };
         line(
             text,

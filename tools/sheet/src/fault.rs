@@ -3,8 +3,10 @@
 use crate::hex;
 use crate::kinds;
 use crate::library::Refusal;
+use crate::malformed;
 use crate::reading::Reading;
-use crate::sheet::{Flaw, TermRecord, TypeRecord, HEADER};
+use crate::sheet::{record_counts, record_length, Flaw, TermRecord, TypeRecord, HEADER};
+use crate::show::counted;
 
 /// A sentence about the place, without its stop, or nothing.
 pub fn detail(reading: &Reading, refusal: Refusal) -> Option<String> {
@@ -23,6 +25,7 @@ pub fn detail(reading: &Reading, refusal: Refusal) -> Option<String> {
             .guards
             .get(place)
             .map(|guard| format!("its guard is {guard}")),
+        35 => pairs(reading),
         _ => by_the_rules(reading, refusal.cause, place),
     }
 }
@@ -37,8 +40,18 @@ fn bytes(reading: &Reading, flaw: Flaw) -> String {
                 "at byte {end} the header of tag {due} is due, {HEADER} bytes, and {left} are left"
             ),
         },
-        Flaw::Tag { due, found } => format!("at byte {end} stands tag {found}, where {due} is due"),
-        Flaw::Length { tag, length } => format!("at byte {end} tag {tag} has the length {length}"),
+        Flaw::Tag { due, found } => {
+            let words = format!("at byte {end} stands tag {found}, where {due} is due");
+            if due == 1 && hex::may_begin(found) {
+                format!("{words}; it looks like hexadecimal text, which --hex reads")
+            } else {
+                words
+            }
+        }
+        Flaw::Length { tag, length } => format!(
+            "at byte {end} tag {tag} has the length {length}, and can have {}",
+            lengths(tag)
+        ),
         Flaw::Content { tag, length, left } => {
             format!("the content of tag {tag} is to have {length} bytes, and {left} are left")
         }
@@ -47,27 +60,69 @@ fn bytes(reading: &Reading, flaw: Flaw) -> String {
     }
 }
 
+/// The lengths that a field can have.
+fn lengths(tag: u8) -> String {
+    let (each, counts) = (record_length(tag), record_counts(tag));
+    let records = match tag {
+        2 => "principals",
+        3 => "types",
+        4 => "terms",
+        _ => return (each * counts.end()).to_string(),
+    };
+    format!(
+        "{each} for each of {} to {} {records}",
+        counts.start(),
+        counts.end()
+    )
+}
+
 fn type_place(reading: &Reading, place: usize) -> Option<String> {
-    let record = reading.sheet.types.get(place)?;
-    let earlier = reading
-        .sheet
-        .types
-        .iter()
-        .position(|other| other == record)?;
-    let (offset, bytes) = reading.sheet.type_bytes(place)?;
-    let words = format!("its record, at byte {offset}: {}", hex::type_record(bytes));
-    Some(if earlier < place {
-        format!("{words}, as type {earlier} has it")
-    } else {
-        words
-    })
+    let fault = malformed::type_record(&reading.sheet.types, place)?;
+    let (offset, record) = reading.sheet.type_bytes(place)?;
+    Some(format!(
+        "{fault}; its record, at byte {offset}: {}",
+        hex::type_record(record)
+    ))
 }
 
 fn term_record(reading: &Reading, place: usize) -> Option<String> {
+    let fault = malformed::term_record(&reading.sheet, place)?;
     let (offset, record) = reading.sheet.term_bytes(place)?;
     Some(format!(
-        "its record, at byte {offset}: {}",
+        "{fault}; its record, at byte {offset}: {}",
         hex::term(record)
+    ))
+}
+
+/// Why the pairs do not fit the sheet.
+fn pairs(reading: &Reading) -> Option<String> {
+    let sheet = &reading.sheet;
+    if sheet.version != Some(1) {
+        return Some(format!("the sheet is of version {}", sheet.version?));
+    }
+    let terms = sheet.terms.iter().enumerate();
+    let numbers: Vec<usize> = terms
+        .filter(|(_, term)| term.kind == kinds::NUMBER)
+        .map(|(number, _)| number)
+        .collect();
+    let pairs: Vec<&[u16]> = reading.pairs.chunks_exact(2).collect();
+    if pairs.len() != numbers.len() {
+        let (given, due) = (pairs.len(), numbers.len());
+        let verb = if given == 1 { "is" } else { "are" };
+        return Some(format!(
+            "there {verb} {} for {}",
+            counted(given, "pair"),
+            counted(due, "number")
+        ));
+    }
+    let at = pairs.iter().position(|pair| pair[0] > pair[1])?;
+    Some(format!(
+        "pair {} of {}, for term {}, has the lowest {} above its highest, {}",
+        at + 1,
+        pairs.len(),
+        numbers[at],
+        pairs[at][0],
+        pairs[at][1]
     ))
 }
 

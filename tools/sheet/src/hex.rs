@@ -27,6 +27,11 @@ pub fn parse(text: &[u8]) -> Result<Vec<u8>, String> {
     }
 }
 
+/// Whether such text may begin with this character.
+pub fn may_begin(character: u8) -> bool {
+    character == b'#' || is_blank(character) || digit(character).is_some()
+}
+
 fn is_blank(character: u8) -> bool {
     character.is_ascii_whitespace() || character == 0x0B
 }

@@ -5,7 +5,7 @@ use crate::boxes;
 use crate::causes::{self, Place};
 use crate::fault;
 use crate::hex;
-use crate::library::Refusal;
+use crate::library::{Refusal, MAX_SHEET};
 use crate::reading::Reading;
 use crate::sheet::CHANNELS;
 use crate::show::{base_type, end_of_reading, place_if, title};
@@ -22,7 +22,8 @@ const COLOURS: [(&str, &str); 7] = [
     ("#a89c00", "#fcfbe4"),
     ("#555555", "#f1f1f1"),
 ];
-/// Where the colours come round again, the line is another.
+/// The next principal has another line. Their count has no factor in common with that of the colours, so that no two
+/// principals have both alike.
 const LINES: [&str; 5] = ["solid", "dashed", "double", "dotted", "groove"];
 
 /// A table with more rows is folded at first.
@@ -81,7 +82,7 @@ pub fn type_text(text: &str) -> String {
 fn principal_styles(reading: &Reading) -> String {
     let style = |number: usize| {
         let (line, tint) = COLOURS[number % COLOURS.len()];
-        let style = LINES[number / COLOURS.len() % LINES.len()];
+        let style = LINES[number % LINES.len()];
         format!(".p{number} {{ --line: {line}; --tint: {tint}; --style: {style}; }}\n")
     };
     (0..reading.sheet.principals.len()).map(style).collect()
@@ -218,7 +219,7 @@ fn unread(reading: &Reading) -> String {
     let rest = &reading.sheet.bytes[reading.sheet.end..];
     let words = capital(&end_of_reading(reading));
     let mut bytes = hex::spaced(&rest[..rest.len().min(UNREAD)]);
-    if rest.len() > UNREAD {
+    if rest.len() > UNREAD || reading.sheet.bytes.len() > MAX_SHEET {
         bytes.push_str(" …");
     }
     let block = if rest.is_empty() {

@@ -15,6 +15,7 @@ mod html;
 mod kinds;
 pub mod library;
 mod listing;
+mod malformed;
 mod names;
 mod reading;
 pub mod sheet;
@@ -44,6 +45,7 @@ pub fn sheet(
         output,
         errors,
         taken: false,
+        sources: Vec::new(),
     };
     let command = words
         .first()

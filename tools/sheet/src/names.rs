@@ -2,6 +2,11 @@
 
 const COUNT: usize = 32;
 
+/// Words for sets of privileges, which are no names.
+const NOTHING: &str = "nothing";
+pub const ALL: &str = "all";
+pub const NO_GUARD: &str = "no guard";
+
 #[derive(Debug, Default)]
 pub struct Names {
     privileges: Table,
@@ -95,7 +100,7 @@ impl Names {
     /// The set, or "nothing".
     pub fn in_words(&self, set: u32) -> String {
         if set == 0 {
-            "nothing".into()
+            NOTHING.into()
         } else {
             self.set(set)
         }
@@ -113,11 +118,14 @@ impl Names {
 
 impl Table {
     fn add(&mut self, number: usize, name: &str) -> Result<(), String> {
-        if name.bytes().all(|byte| byte.is_ascii_digit()) {
-            return Err(format!("'{name}' is a number and no name"));
+        if name.starts_with(char::is_numeric) {
+            return Err(format!("'{name}' begins with a digit, as a number does"));
         }
-        if name.contains([',', ':', '{', '}']) || name.contains(char::is_control) {
-            return Err("a name has no ',', ':', '{' or '}'".into());
+        if name.contains([',', ':', '{', '}']) || !is_printed(name) {
+            return Err("a name has no ',', ':', '{' or '}', and nothing that is not seen".into());
+        }
+        if is_taken(name) {
+            return Err(format!("'{name}' would be read as something else"));
         }
         if self.0[number].is_some() {
             return Err(format!("{number} has a name already"));
@@ -147,6 +155,20 @@ impl Table {
         let named = self.0.iter().position(|name| name.as_deref() == Some(word));
         named.map(|number| number as u32).or_else(|| decimal(word))
     }
+}
+
+/// Whether each character of a name is seen, or is a plain blank.
+fn is_printed(name: &str) -> bool {
+    // A backslash itself is doubled, and a name has no brace.
+    !name.escape_debug().to_string().contains("\\u{") && !name.contains(char::is_control)
+}
+
+/// Whether the tool says such words of something else.
+fn is_taken(name: &str) -> bool {
+    let name = name.to_lowercase();
+    let words: Vec<&str> = name.split_whitespace().collect();
+    matches!(words[..], ["privilege" | "principal", ..])
+        || [NOTHING, ALL, NO_GUARD].contains(&words.join(" ").as_str())
 }
 
 /// A number in decimal digits alone.
@@ -191,6 +213,17 @@ mod tests {
             "privilege 1",
             "page 1 release",
             "privilege 1 7",
+            "privilege 1 0 to 31",
+            "privilege 1 privilege 0",
+            "privilege 1 Privilege  0",
+            "principal 1 principal 0",
+            "principal 1 privilege 0",
+            "privilege 1 nothing",
+            "privilege 1 Nothing",
+            "privilege 1 all",
+            "privilege 1 no guard",
+            "privilege 1 \u{200b}0",
+            "privilege 1 privilege\u{a0}0",
             "privilege 1 a,b",
             "privilege 1 a\nprivilege 1 b",
             "principal 1 a\nprincipal 2 a",

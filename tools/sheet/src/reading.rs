@@ -18,7 +18,7 @@ pub struct Reading<'a> {
     /// What the library says of each term.
     told: Vec<Told>,
     /// Over ranges, the lowest and highest of each number of the sheet, in the order of the terms.
-    pairs: &'a [u16],
+    pub pairs: &'a [u16],
 }
 
 impl<'a> Reading<'a> {

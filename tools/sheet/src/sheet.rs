@@ -1,7 +1,7 @@
 //! The bytes of a sheet taken apart, as far as that goes (docs/FORMAT.md). Nothing is judged here: where the fields cannot be
 //! followed any further, [`Flaw`] says what was seen there, and the library says what it is.
 
-use std::ops::Range;
+use std::ops::{Range, RangeInclusive};
 
 pub const CHANNELS: usize = 16;
 /// The guard of a channel that has none.
@@ -189,18 +189,22 @@ impl<'a> Sheet<'a> {
 /// Whether the table of fields has the length: whole records, within the bounds.
 fn length_fits(tag: u8, length: usize) -> bool {
     let record = record_length(tag);
-    let (least, most) = match tag {
-        1 => (1, 1),
-        2 => (1, 32),
-        3 => (2, 256),
-        4 => (1, 1_024),
-        _ => (CHANNELS, CHANNELS),
-    };
-    length.is_multiple_of(record) && (least..=most).contains(&(length / record))
+    length.is_multiple_of(record) && record_counts(tag).contains(&(length / record))
+}
+
+/// How many records a field may have.
+pub fn record_counts(tag: u8) -> RangeInclusive<usize> {
+    match tag {
+        1 => 1..=1,
+        2 => 1..=32,
+        3 => 2..=256,
+        4 => 1..=1_024,
+        _ => CHANNELS..=CHANNELS,
+    }
 }
 
 /// The bytes of one record; of tag 1 the version is the one record.
-fn record_length(tag: u8) -> usize {
+pub fn record_length(tag: u8) -> usize {
     match tag {
         1 => 2,
         2 => PRINCIPAL,

@@ -3,7 +3,7 @@
 use crate::causes::{self, Place};
 use crate::columns;
 use crate::fault;
-use crate::library::{self, Refusal};
+use crate::library::{self, Refusal, MAX_SHEET};
 use crate::listing::{self, mark, Mark};
 use crate::reading::Reading;
 use crate::sheet::CHANNELS;
@@ -49,12 +49,21 @@ fn section(lines: &mut Vec<String>, title: &str, content: Vec<String>) {
 
 pub fn title(reading: &Reading, file: &str) -> String {
     let sheet = &reading.sheet;
-    let mut parts = vec![counted(sheet.bytes.len(), "byte")];
+    let mut parts = vec![size(sheet.bytes.len())];
     parts.extend(sheet.version.map(|version| format!("version {version}")));
     parts.push(counted(sheet.principals.len(), "principal"));
     parts.push(counted(sheet.types.len(), "type"));
     parts.push(counted(sheet.terms.len(), "term"));
     format!("{file}: {}", parts.join(", "))
+}
+
+/// How many bytes there are. Of an input that is longer than any sheet it is not known, since no more is read than tells that.
+fn size(bytes: usize) -> String {
+    if bytes > MAX_SHEET {
+        format!("more than {MAX_SHEET} bytes")
+    } else {
+        counted(bytes, "byte")
+    }
 }
 
 pub fn counted(count: usize, what: &str) -> String {
@@ -181,8 +190,9 @@ fn records(reading: &Reading, marked: Option<usize>) -> Vec<String> {
 
 /// Where the bytes could no longer be followed.
 pub fn end_of_reading(reading: &Reading) -> String {
-    let end = reading.sheet.end;
-    match reading.sheet.bytes.len() - end {
+    let (total, end) = (reading.sheet.bytes.len(), reading.sheet.end);
+    match total - end {
+        _ if total > MAX_SHEET => format!("the bytes from {end} on are not read"),
         0 => format!("the bytes end here, at byte {end}"),
         1 => format!("the last byte, {end}, is not read"),
         left => format!("the last {left} bytes, from byte {end} on, are not read"),

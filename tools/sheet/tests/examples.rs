@@ -134,8 +134,8 @@ fn a_lean_form_is_written() {
     let expected = ask(&["build", &example("choice-lean.hex"), "-o", "-"], b"");
     assert_eq!((lean.status, lean.output), (0, expected.output));
     let none = ask(&["lean", &example("page.hex"), "-o", "-"], b"");
-    assert_eq!(none.status, 1);
-    assert!(none.text().starts_with("refused: 32, no lean form\n"));
+    assert_eq!((none.status, none.output.len()), (1, 0));
+    assert!(none.errors.starts_with("refused: 32, no lean form\n"));
 }
 
 #[test]

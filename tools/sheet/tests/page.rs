@@ -57,6 +57,26 @@ fn random_sheets() {
     }
 }
 
+/// No two of 32 principals have line and tint alike, and the next has another line.
+#[test]
+fn principals_are_told_apart() {
+    let page = ask(&["show", "--html", "-"], &longest()).text();
+    let part = |line: &str, name: &str| {
+        let (_, rest) = line.split_once(name).expect("a style");
+        rest.split(';').next().expect("its value").to_string()
+    };
+    let styles: Vec<[String; 2]> = page
+        .lines()
+        .filter(|line| line.starts_with(".p"))
+        .map(|line| [part(line, "--style: "), part(line, "--tint: ")])
+        .collect();
+    assert_eq!(styles.len(), 32);
+    for (number, style) in styles.iter().enumerate() {
+        assert!(!styles[..number].contains(style), "{number}");
+    }
+    assert!(styles.windows(2).all(|pair| pair[0][0] != pair[1][0]));
+}
+
 /// It needs nothing but itself: no script, no other file, no host.
 #[test]
 fn the_page_stands_alone() {

@@ -9,6 +9,7 @@ use std::os::unix::ffi::OsStrExt;
 use std::process::Command;
 
 use common::{ask, directory, example};
+use sheet::library::MAX_SHEET;
 
 const COMMANDS: [&str; 9] = [
     "show", "check", "run", "why", "names", "lean", "compare", "dump", "build",
@@ -131,9 +132,34 @@ fn standard_input_is_a_sheet_or_hex() {
     let bytes = ask(&["build", "-", "-o", "-"], &text).output;
     assert_eq!(bytes.len(), 78);
     assert_eq!(ask(&["check", "-"], &bytes).status, 0);
-    assert!(ask(&["check", "-"], &text)
-        .text()
-        .starts_with("refused: 2, wrong tag\n"));
+    let hint = "; it looks like hexadecimal text, which --hex reads\n";
+    for text in [&text[..], b"\n01 0002", b"01 0002", b"fF 0002"] {
+        let said = ask(&["check", "-"], text).text();
+        assert!(said.starts_with("refused: 2, wrong tag\n"));
+        assert!(said.ends_with(hint), "{said}");
+    }
+    for bytes in [&b"g1 0002"[..], &[1, 0, 2, 0, 1, b'0', b'3', b'#']] {
+        let said = ask(&["check", "-"], bytes).text();
+        assert!(said.starts_with("refused: 2, wrong tag\n"));
+        assert!(!said.contains("hexadecimal"), "{said}");
+    }
+}
+
+#[test]
+fn the_ending_of_a_name_may_have_capitals() {
+    let files = directory("capitals");
+    let text = fs::read(example("hello.hex")).unwrap();
+    for (name, status) in [
+        ("a.hex", 0),
+        ("a.HEX", 0),
+        ("a.Hex", 0),
+        ("ahex", 1),
+        ("hex", 1),
+    ] {
+        let path = files.join(name);
+        fs::write(&path, &text).unwrap();
+        assert_eq!(ask(&["check", path.to_str().unwrap()], b"").status, status);
+    }
 }
 
 #[test]
@@ -153,6 +179,128 @@ fn only_o_writes_over() {
     let said = ask(&["build", &frame, "-o", record], b"");
     assert_eq!(said.status, 0);
     assert_eq!(fs::read(record).unwrap()[..3], [1, 0, 2]);
+}
+
+/// A name that ends in .hex is that of text, written as well as read.
+#[test]
+fn no_bytes_go_into_a_file_of_text() {
+    let files = directory("file_of_text");
+    let path = |name: &str| files.join(name).to_str().unwrap().to_string();
+    let source = path("choice.hex");
+    let text = fs::read(example("choice.hex")).unwrap();
+    fs::write(&source, &text).unwrap();
+    for out in [&source, &path("out.hex"), &path("out.HEX")] {
+        let said = ask(&["build", &source, "-o", out], b"");
+        assert_eq!((said.status, said.output.len()), (2, 0));
+        let why = ": a file of this name has hexadecimal text, and bytes are to be written\n";
+        assert!(said.errors.ends_with(why), "{}", said.errors);
+    }
+    assert_eq!(fs::read(&source).unwrap(), text);
+    assert!(!files.join("out.hex").exists() && !files.join("out.HEX").exists());
+    let (lean, bytes) = (path("lean.hex"), path("lean"));
+    for out in [&lean, &bytes] {
+        let said = ask(&["lean", &source, "-o", out], b"");
+        assert_eq!((said.status, said.errors.as_str()), (0, ""));
+    }
+    assert!(fs::read_to_string(&lean).unwrap().contains("# version\n"));
+    let built = ask(&["build", &lean, "-o", "-"], b"").output;
+    assert_eq!(built, fs::read(&bytes).unwrap());
+}
+
+#[test]
+fn what_was_read_is_not_written_over() {
+    let files = directory("was_read");
+    let path = |name: &str| files.join(name).to_str().unwrap().to_string();
+    let (sheet, text, names) = (path("sheet"), path("sheet.hex"), path("names"));
+    fs::write(&text, fs::read(example("choice.hex")).unwrap()).unwrap();
+    fs::write(&names, "privilege 0 stamp\n").unwrap();
+    assert_eq!(ask(&["build", &text, "-o", &sheet], b"").status, 0);
+    std::os::unix::fs::symlink(&sheet, path("link")).unwrap();
+    let requests: [&[&str]; 5] = [
+        &["lean", &sheet, "-o", &sheet],
+        &["lean", &sheet, "-o", &path("./sheet")],
+        &["lean", &sheet, "-o", &path("link")],
+        &["lean", &text, "-o", &text],
+        &["lean", "--names", &names, &sheet, "-o", &names],
+    ];
+    let kept = [&sheet, &text, &names].map(|path| fs::read(path).unwrap());
+    for words in requests {
+        let said = ask(words, b"");
+        assert_eq!((said.status, said.output.len()), (2, 0), "{words:?}");
+        assert!(
+            said.errors
+                .ends_with(": it was read, and is not written over\n"),
+            "{}",
+            said.errors
+        );
+    }
+    let piped = Command::new(env!("CARGO_BIN_EXE_sheet"))
+        .args(["lean", "-", "-o", &sheet])
+        .stdin(fs::File::open(&sheet).unwrap())
+        .output()
+        .expect("it runs");
+    assert_eq!(piped.status.code(), Some(2));
+    assert_eq!(
+        kept,
+        [&sheet, &text, &names].map(|path| fs::read(path).unwrap())
+    );
+}
+
+/// Where standard output has data, a refusal or stop is told on standard error.
+#[test]
+fn refusals_stay_out_of_data() {
+    let frame = example("frame.hex");
+    let refused: [&[&str]; 3] = [
+        &["lean", &frame, "-o", "-"],
+        &["lean", &example("unauthorised.hex"), "-o", "-"],
+        &["run", "--calls", "5000", "--record", "-", &frame],
+    ];
+    for words in refused {
+        let said = ask(words, b"");
+        assert_eq!((said.status, said.output.len()), (1, 0), "{words:?}");
+        assert!(said.errors.starts_with("refused: "), "{}", said.errors);
+    }
+    let stopped = ask(&["run", "--record", "-", &example("needs.hex")], b"");
+    assert_eq!((stopped.status, stopped.output.len()), (1, 4));
+    assert!(stopped.errors.starts_with("stopped: 17, "));
+    let ended = ask(&["run", "--record", "-", &frame], b"");
+    assert_eq!((ended.status, ended.output.len()), (0, 12));
+    assert_eq!(ended.errors, "");
+}
+
+/// Of an input longer than any sheet no more is read than tells that.
+#[test]
+fn a_longer_input_is_not_counted() {
+    for extra in [1, 2, 50_000] {
+        let bytes = [&longest_version_2()[..], &vec![0; extra]].concat();
+        let shown = ask(&["show", "-"], &bytes).text();
+        let title = "standard input: more than 10913 bytes, version 2, 32 principals";
+        assert!(shown.starts_with(title), "{shown}");
+        assert!(shown.ends_with("=> the bytes from 10913 on are not read\n"));
+        let page = ask(&["show", "--html", "-"], &bytes).text();
+        assert!(page.contains(">more than 10913 bytes, "));
+        assert!(page.contains("The bytes from 10913 on are not read."));
+        assert!(page.contains("<p class=\"bytes\">00 …</p>"));
+    }
+    let foreign = ask(&["show", "-"], &[9; 20_000]).text();
+    assert!(foreign.contains("more than 10913 bytes"));
+    assert!(foreign.ends_with("=> the bytes from 0 on are not read\n"));
+}
+
+/// As long as a sheet can be, with terms that need not be in order.
+fn longest_version_2() -> Vec<u8> {
+    let counts = [(1, 2), (2, 128), (3, 2_560), (4, 8_192), (5, 16)];
+    let mut bytes = Vec::new();
+    for (tag, length) in counts {
+        bytes.push(tag);
+        bytes.extend(u16::to_be_bytes(length));
+        match tag {
+            1 => bytes.extend([0, 2]),
+            _ => bytes.extend(vec![0; length.into()]),
+        }
+    }
+    assert_eq!(bytes.len(), MAX_SHEET);
+    bytes
 }
 
 /// A run that is refused leaves no record.

@@ -6,7 +6,7 @@ use Prim.Native.Nat.{ℕ}
 use native.Mathlib.Omega.{arith}
 use lib.Dec.{leb, ltb}
 use borrow.Author.Tests.{ltb-true, leb-true, lt-ltb, le-ltb}
-use Rattle.semantics.specs.Domains.{exact}
+use Rattle.semantics.specs.Domains.{single}
 use Rattle.intervals.specs.Intervals.{Interval, sumOf, differenceOf, lessOf}
 use Rattle.intervals.specs.Claims.{Inside}
 
@@ -19,10 +19,10 @@ pub agreed : {b c : Bool} → Agrees (some b) c → c ≡ b
 agreed agrees-known = refl
 
 module _ (i j : Interval) (m n : ℕ) (hm : Inside i m) (hn : Inside j n) where
-  pub sum-inside : Inside (sumOf i j) (exact .sum m n)
+  pub sum-inside : Inside (sumOf i j) (single .sum m n)
   sum-inside = record { least = omega (arith, hm .least, hn .least); most = omega (arith, hm .most, hn .most) }
 
-  pub difference-inside : Inside (differenceOf i j) (exact .difference m n)
+  pub difference-inside : Inside (differenceOf i j) (single .difference m n)
   difference-inside = record { least = omega (arith, hm .least, hn .most); most = omega (arith, hm .most, hn .least) }
 
   pub less-agrees : Agrees (lessOf i j) (ltb m n)

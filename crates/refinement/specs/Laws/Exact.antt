@@ -12,7 +12,7 @@ use Rattle.program.specs.Records.{CountsOf}
 use Rattle.program.specs.Laws.Readable.{WellFormed}
 use Rattle.program.specs.Laws.Records.{term-is}
 use Rattle.program.specs.declared.records.Counts.{Counts}
-use Rattle.semantics.specs.Domains.{saturates, postEntry, exact, standard}
+use Rattle.semantics.specs.Domains.{saturates, postEntry, single, standard}
 use Rattle.semantics.specs.Runs.{ground-bool, ended}
 use Rattle.stores.specs.declared.state.Stop.{Stop}
 use Rattle.stores.specs.declared.state.Stop.the-variants.{Check, Stuck, OpenCalls, Calls, Cells, Posts, Undecided}
@@ -91,7 +91,7 @@ module _ (mode : ℕ) (plain : intervalMode mode ≡ false) where
   unfolding listedAs
   entry-exact x {w} h = λ i. pick (plain i) (entryOf (payloadOf w) (envOf w)) (entryOf (wordSmall x) (h .number-is i))
 
-  unfoldable pub exactCoding : Coding exact mode
+  unfoldable pub exactCoding : Coding single mode
   exactCoding = record {
     Number = ExactNumber;
     Truth = ExactTruth;

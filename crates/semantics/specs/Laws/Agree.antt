@@ -56,7 +56,7 @@ module _ (P : ℕ → Type 0) (X Y : Control) (R : Simulation P X Y) (M : Mode) 
   same-event true at s t r none n = refl
   same-event false at s t r g n = refl
 
-  module _ (f : Application standard X) (g : Application standard Y) (h : SameApplication f g) (a : BodiesAll Q X M f) where
+  module _ (f : Application standard X) (g : Application standard Y) (h : SameApplication f g) (a : BodiesAll Q standard X M f) where
     eval-agree : (c : Term) → Every Q c → SameEvaluation (evalWith standard X M f c) (evalWith standard Y M g c)
     unfolding evalWith
     eval-agree (boolean at b) n s t r e d u = refl
@@ -66,8 +66,8 @@ module _ (P : ℕ → Type 0) (X Y : Control) (R : Simulation P X Y) (M : Mode) 
     eval-agree (letrec at ty body rest) n s t r e d u =
         λ i. takeCell at (λ u₁. eval-agree rest (n .2) s t r (bind (closure true ty body e) e) ((n .1, d), d) u₁ i) u
     eval-agree (call at c b) n s t r e d u =
-        then-same Q _ _ _ _ (eval-agree c (n .1) s t r e d u) (eval-bodies Q X M f a c (n .1) s e u d)
-        (λ v u₁ hv. then-same Q _ _ _ _ (eval-agree b (n .2) s t r e d u₁) (eval-bodies Q X M f a b (n .2) s e u₁ d)
+        then-same Q _ _ _ _ (eval-agree c (n .1) s t r e d u) (eval-bodies Q standard X M f a c (n .1) s e u d)
+        (λ v u₁ hv. then-same Q _ _ _ _ (eval-agree b (n .2) s t r e d u₁) (eval-bodies Q standard X M f a b (n .2) s e u₁ d)
         (λ w u₂ hw. h at v w hv hw s t r u₂))
     eval-agree (if at c y o) n s t r e d u =
         λ i. eval-agree c (n .1) s t r e d u i
@@ -89,7 +89,7 @@ module _ (P : ℕ → Type 0) (X Y : Control) (R : Simulation P X Y) (M : Mode) 
   unfolding apply
   apply-agree zero at v w hv hw s t r u = refl
   apply-agree (suc k) at (closure z ty body env) w hv hw s t r u =
-      λ i. beginCall at (λ u₁. eval-agree (apply standard X M k) (apply standard Y M k) (apply-agree k) (apply-bodies Q X M k) body (hv .0) s t r
+      λ i. beginCall at (λ u₁. eval-agree (apply standard X M k) (apply standard Y M k) (apply-agree k) (apply-bodies Q standard X M k) body (hv .0) s t r
       (entered z ty body env w) (entered-bodies Q z ty body env w (hv .0) (hv .1) hw) u₁ i) u
   apply-agree (suc k) at (bool b) w hv hw s t r u = refl
   apply-agree (suc k) at (num m) w hv hw s t r u = refl
@@ -97,4 +97,4 @@ module _ (P : ℕ → Type 0) (X Y : Control) (R : Simulation P X Y) (M : Mode) 
   pub agree : (depth : ℕ) (c : Term) → Every Q c → (s : X .State) (t : Y .State) → R .related s t → (e : Env) → EveryBodyIn Q e → (u : Budget)
       → eval standard X M depth c s e u ≡ eval standard Y M depth c t e u
   unfolding eval
-  agree k c = eval-agree (apply standard X M k) (apply standard Y M k) (apply-agree k) (apply-bodies Q X M k) c
+  agree k c = eval-agree (apply standard X M k) (apply standard Y M k) (apply-agree k) (apply-bodies Q standard X M k) c

@@ -1,6 +1,6 @@
--- What a run keeps to: 17 is told only at a check or a guarded post of the term, every entry of the list of posts is one that a post of the term can make,
--- and every decision listed is one of a check, test or guard of the term. Values are 16-bit numbers, since number terms are and sums are held.
-use mathlib.Core.Bool.{Bool, true, false, true≢false}
+-- What a run keeps to: every entry of the list of posts is one that a post of the term can make, and every decision listed is one of a check, test or guard
+-- of the term. Values are 16-bit numbers, since number terms are and sums are held.
+use mathlib.Core.Bool.{Bool, true, false}
 use mathlib.Core.List.{List, [], _∷_, reverseAux}
 use mathlib.Core.Option.{Option, none, some, Option·some-injective}
 use mathlib.Core.Path.{_≡_, refl, ap, _∙_, subst}
@@ -16,27 +16,23 @@ use Rattle.program.specs.Laws.Guards.{channel-in}
 use Rattle.traces.specs.Traces.{Event}
 use Rattle.semantics.specs.Domains.{standard, postEntry}
 use Rattle.semantics.specs.Values.{Value, bool, num, closure, Env, empty, bind, lookup, entered, logPost, Budget, budget, Result, ends, stops}
-use Rattle.semantics.specs.Meaning.{Control, Mode, _then_, choose, found, branch, operate, compute, appendPost, note, postValue, takeCell, beginCall, tooDeep, enter, passes, guardPasses, eventIf, listsChecks, Application, evalWith, apply, eval}
+use Rattle.semantics.specs.Meaning.{Control, Mode, _then_, choose, found, branch, operate, compute, appendPost, note, postValue, takeCell, beginCall, tooDeep, enter, passes, eventIf, listsChecks, Application, evalWith, apply, eval}
 use Rattle.semantics.specs.Access.{privs, lazyControl, rights, eagerControl}
-use Rattle.semantics.specs.Runs.{Runner, eager, lazy, Request, Sizes, stack, initial, evaluationIn, Ground, ended, stopped, outcome, left, inOrder}
+use Rattle.semantics.specs.Runs.{Runner, eager, lazy, Request, Sizes, stack, initial, evaluationIn, left, inOrder}
 use Rattle.semantics.specs.Recording.{decidedIn}
-
--- what every entry of a list has
-abbrev pub Each : {A : Type 0} → (A → Type 0) → List A → Type 0
-Each E [] = Unit {0}
-Each E (x ∷ xs) = E x × Each E xs
+use Rattle.semantics.specs.Claims.{Each, OnChannel, Asks, by-check, by-test, by-guard, Decision}
 
 pub each-all : {A : Type 0} {E : A → Type 0} (F : A → Type 0) → ((x : A) → E x → F x) → (xs : List A) → Each E xs → Each F xs
 each-all F f [] h = tt
 each-all F f (x ∷ xs) h = (f x (h .0), each-all F f xs (h .1))
 
-each-reversed : {A : Type 0} (E : A → Type 0) (xs ys : List A) → Each E xs → Each E ys → Each E (reverseAux xs ys)
+pub each-reversed : {A : Type 0} (E : A → Type 0) (xs ys : List A) → Each E xs → Each E ys → Each E (reverseAux xs ys)
 each-reversed E [] ys h g = g
 each-reversed E (x ∷ xs) ys h g = each-reversed E xs (x ∷ ys) (h .1) (h .0, g)
 
--- R are the terms that may be refused by 17, E the entries that may be posted, D the terms and privileges that may be decided
-module _ (R E : ℕ → Type 0) (D : (at p : ℕ) → Type 0) where
-  -- a term whose checks and guarded posts are in R, whose posts make entries of E, and whose checks, tests and guards are in D
+-- E are the entries that may be posted, D the terms and privileges that may be decided
+module _ (E : ℕ → Type 0) (D : (at p : ℕ) → Type 0) where
+  -- a term whose posts make entries of E, and whose checks, tests and guards are in D
   abbrev pub Keeps : Term → Type 0
   Keeps (boolean at b) = Unit {0}
   Keeps (number at n) = n < 65536
@@ -45,12 +41,12 @@ module _ (R E : ℕ → Type 0) (D : (at p : ℕ) → Type 0) where
   Keeps (letrec at ty body rest) = Keeps body × Keeps rest
   Keeps (call at f a) = Keeps f × Keeps a
   Keeps (if at c y n) = Keeps c × Keeps y × Keeps n
-  Keeps (check at p c) = R at × D at p × Keeps c
+  Keeps (check at p c) = D at p × Keeps c
   Keeps (enable at p c) = Keeps c
   Keeps (sign at n c) = Keeps c
   Keeps (test at p y n) = D at p × Keeps y × Keeps n
   Keeps (binary at op a b) = Keeps a × Keeps b
-  Keeps (post at ch g c) = ((p : ℕ) → g ≡ some p → R at × D at p) × ((n : ℕ) → n < 65536 → E (postEntry ch n)) × Keeps c
+  Keeps (post at ch g c) = ((p : ℕ) → g ≡ some p → D at p) × ((n : ℕ) → n < 65536 → E (postEntry ch n)) × Keeps c
 
   abbrev mutual
     Held : Value → Type 0
@@ -67,33 +63,26 @@ module _ (R E : ℕ → Type 0) (D : (at p : ℕ) → Type 0) where
 
   pub data Kept : Result → Type 0 where
     kept-end : {v : Value} {u : Budget} → Held v → Logged u → Kept (ends v u)
-    kept-stop : {c at : ℕ} {u : Budget} → (c ≡ 17 → R at) → Logged u → Kept (stops c at u)
+    kept-stop : {c at : ℕ} {u : Budget} → Logged u → Kept (stops c at u)
 
   -- ---- each way of putting results together
   kept-then : (x : Result) (k : Value → Budget → Result) → Kept x → ((v : Value) (u : Budget) → Held v → Logged u → Kept (k v u)) → Kept (x then k)
   kept-then (ends v u) k (kept-end h p) f = f v u h p
-  kept-then (stops c at u) k (kept-stop r p) f = kept-stop r p
+  kept-then (stops c at u) k (kept-stop p) f = kept-stop p
 
   kept-choose : (b : Bool) (y n : Budget → Result) (u : Budget) → Kept (y u) → Kept (n u) → Kept (choose b y n u)
   kept-choose true y n u hy hn = hy
   kept-choose false y n u hy hn = hn
 
-  -- a stop by another cause
-  other : (c at : ℕ) (u : Budget) → (c ≡ 17 → ⊥) → Logged u → Kept (stops c at u)
-  other c at u n h = kept-stop (λ e. absurd (n e)) h
-
-  stuck : (at : ℕ) (u : Budget) → Logged u → Kept (stops 18 at u)
-  stuck at u h = other 18 at u (λ e. omega (arith, e)) h
-
   kept-found : (at i : ℕ) (e : Env) (u : Budget) → HeldIn e → Logged u → Kept (found at (lookup e i) u)
-  kept-found at i empty u h p = stuck at u p
+  kept-found at i empty u h p = kept-stop p
   kept-found at zero (bind v e) u h p = kept-end (h .0) p
   kept-found at (suc i) (bind v e) u h p = kept-found at i e u (h .1) p
 
   kept-branch : (at : ℕ) (v : Value) (y n : Budget → Result) (u : Budget) → Logged u → Kept (y u) → Kept (n u) → Kept (branch at v y n u)
   kept-branch at (bool b) y n u p hy hn = kept-choose b y n u hy hn
-  kept-branch at (num m) y n u p hy hn = stuck at u p
-  kept-branch at (closure r ty body env) y n u p hy hn = stuck at u p
+  kept-branch at (num m) y n u p hy hn = kept-stop p
+  kept-branch at (closure r ty body env) y n u p hy hn = kept-stop p
 
   -- "Sums are held at 65,535, differences at 0."
   operate-held : (op : Op) (m n : ℕ) → m < 65536 → n < 65536 → Held (operate op m n)
@@ -103,13 +92,13 @@ module _ (R E : ℕ → Type 0) (D : (at p : ℕ) → Type 0) where
 
   kept-compute : (at : ℕ) (op : Op) (v w : Value) (u : Budget) → Held v → Held w → Logged u → Kept (compute at op v w u)
   kept-compute at op (num m) (num n) (budget c d r l) h g p = kept-end (operate-held op m n h g) p
-  kept-compute at op (num m) (bool b) u h g p = stuck at u p
-  kept-compute at op (num m) (closure r ty body env) u h g p = stuck at u p
-  kept-compute at op (bool b) w u h g p = stuck at u p
-  kept-compute at op (closure r ty body env) w u h g p = stuck at u p
+  kept-compute at op (num m) (bool b) u h g p = kept-stop p
+  kept-compute at op (num m) (closure r ty body env) u h g p = kept-stop p
+  kept-compute at op (bool b) w u h g p = kept-stop p
+  kept-compute at op (closure r ty body env) w u h g p = kept-stop p
 
   kept-append : (at ch n : ℕ) (u : Budget) → n < 65536 → E (postEntry ch n) → Logged u → Kept (appendPost at ch n u)
-  kept-append at ch n (budget c d zero l) h e p = other 22 at (budget c d zero l) (λ z. omega (arith, z)) p
+  kept-append at ch n (budget c d zero l) h e p = kept-stop p
   kept-append at ch n (budget c d (suc r) l) h e p = kept-end {v = num n} {u = budget c d r (logPost (postEntry ch n) l)} h ((e, p .0), p .1)
 
   -- a decision that is listed, about a privilege of D
@@ -119,32 +108,25 @@ module _ (R E : ℕ → Type 0) (D : (at p : ℕ) → Type 0) where
   logged-noted true at grants none h u p = p
   logged-noted false at grants g h u p = p
 
-  -- 17 is told only where a guard does not pass, and so only where there is one
-  kept-value : (at ch : ℕ) (allowed : Bool) (o : Option Event) (v : Value) (u : Budget) → (allowed ≡ false → R at)
-      → ((n : ℕ) → n < 65536 → E (postEntry ch n)) → Held v → Logged u → Logged (note o u) → Kept (postValue at ch allowed o v u)
-  kept-value at ch true o (num n) u r e h p q = kept-append at ch n (note o u) h (e n h) q
-  kept-value at ch false o (num n) u r e h p q = kept-stop (λ z. r refl) q
-  kept-value at ch allowed o (bool b) u r e h p q = stuck at u p
-  kept-value at ch allowed o (closure s ty body env) u r e h p q = stuck at u p
-
-  guard-fails : (enforce : Bool) (grants : ℕ → Bool) (g : Option ℕ) (at : ℕ) → ((p : ℕ) → g ≡ some p → R at × D at p)
-      → guardPasses enforce grants g ≡ false → R at
-  guard-fails enforce grants none at r e = absurd (true≢false e)
-  guard-fails enforce grants (some p) at r e = r p refl .0
+  kept-value : (at ch : ℕ) (allowed : Bool) (o : Option Event) (v : Value) (u : Budget) → ((n : ℕ) → n < 65536 → E (postEntry ch n)) → Held v → Logged u
+      → Logged (note o u) → Kept (postValue at ch allowed o v u)
+  kept-value at ch allowed o (num n) u e h p q = kept-choose allowed _ _ (note o u) (kept-append at ch n (note o u) h (e n h) q) (kept-stop q)
+  kept-value at ch allowed o (bool b) u e h p q = kept-stop p
+  kept-value at ch allowed o (closure s ty body env) u e h p q = kept-stop p
 
   kept-cell : (at : ℕ) (k : Budget → Result) → ((u : Budget) → Logged u → Kept (k u)) → (u : Budget) → Logged u → Kept (takeCell at k u)
-  kept-cell at k h (budget c zero r l) p = other 21 at (budget c zero r l) (λ z. omega (arith, z)) p
+  kept-cell at k h (budget c zero r l) p = kept-stop p
   kept-cell at k h (budget c (suc d) r l) p = h (budget c d r l) p
 
   kept-begin : (at : ℕ) (k : Budget → Result) → ((u : Budget) → Logged u → Kept (k u)) → (u : Budget) → Logged u → Kept (beginCall at k u)
-  kept-begin at k h (budget zero d r l) p = other 20 at (budget zero d r l) (λ z. omega (arith, z)) p
-  kept-begin at k h (budget (suc c) zero r l) p = other 21 at (budget (suc c) zero r l) (λ z. omega (arith, z)) p
+  kept-begin at k h (budget zero d r l) p = kept-stop p
+  kept-begin at k h (budget (suc c) zero r l) p = kept-stop p
   kept-begin at k h (budget (suc c) (suc d) r l) p = h (budget c d r l) p
 
   kept-deep : (at : ℕ) (v : Value) (u : Budget) → Logged u → Kept (tooDeep at v u)
-  kept-deep at (closure r ty body env) u p = other 19 at u (λ z. omega (arith, z)) p
-  kept-deep at (bool b) u p = stuck at u p
-  kept-deep at (num n) u p = stuck at u p
+  kept-deep at (closure r ty body env) u p = kept-stop p
+  kept-deep at (bool b) u p = kept-stop p
+  kept-deep at (num n) u p = kept-stop p
 
   entered-held : (r : Bool) (ty : ℕ) (body : Term) (env : Env) (w : Value) → Keeps body → HeldIn env → Held w → HeldIn (entered r ty body env w)
   entered-held true ty body env w k h g = (g, ((k, h), h))
@@ -155,8 +137,8 @@ module _ (R E : ℕ → Type 0) (D : (at p : ℕ) → Type 0) where
       → Kept (enter at v w run u)
   kept-enter at (closure r ty body env) w run h u hv hw p =
       kept-begin at _ (λ x q. h body (entered r ty body env w) x (hv .0) (entered-held r ty body env w (hv .0) (hv .1) hw) q) u p
-  kept-enter at (bool b) w run h u hv hw p = stuck at u p
-  kept-enter at (num n) w run h u hv hw p = stuck at u p
+  kept-enter at (bool b) w run h u hv hw p = kept-stop p
+  kept-enter at (num n) w run h u hv hw p = kept-stop p
 
   -- ---- evaluations
   module _ (X : Control) (M : Mode) where
@@ -180,8 +162,8 @@ module _ (R E : ℕ → Type 0) (D : (at p : ℕ) → Type 0) where
         (λ v w hv q. kept-branch at v _ _ w q (eval-kept f a y (k .1) st e w h q) (eval-kept f a n (k .2) st e w h q))
     eval-kept f a (check at r c) k st e u h p =
         let w = note (eventIf (listsChecks M) at (X .grants st) (some r)) u in
-        let q = logged-noted (listsChecks M) at (X .grants st) (some r) (λ x z. subst (D at) (Option·some-injective r x z) (k .1)) u p in
-        kept-choose (passes (M .enforce) (X .grants st r)) _ _ w (eval-kept f a c (k .2) st e w h q) (kept-stop (λ z. k .0) q)
+        let q = logged-noted (listsChecks M) at (X .grants st) (some r) (λ x z. subst (D at) (Option·some-injective r x z) (k .0)) u p in
+        kept-choose (passes (M .enforce) (X .grants st r)) _ _ w (eval-kept f a c (k .1) st e w h q) (kept-stop q)
     eval-kept f a (enable at r c) k st e u h p = eval-kept f a c k (X .enables r st) e u h p
     eval-kept f a (sign at n c) k st e u h p = eval-kept f a c k (X .signs n st) e u h p
     eval-kept f a (test at r y n) k st e u h p =
@@ -193,8 +175,7 @@ module _ (R E : ℕ → Type 0) (D : (at p : ℕ) → Type 0) where
         (λ v w hv q. kept-then _ _ (eval-kept f a d (k .1) st e w h q) (λ x y hx o. kept-compute at op v x y hv hx o))
     eval-kept f a (post at ch g c) k st e u h p =
         kept-then _ _ (eval-kept f a c (k .2) st e u h p)
-        (λ v w hv q. kept-value at ch (guardPasses (M .enforce) (X .grants st) g) (eventIf (listsChecks M) at (X .grants st) g) v w
-        (guard-fails (M .enforce) (X .grants st) g at (k .0)) (k .1) hv q (logged-noted (listsChecks M) at (X .grants st) g (λ x z. k .0 x z .1) w q))
+        (λ v w hv q. kept-value at ch _ _ v w (k .1) hv q (logged-noted (listsChecks M) at (X .grants st) g (k .0) w q))
 
     apply-kept : (k : ℕ) → KeptAll (apply standard X M k)
     unfolding apply
@@ -208,29 +189,6 @@ module _ (R E : ℕ → Type 0) (D : (at p : ℕ) → Type 0) where
 
 -- ---- the program of a readable sheet
 
--- "17 refused check"; 02, W8: a guarded post "is refused by 17"
-pub data MayRefuse (s : List ℕ) (t : ℕ) : Type 0 where
-  at-check : kindOf (kindByte s t) ≡ Check → MayRefuse s t
-  at-guard : (p : ℕ) → kindOf (kindByte s t) ≡ Post → guardOf s (small s t) ≡ some p → MayRefuse s t
-
--- "channel × 65,536 + number", of a channel that the sheet's version has
-pub record OnChannel (s : List ℕ) (x : ℕ) : Type 0 where
-  pub below : x < channels s * 65536
-
--- 02, W12: "each check, test and guard": term t asks for privilege p
-pub data Asks (s : List ℕ) (t p : ℕ) : Type 0 where
-  by-check : kindOf (kindByte s t) ≡ Check → small s t ≡ p → Asks s t p
-  by-test : kindOf (kindByte s t) ≡ Test → small s t ≡ p → Asks s t p
-  by-guard : kindOf (kindByte s t) ≡ Post → guardOf s (small s t) ≡ some p → Asks s t p
-
--- a decision of a run: about a privilege that one of the sheet's terms asks for
-pub record Decision (s : List ℕ) (t p : ℕ) : Type 0 where
-  pub a-term : t < terms s
-  pub asks : Asks s t p
-
-ended≢stopped : {g : Ground} {c t : ℕ} → ended g ≡ stopped c t → ⊥
-ended≢stopped e = absurd (let z : _≡_ {A = ℕ} 0 1 = cc in omega arith)
-
 module _ (s : List ℕ) (bytes : Bytes s) (w : WellFormed s) where
   word-low : (i : ℕ) → word16 s i < 65536
   word-low i = omega (arith, bytes .below i, bytes .below (i + 1))
@@ -239,10 +197,10 @@ module _ (s : List ℕ) (bytes : Bytes s) (w : WellFormed s) where
   entry-low ch n h g = record { below = omega arith }
 
   abbrev KeepsIn : Term → Type 0
-  KeepsIn c = Keeps (MayRefuse s) (OnChannel s) (Decision s) c
+  KeepsIn c = Keeps (OnChannel s) (Decision s) c
 
   abbrev KeptIn : Result → Type 0
-  KeptIn x = Kept (MayRefuse s) (OnChannel s) (Decision s) x
+  KeptIn x = Kept (OnChannel s) (Decision s) x
 
   -- what the record of term t gives
   record Node (t : ℕ) (k : Kind) (x : ℕ) : Type 0 where
@@ -263,7 +221,7 @@ module _ (s : List ℕ) (bytes : Bytes s) (w : WellFormed s) where
     node-keeps Letrec x b c h v = (under b (v .second-below refl), under c (v .third-below refl))
     node-keeps Call x b c h v = (under (first s t) (v .first-below refl), under b (v .second-below refl))
     node-keeps If x b c h v = (under (first s t) (v .first-below refl), under b (v .second-below refl), under c (v .third-below refl))
-    node-keeps Check x b c h v = (at-check (h .kind-is), decision (by-check (h .kind-is) (h .small-is)), under (first s t) (v .first-below refl))
+    node-keeps Check x b c h v = (decision (by-check (h .kind-is) (h .small-is)), under (first s t) (v .first-below refl))
     node-keeps Enable x b c h v = under (first s t) (v .first-below refl)
     node-keeps Sign x b c h v = under (first s t) (v .first-below refl)
     node-keeps Test x b c h v =
@@ -272,7 +230,7 @@ module _ (s : List ℕ) (bytes : Bytes s) (w : WellFormed s) where
     node-keeps Difference x b c h v = (under (first s t) (v .first-below refl), under b (v .second-below refl))
     node-keeps Less x b c h v = (under (first s t) (v .first-below refl), under b (v .second-below refl))
     node-keeps Post x b c h v = (
-      λ p g. let e = ap (guardOf s) (h .small-is) ∙ g in (at-guard p (h .kind-is) e, decision (by-guard (h .kind-is) e)),
+      λ p g. decision (by-guard (h .kind-is) (ap (guardOf s) (h .small-is) ∙ g)),
       λ m i. entry-low x m (h .on-channel refl) i,
       under (first s t) (v .first-below refl),
     )
@@ -288,32 +246,23 @@ module _ (s : List ℕ) (bytes : Bytes s) (w : WellFormed s) where
 
   evaluation-kept : (M : Mode) (r : Runner) (q : Request) (z : Sizes) → KeptIn (evaluationIn M r s q z)
   evaluation-kept M eager q z =
-      kept (MayRefuse s) (OnChannel s) (Decision s) (eagerControl (authority s)) M (q .depth) (program s) program-keeps
+      kept (OnChannel s) (Decision s) (eagerControl (authority s)) M (q .depth) (program s) program-keeps
       (rights 0 (privs (authority s) (stack (q .start)))) (initial q z) (tt, tt)
   evaluation-kept M lazy q z =
-      kept (MayRefuse s) (OnChannel s) (Decision s) (lazyControl (authority s)) M (q .depth) (program s) program-keeps (stack (q .start)) (initial q z) (tt, tt)
+      kept (OnChannel s) (Decision s) (lazyControl (authority s)) M (q .depth) (program s) program-keeps (stack (q .start)) (initial q z) (tt, tt)
 
-  -- what is told of a run
-  stop-may : {x : Result} → KeptIn x → (t : ℕ) → outcome (root s) x ≡ stopped 17 t → MayRefuse s t
-  stop-may (kept-end {v = bool b} h p) t e = absurd (ended≢stopped e)
-  stop-may (kept-end {v = num n} h p) t e = absurd (ended≢stopped e)
-  stop-may (kept-end {v = closure r ty body env} h p) t e = absurd (let z : _≡_ {A = ℕ} 18 17 = cc in omega (arith, z))
-  stop-may (kept-stop {c} {at} h p) t e = subst (MayRefuse s) (let z : at ≡ t = cc in z) (h (let z : c ≡ 17 = cc in z))
-
-  logged : {x : Result} → KeptIn x → Logged (MayRefuse s) (OnChannel s) (Decision s) (left x)
+  -- what is listed of a run
+  logged : {x : Result} → KeptIn x → Logged (OnChannel s) (Decision s) (left x)
   logged (kept-end h p) = p
-  logged (kept-stop h p) = p
+  logged (kept-stop p) = p
 
-  posts-may : (u : Budget) → Logged (MayRefuse s) (OnChannel s) (Decision s) u → Each (OnChannel s) (inOrder u)
+  posts-may : (u : Budget) → Logged (OnChannel s) (Decision s) u → Each (OnChannel s) (inOrder u)
   posts-may (budget c d m l) p = each-reversed (OnChannel s) (l .posts) [] (p .0) tt
 
-  decided-may : (u : Budget) → Logged (MayRefuse s) (OnChannel s) (Decision s) u → Each (λ (e : Event). Decision s (e .term) (e .privilege)) (decidedIn u)
+  decided-may : (u : Budget) → Logged (OnChannel s) (Decision s) u → Each (λ (e : Event). Decision s (e .term) (e .privilege)) (decidedIn u)
   decided-may (budget c d m l) p = each-reversed (λ (e : Event). Decision s (e .term) (e .privilege)) (l .decisions) [] (p .1) tt
 
   module _ (M : Mode) (r : Runner) (q : Request) (z : Sizes) where
-    pub evaluation-refused : (t : ℕ) → outcome (root s) (evaluationIn M r s q z) ≡ stopped 17 t → MayRefuse s t
-    evaluation-refused t e = stop-may (evaluation-kept M r q z) t e
-
     pub evaluation-posts : Each (OnChannel s) (inOrder (left (evaluationIn M r s q z)))
     evaluation-posts = posts-may (left (evaluationIn M r s q z)) (logged (evaluation-kept M r q z))
 

@@ -118,7 +118,7 @@ module _ (M : ℕ) where
     abbrev WithinAll : Application standard X → Type 0
     WithinAll f = (at : ℕ) (v w : Value) (st : X .State) (u : Budget) → EveryBody Small v → EveryBody Small w → Within 0 u (f at v w st u)
 
-    module _ (f : Application standard X) (a : BodiesAll Small X mode f) (g : WithinAll f) where
+    module _ (f : Application standard X) (a : BodiesAll Small standard X mode f) (g : WithinAll f) where
       eval-within : (c : Term) → Every Small c → (st : X .State) (e : Env) (u : Budget) → EveryBodyIn Small e
           → Within (size c) u (evalWith standard X mode f c st e u)
       unfolding evalWith
@@ -131,13 +131,13 @@ module _ (M : ℕ) where
           (λ w. within-more (omega arith) (eval-within rest (k .2) st (bind (closure true ty body e) e) w ((k .1, h), h))) u
       eval-within (call at c d) k st e u h =
           within-more (omega arith)
-          (within-then (size c) (size d) u _ _ (eval-within c (k .1) st e u h) (eval-bodies Small X mode f a c (k .1) st e u h)
+          (within-then (size c) (size d) u _ _ (eval-within c (k .1) st e u h) (eval-bodies Small standard X mode f a c (k .1) st e u h)
           (λ v w hv. within-more (omega arith)
-          (within-then (size d) 0 w _ _ (eval-within d (k .2) st e w h) (eval-bodies Small X mode f a d (k .2) st e w h)
+          (within-then (size d) 0 w _ _ (eval-within d (k .2) st e w h) (eval-bodies Small standard X mode f a d (k .2) st e w h)
           (λ x y hx. g at v x st y hv hx))))
       eval-within (if at c y n) k st e u h =
           within-more (omega arith)
-          (within-then (size c) (size y + size n) u _ _ (eval-within c (k .1) st e u h) (eval-bodies Small X mode f a c (k .1) st e u h)
+          (within-then (size c) (size y + size n) u _ _ (eval-within c (k .1) st e u h) (eval-bodies Small standard X mode f a c (k .1) st e u h)
           (λ v w hv. within-branch _ at v _ _ w (within-more (omega arith) (eval-within y (k .2) st e w h))
           (within-more (omega arith) (eval-within n (k .3) st e w h))))
       eval-within (check at p c) k st e u h =
@@ -156,12 +156,12 @@ module _ (M : ℕ) where
           (within-more (omega arith) (eval-within n (k .2) st e (note o u) h))))
       eval-within (binary at op c d) k st e u h =
           within-more (omega arith)
-          (within-then (size c) (size d + 1) u _ _ (eval-within c (k .1) st e u h) (eval-bodies Small X mode f a c (k .1) st e u h)
-          (λ v w hv. within-then (size d) 1 w _ _ (eval-within d (k .2) st e w h) (eval-bodies Small X mode f a d (k .2) st e w h)
+          (within-then (size c) (size d + 1) u _ _ (eval-within c (k .1) st e u h) (eval-bodies Small standard X mode f a c (k .1) st e u h)
+          (λ v w hv. within-then (size d) 1 w _ _ (eval-within d (k .2) st e w h) (eval-bodies Small standard X mode f a d (k .2) st e w h)
           (λ x y hx. within-compute at op v x y)))
       eval-within (post at ch p c) k st e u h =
           within-more (omega arith)
-          (within-then (size c) 1 u _ _ (eval-within c (k .1) st e u h) (eval-bodies Small X mode f a c (k .1) st e u h)
+          (within-then (size c) 1 u _ _ (eval-within c (k .1) st e u h) (eval-bodies Small standard X mode f a c (k .1) st e u h)
           (λ v w hv. within-post at ch _ _ v w))
 
     apply-within : (k : ℕ) → WithinAll (apply standard X mode k)
@@ -169,12 +169,12 @@ module _ (M : ℕ) where
     apply-within zero at v w st u hv hw = within-deep 0 at v u
     apply-within (suc k) at v w st u hv hw =
         within-enter at v w _
-        (λ body e x kb he. eval-within (apply standard X mode k) (apply-bodies Small X mode k) (apply-within k) body kb st e x he) u hv hw
+        (λ body e x kb he. eval-within (apply standard X mode k) (apply-bodies Small standard X mode k) (apply-within k) body kb st e x he) u hv hw
 
     within : (depth : ℕ) (c : Term) → Every Small c → (st : X .State) (e : Env) (u : Budget) → EveryBodyIn Small e
         → Within (size c) u (eval standard X mode depth c st e u)
     unfolding eval
-    within k c h st e u b = eval-within (apply standard X mode k) (apply-bodies Small X mode k) (apply-within k) c h st e u b
+    within k c h st e u b = eval-within (apply standard X mode k) (apply-bodies Small standard X mode k) (apply-within k) c h st e u b
 
 -- ---- the program of a readable sheet
 abbrev pub listedIn : Budget → ℕ

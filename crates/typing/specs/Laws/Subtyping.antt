@@ -8,6 +8,7 @@ use native.Mathlib.Nat.{le-refl}
 use native.Mathlib.Omega.{arith}
 use lib.Dec.{eqb}
 use borrow.Author.Tests.{eqb-true, eq-eqb}
+use Rattle.privileges.specs.Booleans.{bool-ext}
 use Rattle.privileges.specs.Sets.{_⊆_, subset}
 use Rattle.privileges.specs.Laws.{⊆-refl, ⊆-trans, ⊆-antisym, subset-⊆, ⊆-subset}
 use Rattle.program.specs.Tests.{also, orElse}
@@ -113,17 +114,13 @@ module _ (T : Types) where
   unfolding subtype
   subtype-complete L {a} {b} f = in-complete L f (a + b) (le-refl (a + b))
 
+  pub refuted : {a b : ℕ} → (Subtype T a b → ⊥) → subtype T a b ≡ false
+  refuted {a} {b} n = bool-ext (subtype T a b) false (λ e. absurd (n (subtype-sound a b e))) (λ e. absurd (false≢true e))
+
   -- ---- the wider of two types
   module _ (L : Lower T) where
-    fails : (a b : ℕ) → subtype T a b ≡ false → Subtype T a b → ⊥
+    pub fails : (a b : ℕ) → subtype T a b ≡ false → Subtype T a b → ⊥
     fails a b e h = true≢false (sym (subtype-complete L h) ∙ e)
-
-    refuted : {a b : ℕ} → (Subtype T a b → ⊥) → subtype T a b ≡ false
-    refuted {a} {b} n = go (subtype T a b) refl
-      where
-        go : (x : Bool) → subtype T a b ≡ x → subtype T a b ≡ false
-        go true e = absurd (n (subtype-sound a b e))
-        go false e = e
 
     pub wider-sound : (a b c : ℕ) → wider T a b ≡ some c → Wider T a b c
     unfolding wider

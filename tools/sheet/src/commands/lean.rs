@@ -2,7 +2,8 @@
 
 use super::{read_request, refuse, Command, ACCEPTED};
 use crate::arguments::{Arguments, Form};
-use crate::console::{Console, Failure};
+use crate::console::{has_hex_name, Console, Failure};
+use crate::dump::dump;
 use crate::library;
 use crate::reading::Reading;
 
@@ -20,9 +21,12 @@ Writes the lean form of an accepted sheet of version 1 without tests: the sheet
 without its checks and enables, and with every latent set empty. On a start
 stack that grants what the old sheet needs it runs as the old one does.
 
-  -o OUT         the file for the lean sheet's bytes, which is written over; -
-                 is standard output
-  --names NAMES  a file with names for what a refusal says
+  -o OUT         the file for the lean sheet, which is written over and cannot
+                 be FILE: its bytes or, where its name ends in .hex, hexadecimal
+                 text as 'sheet dump' writes it. - is standard output; a refusal
+                 is then told on standard error
+  --names NAMES  a file with names for what a refusal says, and for the comments
+                 of text
   --hex          FILE is hexadecimal text, whatever its name
 
 The exit status is 1 if the sheet is refused or has no lean form.
@@ -35,11 +39,19 @@ fn run(arguments: &Arguments, console: &mut Console) -> Result<u8, Failure> {
     let (bytes, names) = read_request(arguments, console)?;
     match library::erase(&bytes) {
         Ok(lean) => {
-            console.write_over(out, &lean)?;
+            if has_hex_name(out) {
+                let text = dump(&Reading::new(&lean, &names));
+                console.write_over(out, text.as_bytes())?;
+            } else {
+                console.write_over(out, &lean)?;
+            }
             let words = format!("{} bytes in place of {}", lean.len(), bytes.len());
             console.remark(out, &words)?;
             Ok(ACCEPTED)
         }
-        Err(refusal) => refuse(&Reading::new(&bytes, &names), refusal, console),
+        Err(refusal) => {
+            let reading = Reading::new(&bytes, &names);
+            refuse(&reading, refusal, Some(out), console)
+        }
     }
 }

@@ -52,8 +52,8 @@ usage: sheet COMMAND ...
   build FILE.hex -o OUT     the bytes of commented hex
 
 sheet COMMAND --help says more. A FILE has the bytes of a sheet or, where its
-name ends in .hex or --hex is given, hexadecimal text with comments; - is
-standard input. The exit status is 0, or 1 if a sheet is refused or stopped,
+name ends in .hex or .HEX or --hex is given, hexadecimal text with comments; -
+is standard input. The exit status is 0, or 1 if a sheet is refused or stopped,
 or 2 if the arguments are no request or a file cannot be read or written.
 ";
 
@@ -79,10 +79,15 @@ fn privilege(arguments: &Arguments, names: &Names) -> Result<u32, Failure> {
     })
 }
 
-/// Says that the library refuses.
-fn refuse(reading: &Reading, refusal: Refusal, console: &mut Console) -> Result<u8, Failure> {
+/// Says that the library refuses, where no data go.
+fn refuse(
+    reading: &Reading,
+    refusal: Refusal,
+    data: Option<&OsString>,
+    console: &mut Console,
+) -> Result<u8, Failure> {
     let lines = crate::show::refused(reading, refusal);
-    console.write(format!("{}\n", lines.join("\n")).as_bytes())?;
+    console.say(&format!("{}\n", lines.join("\n")), data)?;
     Ok(REFUSED)
 }
 

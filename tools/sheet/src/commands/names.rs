@@ -38,7 +38,7 @@ fn run(arguments: &Arguments, console: &mut Console) -> Result<u8, Failure> {
     let lines = match library::names(&bytes, privilege) {
         Ok(None) => vec![format!("no term names {name}: it plays no part")],
         Ok(Some(term)) => named(&reading, &name, term as usize),
-        Err(refusal) => return refuse(&reading, refusal, console),
+        Err(refusal) => return refuse(&reading, refusal, None, console),
     };
     console.write(format!("{}\n", lines.join("\n")).as_bytes())?;
     Ok(ACCEPTED)

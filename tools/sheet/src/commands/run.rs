@@ -10,7 +10,7 @@ use crate::console::{file, Console, Failure, STREAM};
 use crate::library::{self, Outcome, Refusal, Request, Run};
 use crate::library::{ENTRY, MAX_CALLS, MAX_CELLS, MAX_DECISIONS, MAX_DEPTH, MAX_POSTS};
 use crate::listing;
-use crate::names::Names;
+use crate::names::{self, Names};
 use crate::reading::{range, Reading};
 use crate::sheet::CHANNELS;
 use crate::show::{counted, mark_of};
@@ -46,7 +46,8 @@ channel; and its counts.
   --cells N        how many cells may be bound, at most and else 8192
   --posts N        how many posts may be made, at most and else 256
   --record RECORD  writes what the run decides into a new file, for 'sheet
-                   compare'; - is standard output, which has nothing else then
+                   compare'; - is standard output, which has nothing else then:
+                   a refusal or stop is told on standard error
   --pairs PAIRS    runs eagerly over ranges: the file PAIRS has a line 'LOWEST
                    HIGHEST' for each number of a sheet of version 1, in the
                    order of the terms, or 'NUMBER' for one that is known
@@ -72,12 +73,11 @@ fn run(arguments: &Arguments, console: &mut Console) -> Result<u8, Failure> {
     let start = start(arguments, &names)?;
     let request = request(arguments, &start)?;
     let done = ask(&bytes, pairs.as_deref(), arguments.has("--lazy"), &request);
-    let reading = Reading::new(&bytes, &names);
+    let reading = Reading::new(&bytes, &names).over(pairs.as_deref().unwrap_or(&[]));
     let run = match done {
         Ok(run) => run,
-        Err(refusal) => return super::refuse(&reading, refusal, console),
+        Err(refusal) => return super::refuse(&reading, refusal, record, console),
     };
-    let reading = reading.over(pairs.as_deref().unwrap_or(&[]));
     let shown = Shown {
         reading: &reading,
         ranges: pairs.is_some(),
@@ -87,14 +87,11 @@ fn run(arguments: &Arguments, console: &mut Console) -> Result<u8, Failure> {
         console.write_new(path, &run.record)?;
         lines.extend(recorded(&run.record, &names));
     }
-    if record.is_none_or(|path| path != STREAM) {
-        console.write(format!("{}\n", lines.join("\n")).as_bytes())?;
+    let ended = matches!(run.outcome, Outcome::End { .. });
+    if !ended || record.is_none_or(|path| path != STREAM) {
+        console.say(&format!("{}\n", lines.join("\n")), record)?;
     }
-    Ok(if matches!(run.outcome, Outcome::End { .. }) {
-        ACCEPTED
-    } else {
-        REFUSED
-    })
+    Ok(if ended { ACCEPTED } else { REFUSED })
 }
 
 /// The run that is asked for.
@@ -143,7 +140,7 @@ fn frame(word: &str, names: &Names) -> Option<[u32; 2]> {
     let principal = names.principal_number(principal.trim())?;
     let enabled = match enabled.trim() {
         "" => 0,
-        "all" => u32::MAX,
+        names::ALL => u32::MAX,
         list => list.split(',').try_fold(0, |set, privilege| {
             let number = names.privilege_number(privilege.trim())?;
             Some(set | 1u32.checked_shl(number)?)

@@ -40,7 +40,7 @@ fn run(arguments: &Arguments, console: &mut Console) -> Result<u8, Failure> {
                 .write(format!("{}\n", chain(&reading, privilege, &terms).join("\n")).as_bytes())?;
             Ok(ACCEPTED)
         }
-        Err(refusal) => refuse(&reading, refusal, console),
+        Err(refusal) => refuse(&reading, refusal, None, console),
     }
 }
 

@@ -6,7 +6,8 @@ use mathlib.Core.Logic.{⊎-elim}
 use mathlib.Core.Path.{refl, sym, _∙_}
 use Prim.Native.Nat.{_-_, _*_, _+_}
 use Rattle.program.specs.Layout.{terms as termsOf}
-use Rattle.ranges.proofs.PairLaws.{LaidBelow, counted-yes, counted-no, counted-most, counted-below, laid-none, laid-other, laid-pair, laid-all}
+use Rattle.intervals.specs.Laws.Pairs.{counted-below}
+use Rattle.ranges.proofs.PairLaws.{LaidBelow, counted-yes, counted-no, counted-most, laid-none, laid-other, laid-pair, laid-all}
 use Rattle.ranges.proofs.pairs.lay_pairs.Statement.{statement}
 use Rattle.ranges.proofs.pairs.lay_pairs.Tie as tie
 

@@ -1,11 +1,11 @@
--- `sovzedal_decode` returns 3 and leaves a list shorter than eight as it was (away). In any other list `put` leaves the reply of `of_decoded` (given),
+-- `decode` returns 3 and leaves a list shorter than eight as it was (away). In any other list `put` leaves the reply of `of_decoded` (given),
 -- which is the definition's, since `decode` gives the definition's screening and the sheet's counts (decoded-as).
 use Rattle.replies.specs.Replies.{decodeReply}
 use Rattle.replies.specs.Laws.{away, given, decoded-as}
 use mathlib.Core.Path.{_∙_}
 use borrow.Author.Needs.{needs}
-use Rattle.capi.proofs.sovzedal_decode.Statement.{statement}
-use Rattle.capi.proofs.sovzedal_decode.Tie as tie
+use Rattle.capi_base.proofs.decode.Statement.{statement}
+use Rattle.capi_base.proofs.decode.Tie as tie
 
 returns : tie.Need-returns
 returns c =
@@ -33,7 +33,7 @@ returns-2 c =
     given (start .args .answer .now) (at-if1 .if1 .left) (at-of-decoded .of-decoded .ensures ∙ decoded-as (start .args .sheet .now) (at-decode .decode .result)
     (at-decode .decode .ensures .answer-is) (at-decode .decode .ensures .counts-are)) (c .before .before .put .ensures)
 
-pub sovzedal-decode-spec : {M : Type 1} → statement M
-sovzedal-decode-spec =
+pub decode-spec : {M : Type 1} → statement M
+decode-spec =
     tie.close
     (tie.spec returns decode-requires of-decoded-requires put-requires same-length returns-2)

@@ -1,11 +1,11 @@
--- `sovzedal_typecheck` returns 3 and leaves a list shorter than eight as it was (away). In any other list `put` leaves the reply of `of_verdict` (given),
+-- `typecheck` returns 3 and leaves a list shorter than eight as it was (away). In any other list `put` leaves the reply of `of_verdict` (given),
 -- which is the definition's, since `typecheck` gives the definition's verdict.
 use Rattle.replies.specs.Replies.{verdictReply, typecheckReply}
 use Rattle.replies.specs.Laws.{away, given}
 use mathlib.Core.Path.{_∙_, ap}
 use borrow.Author.Needs.{needs}
-use Rattle.capi.proofs.sovzedal_typecheck.Statement.{statement}
-use Rattle.capi.proofs.sovzedal_typecheck.Tie as tie
+use Rattle.capi_base.proofs.typecheck.Statement.{statement}
+use Rattle.capi_base.proofs.typecheck.Tie as tie
 
 returns : tie.Need-returns
 returns c =
@@ -33,7 +33,7 @@ returns-2 c =
     given (start .args .answer .now) (at-if1 .if1 .left) (at-of-verdict .of-verdict .ensures ∙ ap verdictReply (at-typecheck .typecheck .ensures))
     (c .before .before .put .ensures)
 
-pub sovzedal-typecheck-spec : {M : Type 1} → statement M
-sovzedal-typecheck-spec =
+pub typecheck-spec : {M : Type 1} → statement M
+typecheck-spec =
     tie.close
     (tie.spec returns typecheck-requires of-verdict-requires put-requires same-length returns-2)

@@ -1,4 +1,4 @@
--- `sovzedal_run_eager` returns 3 and leaves a list shorter than eight, and the buffers, as they were (run-away). Else the buffers are as the definition's
+-- `eager` returns 3 and leaves a list shorter than eight, and the buffers, as they were (run-away). Else the buffers are as the definition's
 -- run leaves them, by the contract of `run_eager`, and the list holds the reply to its answer (run-given). What `of_run` requires holds, since a run that
 -- is not refused makes at most 4,096 calls, 8,192 cells and 256 posts (small).
 use mathlib.Core.List.{[]}
@@ -8,8 +8,8 @@ use Rattle.interp.specs.Answers.{requestOf, buffersOf}
 use Rattle.replies.specs.Replies.{enforces}
 use Rattle.replies.specs.Laws.{run-away, run-given, small}
 use borrow.Author.Needs.{needs}
-use Rattle.capi.proofs.sovzedal_run_eager.Statement.{statement}
-use Rattle.capi.proofs.sovzedal_run_eager.Tie as tie
+use Rattle.capi_base.proofs.eager.Statement.{statement}
+use Rattle.capi_base.proofs.eager.Tie as tie
 
 returns : tie.Need-returns
 returns c =
@@ -54,8 +54,8 @@ returns-2 c =
     (buffersOf (start .args .cells .now) (start .args .posts .now) [])) (at-run-eager .run-eager .result) (at-of-run .of-run .ensures)
     (c .before .before .put .ensures) (at-run-eager .run-eager .ensures)
 
-pub sovzedal-run-eager-spec : {M : Type 1} → statement M
-sovzedal-run-eager-spec =
+pub eager-spec : {M : Type 1} → statement M
+eager-spec =
     tie.close
     (tie.spec
     returns

@@ -1,4 +1,4 @@
--- `sovzedal_run_lazy` returns 3 and leaves a list shorter than eight, and the buffers, as they were (run-away). Else the buffers, with the frame store, are
+-- `lazy` returns 3 and leaves a list shorter than eight, and the buffers, as they were (run-away). Else the buffers, with the frame store, are
 -- as the definition's run leaves them, by the contract of `run_lazy`, and the list holds the reply to its answer (run-given). What `of_run` requires holds,
 -- since a run that is not refused makes at most 4,096 calls, 8,192 cells and 256 posts (small).
 use mathlib.Core.Path.{ap}
@@ -7,8 +7,8 @@ use Rattle.interp.specs.Answers.{requestOf, buffersOf}
 use Rattle.replies.specs.Replies.{enforces}
 use Rattle.replies.specs.Laws.{run-away, run-given, small}
 use borrow.Author.Needs.{needs}
-use Rattle.capi.proofs.sovzedal_run_lazy.Statement.{statement}
-use Rattle.capi.proofs.sovzedal_run_lazy.Tie as tie
+use Rattle.capi_base.proofs.lazy.Statement.{statement}
+use Rattle.capi_base.proofs.lazy.Tie as tie
 
 returns : tie.Need-returns
 returns c =
@@ -56,8 +56,8 @@ returns-2 c =
     (buffersOf (start .args .cells .now) (start .args .posts .now) (start .args .frames .now))) (at-run-lazy .run-lazy .result) (at-of-run .of-run .ensures)
     (c .before .before .put .ensures) (at-run-lazy .run-lazy .ensures)
 
-pub sovzedal-run-lazy-spec : {M : Type 1} → statement M
-sovzedal-run-lazy-spec =
+pub lazy-spec : {M : Type 1} → statement M
+lazy-spec =
     tie.close
     (tie.spec
     returns
