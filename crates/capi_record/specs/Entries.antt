@@ -1,5 +1,5 @@
 -- What the entries for a run with a record return and write: a status, nine numbers, the run's buffers, and the record in lent bytes. 02, W12.
-use mathlib.Core.Bool.{Bool, cond}
+use mathlib.Core.Bool.{cond}
 use mathlib.Core.List.{List}
 use Prim.Native.Nat.{ℕ}
 use lib.Dec.{ltb}

@@ -1,7 +1,7 @@
 -- What is told of a term from the reader's answer, from its place, and from its judgement there. Assumes nothing.
 use mathlib.Core.Bool.{true, false}
 use mathlib.Core.List.{List, []}
-use mathlib.Core.Option.{Option, none, some}
+use mathlib.Core.Option.{Option, some}
 use mathlib.Core.Path.{_≡_, refl, sym, ap, _∙_}
 use Prim.Native.Nat.{ℕ, _-_}
 use Rattle.program.specs.Layout.{authority, typesOf}

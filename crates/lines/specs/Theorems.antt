@@ -11,7 +11,7 @@ use Prim.Native.Nat.{ℕ, zero, suc, _+_, _-_, _*_, _%_, _<_, _≤_}
 use native.Mathlib.Decide.{ℕ-discrete, decLt}
 use native.Mathlib.Nat.{add-zero}
 use native.Mathlib.Omega.{arith}
-use lib.Dec.{eqb, leb, ltb}
+use lib.Dec.{leb}
 use lib.ListN.{length, getD, set, take, drop, length-append, length-map, length-take, length-drop, length-reverse, length-set, take-append-drop, List·getD-append, List·getD-eq-default}
 use lib.Seq.{getD-set-same, getD-set-other, take-at, drop-at, drop-drop}
 use borrow.Author.Tests.{eq-eqb, ne-eqb, ltb-true, leb-false, le-leb, lt-leb}
@@ -32,7 +32,7 @@ use Rattle.queues.specs.Laws.{none as noQueue, queue-is}
 use Rattle.queues.specs.declared.state.Queue.{Queue}
 use Rattle.queues.specs.declared.state.Lines.{Lines}
 use Rattle.queues.specs.Theorems.{FirstWaiting, served-first, nobody-waiting}
-use Rattle.lines.specs.Serving.{restFrom, behind, jobRun, jobAfter, postCount, Told, idle, told, Served, servedAs, serveTurn, serveOf}
+use Rattle.lines.specs.Serving.{restFrom, behind, jobRun, jobAfter, postCount, idle, told, Served, servedAs, serveTurn, serveOf}
 
 -- ---- states that the entries make
 none-waits : (l : ℕ) → queueAt start l ≡ []

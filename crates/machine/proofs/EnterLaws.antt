@@ -3,9 +3,8 @@ use mathlib.Core.Bool.{Bool, true, false}
 use mathlib.Core.List.{List}
 use mathlib.Core.Logic.{⊎-elim}
 use mathlib.Core.Path.{_≡_, refl, sym, ap, _∙_, subst}
-use Prim.Native.Nat.{ℕ, _+_, _*_, _%_, _/_, _<_, _≤_}
+use Prim.Native.Nat.{ℕ, _+_, _*_, _%_, _/_, _<_}
 use native.Mathlib.Omega.{arith}
-use lib.Dec.{ltb}
 use lib.ListN.{length, set}
 use lib.Seq.{getD-set-other}
 use borrow.Author.Tests.{lt-ltb, le-ltb}
@@ -13,10 +12,10 @@ use Rattle.machine.specs.declared.enter.Entered.{Entered}
 use Rattle.traces.specs.Traces.{Event}
 use Rattle.stores.specs.Words.{pick, functionWord, stopWord, isStop}
 use Rattle.machine.specs.Table.{wordKind, wordSmall, wordFirst, wordSecond, wordThird, wordAuthority}
-use Rattle.stores.specs.Cells.{cellSet, nextCell, Bound}
+use Rattle.stores.specs.Cells.{nextCell, Bound}
 use Rattle.stores.specs.Access.{enforced, grantedOf, allowedOf, signAccess, signFrames}
 use Rattle.machine.specs.Steps.{callsLeft, cellsMade, modeOf, decisionOf, noteCounters, noteBytes, Noted}
-use Rattle.machine.specs.Store.{Store, Done, storeOf, doneOf, Runs, Applier, Shape, letrec, check, sign, test, shapeOf, hasRoom, letrecS, checkS, testS, signS, byShape}
+use Rattle.machine.specs.Store.{Done, storeOf, Runs, Applier, Shape, letrec, check, sign, test, shapeOf, hasRoom, letrecS, checkS, testS, signS, byShape}
 use Rattle.machine.specs.Lower.{Lower, readsPrivilege}
 use Rattle.machine.specs.Enter.{Enterable, going, halting, goesTo, Enters}
 use Rattle.stores.proofs.CellLaws.{bound-full, bound-room}

@@ -2,7 +2,7 @@
 -- and puts together what its calls gave (ContractLaws). `start` is a function's entry, `at-X` the place where X was bound last.
 --
 -- What falls is `workLeft`: the calls left, then the term's number. A child has a lower number and does not raise the calls left, the function of a
--- shape stands one step below `eval`, and a body begins with one call less.
+-- shape stands one step below `eval` and that of a second operand two, and a body begins with one call less.
 use native.Mathlib.Omega.{arith}
 use borrow.Author.Needs.{needs}
 use mathlib.Core.Logic.{inl, inr, ⊎-elim}
@@ -12,35 +12,33 @@ use lib.Dec.{ltb}
 use Rattle.machine.specs.Store.{shapeOf}
 use Rattle.evaluator.specs.Contracts.{workLeft}
 use Rattle.evaluator.proofs.ContractLaws.{ends, ends-same, goes-on, stays, follows, same-cells}
-use Rattle.evaluator.proofs.ShapeLaws.{node-of, node-leaf, node-post, boolean-is, number-is, variable-is, function-is, post-is, if-is, enable-is, pair-is}
-use Rattle.evaluator.proofs.ShapeLaws.{first-below, second-below, third-below, operand-below, next-below, chosen-below, privilege-below, lower, nine-or-ten}
-use Rattle.evaluator.proofs.ShapeLaws.{guard-right, tail-of, tail-stops, tail-goes, pair-of, pair-applies, pair-operates, branch-stuck, branch-undecided, branch-to}
-use Rattle.evaluator.proofs.ShapeLaws.{apply-stuck, apply-deep, apply-spent, apply-full, apply-runs, one-call-less, operate-calls, post-done, post-calls}
+use Rattle.evaluator.proofs.ShapeLaws.{node-of, node-leaf, tail-of, tail-kind, first-of, first-kind, boolean-is, number-is, variable-is, function-is, enable-is}
+use Rattle.evaluator.proofs.ShapeLaws.{first-below, leading-below, operand-below, branch-below, next-below, privilege-below, lower, guard-of}
+use Rattle.evaluator.proofs.ShapeLaws.{tail-stops, tail-goes, first-is, first-posts, first-branches, first-seconds, pair-of, second-is, pair-applies, pair-operates}
+use Rattle.evaluator.proofs.ShapeLaws.{branch-stuck, branch-undecided, branch-to, apply-stuck, apply-deep, apply-spent, apply-full, apply-runs, one-call-less}
+use Rattle.evaluator.proofs.ShapeLaws.{operate-calls, post-done, post-calls}
 use Rattle.stores.proofs.CellLaws.{bound-full}
 use Prim.Native.Nat.{ℕ, _<_}
 use borrow.Fn.Kinds.{In}
 use borrow.Fn.PlainCycle.{Measures, is, falls, and}
 use Rattle.evaluator.proofs.apply.Reads as apply
 use Rattle.evaluator.proofs.apply.Kinds as apply-kinds
-use Rattle.evaluator.proofs.+apply+eval+eval_enable+eval_if+eval_pair+eval_post+eval_tail.Lts-apply as apply-lts
+use Rattle.evaluator.proofs.+apply+eval+eval_enable+eval_first+eval_second+eval_tail.Lts-apply as apply-lts
 use Rattle.evaluator.proofs.eval.Reads as eval
 use Rattle.evaluator.proofs.eval.Kinds as eval-kinds
-use Rattle.evaluator.proofs.+apply+eval+eval_enable+eval_if+eval_pair+eval_post+eval_tail.Lts-eval as eval-lts
+use Rattle.evaluator.proofs.+apply+eval+eval_enable+eval_first+eval_second+eval_tail.Lts-eval as eval-lts
 use Rattle.evaluator.proofs.eval_enable.Reads as eval-enable
 use Rattle.evaluator.proofs.eval_enable.Kinds as eval-enable-kinds
-use Rattle.evaluator.proofs.+apply+eval+eval_enable+eval_if+eval_pair+eval_post+eval_tail.Lts-eval_enable as eval-enable-lts
-use Rattle.evaluator.proofs.eval_if.Reads as eval-if
-use Rattle.evaluator.proofs.eval_if.Kinds as eval-if-kinds
-use Rattle.evaluator.proofs.+apply+eval+eval_enable+eval_if+eval_pair+eval_post+eval_tail.Lts-eval_if as eval-if-lts
-use Rattle.evaluator.proofs.eval_pair.Reads as eval-pair
-use Rattle.evaluator.proofs.eval_pair.Kinds as eval-pair-kinds
-use Rattle.evaluator.proofs.+apply+eval+eval_enable+eval_if+eval_pair+eval_post+eval_tail.Lts-eval_pair as eval-pair-lts
-use Rattle.evaluator.proofs.eval_post.Reads as eval-post
-use Rattle.evaluator.proofs.eval_post.Kinds as eval-post-kinds
-use Rattle.evaluator.proofs.+apply+eval+eval_enable+eval_if+eval_pair+eval_post+eval_tail.Lts-eval_post as eval-post-lts
+use Rattle.evaluator.proofs.+apply+eval+eval_enable+eval_first+eval_second+eval_tail.Lts-eval_enable as eval-enable-lts
+use Rattle.evaluator.proofs.eval_first.Reads as eval-first
+use Rattle.evaluator.proofs.eval_first.Kinds as eval-first-kinds
+use Rattle.evaluator.proofs.+apply+eval+eval_enable+eval_first+eval_second+eval_tail.Lts-eval_first as eval-first-lts
+use Rattle.evaluator.proofs.eval_second.Reads as eval-second
+use Rattle.evaluator.proofs.eval_second.Kinds as eval-second-kinds
+use Rattle.evaluator.proofs.+apply+eval+eval_enable+eval_first+eval_second+eval_tail.Lts-eval_second as eval-second-lts
 use Rattle.evaluator.proofs.eval_tail.Reads as eval-tail
 use Rattle.evaluator.proofs.eval_tail.Kinds as eval-tail-kinds
-use Rattle.evaluator.proofs.+apply+eval+eval_enable+eval_if+eval_pair+eval_post+eval_tail.Lts-eval_tail as eval-tail-lts
+use Rattle.evaluator.proofs.+apply+eval+eval_enable+eval_first+eval_second+eval_tail.Lts-eval_tail as eval-tail-lts
 use Rattle.machine.proofs.enter.enter.Reads as enter-reads
 use Rattle.machine.proofs.steps.append.Reads as append-reads
 use Rattle.machine.proofs.steps.choose.Reads as choose-reads
@@ -65,10 +63,10 @@ use Rattle.stores.proofs.words.is_stop.Reads as is-stop-reads
 use Rattle.stores.proofs.words.payload.Reads as payload-reads
 use Rattle.stores.proofs.words.sort.Reads as sort-reads
 use Rattle.stores.proofs.words.stop.Reads as stop-reads
-use Rattle.evaluator.proofs.+apply+eval+eval_enable+eval_if+eval_pair+eval_post+eval_tail.{
+use Rattle.evaluator.proofs.+apply+eval+eval_enable+eval_first+eval_second+eval_tail.{
   statement,
 }
-use Rattle.evaluator.proofs.+apply+eval+eval_enable+eval_if+eval_pair+eval_post+eval_tail.Tie.{
+use Rattle.evaluator.proofs.+apply+eval+eval_enable+eval_first+eval_second+eval_tail.Tie.{
   close,
 }
 
@@ -81,14 +79,11 @@ abbrev μ-eval : Measures 10 eval-kinds.ps ℕ
 abbrev μ-eval-enable : Measures 10 eval-enable-kinds.ps ℕ
 μ-eval-enable κs a = workLeft (a .1 .1 .0 .now) (a .1 .1 .1 .0) 2
 
-abbrev μ-eval-if : Measures 10 eval-if-kinds.ps ℕ
-μ-eval-if κs a = workLeft (a .1 .1 .0 .now) (a .1 .1 .1 .0) 2
+abbrev μ-eval-first : Measures 10 eval-first-kinds.ps ℕ
+μ-eval-first κs a = workLeft (a .1 .1 .0 .now) (a .1 .1 .1 .0) 2
 
-abbrev μ-eval-pair : Measures 10 eval-pair-kinds.ps ℕ
-μ-eval-pair κs a = workLeft (a .1 .1 .0 .now) (a .1 .1 .1 .0) 2
-
-abbrev μ-eval-post : Measures 10 eval-post-kinds.ps ℕ
-μ-eval-post κs a = workLeft (a .1 .1 .0 .now) (a .1 .1 .1 .0) 2
+abbrev μ-eval-second : Measures 10 eval-second-kinds.ps ℕ
+μ-eval-second κs a = workLeft (a .1 .1 .0 .now) (a .1 .1 .1 .0) 1
 
 abbrev μ-eval-tail : Measures 10 eval-tail-kinds.ps ℕ
 μ-eval-tail κs a = workLeft (a .1 .1 .0 .now) (a .1 .1 .1 .0) 2
@@ -113,25 +108,21 @@ abbrev eval-enable-below : ℕ → In 10 eval-enable-kinds.ps
 eval-enable-below t =
     and 10 eval-enable-kinds.ps (falls 10 eval-enable-kinds.ps _<_ μ-eval-enable t) eval-enable.Pre
 
-abbrev eval-if-at : ℕ → In 10 eval-if-kinds.ps
-eval-if-at t = and 10 eval-if-kinds.ps (is 10 eval-if-kinds.ps μ-eval-if t) eval-if.Pre
+abbrev eval-first-at : ℕ → In 10 eval-first-kinds.ps
+eval-first-at t =
+    and 10 eval-first-kinds.ps (is 10 eval-first-kinds.ps μ-eval-first t) eval-first.Pre
 
-abbrev eval-if-below : ℕ → In 10 eval-if-kinds.ps
-eval-if-below t = and 10 eval-if-kinds.ps (falls 10 eval-if-kinds.ps _<_ μ-eval-if t) eval-if.Pre
+abbrev eval-first-below : ℕ → In 10 eval-first-kinds.ps
+eval-first-below t =
+    and 10 eval-first-kinds.ps (falls 10 eval-first-kinds.ps _<_ μ-eval-first t) eval-first.Pre
 
-abbrev eval-pair-at : ℕ → In 10 eval-pair-kinds.ps
-eval-pair-at t = and 10 eval-pair-kinds.ps (is 10 eval-pair-kinds.ps μ-eval-pair t) eval-pair.Pre
+abbrev eval-second-at : ℕ → In 10 eval-second-kinds.ps
+eval-second-at t =
+    and 10 eval-second-kinds.ps (is 10 eval-second-kinds.ps μ-eval-second t) eval-second.Pre
 
-abbrev eval-pair-below : ℕ → In 10 eval-pair-kinds.ps
-eval-pair-below t =
-    and 10 eval-pair-kinds.ps (falls 10 eval-pair-kinds.ps _<_ μ-eval-pair t) eval-pair.Pre
-
-abbrev eval-post-at : ℕ → In 10 eval-post-kinds.ps
-eval-post-at t = and 10 eval-post-kinds.ps (is 10 eval-post-kinds.ps μ-eval-post t) eval-post.Pre
-
-abbrev eval-post-below : ℕ → In 10 eval-post-kinds.ps
-eval-post-below t =
-    and 10 eval-post-kinds.ps (falls 10 eval-post-kinds.ps _<_ μ-eval-post t) eval-post.Pre
+abbrev eval-second-below : ℕ → In 10 eval-second-kinds.ps
+eval-second-below t =
+    and 10 eval-second-kinds.ps (falls 10 eval-second-kinds.ps _<_ μ-eval-second t) eval-second.Pre
 
 abbrev eval-tail-at : ℕ → In 10 eval-tail-kinds.ps
 eval-tail-at t = and 10 eval-tail-kinds.ps (is 10 eval-tail-kinds.ps μ-eval-tail t) eval-tail.Pre
@@ -276,14 +267,10 @@ eval-claims t = (
   look-reads.Learnt,
   function-reads.Asked,
   function-reads.Learnt,
-  eval-if-below t,
-  eval-if.Post,
   eval-enable-below t,
   eval-enable.Post,
-  eval-post-below t,
-  eval-post.Post,
-  eval-pair-below t,
-  eval-pair.Post,
+  eval-first-below t,
+  eval-first.Post,
   eval-tail-below t,
   eval-tail.Post,
 )
@@ -324,18 +311,6 @@ eval-second-of-requires-2 t c κs = search needs
 eval-function-requires : (t : ℕ) → eval-lts.Need-function-requires (eval-claims t) (eval-at t) eval.Post
 eval-function-requires t c κs = search needs
 
-eval-eval-if-requires : (t : ℕ) → eval-lts.Need-eval-if-requires (eval-claims t) (eval-at t) eval.Post
-unfolding shapeOf
-eval-eval-if-requires t c κs =
-    let at-match = c .before .before .before .before .before in
-    let at-kind-of = at-match .before in
-    let at-word-at = at-kind-of .before in
-    let start = at-word-at .before in (
-      omega (arith, start .pre .0),
-      node-of (start .pre .1) (start .fits .t .fits) (at-word-at .word-at .ensures) (at-kind-of .kind-of .ensures) 6
-          (at-match .match .keys7),
-    )
-
 eval-eval-enable-requires : (t : ℕ) → eval-lts.Need-eval-enable-requires (eval-claims t) (eval-at t) eval.Post
 unfolding shapeOf
 eval-eval-enable-requires t c κs =
@@ -345,42 +320,32 @@ eval-eval-enable-requires t c κs =
     let start = at-word-at .before in (
       omega (arith, start .pre .0),
       node-of (start .pre .1) (start .fits .t .fits) (at-word-at .word-at .ensures) (at-kind-of .kind-of .ensures) 8
-          (at-match .match .keys8),
+          (at-match .match .keys5),
     )
 
-eval-eval-post-requires : (t : ℕ) → eval-lts.Need-eval-post-requires (eval-claims t) (eval-at t) eval.Post
-eval-eval-post-requires t c κs =
+eval-eval-first-requires : (t : ℕ) → eval-lts.Need-eval-first-requires (eval-claims t) (eval-at t) eval.Post
+eval-eval-first-requires t c κs =
     let at-if2 = c .before .before .before .before .before in
-    let at-kind-of = at-if2 .before .before .before in
+    let at-if1 = at-if2 .before in
+    let at-kind-of = at-if1 .before .before in
     let at-word-at = at-kind-of .before in
     let start = at-word-at .before in (
       omega (arith, start .pre .0),
-      node-post (start .pre .1) (start .fits .t .fits) (at-word-at .word-at .ensures) (at-kind-of .kind-of .ensures)
-          (at-if2 .if2 .left),
-    )
-
-eval-eval-pair-requires : (t : ℕ) → eval-lts.Need-eval-pair-requires (eval-claims t) (eval-at t) eval.Post
-eval-eval-pair-requires t c κs =
-    let at-match = c .before .before .before .before .before in
-    let at-kind-of = at-match .before in
-    let at-word-at = at-kind-of .before in
-    let start = at-word-at .before in (
-      omega (arith, start .pre .0),
-      pair-of (start .pre .1) (start .fits .t .fits) (at-word-at .word-at .ensures) (at-kind-of .kind-of .ensures)
-          (⊎-elim (λ w. inl (w .keys6)) (λ w. inr (w .1 .left, w .2 .taken)) (at-match .match .came)),
+      first-of (start .pre .1) (start .fits .t .fits) (at-word-at .word-at .ensures) (at-kind-of .kind-of .ensures)
+          (first-kind _ (at-if1 .if1 .left) (⊎-elim (λ w. inl (w .taken)) (λ w. inr (w .1 .left)) (at-if2 .if2 .came))),
     )
 
 eval-eval-tail-requires : (t : ℕ) → eval-lts.Need-eval-tail-requires (eval-claims t) (eval-at t) eval.Post
 eval-eval-tail-requires t c κs =
-    let at-match = c .before .before .before .before .before in
+    let at-if1 = c .before .before .before .before .before in
+    let at-match = at-if1 .before in
     let at-kind-of = at-match .before in
     let at-word-at = at-kind-of .before in
     let start = at-word-at .before in (
       omega (arith, start .pre .0),
       tail-of (start .pre .1) (start .fits .t .fits) (at-word-at .word-at .ensures) (at-kind-of .kind-of .ensures)
-          (⊎-elim (λ w. ⊎-elim (λ e. inl e) (λ e. inr (inl e)) (w .keys5))
-          (λ w. let r = w .0 .rest in inr (inr (nine-or-ten _ (r .0 .0 .0 .0 .0 .0 .0 .1) (r .0 .0 .0 .0 .0 .0 .1) (r .0 .0 .0 .0 .0 .1) (r .0 .0 .0 .0 .1)
-          (λ e. r .0 .0 .0 .1 (inl e)) (r .0 .0 .1) (r .0 .1) (λ e. r .0 .0 .0 .1 (inr e)) (r .1) (w .1 .taken)))) (at-match .match .came)),
+          (tail-kind _ (at-match .match .rest .0 .0 .0 .0 .1) (at-match .match .rest .0 .0 .0 .1) (at-match .match .rest .0 .0 .1) (at-match .match .rest .0 .1)
+          (at-match .match .rest .1) (⊎-elim (λ w. inl (w .taken)) (λ w. inr (w .1 .left, w .2 .taken)) (at-if1 .if1 .came))),
     )
 
 eval-returns : (t : ℕ) → eval-lts.Need-returns (eval-claims t) (eval-at t) eval.Post
@@ -430,12 +395,6 @@ eval-returns-6 t c = search needs
 
 eval-returns-7 : (t : ℕ) → eval-lts.Need-returns-7 (eval-claims t) (eval-at t) eval.Post
 eval-returns-7 t c = search needs
-
-eval-returns-8 : (t : ℕ) → eval-lts.Need-returns-8 (eval-claims t) (eval-at t) eval.Post
-eval-returns-8 t c = search needs
-
-eval-returns-9 : (t : ℕ) → eval-lts.Need-returns-9 (eval-claims t) (eval-at t) eval.Post
-eval-returns-9 t c = search needs
 
 abbrev eval-enable-claims : ℕ → eval-enable-lts.Claims
 eval-enable-claims t = (
@@ -504,14 +463,20 @@ eval-enable-returns t c =
       names = at-eval .eval .ensures .names;
     }
 
-abbrev eval-if-claims : ℕ → eval-if-lts.Claims
-eval-if-claims t = (
+abbrev eval-first-claims : ℕ → eval-first-lts.Claims
+eval-first-claims t = (
   first-of-reads.Asked,
   first-of-reads.Learnt,
   eval-below t,
   eval.Post,
   is-stop-reads.Asked,
   is-stop-reads.Learnt,
+  kind-of-reads.Asked,
+  kind-of-reads.Learnt,
+  append-reads.Asked,
+  append-reads.Learnt,
+  eval-second-below t,
+  eval-second.Post,
   sort-reads.Asked,
   sort-reads.Learnt,
   stop-reads.Asked,
@@ -526,120 +491,193 @@ eval-if-claims t = (
   choose-reads.Learnt,
 )
 
-eval-if-first-of-requires : (t : ℕ) → eval-if-lts.Need-first-of-requires (eval-if-claims t) (eval-if-at t) eval-if.Post
-eval-if-first-of-requires t c κs = search needs
+eval-first-first-of-requires : (t : ℕ) → eval-first-lts.Need-first-of-requires (eval-first-claims t) (eval-first-at t) eval-first.Post
+eval-first-first-of-requires t c κs = search needs
 
-eval-if-eval-requires : (t : ℕ) → eval-if-lts.Need-eval-requires (eval-if-claims t) (eval-if-at t) eval-if.Post
-eval-if-eval-requires t c κs =
+eval-first-eval-requires : (t : ℕ) → eval-first-lts.Need-eval-requires (eval-first-claims t) (eval-first-at t) eval-first.Post
+eval-first-eval-requires t c κs =
     let start = c .before .before .before .before .before .before in
-    (omega (arith, start .pre .0, first-below (start .pre .1) refl (c .before .before .before .first-of .ensures)), start .pre .1 .ready)
+    (omega (arith, start .pre .0, leading-below (start .pre .1) (c .before .before .before .first-of .ensures)), start .pre .1 .node .ready)
 
-eval-if-is-stop-requires : (t : ℕ) → eval-if-lts.Need-is-stop-requires (eval-if-claims t) (eval-if-at t) eval-if.Post
-eval-if-is-stop-requires t c κs = search needs
+eval-first-is-stop-requires : (t : ℕ) → eval-first-lts.Need-is-stop-requires (eval-first-claims t) (eval-first-at t) eval-first.Post
+eval-first-is-stop-requires t c κs = search needs
 
-eval-if-returns : (t : ℕ) → eval-if-lts.Need-returns (eval-if-claims t) (eval-if-at t) eval-if.Post
-eval-if-returns t c =
+eval-first-returns : (t : ℕ) → eval-first-lts.Need-returns (eval-first-claims t) (eval-first-at t) eval-first.Post
+eval-first-returns t c =
     let at-first-of = c .before .before .before .before .before .before in
     let start = at-first-of .before .before .before in
-    stays _ (if-is _ _ _ (start .pre .1) (at-first-of .first-of .ensures) refl refl) (c .before .before .eval .ensures)
+    stays _ (first-is (start .pre .1) _ _ _ (at-first-of .first-of .ensures)) (c .before .before .eval .ensures)
     (sym (c .before .is-stop .ensures) ∙ c .if1 .taken)
 
-eval-if-sort-requires : (t : ℕ) → eval-if-lts.Need-sort-requires (eval-if-claims t) (eval-if-at t) eval-if.Post
-eval-if-sort-requires t c κs = search needs
+eval-first-kind-of-requires : (t : ℕ) → eval-first-lts.Need-kind-of-requires (eval-first-claims t) (eval-first-at t) eval-first.Post
+eval-first-kind-of-requires t c κs = search needs
 
-eval-if-stop-requires : (t : ℕ) → eval-if-lts.Need-stop-requires (eval-if-claims t) (eval-if-at t) eval-if.Post
-eval-if-stop-requires t c κs = search needs
+eval-first-slice-aggregate-append : (t : ℕ) → eval-first-lts.Need-slice-aggregate-append (eval-first-claims t) (eval-first-at t) eval-first.Post
+eval-first-slice-aggregate-append t c = search needs
 
-eval-if-returns-2 : (t : ℕ) → eval-if-lts.Need-returns-2 (eval-if-claims t) (eval-if-at t) eval-if.Post
-eval-if-returns-2 t c =
-    let at-is-stop = c .before .before .before .before in
-    let at-eval = at-is-stop .before in
-    let at-first-of = at-eval .before .before .before .before in
-    let start = at-first-of .before .before .before in
-    follows _ (if-is _ _ _ (start .pre .1) (at-first-of .first-of .ensures) refl refl) (at-eval .eval .ensures)
-    (sym (at-is-stop .is-stop .ensures) ∙ c .before .before .before .if1 .left)
-    (ends (branch-stuck _ _ _ _ _ (c .before .before .sort .ensures) (c .before .if2 .taken) (c .stop .ensures)))
+eval-first-slice-aggregate-append-2 : (t : ℕ) → eval-first-lts.Need-slice-aggregate-append-2 (eval-first-claims t) (eval-first-at t) eval-first.Post
+eval-first-slice-aggregate-append-2 t c = search needs
 
-eval-if-payload-requires : (t : ℕ) → eval-if-lts.Need-payload-requires (eval-if-claims t) (eval-if-at t) eval-if.Post
-eval-if-payload-requires t c κs = search needs
+eval-first-slice-aggregate-append-3 : (t : ℕ) → eval-first-lts.Need-slice-aggregate-append-3 (eval-first-claims t) (eval-first-at t) eval-first.Post
+eval-first-slice-aggregate-append-3 t c = search needs
 
-eval-if-stop-requires-2 : (t : ℕ) → eval-if-lts.Need-stop-requires-2 (eval-if-claims t) (eval-if-at t) eval-if.Post
-eval-if-stop-requires-2 t c κs = search needs
+eval-first-append-requires : (t : ℕ) → eval-first-lts.Need-append-requires (eval-first-claims t) (eval-first-at t) eval-first.Post
+eval-first-append-requires t c κs =
+    let at-if2 = c .before .before .before .before in
+    let at-kind-of = at-if2 .before in
+    let start = at-kind-of .before .before .before .before .before .before .before .before .before .before in
+    guard-of (start .pre .1) (at-kind-of .kind-of .ensures) (at-if2 .if2 .taken)
 
-eval-if-returns-3 : (t : ℕ) → eval-if-lts.Need-returns-3 (eval-if-claims t) (eval-if-at t) eval-if.Post
-eval-if-returns-3 t c =
-    let at-payload = c .before .before in
-    let at-if2 = at-payload .before in
-    let at-sort = at-if2 .before in
-    let at-if1 = at-sort .before in
+eval-first-returns-2 : (t : ℕ) → eval-first-lts.Need-returns-2 (eval-first-claims t) (eval-first-at t) eval-first.Post
+eval-first-returns-2 t c =
+    let at-if2 = c .before .before .before .before .before in
+    let at-kind-of = at-if2 .before in
+    let at-if1 = at-kind-of .before in
     let at-is-stop = at-if1 .before in
     let at-eval = at-is-stop .before in
     let at-first-of = at-eval .before .before .before .before in
     let start = at-first-of .before .before .before in
-    follows _ (if-is _ _ _ (start .pre .1) (at-first-of .first-of .ensures) refl refl) (at-eval .eval .ensures)
-    (sym (at-is-stop .is-stop .ensures) ∙ at-if1 .if1 .left)
-    (ends (branch-undecided _ _ _ (at-sort .sort .ensures) (at-if2 .if2 .left) (at-payload .payload .ensures) _ _ (c .before .if3 .taken) (c .stop2 .ensures)))
+    follows _ (first-is (start .pre .1) _ _ _ (at-first-of .first-of .ensures)) (at-eval .eval .ensures)
+    (sym (at-is-stop .is-stop .ensures) ∙ at-if1 .if1 .left) (record {
+      done = post-done (c .append .ensures) _ ∙ sym
+          (first-posts (start .pre .1) _ _ _ _ _ (at-kind-of .kind-of .ensures) (at-if2 .if2 .taken));
+      calls = post-calls (c .append .ensures);
+      names = refl;
+    })
 
-eval-if-payload-requires-2 : (t : ℕ) → eval-if-lts.Need-payload-requires-2 (eval-if-claims t) (eval-if-at t) eval-if.Post
-eval-if-payload-requires-2 t c κs = search needs
+eval-first-eval-second-requires : (t : ℕ) → eval-first-lts.Need-eval-second-requires (eval-first-claims t) (eval-first-at t) eval-first.Post
+eval-first-eval-second-requires t c κs =
+    let at-if3 = c .before .before .before .before .before in
+    let at-if2 = at-if3 .before in
+    let at-kind-of = at-if2 .before in
+    let at-eval = at-kind-of .before .before .before in
+    let start = at-eval .before .before .before .before .before .before .before in (
+      omega (arith, start .pre .0, at-eval .eval .ensures .calls),
+      pair-of (start .pre .1) (at-kind-of .kind-of .ensures) (at-if2 .if2 .left)
+          (at-if3 .if3 .taken),
+    )
 
-eval-if-second-of-requires : (t : ℕ) → eval-if-lts.Need-second-of-requires (eval-if-claims t) (eval-if-at t) eval-if.Post
-eval-if-second-of-requires t c κs = search needs
+eval-first-returns-3 : (t : ℕ) → eval-first-lts.Need-returns-3 (eval-first-claims t) (eval-first-at t) eval-first.Post
+eval-first-returns-3 t c =
+    let at-if3 = c .before .before .before .before .before .before in
+    let at-if2 = at-if3 .before in
+    let at-kind-of = at-if2 .before in
+    let at-if1 = at-kind-of .before in
+    let at-is-stop = at-if1 .before in
+    let at-eval = at-is-stop .before in
+    let at-first-of = at-eval .before .before .before .before in
+    let start = at-first-of .before .before .before in
+    follows _ (first-is (start .pre .1) _ _ _ (at-first-of .first-of .ensures)) (at-eval .eval .ensures)
+    (sym (at-is-stop .is-stop .ensures) ∙ at-if1 .if1 .left) (goes-on
+    (first-seconds (start .pre .1) _ _ _ _ _ (at-kind-of .kind-of .ensures) (at-if2 .if2 .left) (at-if3 .if3 .taken)) (le-refl _) refl
+    (c .eval-second .ensures))
 
-eval-if-third-of-requires : (t : ℕ) → eval-if-lts.Need-third-of-requires (eval-if-claims t) (eval-if-at t) eval-if.Post
-eval-if-third-of-requires t c κs = search needs
+eval-first-sort-requires : (t : ℕ) → eval-first-lts.Need-sort-requires (eval-first-claims t) (eval-first-at t) eval-first.Post
+eval-first-sort-requires t c κs = search needs
 
-eval-if-choose-requires : (t : ℕ) → eval-if-lts.Need-choose-requires (eval-if-claims t) (eval-if-at t) eval-if.Post
-eval-if-choose-requires t c κs = search needs
+eval-first-stop-requires : (t : ℕ) → eval-first-lts.Need-stop-requires (eval-first-claims t) (eval-first-at t) eval-first.Post
+eval-first-stop-requires t c κs = search needs
 
-eval-if-eval-requires-2 : (t : ℕ) → eval-if-lts.Need-eval-requires-2 (eval-if-claims t) (eval-if-at t) eval-if.Post
-eval-if-eval-requires-2 t c κs =
+eval-first-returns-4 : (t : ℕ) → eval-first-lts.Need-returns-4 (eval-first-claims t) (eval-first-at t) eval-first.Post
+eval-first-returns-4 t c =
+    let at-if2 = c .before .before .before .before in
+    let at-kind-of = at-if2 .before in
+    let at-if1 = at-kind-of .before in
+    let at-is-stop = at-if1 .before in
+    let at-eval = at-is-stop .before in
+    let at-first-of = at-eval .before .before .before .before in
+    let start = at-first-of .before .before .before in
+    follows _ (first-is (start .pre .1) _ _ _ (at-first-of .first-of .ensures)) (at-eval .eval .ensures)
+    (sym (at-is-stop .is-stop .ensures) ∙ at-if1 .if1 .left) (ends
+    (first-branches (start .pre .1) _ _ _ _ _ (at-kind-of .kind-of .ensures) (at-if2 .if2 .left)
+    (c .before .before .before .if3 .left) refl refl ∙ branch-stuck _ _ _ _ _ (c .before .before .sort .ensures) (c .before .if4 .taken) (c .stop .ensures)))
+
+eval-first-payload-requires : (t : ℕ) → eval-first-lts.Need-payload-requires (eval-first-claims t) (eval-first-at t) eval-first.Post
+eval-first-payload-requires t c κs = search needs
+
+eval-first-stop-requires-2 : (t : ℕ) → eval-first-lts.Need-stop-requires-2 (eval-first-claims t) (eval-first-at t) eval-first.Post
+eval-first-stop-requires-2 t c κs = search needs
+
+eval-first-returns-5 : (t : ℕ) → eval-first-lts.Need-returns-5 (eval-first-claims t) (eval-first-at t) eval-first.Post
+eval-first-returns-5 t c =
+    let at-sort = c .before .before .before .before in
+    let at-if3 = at-sort .before in
+    let at-if2 = at-if3 .before in
+    let at-kind-of = at-if2 .before in
+    let at-if1 = at-kind-of .before in
+    let at-is-stop = at-if1 .before in
+    let at-eval = at-is-stop .before in
+    let at-first-of = at-eval .before .before .before .before in
+    let start = at-first-of .before .before .before in
+    follows _ (first-is (start .pre .1) _ _ _ (at-first-of .first-of .ensures)) (at-eval .eval .ensures)
+    (sym (at-is-stop .is-stop .ensures) ∙ at-if1 .if1 .left) (ends
+    (first-branches (start .pre .1) _ _ _ _ _ (at-kind-of .kind-of .ensures) (at-if2 .if2 .left) (at-if3 .if3 .left) refl refl ∙ branch-undecided _ _ _
+    (at-sort .sort .ensures) (c .before .before .before .if4 .left) (c .before .before .payload .ensures) _ _ (c .before .if5 .taken) (c .stop2 .ensures)))
+
+eval-first-payload-requires-2 : (t : ℕ) → eval-first-lts.Need-payload-requires-2 (eval-first-claims t) (eval-first-at t) eval-first.Post
+eval-first-payload-requires-2 t c κs = search needs
+
+eval-first-second-of-requires : (t : ℕ) → eval-first-lts.Need-second-of-requires (eval-first-claims t) (eval-first-at t) eval-first.Post
+eval-first-second-of-requires t c κs = search needs
+
+eval-first-third-of-requires : (t : ℕ) → eval-first-lts.Need-third-of-requires (eval-first-claims t) (eval-first-at t) eval-first.Post
+eval-first-third-of-requires t c κs = search needs
+
+eval-first-choose-requires : (t : ℕ) → eval-first-lts.Need-choose-requires (eval-first-claims t) (eval-first-at t) eval-first.Post
+eval-first-choose-requires t c κs = search needs
+
+eval-first-eval-requires-2 : (t : ℕ) → eval-first-lts.Need-eval-requires-2 (eval-first-claims t) (eval-first-at t) eval-first.Post
+eval-first-eval-requires-2 t c κs =
     let at-choose = c .before .before .before .before .before in
     let at-third-of = at-choose .before in
     let at-second-of = at-third-of .before in
     let at-payload2 = at-second-of .before in
-    let at-eval = at-payload2 .before .before .before .before .before .before .before in
+    let at-if3 = at-payload2 .before .before .before .before .before in
+    let at-kind-of = at-if3 .before .before in
+    let at-eval = at-kind-of .before .before .before in
     let start = at-eval .before .before .before .before .before .before .before in (
       omega (
         arith,
         start .pre .0,
         at-eval .eval .ensures .calls,
-        chosen-below (ltb 0 (at-payload2 .payload2 .result)) (at-choose .choose .ensures)
-            (second-below (start .pre .1) refl (at-second-of .second-of .ensures)) (third-below (start .pre .1) refl (at-third-of .third-of .ensures)),
+        branch-below (start .pre .1) (at-kind-of .kind-of .ensures) (at-if3 .if3 .left)
+            (at-second-of .second-of .ensures) (at-third-of .third-of .ensures) (ltb 0 (at-payload2 .payload2 .result)) (at-choose .choose .ensures),
       ),
-      start .pre .1 .ready,
+      start .pre .1 .node .ready,
     )
 
-eval-if-returns-4 : (t : ℕ) → eval-if-lts.Need-returns-4 (eval-if-claims t) (eval-if-at t) eval-if.Post
-eval-if-returns-4 t c =
+eval-first-returns-6 : (t : ℕ) → eval-first-lts.Need-returns-6 (eval-first-claims t) (eval-first-at t) eval-first.Post
+eval-first-returns-6 t c =
     let at-choose = c .before .before .before .before .before .before in
     let at-third-of = at-choose .before in
     let at-second-of = at-third-of .before in
     let at-payload2 = at-second-of .before in
-    let at-if3 = at-payload2 .before in
-    let at-payload = at-if3 .before in
-    let at-if2 = at-payload .before in
-    let at-sort = at-if2 .before in
-    let at-if1 = at-sort .before in
+    let at-if5 = at-payload2 .before in
+    let at-payload = at-if5 .before in
+    let at-if4 = at-payload .before in
+    let at-sort = at-if4 .before in
+    let at-if3 = at-sort .before in
+    let at-if2 = at-if3 .before in
+    let at-kind-of = at-if2 .before in
+    let at-if1 = at-kind-of .before in
     let at-is-stop = at-if1 .before in
     let at-eval = at-is-stop .before in
     let at-first-of = at-eval .before .before .before .before in
     let start = at-first-of .before .before .before in
-    follows _ (if-is _ _ _ (start .pre .1) (at-first-of .first-of .ensures) (at-second-of .second-of .ensures) (at-third-of .third-of .ensures))
-    (at-eval .eval .ensures) (sym (at-is-stop .is-stop .ensures) ∙ at-if1 .if1 .left)
-    (goes-on (branch-to _ _ _ (at-sort .sort .ensures) (at-if2 .if2 .left) (at-payload .payload .ensures) _ _ _ _ _ _ (at-if3 .if3 .left)
-    (at-payload2 .payload2 .ensures) (at-choose .choose .ensures)) (le-refl _) refl (c .eval2 .ensures))
+    follows _ (first-is (start .pre .1) _ _ _ (at-first-of .first-of .ensures)) (at-eval .eval .ensures)
+    (sym (at-is-stop .is-stop .ensures) ∙ at-if1 .if1 .left) (goes-on
+    (first-branches (start .pre .1) _ _ _ _ _ (at-kind-of .kind-of .ensures) (at-if2 .if2 .left) (at-if3 .if3 .left) (at-second-of .second-of .ensures)
+    (at-third-of .third-of .ensures) ∙ branch-to _ _ _ (at-sort .sort .ensures) (at-if4 .if4 .left) (at-payload .payload .ensures) _ _ _ _ _ _
+    (at-if5 .if5 .left) (at-payload2 .payload2 .ensures) (at-choose .choose .ensures)) (le-refl _) refl (c .eval2 .ensures))
 
-abbrev eval-pair-claims : ℕ → eval-pair-lts.Claims
-eval-pair-claims t = (
-  first-of-reads.Asked,
-  first-of-reads.Learnt,
+abbrev eval-second-claims : ℕ → eval-second-lts.Claims
+eval-second-claims t = (
+  second-of-reads.Asked,
+  second-of-reads.Learnt,
   eval-below t,
   eval.Post,
   is-stop-reads.Asked,
   is-stop-reads.Learnt,
-  second-of-reads.Asked,
-  second-of-reads.Learnt,
   kind-of-reads.Asked,
   kind-of-reads.Learnt,
   apply-below t,
@@ -648,155 +686,64 @@ eval-pair-claims t = (
   operate-reads.Learnt,
 )
 
-eval-pair-first-of-requires : (t : ℕ) → eval-pair-lts.Need-first-of-requires (eval-pair-claims t) (eval-pair-at t) eval-pair.Post
-eval-pair-first-of-requires t c κs = search needs
+eval-second-second-of-requires : (t : ℕ) → eval-second-lts.Need-second-of-requires (eval-second-claims t) (eval-second-at t) eval-second.Post
+eval-second-second-of-requires t c κs = search needs
 
-eval-pair-eval-requires : (t : ℕ) → eval-pair-lts.Need-eval-requires (eval-pair-claims t) (eval-pair-at t) eval-pair.Post
-eval-pair-eval-requires t c κs =
+eval-second-eval-requires : (t : ℕ) → eval-second-lts.Need-eval-requires (eval-second-claims t) (eval-second-at t) eval-second.Post
+eval-second-eval-requires t c κs =
     let start = c .before .before .before .before .before .before in
-    (omega (arith, start .pre .0, operand-below (start .pre .1) (c .before .before .before .first-of .ensures) refl .0), start .pre .1 .ready)
+    (omega (arith, start .pre .0, operand-below (start .pre .1) refl (c .before .before .before .second-of .ensures) .1), start .pre .1 .node .ready)
 
-eval-pair-is-stop-requires : (t : ℕ) → eval-pair-lts.Need-is-stop-requires (eval-pair-claims t) (eval-pair-at t) eval-pair.Post
-eval-pair-is-stop-requires t c κs = search needs
+eval-second-is-stop-requires : (t : ℕ) → eval-second-lts.Need-is-stop-requires (eval-second-claims t) (eval-second-at t) eval-second.Post
+eval-second-is-stop-requires t c κs = search needs
 
-eval-pair-returns : (t : ℕ) → eval-pair-lts.Need-returns (eval-pair-claims t) (eval-pair-at t) eval-pair.Post
-eval-pair-returns t c =
-    let at-first-of = c .before .before .before .before .before .before in
-    let start = at-first-of .before .before .before in
-    stays _ (pair-is (start .pre .1) _ _ _ (at-first-of .first-of .ensures) refl) (c .before .before .eval .ensures)
-    (sym (c .before .is-stop .ensures) ∙ c .if1 .taken)
-
-eval-pair-second-of-requires : (t : ℕ) → eval-pair-lts.Need-second-of-requires (eval-pair-claims t) (eval-pair-at t) eval-pair.Post
-eval-pair-second-of-requires t c κs = search needs
-
-eval-pair-eval-requires-2 : (t : ℕ) → eval-pair-lts.Need-eval-requires-2 (eval-pair-claims t) (eval-pair-at t) eval-pair.Post
-eval-pair-eval-requires-2 t c κs =
-    let at-eval = c .before .before .before .before .before .before .before .before in
-    let start = at-eval .before .before .before .before .before .before .before in (
-      omega (arith, start .pre .0, at-eval .eval .ensures .calls, operand-below (start .pre .1) refl (c .before .before .before .second-of .ensures) .1),
-      start .pre .1 .ready,
-    )
-
-eval-pair-is-stop-requires-2 : (t : ℕ) → eval-pair-lts.Need-is-stop-requires-2 (eval-pair-claims t) (eval-pair-at t) eval-pair.Post
-eval-pair-is-stop-requires-2 t c κs = search needs
-
-eval-pair-returns-2 : (t : ℕ) → eval-pair-lts.Need-returns-2 (eval-pair-claims t) (eval-pair-at t) eval-pair.Post
-eval-pair-returns-2 t c =
+eval-second-returns : (t : ℕ) → eval-second-lts.Need-returns (eval-second-claims t) (eval-second-at t) eval-second.Post
+eval-second-returns t c =
     let at-second-of = c .before .before .before .before .before .before in
-    let at-if1 = at-second-of .before .before .before in
-    let at-is-stop = at-if1 .before in
-    let at-eval = at-is-stop .before in
-    let at-first-of = at-eval .before .before .before .before in
-    let start = at-first-of .before .before .before in
-    follows _ (pair-is (start .pre .1) _ _ _ (at-first-of .first-of .ensures) (at-second-of .second-of .ensures)) (at-eval .eval .ensures)
-    (sym (at-is-stop .is-stop .ensures) ∙ at-if1 .if1 .left) (stays _ (λ st. refl) (c .before .before .eval2 .ensures)
-    (sym (c .before .is-stop2 .ensures) ∙ c .if2 .taken))
-
-eval-pair-kind-of-requires : (t : ℕ) → eval-pair-lts.Need-kind-of-requires (eval-pair-claims t) (eval-pair-at t) eval-pair.Post
-eval-pair-kind-of-requires t c κs = search needs
-
-eval-pair-apply-requires : (t : ℕ) → eval-pair-lts.Need-apply-requires (eval-pair-claims t) (eval-pair-at t) eval-pair.Post
-eval-pair-apply-requires t c κs =
-    let at-eval2 = c .before .before .before .before .before .before .before .before .before in
-    let at-eval = at-eval2 .before .before .before .before .before .before .before .before .before in
-    let start = at-eval .before .before .before .before .before .before .before in
-    (omega (arith, start .pre .0, at-eval .eval .ensures .calls, at-eval2 .eval2 .ensures .calls), start .pre .1 .ready)
-
-eval-pair-returns-3 : (t : ℕ) → eval-pair-lts.Need-returns-3 (eval-pair-claims t) (eval-pair-at t) eval-pair.Post
-eval-pair-returns-3 t c =
-    let at-if3 = c .before .before .before .before .before .before in
-    let at-kind-of = at-if3 .before in
-    let at-if2 = at-kind-of .before in
-    let at-is-stop2 = at-if2 .before in
-    let at-eval2 = at-is-stop2 .before in
-    let at-second-of = at-eval2 .before .before .before .before in
-    let at-if1 = at-second-of .before .before .before in
-    let at-is-stop = at-if1 .before in
-    let at-eval = at-is-stop .before in
-    let at-first-of = at-eval .before .before .before .before in
-    let start = at-first-of .before .before .before in
-    follows _ (pair-is (start .pre .1) _ _ _ (at-first-of .first-of .ensures) (at-second-of .second-of .ensures)) (at-eval .eval .ensures)
-    (sym (at-is-stop .is-stop .ensures) ∙ at-if1 .if1 .left) (follows _ (λ st. refl) (at-eval2 .eval2 .ensures)
-    (sym (at-is-stop2 .is-stop2 .ensures) ∙ at-if2 .if2 .left)
-    (goes-on (pair-applies (start .pre .1) _ _ _ _ _ (at-kind-of .kind-of .ensures) (at-if3 .if3 .taken)) (le-refl _) refl (c .apply .ensures)))
-
-eval-pair-operate-requires : (t : ℕ) → eval-pair-lts.Need-operate-requires (eval-pair-claims t) (eval-pair-at t) eval-pair.Post
-eval-pair-operate-requires t c κs = search needs
-
-eval-pair-returns-4 : (t : ℕ) → eval-pair-lts.Need-returns-4 (eval-pair-claims t) (eval-pair-at t) eval-pair.Post
-eval-pair-returns-4 t c =
-    let at-if2 = c .before .before .before .before in
-    let at-is-stop2 = at-if2 .before in
-    let at-eval2 = at-is-stop2 .before in
-    let at-second-of = at-eval2 .before .before .before .before in
-    let at-if1 = at-second-of .before .before .before in
-    let at-is-stop = at-if1 .before in
-    let at-eval = at-is-stop .before in
-    let at-first-of = at-eval .before .before .before .before in
-    let start = at-first-of .before .before .before in
-    follows _ (pair-is (start .pre .1) _ _ _ (at-first-of .first-of .ensures) (at-second-of .second-of .ensures)) (at-eval .eval .ensures)
-    (sym (at-is-stop .is-stop .ensures) ∙ at-if1 .if1 .left) (follows _ (λ st. refl) (at-eval2 .eval2 .ensures)
-    (sym (at-is-stop2 .is-stop2 .ensures) ∙ at-if2 .if2 .left)
-    (record {
-      done = pair-operates (start .pre .1) _ _ _ _ _ _ _ _ (c .before .before .before .kind-of .ensures) (c .before .before .if3 .left)
-          (c .operate .ensures);
-      calls = operate-calls (c .operate .ensures);
-      names = refl;
-    }))
-
-abbrev eval-post-claims : ℕ → eval-post-lts.Claims
-eval-post-claims t = (
-  first-of-reads.Asked,
-  first-of-reads.Learnt,
-  eval-below t,
-  eval.Post,
-  is-stop-reads.Asked,
-  is-stop-reads.Learnt,
-  append-reads.Asked,
-  append-reads.Learnt,
-)
-
-eval-post-first-of-requires : (t : ℕ) → eval-post-lts.Need-first-of-requires (eval-post-claims t) (eval-post-at t) eval-post.Post
-eval-post-first-of-requires t c κs = search needs
-
-eval-post-eval-requires : (t : ℕ) → eval-post-lts.Need-eval-requires (eval-post-claims t) (eval-post-at t) eval-post.Post
-eval-post-eval-requires t c κs =
-    let start = c .before .before .before .before .before .before in
-    (omega (arith, start .pre .0, first-below (start .pre .1) refl (c .before .before .before .first-of .ensures)), start .pre .1 .ready)
-
-eval-post-is-stop-requires : (t : ℕ) → eval-post-lts.Need-is-stop-requires (eval-post-claims t) (eval-post-at t) eval-post.Post
-eval-post-is-stop-requires t c κs = search needs
-
-eval-post-returns : (t : ℕ) → eval-post-lts.Need-returns (eval-post-claims t) (eval-post-at t) eval-post.Post
-eval-post-returns t c =
-    let at-first-of = c .before .before .before .before .before .before in
-    let start = at-first-of .before .before .before in
-    stays _ (post-is _ _ _ (start .pre .1) (at-first-of .first-of .ensures)) (c .before .before .eval .ensures)
+    let start = at-second-of .before .before .before in
+    stays _ (second-is (start .pre .1) _ _ _ _ (at-second-of .second-of .ensures)) (c .before .before .eval .ensures)
     (sym (c .before .is-stop .ensures) ∙ c .if1 .taken)
 
-eval-post-slice-aggregate-append : (t : ℕ) → eval-post-lts.Need-slice-aggregate-append (eval-post-claims t) (eval-post-at t) eval-post.Post
-eval-post-slice-aggregate-append t c = search needs
+eval-second-kind-of-requires : (t : ℕ) → eval-second-lts.Need-kind-of-requires (eval-second-claims t) (eval-second-at t) eval-second.Post
+eval-second-kind-of-requires t c κs = search needs
 
-eval-post-slice-aggregate-append-2 : (t : ℕ) → eval-post-lts.Need-slice-aggregate-append-2 (eval-post-claims t) (eval-post-at t) eval-post.Post
-eval-post-slice-aggregate-append-2 t c = search needs
+eval-second-apply-requires : (t : ℕ) → eval-second-lts.Need-apply-requires (eval-second-claims t) (eval-second-at t) eval-second.Post
+eval-second-apply-requires t c κs =
+    let at-eval = c .before .before .before .before .before .before .before .before .before in
+    let start = at-eval .before .before .before .before .before .before .before in
+    (omega (arith, start .pre .0, at-eval .eval .ensures .calls), start .pre .1 .node .ready)
 
-eval-post-slice-aggregate-append-3 : (t : ℕ) → eval-post-lts.Need-slice-aggregate-append-3 (eval-post-claims t) (eval-post-at t) eval-post.Post
-eval-post-slice-aggregate-append-3 t c = search needs
-
-eval-post-append-requires : (t : ℕ) → eval-post-lts.Need-append-requires (eval-post-claims t) (eval-post-at t) eval-post.Post
-eval-post-append-requires t c κs =
-    let start = c .before .before .before .before .before .before .before .before .before .before .before .before .before in
-    guard-right (start .pre .1) refl
-
-eval-post-returns-2 : (t : ℕ) → eval-post-lts.Need-returns-2 (eval-post-claims t) (eval-post-at t) eval-post.Post
-eval-post-returns-2 t c =
-    let at-if1 = c .before .before .before .before .before in
+eval-second-returns-2 : (t : ℕ) → eval-second-lts.Need-returns-2 (eval-second-claims t) (eval-second-at t) eval-second.Post
+eval-second-returns-2 t c =
+    let at-if2 = c .before .before .before .before .before .before in
+    let at-kind-of = at-if2 .before in
+    let at-if1 = at-kind-of .before in
     let at-is-stop = at-if1 .before in
     let at-eval = at-is-stop .before in
-    let at-first-of = at-eval .before .before .before .before in
-    let start = at-first-of .before .before .before in
-    follows _ (post-is _ _ _ (start .pre .1) (at-first-of .first-of .ensures)) (at-eval .eval .ensures) (sym (at-is-stop .is-stop .ensures) ∙ at-if1 .if1 .left)
-    (record { done = post-done (c .append .ensures) _; calls = post-calls (c .append .ensures); names = refl })
+    let at-second-of = at-eval .before .before .before .before in
+    let start = at-second-of .before .before .before in
+    follows _ (second-is (start .pre .1) _ _ _ _ (at-second-of .second-of .ensures)) (at-eval .eval .ensures)
+    (sym (at-is-stop .is-stop .ensures) ∙ at-if1 .if1 .left) (goes-on
+    (pair-applies (start .pre .1) _ _ _ _ _ (at-kind-of .kind-of .ensures) (at-if2 .if2 .taken)) (le-refl _) refl (c .apply .ensures))
+
+eval-second-operate-requires : (t : ℕ) → eval-second-lts.Need-operate-requires (eval-second-claims t) (eval-second-at t) eval-second.Post
+eval-second-operate-requires t c κs = search needs
+
+eval-second-returns-3 : (t : ℕ) → eval-second-lts.Need-returns-3 (eval-second-claims t) (eval-second-at t) eval-second.Post
+eval-second-returns-3 t c =
+    let at-if1 = c .before .before .before .before in
+    let at-is-stop = at-if1 .before in
+    let at-eval = at-is-stop .before in
+    let at-second-of = at-eval .before .before .before .before in
+    let start = at-second-of .before .before .before in
+    follows _ (second-is (start .pre .1) _ _ _ _ (at-second-of .second-of .ensures)) (at-eval .eval .ensures)
+    (sym (at-is-stop .is-stop .ensures) ∙ at-if1 .if1 .left) (record {
+      done = pair-operates (start .pre .1) _ _ _ _ _ _ _ _
+          (c .before .before .before .kind-of .ensures) (c .before .before .if2 .left) (c .operate .ensures);
+      calls = operate-calls
+          (c .operate .ensures);
+      names = refl;
+    })
 
 abbrev eval-tail-claims : ℕ → eval-tail-lts.Claims
 eval-tail-claims t = (enter-reads.Asked, enter-reads.Learnt, is-stop-reads.Asked, is-stop-reads.Learnt, eval-below t, eval.Post)
@@ -852,17 +799,9 @@ eval-tail-returns-2 t c =
     goes-on (tail-goes (start .pre .1) _ _ _ (at-enter .enter .ensures) _ (sym (at-is-stop .is-stop .ensures) ∙ at-if1 .if1 .left))
     (omega (arith, at-enter .enter .ensures .calls)) refl (c .eval .ensures)
 
-pub +apply+eval+eval-enable+eval-if+eval-pair+eval-post+eval-tail-spec : {M : Type 1} → statement M
-+apply+eval+eval-enable+eval-if+eval-pair+eval-post+eval-tail-spec =
-    close
-    μ-apply
-    μ-eval
-    μ-eval-enable
-    μ-eval-if
-    μ-eval-pair
-    μ-eval-post
-    μ-eval-tail
-    (λ t. apply-lts.spec (apply-claims t)
+pub +apply+eval+eval-enable+eval-first+eval-second+eval-tail-spec : {M : Type 1} → statement M
++apply+eval+eval-enable+eval-first+eval-second+eval-tail-spec =
+    close μ-apply μ-eval μ-eval-enable μ-eval-first μ-eval-second μ-eval-tail (λ t. apply-lts.spec (apply-claims t)
     (apply-at t)
     apply.Post
     (apply-sort-requires t)
@@ -902,10 +841,8 @@ pub +apply+eval+eval-enable+eval-if+eval-pair+eval-post+eval-tail-spec : {M : Ty
     (eval-look-requires t)
     (eval-second-of-requires-2 t)
     (eval-function-requires t)
-    (eval-eval-if-requires t)
     (eval-eval-enable-requires t)
-    (eval-eval-post-requires t)
-    (eval-eval-pair-requires t)
+    (eval-eval-first-requires t)
     (eval-eval-tail-requires t)
     (eval-returns t)
     (eval-returns-2 t)
@@ -913,9 +850,7 @@ pub +apply+eval+eval-enable+eval-if+eval-pair+eval-post+eval-tail-spec : {M : Ty
     (eval-returns-4 t)
     (eval-returns-5 t)
     (eval-returns-6 t)
-    (eval-returns-7 t)
-    (eval-returns-8 t)
-    (eval-returns-9 t))
+    (eval-returns-7 t))
     (λ t. eval-enable-lts.spec (eval-enable-claims t)
     (eval-enable-at t)
     eval-enable.Post
@@ -930,53 +865,45 @@ pub +apply+eval+eval-enable+eval-if+eval-pair+eval-post+eval-tail-spec : {M : Ty
     (eval-enable-slice-aggregate-restore t)
     (eval-enable-restore-requires t)
     (eval-enable-returns t))
-    (λ t. eval-if-lts.spec (eval-if-claims t)
-    (eval-if-at t)
-    eval-if.Post
-    (eval-if-first-of-requires t)
-    (eval-if-eval-requires t)
-    (eval-if-is-stop-requires t)
-    (eval-if-returns t)
-    (eval-if-sort-requires t)
-    (eval-if-stop-requires t)
-    (eval-if-returns-2 t)
-    (eval-if-payload-requires t)
-    (eval-if-stop-requires-2 t)
-    (eval-if-returns-3 t)
-    (eval-if-payload-requires-2 t)
-    (eval-if-second-of-requires t)
-    (eval-if-third-of-requires t)
-    (eval-if-choose-requires t)
-    (eval-if-eval-requires-2 t)
-    (eval-if-returns-4 t))
-    (λ t. eval-pair-lts.spec (eval-pair-claims t)
-    (eval-pair-at t)
-    eval-pair.Post
-    (eval-pair-first-of-requires t)
-    (eval-pair-eval-requires t)
-    (eval-pair-is-stop-requires t)
-    (eval-pair-returns t)
-    (eval-pair-second-of-requires t)
-    (eval-pair-eval-requires-2 t)
-    (eval-pair-is-stop-requires-2 t)
-    (eval-pair-returns-2 t)
-    (eval-pair-kind-of-requires t)
-    (eval-pair-apply-requires t)
-    (eval-pair-returns-3 t)
-    (eval-pair-operate-requires t)
-    (eval-pair-returns-4 t))
-    (λ t. eval-post-lts.spec (eval-post-claims t)
-    (eval-post-at t)
-    eval-post.Post
-    (eval-post-first-of-requires t)
-    (eval-post-eval-requires t)
-    (eval-post-is-stop-requires t)
-    (eval-post-returns t)
-    (eval-post-slice-aggregate-append t)
-    (eval-post-slice-aggregate-append-2 t)
-    (eval-post-slice-aggregate-append-3 t)
-    (eval-post-append-requires t)
-    (eval-post-returns-2 t))
+    (λ t. eval-first-lts.spec (eval-first-claims t)
+    (eval-first-at t)
+    eval-first.Post
+    (eval-first-first-of-requires t)
+    (eval-first-eval-requires t)
+    (eval-first-is-stop-requires t)
+    (eval-first-returns t)
+    (eval-first-kind-of-requires t)
+    (eval-first-slice-aggregate-append t)
+    (eval-first-slice-aggregate-append-2 t)
+    (eval-first-slice-aggregate-append-3 t)
+    (eval-first-append-requires t)
+    (eval-first-returns-2 t)
+    (eval-first-eval-second-requires t)
+    (eval-first-returns-3 t)
+    (eval-first-sort-requires t)
+    (eval-first-stop-requires t)
+    (eval-first-returns-4 t)
+    (eval-first-payload-requires t)
+    (eval-first-stop-requires-2 t)
+    (eval-first-returns-5 t)
+    (eval-first-payload-requires-2 t)
+    (eval-first-second-of-requires t)
+    (eval-first-third-of-requires t)
+    (eval-first-choose-requires t)
+    (eval-first-eval-requires-2 t)
+    (eval-first-returns-6 t))
+    (λ t. eval-second-lts.spec (eval-second-claims t)
+    (eval-second-at t)
+    eval-second.Post
+    (eval-second-second-of-requires t)
+    (eval-second-eval-requires t)
+    (eval-second-is-stop-requires t)
+    (eval-second-returns t)
+    (eval-second-kind-of-requires t)
+    (eval-second-apply-requires t)
+    (eval-second-returns-2 t)
+    (eval-second-operate-requires t)
+    (eval-second-returns-3 t))
     λ t. eval-tail-lts.spec (eval-tail-claims t)
     (eval-tail-at t)
     eval-tail.Post
