@@ -22,7 +22,9 @@ use Rattle.program.specs.Laws.Screening.{found≢clear, found-first, first-foun
 use Rattle.program.specs.Limits.{maxCells, maxPosts}
 use Rattle.semantics.specs.Values.{Budget, budget}
 use Rattle.semantics.specs.Runs.{Request, Buffers, Sizes, sizes, startOk, buffersOk, limitsOk, runConditions, Course, rejected, started, course, Outcome, Counts, Answer, refused, ran, left, counts, answerOf, inOrder, postsMade, buffersAfter, After, run}
-use Rattle.semantics.specs.Theorems.{refused-exactly, Few, countsIn}
+use Rattle.semantics.specs.Claims.{Few}
+use Rattle.semantics.specs.Laws.Starting.{countsIn}
+use Rattle.semantics.specs.Theorems.{refused-exactly}
 use Rattle.largest.specs.Largest.{request, isLargest, lentConditions, unlessFound, lentRun}
 use Rattle.lines.specs.Sessions.{Operation, add, serve, stepped, session, servesIn, only, accepted, addedBy, inTurn, servedBy, addedIn, servedIn, Sound}
 use Rattle.largest.specs.Theorems.{same-run, lent-few, lent-untouched, lent-lengths}

@@ -30,7 +30,8 @@ use Rattle.semantics.specs.Laws.Saturation.{listedIn, evaluation-load}
 use Rattle.semantics.specs.Claims.{Each, Asks, by-check, by-test, by-guard, Decision}
 use Rattle.semantics.specs.Laws.Posts.{evaluation-decides}
 use Rattle.semantics.specs.Laws.Refusals.{refused-last, others-go-on}
-use Rattle.semantics.specs.Theorems.{Starts, refused-exactly, starts-screened, clear-well, clear-calls}
+use Rattle.semantics.specs.Laws.Starting.{clear-well, clear-calls}
+use Rattle.semantics.specs.Theorems.{Starts, refused-exactly, starts-screened}
 
 -- ---- the answer: "Its answer is as without a record"
 module _ (r : ℕ) (q : Request) (b : Buffers) where
@@ -141,7 +142,7 @@ module _ (s : List ℕ) (w : WellFormed s) where
       omega (arith, leb-true (small s t) 31 (subst (λ (x : Part). partOk s t x (small s t) ≡ true) h ok))
 
   -- a term below 1,024 and a privilege below 32
-  pub decision-low : (t p : ℕ) → Decision s t p → (t < maxTerms) × (p < 32)
+  decision-low : (t p : ℕ) → Decision s t p → (t < maxTerms) × (p < 32)
   decision-low t p d = (omega (arith, d .a-term, w .terms-most), go (d .asks))
     where
       go : Asks s t p → p < 32
