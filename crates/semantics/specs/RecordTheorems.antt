@@ -84,10 +84,10 @@ module _ (s : List ℕ) (q : Request) (b : Buffers) (t : List ℕ) where
     pub same-run : r .after ≡ run s q b
     -- "a full record takes no more"
     pub as-many : r .entries ≡ min (length t / 4) (length (decisions s q (sizes b)))
-    pub first-bytes : take (4 * r .entries) (r .trace) ≡ traceBytes kept
+    pub first-bytes : take (4 * r .entries) (r .noted) ≡ traceBytes kept
     -- "bytes past the last entry are untouched"
-    pub rest-untouched : drop (4 * r .entries) (r .trace) ≡ drop (4 * r .entries) t
-    pub same-length : length (r .trace) ≡ length t
+    pub rest-untouched : drop (4 * r .entries) (r .noted) ≡ drop (4 * r .entries) t
+    pub same-length : length (r .noted) ≡ length t
 
   pub record-holds : Record (recording s q b t)
   unfolding recording
@@ -105,7 +105,7 @@ module _ (s : List ℕ) (q : Request) (b : Buffers) (t : List ℕ) where
       }
 
   abbrev unrecorded : Recorded
-  unrecorded = record { after = run s q b; entries = 0; trace = t }
+  unrecorded = record { after = run s q b; entries = 0; noted = t }
 
   -- a record without room for an entry stays as it is: the run with an empty record is the run
   pub too-short : length t < 4 → recording s q b t ≡ unrecorded
@@ -115,7 +115,7 @@ module _ (s : List ℕ) (q : Request) (b : Buffers) (t : List ℕ) where
       λ i. record {
         after = run s q b;
         entries = length (take (none i) (decisions s q (sizes b)));
-        trace = withEntries (take (none i) (decisions s q (sizes b))) t;
+        noted = withEntries (take (none i) (decisions s q (sizes b))) t;
       }
 
   -- a run that is turned back decides nothing, and its record is untouched
