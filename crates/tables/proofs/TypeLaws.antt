@@ -16,7 +16,8 @@ use Rattle.program.specs.Bytes.{Bytes}
 use Rattle.program.specs.Layout.{principals, types, typeAt, typesOf}
 use Rattle.program.specs.Decoding.{baseOk, functionOk, shallow, sameBytes, fresh, typeOk}
 use Rattle.program.specs.Records.{typeAtByte, typeRecord}
-use Rattle.tables.specs.Internal.{leWord, Laid, Passed, TableAt, Depths, Deep}
+use Rattle.accessors.specs.Internal.{Laid}
+use Rattle.tables.specs.Internal.{leWord, Passed, TableAt, Depths, Deep}
 use Rattle.program.specs.Laws.Readable.{FieldsOk, fields-ok}
 use Rattle.program.specs.Laws.Records.{type-laid}
 use Rattle.tables.proofs.WordLaws.{eight-differ}

@@ -1,9 +1,9 @@
 -- A sheet with one channel has no guards, and ends where the terms do (plain-end). Any other has the field of tag 5, whose fault is the first that is
 -- found (fault-5), and ends after its 3 + 16 bytes (guards-end).
 use borrow.Author.Needs.{needs}
-use Rattle.tables.proofs.FieldLaws.{is-fault, is-records, plain-end, fault-5, guards-end}
-use Rattle.tables.proofs.header.read_end.Statement.{statement}
-use Rattle.tables.proofs.header.read_end.Tie as tie
+use Rattle.headers.proofs.FieldLaws.{is-fault, is-records, plain-end, fault-5, guards-end}
+use Rattle.headers.proofs.read_end.Statement.{statement}
+use Rattle.headers.proofs.read_end.Tie as tie
 
 ends-requires : tie.Need-ends-requires
 ends-requires c κs = search needs

@@ -1,7 +1,7 @@
 -- The two ways out are the condition's: another length is refusal 2, the same is none.
-use Rattle.tables.proofs.FieldLaws.{not-end, is-end}
-use Rattle.tables.proofs.header.ends.Statement.{statement}
-use Rattle.tables.proofs.header.ends.Tie as tie
+use Rattle.headers.proofs.FieldLaws.{not-end, is-end}
+use Rattle.headers.proofs.ends.Statement.{statement}
+use Rattle.headers.proofs.ends.Tie as tie
 
 returns : tie.Need-returns
 returns c =

@@ -1,10 +1,10 @@
 -- A law for each way out, in the order of the field's conditions: no room for tag and length (1), another tag (2), a wrong length (4), content
 -- that is cut short (1), and a field with its number of records. Each has passed the conditions before its own.
 use borrow.Author.Tests.{not-true, not-false}
-use Rattle.tables.proofs.FieldLaws.{field-short, field-tag, field-length, field-cut, field-whole}
+use Rattle.headers.proofs.FieldLaws.{field-short, field-tag, field-length, field-cut, field-whole}
 use borrow.Author.Needs.{needs}
-use Rattle.tables.proofs.header.read_field.Statement.{statement}
-use Rattle.tables.proofs.header.read_field.Tie as tie
+use Rattle.headers.proofs.read_field.Statement.{statement}
+use Rattle.headers.proofs.read_field.Tie as tie
 
 add-if1 : tie.Need-add-if1
 add-if1 c = search needs

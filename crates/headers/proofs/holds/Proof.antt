@@ -2,8 +2,8 @@
 use native.Mathlib.Nat.{div-mul-le-self}
 use native.Mathlib.Omega.{arith}
 use borrow.Author.Needs.{needs}
-use Rattle.tables.proofs.header.holds.Statement.{statement}
-use Rattle.tables.proofs.header.holds.Tie as tie
+use Rattle.headers.proofs.holds.Statement.{statement}
+use Rattle.headers.proofs.holds.Tie as tie
 
 div-n : tie.Need-div-n
 div-n c = search needs

@@ -3,9 +3,9 @@
 use native.Mathlib.Omega.{arith}
 use borrow.Author.Needs.{needs}
 use mathlib.Core.Path.{refl}
-use Rattle.tables.proofs.FieldLaws.{is-fault, is-records, first-fault, version-known, version-unknown}
-use Rattle.tables.proofs.header.read_version.Statement.{statement}
-use Rattle.tables.proofs.header.read_version.Tie as tie
+use Rattle.headers.proofs.FieldLaws.{is-fault, is-records, first-fault, version-known, version-unknown}
+use Rattle.headers.proofs.read_version.Statement.{statement}
+use Rattle.headers.proofs.read_version.Tie as tie
 
 read-field-requires : tie.Need-read-field-requires
 read-field-requires c κs = search needs

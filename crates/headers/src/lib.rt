@@ -2,7 +2,7 @@
 ghost use mathlib.Core.Path.{_≡_};
 ghost use Prim.Native.Nat.{_<_};
 ghost use Rattle.program.specs.Decoding.{holds as holdsOf};
-ghost use Rattle.tables.specs.Internal.{FieldAt, FieldIs, VersionIs, endAt, endConditions, AfterTerms, EndIs, HeaderIs};
+ghost use Rattle.headers.specs.Internal.{FieldAt, FieldIs, VersionIs, endAt, endConditions, AfterTerms, EndIs, HeaderIs};
 use accessors::be16;
 use program::answer::Refusal;
 use program::limits::CHANNEL_PLACES;

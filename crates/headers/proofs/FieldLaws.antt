@@ -15,14 +15,15 @@ use Rattle.program.specs.Screening.{Condition, First, first-here, first-later, 
 use Rattle.program.specs.Decoding.{holds, field, fieldConditions}
 use Rattle.program.specs.Laws.Screening.{first-left, first-right, append-none, none-unless, found-unless}
 use Rattle.program.specs.Answers.{decodingCause, decodingPlace}
-use Rattle.tables.specs.Internal.{Laid, FieldHolds, FieldIs, versionConditions, VersionHolds, VersionIs, endAt, endConditions, AfterTerms, EndIs}
+use Rattle.accessors.specs.Internal.{Laid}
+use Rattle.headers.specs.Internal.{FieldHolds, FieldIs, versionConditions, VersionHolds, VersionIs, endAt, endConditions, AfterTerms, EndIs}
 use Rattle.program.specs.declared.answer.Refusal.{Refusal}
-use Rattle.tables.specs.declared.header.Field.{Field}
-use Rattle.tables.specs.declared.header.Field.the-variants.{Records, Fault}
-use Rattle.tables.specs.declared.header.Version.{Version}
-use Rattle.tables.specs.declared.header.Version.the-variants.{Channels, Fault as VersionFault}
-use Rattle.tables.specs.declared.header.End.{End}
-use Rattle.tables.specs.declared.header.End.the-variants.{Whole, Fault as EndFault}
+use Rattle.headers.specs.declared.Field.{Field}
+use Rattle.headers.specs.declared.Field.the-variants.{Records, Fault}
+use Rattle.headers.specs.declared.Version.{Version}
+use Rattle.headers.specs.declared.Version.the-variants.{Channels, Fault as VersionFault}
+use Rattle.headers.specs.declared.End.{End}
+use Rattle.headers.specs.declared.End.the-variants.{Whole, Fault as EndFault}
 
 -- ---- one field
 module _ (s : List ℕ) (at tag size least most : ℕ) where

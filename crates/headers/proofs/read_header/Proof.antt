@@ -2,10 +2,10 @@
 -- A field begins where the one before ends, at most at 10,894 = 8 + 4 * 32 + 3 + 10 * 256 + 3 + 8 * 1024, below the 16,384 that `read_field` requires.
 use native.Mathlib.Omega.{arith}
 use borrow.Author.Needs.{needs}
-use Rattle.tables.proofs.FieldLaws.{is-fault, is-records, is-version, version-fault, fault-2, fault-3, fault-4, end-as, after-terms, fault-end, laid}
-use Rattle.tables.specs.Internal.{endConditions}
-use Rattle.tables.proofs.header.read_header.Statement.{statement}
-use Rattle.tables.proofs.header.read_header.Tie as tie
+use Rattle.headers.proofs.FieldLaws.{is-fault, is-records, is-version, version-fault, fault-2, fault-3, fault-4, end-as, after-terms, fault-end, laid}
+use Rattle.headers.specs.Internal.{endConditions}
+use Rattle.headers.proofs.read_header.Statement.{statement}
+use Rattle.headers.proofs.read_header.Tie as tie
 
 read-version-requires : tie.Need-read-version-requires
 read-version-requires c κs = search needs
