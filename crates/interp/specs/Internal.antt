@@ -35,11 +35,6 @@ pub record ReadSheet (s : List ℕ) (c : Counts) : Type 0 where
   pub readable : Readable s
   pub counts-are : CountsOf s c
 
--- and as the evaluator needs it
-pub record FormedSheet (s : List ℕ) (c : Counts) : Type 0 where
-  pub well-formed : WellFormed s
-  pub counts-are : CountsOf s c
-
 -- ---- the start stack
 -- at most 16 frames, none of them half
 pub record Whole (start : List ℕ) : Type 0 where

@@ -7,9 +7,9 @@ use mathlib.Core.Path.{refl, sym, _∙_}
 use Prim.Native.Nat.{_-_, _*_, _+_}
 use Rattle.program.specs.Layout.{terms as termsOf}
 use Rattle.intervals.specs.Laws.Pairs.{counted-below}
-use Rattle.ranges.proofs.PairLaws.{LaidBelow, counted-yes, counted-no, counted-most, laid-none, laid-other, laid-pair, laid-all}
-use Rattle.ranges.proofs.pairs.lay_pairs.Statement.{statement}
-use Rattle.ranges.proofs.pairs.lay_pairs.Tie as tie
+use Rattle.pairs.proofs.PairLaws.{LaidBelow, counted-yes, counted-no, counted-most, laid-none, laid-other, laid-pair, laid-all}
+use Rattle.pairs.proofs.lay_pairs.Statement.{statement}
+use Rattle.pairs.proofs.lay_pairs.Tie as tie
 
 abbrev Inv-loop : tie.InvT-loop
 Inv-loop s c pairs terms₀ count n₀ t₀ terms n t = LaidBelow s pairs terms₀ terms count n t

@@ -3,9 +3,9 @@
 use native.Mathlib.Omega.{arith}
 use mathlib.Core.Path.{refl, sym}
 use Prim.Native.Nat.{_-_}
-use Rattle.ranges.proofs.PairLaws.{OrderedBelow, ordered-next, ordered-not, ordered-all}
-use Rattle.ranges.proofs.pairs.ordered.Statement.{statement}
-use Rattle.ranges.proofs.pairs.ordered.Tie as tie
+use Rattle.pairs.proofs.PairLaws.{OrderedBelow, ordered-next, ordered-not, ordered-all}
+use Rattle.pairs.proofs.ordered.Statement.{statement}
+use Rattle.pairs.proofs.ordered.Tie as tie
 
 abbrev Inv-loop : tie.InvT-loop
 Inv-loop pairs count n i₀ i = OrderedBelow pairs n i

@@ -3,16 +3,14 @@ use mathlib.Core.Bool.{Bool, true, false, cond, _&&_, true≢false}
 use mathlib.Core.List.{List}
 use mathlib.Core.Path.{_≡_, refl, sym, ap, _∙_, subst}
 use Prim.Native.Nat.{ℕ, zero, suc, _+_, _*_, _<_, _≤_}
-use native.Mathlib.Decide.{ℕ-discrete, decLt}
+use native.Mathlib.Decide.{ℕ-discrete}
 use native.Mathlib.Omega.{arith}
 use lib.Dec.{eqb}
 use lib.ListN.{length, getD, set, length-set}
 use lib.Seq.{getD-set-same, getD-set-other}
-use borrow.Author.Tests.{le-leb, eq-eqb, ne-eqb, eqb-true}
-use Rattle.privileges.specs.Booleans.{and-left, and-right}
-use Rattle.program.specs.Layout.{version, terms, kindByte}
-use Rattle.program.specs.Records.{CountsOf, termRecord}
-use Rattle.program.specs.Laws.Readable.{WellFormed}
+use borrow.Author.Tests.{le-leb, eq-eqb, ne-eqb}
+use Rattle.program.specs.Layout.{version, terms}
+use Rattle.program.specs.Records.{termRecord}
 use Rattle.program.specs.Laws.Records.{term-is}
 use Rattle.program.specs.declared.records.Counts.{Counts}
 use Rattle.program.specs.declared.records.TermRecord.{TermRecord}
@@ -20,13 +18,7 @@ use Rattle.intervals.specs.Intervals.{Interval}
 use Rattle.intervals.specs.Pairs.{isNumber, numbersBelow, pairOf, ordered, pairsOk}
 use Rattle.intervals.specs.Laws.Pairs.{ordered-at}
 use Rattle.stores.specs.Words.{intervalWord}
-use Rattle.machine.specs.Table.{wordKind, Decoded}
-use Rattle.machine.specs.Store.{shapeOf}
-use Rattle.machine.specs.Lower.{Lower}
-use Rattle.evaluator.specs.Contracts.{Table}
-use Rattle.evaluator.specs.Laws.{table-of}
-use Rattle.refinement.specs.Claims.{IntervalTable}
-use Rattle.ranges.specs.Internal.{TermOf, RangeWord, Laid}
+use Rattle.pairs.specs.Internal.{TermOf, RangeWord, Laid}
 
 -- ---- a term's kind, by its record
 pub number-by : {s : List ℕ} {c : Counts} {t : ℕ} → TermOf s c t → {x : TermRecord} → x ≡ termRecord s c t → eqb (x .kind) 1 ≡ isNumber s t
@@ -102,11 +94,6 @@ module _ (s ps : List ℕ) where
         (o ∙ ap (ordered ps) q)
         ∙ (λ i. tested (sym (eq-eqb (version s) 1 e) i) (sym (eq-eqb (length ps) (2 * count) many) i) (ordered ps count))
 
-  pub pairs-enough : pairsOk s ps ≡ true → 2 * count ≤ length ps
-  pairs-enough e =
-      let many : eqb (length ps) (2 * count) ≡ true = search (e, and-left, and-right) in
-      omega (arith, eqb-true (length ps) (2 * count) many)
-
 -- ---- laying
 range-word : {i : Interval} {l h : ℕ} → l < 65536 → h < 65536 → l ≡ i .low → h ≡ i .high → RangeWord i (intervalWord l h)
 range-word p q e f = record { kind-is = omega arith; lowest-is = omega arith ∙ e; highest-is = omega arith ∙ f }
@@ -153,38 +140,3 @@ module _ {s ps old new : List ℕ} {t : ℕ} (h : Laid s ps t old new) where
       subst (Laid s ps (t + 1) old) (sym same)
       (laid-number low e (subst (RangeWord (pairOf s ps t)) (sym p)
       (range-word l m (ap (λ (k : ℕ). getD ps (2 * k) 0) q) (ap (λ (k : ℕ). getD ps (2 * k + 1) 0) q))))
-
--- ---- the words with the pairs are as the evaluator and the refinement ask
-module _ {s : List ℕ} {c : Counts} {ps old new : List ℕ} (w : WellFormed s) (k : CountsOf s c) (d : Decoded s c old) (h : Laid s ps (terms s) old new) where
-  pub interval-table : IntervalTable s c ps new
-  interval-table = record {
-    others = λ t l n. rw (h .others t (λ _. ne-eqb (kindByte s t) 1 n)) (d .holds t);
-    kind-is = λ t l e. h .numbers t l (eq-eqb (kindByte s t) 1 e) .kind-is;
-    lowest-is = λ t l e. h .numbers t l (eq-eqb (kindByte s t) 1 e) .lowest-is;
-    highest-is = λ t l e. h .numbers t l (eq-eqb (kindByte s t) 1 e) .highest-is;
-  }
-
-  -- a number evaluates nothing
-  childless-lower : (t x : ℕ) → Lower (shapeOf 1) t x
-  unfolding shapeOf
-  childless-lower t x = record {
-    first-lower = λ e. absurd (true≢false (sym e));
-    second-lower = λ e. absurd (true≢false (sym e));
-    third-lower = λ e. absurd (true≢false (sym e));
-    privilege = λ e. absurd (true≢false (sym e));
-    guard = λ e. absurd (true≢false (sym e));
-  }
-
-  same-lower : (t : ℕ) → (t < terms s → isNumber s t ≡ false) → Lower (shapeOf (wordKind (getD new t 0))) t (getD new t 0)
-  same-lower t n = subst (λ x. Lower (shapeOf (wordKind x)) t x) (sym (h .others t n)) (table-of w k d .lower t)
-
-  pub laid-table : Table new
-  laid-table = record { long = h .long ∙ d .long; lower = λ t. at t (decLt t (terms s)) }
-    where
-      by : (t : ℕ) → t < terms s → (b : Bool) → isNumber s t ≡ b → Lower (shapeOf (wordKind (getD new t 0))) t (getD new t 0)
-      by t l true e = rw (h .numbers t l e .kind-is) (childless-lower t (getD new t 0))
-      by t l false e = same-lower t (λ _. e)
-
-      at : (t : ℕ) → Dec (t < terms s) → Lower (shapeOf (wordKind (getD new t 0))) t (getD new t 0)
-      at t (yes l) = by t l (isNumber s t) refl
-      at t (no l) = same-lower t (λ m. absurd (l m))

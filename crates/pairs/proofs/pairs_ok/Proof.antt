@@ -1,9 +1,9 @@
 -- Each of the three tests decides, in the order of the definition.
 use borrow.Author.Needs.{needs}
-use Rattle.ranges.proofs.PairLaws.{other-version, other-count, all-tested}
+use Rattle.pairs.proofs.PairLaws.{other-version, other-count, all-tested}
 use mathlib.Core.Path.{sym, _∙_}
-use Rattle.ranges.proofs.pairs.pairs_ok.Statement.{statement}
-use Rattle.ranges.proofs.pairs.pairs_ok.Tie as tie
+use Rattle.pairs.proofs.pairs_ok.Statement.{statement}
+use Rattle.pairs.proofs.pairs_ok.Tie as tie
 
 be16-requires : tie.Need-be16-requires
 be16-requires c κs = search needs

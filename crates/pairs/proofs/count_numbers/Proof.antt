@@ -4,9 +4,9 @@ use mathlib.Core.Logic.{⊎-elim}
 use mathlib.Core.Path.{refl, sym, _∙_}
 use Prim.Native.Nat.{_-_}
 use Rattle.program.specs.Layout.{terms as termsOf}
-use Rattle.ranges.proofs.PairLaws.{CountedBelow, counted-yes, counted-no, counted-all, counted-most}
-use Rattle.ranges.proofs.pairs.count_numbers.Statement.{statement}
-use Rattle.ranges.proofs.pairs.count_numbers.Tie as tie
+use Rattle.pairs.proofs.PairLaws.{CountedBelow, counted-yes, counted-no, counted-all, counted-most}
+use Rattle.pairs.proofs.count_numbers.Statement.{statement}
+use Rattle.pairs.proofs.count_numbers.Tie as tie
 
 abbrev Inv-loop : tie.InvT-loop
 Inv-loop s c count n₀ t₀ n t = CountedBelow s count t n

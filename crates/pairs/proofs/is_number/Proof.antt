@@ -1,8 +1,8 @@
 -- The record that is read is that of the term.
 use borrow.Author.Needs.{needs}
-use Rattle.ranges.proofs.PairLaws.{number-by}
-use Rattle.ranges.proofs.pairs.is_number.Statement.{statement}
-use Rattle.ranges.proofs.pairs.is_number.Tie as tie
+use Rattle.pairs.proofs.PairLaws.{number-by}
+use Rattle.pairs.proofs.is_number.Statement.{statement}
+use Rattle.pairs.proofs.is_number.Tie as tie
 
 term-requires : tie.Need-term-requires
 term-requires c κs = search needs
