@@ -1,4 +1,3 @@
-pub mod States
 pub mod Entries
 pub mod Internal
 pub mod Theorems
