@@ -15,7 +15,8 @@ use Rattle.program.specs.declared.answer.Decoded.the-variants.{Readable, Refuse
 use Rattle.program.specs.declared.records.Counts.{Counts}
 use Rattle.typing.specs.Places.{Placed, placed}
 use Rattle.typing.specs.declared.answer.Inferred.{Inferred}
-use Rattle.rules.specs.Inference.{inferredModel, lastFirst, context, Sheet, termJudgement}
+use Rattle.subtyping.specs.Internal.{Sheet}
+use Rattle.rules.specs.Inference.{inferredModel, lastFirst, context, termJudgement}
 use Rattle.rules.specs.declared.bindings.Bindings.{Bindings}
 use Rattle.checker.proofs.VerdictLaws.{root-ready}
 use Rattle.places.specs.Internal.{present, childAt}

@@ -17,8 +17,9 @@ use Rattle.program.specs.declared.answer.Decoded.the-variants.{Readable, Refuse
 use Rattle.program.specs.declared.records.Counts.{Counts}
 use Rattle.typing.specs.Places.{Placed, placed}
 use Rattle.typing.specs.declared.answer.Fault.{Fault}
-use Rattle.rules.specs.Inference.{lastFirst, Sheet}
-use Rattle.rules.specs.Known.{Known}
+use Rattle.subtyping.specs.Internal.{Sheet}
+use Rattle.subtyping.specs.Known.{Known}
+use Rattle.rules.specs.Inference.{lastFirst}
 use Rattle.rules.specs.declared.bindings.Bindings.{Bindings}
 use Rattle.checker.proofs.VerdictLaws.{root-ready}
 use Rattle.places.specs.Internal.{present, childAt}

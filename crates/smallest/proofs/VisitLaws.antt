@@ -17,8 +17,8 @@ use Rattle.typing.specs.Laws.Places.{tree-number}
 use Rattle.typing.specs.Checking.{Judgement, typed, fault, infer}
 use Rattle.typing.specs.declared.answer.Inferred.{Inferred}
 use Rattle.typing.specs.declared.answer.Inferred.the-variants.{Typed}
+use Rattle.subtyping.specs.Known.{Known, Answered}
 use Rattle.rules.specs.Inference.{inferredModel, context, termJudgement}
-use Rattle.rules.specs.Known.{Known, Answered}
 use Rattle.places.specs.Internal.{placedAt, ReadyPlace, childrenOf, childrenAt, childAt, Reached}
 use Rattle.places.specs.declared.Place.{Place}
 use Rattle.places.specs.declared.Child.{Child}

@@ -11,8 +11,8 @@ use Rattle.typing.specs.Places.{Placed, placed}
 use Rattle.typing.specs.Checking.{Judgement, typed, fault}
 use Rattle.typing.specs.Answers.{faultCause, faultPlace}
 use Rattle.typing.specs.declared.answer.Inferred.{Inferred}
+use Rattle.subtyping.specs.Known.{Known}
 use Rattle.rules.specs.Inference.{inferredModel, context, termJudgement}
-use Rattle.rules.specs.Known.{Known}
 use Rattle.places.specs.Internal.{ReadyPlace, childrenAt}
 use Rattle.places.specs.declared.Place.{Place}
 use Rattle.places.specs.declared.Child.{Child}

@@ -8,7 +8,7 @@ use places::first_child;
 use places::second_child;
 use places::third_child;
 use program::records::Counts;
-use rules::known::Known;
+use subtyping::known::Known;
 use typing::answer::Inferred;
 ghost use Prim.Native.Nat.{_+_, _≤_};
 ghost use Rattle.program.specs.Limits.{maxTerms};

@@ -10,7 +10,7 @@ use Rattle.program.specs.declared.records.Counts.{Counts}
 use Rattle.program.specs.declared.records.TypeRecord.{TypeRecord}
 use Rattle.program.specs.Laws.Types.{function-type}
 use Rattle.program.specs.Laws.Records.{type-is}
-use Rattle.rules.specs.Inference.{Sheet}
+use Rattle.subtyping.specs.Internal.{Sheet}
 
 -- the record of a function type has the parts that the definitions name
 pub record TypeParts (s : List ℕ) (t : ℕ) (f : TypeRecord) : Type 0 where

@@ -9,7 +9,7 @@ use Rattle.program.specs.Limits.{maxTypes}
 use Rattle.program.specs.Layout.{Types, typesOf}
 use Rattle.program.specs.declared.records.Counts.{Counts}
 use Rattle.typing.specs.Subtyping.{Subtype}
-use Rattle.rules.specs.Inference.{Sheet}
+use Rattle.subtyping.specs.Internal.{Sheet}
 
 -- two types of a table, which has at most 256
 pub record TypePair (a b : ℕ) : Type 0 where

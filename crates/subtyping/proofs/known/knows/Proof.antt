@@ -1,8 +1,8 @@
 -- The bit of the pair, by `contains`.
 use borrow.Author.Needs.{needs}
-use Rattle.rules.specs.Known.{knows}
-use Rattle.rules.proofs.known.knows.Statement.{statement}
-use Rattle.rules.proofs.known.knows.Tie as tie
+use Rattle.subtyping.specs.Known.{knows}
+use Rattle.subtyping.proofs.known.knows.Statement.{statement}
+use Rattle.subtyping.proofs.known.knows.Tie as tie
 
 mul-at : tie.Need-mul-at
 mul-at c = search needs

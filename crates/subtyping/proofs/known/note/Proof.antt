@@ -1,8 +1,8 @@
 -- The bit of the pair is set, by `insert`, and the rest of the table stays as it was.
 use borrow.Author.Needs.{needs}
-use Rattle.rules.proofs.KnownLaws.{note-word}
-use Rattle.rules.proofs.known.note.Statement.{statement}
-use Rattle.rules.proofs.known.note.Tie as tie
+use Rattle.subtyping.proofs.KnownLaws.{note-word}
+use Rattle.subtyping.proofs.known.note.Statement.{statement}
+use Rattle.subtyping.proofs.known.note.Tie as tie
 
 mul-at : tie.Need-mul-at
 mul-at c = search needs

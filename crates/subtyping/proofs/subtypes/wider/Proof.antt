@@ -1,7 +1,7 @@
 -- The second type if the first is a subtype of it, or else the first if the second is one of it, or else none. The table stays right.
-use Rattle.rules.proofs.SubtypeLaws.{wider-first-fits, wider-second-fits, wider-neither}
-use Rattle.rules.proofs.subtypes.wider.Statement.{statement}
-use Rattle.rules.proofs.subtypes.wider.Tie as tie
+use Rattle.subtyping.proofs.SubtypeLaws.{wider-first-fits, wider-second-fits, wider-neither}
+use Rattle.subtyping.proofs.subtypes.wider.Statement.{statement}
+use Rattle.subtyping.proofs.subtypes.wider.Tie as tie
 
 subtype-requires : tie.Need-subtype-requires
 subtype-requires c κs = c .before .before .pre

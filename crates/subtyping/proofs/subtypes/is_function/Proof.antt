@@ -1,7 +1,7 @@
 -- Types 0 and 1 are no functions; of any other the comparison with the number of types decides.
-use Rattle.rules.proofs.SubtypeLaws.{function-low, function-high}
-use Rattle.rules.proofs.subtypes.is_function.Statement.{statement}
-use Rattle.rules.proofs.subtypes.is_function.Tie as tie
+use Rattle.subtyping.proofs.SubtypeLaws.{function-low, function-high}
+use Rattle.subtyping.proofs.subtypes.is_function.Statement.{statement}
+use Rattle.subtyping.proofs.subtypes.is_function.Tie as tie
 
 returns : tie.Need-returns
 returns c = function-low _ _ (c .if1 .taken)

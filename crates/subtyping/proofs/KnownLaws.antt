@@ -16,7 +16,7 @@ use Rattle.privileges.specs.Laws.{has-none, has-insert}
 use Rattle.program.specs.Limits.{maxTypes}
 use Rattle.program.specs.Layout.{Types}
 use Rattle.typing.specs.Subtyping.{Subtype}
-use Rattle.rules.specs.Known.{wordOf, knows, noted, Known}
+use Rattle.subtyping.specs.Known.{wordOf, knows, noted, Known}
 
 pub note-word : (l : List ℕ) (a b : ℕ) {w : ℕ} → w ≡ insert (b % 32) (getD l (wordOf a b) 0) → set l (wordOf a b) w ≡ noted l a b
 unfolding noted

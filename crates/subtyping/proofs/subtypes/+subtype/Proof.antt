@@ -7,20 +7,20 @@ use borrow.Author.Needs.{needs}
 use Prim.Native.Nat.{_+_}
 use borrow.Author.Tests.{not-true, not-false}
 use mathlib.Core.Path.{sym, _∙_}
-use Rattle.rules.proofs.SubtypeLaws.{small, sub-known, sub-equal, sub-left, sub-right, args-fall, results-fall, sub-latent, sub-args, sub-results, sub-noted}
+use Rattle.subtyping.proofs.SubtypeLaws.{small, sub-known, sub-equal, sub-left, sub-right, args-fall, results-fall, sub-latent, sub-args, sub-results, sub-noted}
 use Prim.Native.Nat.{ℕ, _<_}
 use borrow.Fn.Kinds.{In}
 use borrow.Fn.PlainCycle.{Measures, is, falls, and}
-use Rattle.rules.proofs.subtypes.subtype.Reads as subtype
-use Rattle.rules.proofs.subtypes.subtype.Kinds as subtype-kinds
-use Rattle.rules.proofs.subtypes.+subtype.Lts-subtype as subtype-lts
+use Rattle.subtyping.proofs.subtypes.subtype.Reads as subtype
+use Rattle.subtyping.proofs.subtypes.subtype.Kinds as subtype-kinds
+use Rattle.subtyping.proofs.subtypes.+subtype.Lts-subtype as subtype-lts
 use Rattle.accessors.proofs.type_record.Reads as type-record-reads
 use Rattle.privileges.proofs.subset.Reads as subset-reads
-use Rattle.rules.proofs.known.knows.Reads as knows-reads
-use Rattle.rules.proofs.known.note.Reads as note-reads
-use Rattle.rules.proofs.subtypes.is_function.Reads as is-function-reads
-use Rattle.rules.proofs.subtypes.+subtype.{statement}
-use Rattle.rules.proofs.subtypes.+subtype.Tie.{close}
+use Rattle.subtyping.proofs.known.knows.Reads as knows-reads
+use Rattle.subtyping.proofs.known.note.Reads as note-reads
+use Rattle.subtyping.proofs.subtypes.is_function.Reads as is-function-reads
+use Rattle.subtyping.proofs.subtypes.+subtype.{statement}
+use Rattle.subtyping.proofs.subtypes.+subtype.Tie.{close}
 
 abbrev μ-subtype : Measures 2 subtype-kinds.ps ℕ
 μ-subtype κs a = a .1 .1 .1 .0 + a .1 .1 .1 .1 .0

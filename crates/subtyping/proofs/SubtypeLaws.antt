@@ -17,10 +17,10 @@ use Rattle.program.specs.Limits.{maxTypes}
 use Rattle.program.specs.Laws.Types.{Lower, function-type, lower-types}
 use Rattle.typing.specs.Subtyping.{subtypeIn, subtype, wider}
 use Rattle.typing.specs.Laws.Subtyping.{subtype-sound, subtype-complete}
-use Rattle.rules.specs.Inference.{Sheet}
-use Rattle.rules.specs.Known.{knows, noted, Known, Answered}
-use Rattle.rules.specs.Laws.Records.{TypeParts, function-is, type-parts}
-use Rattle.rules.proofs.KnownLaws.{known-noted}
+use Rattle.subtyping.specs.Internal.{Sheet}
+use Rattle.subtyping.specs.Known.{knows, noted, Known, Answered}
+use Rattle.subtyping.specs.Laws.Records.{TypeParts, function-is, type-parts}
+use Rattle.subtyping.proofs.KnownLaws.{known-noted}
 
 -- ---- is_function
 pub function-low : (t n : ℕ) → t < 2 → false ≡ (leb 2 t && ltb t n)
