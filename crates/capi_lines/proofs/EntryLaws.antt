@@ -19,13 +19,23 @@ use Rattle.queues.specs.Answers.{linesModel, additionModel, addedModel}
 use Rattle.lines.specs.Answers.{answerModel, servedModel}
 use Rattle.lines.specs.Theorems.{served-few}
 use Rattle.queues.specs.declared.state.Lines.{Lines}
+use Rattle.queues.specs.declared.state.Addition.{Addition}
 use Rattle.queues.specs.declared.state.Added.{Added}
 use Rattle.lines.specs.declared.answer.Answer as answers
 use Rattle.lines.specs.declared.answer.Answer.the-variants.{Idle, Outside, Run}
 use Rattle.lines.specs.declared.answer.Served.{Served}
-use Rattle.states.specs.States.{stateNumbers, stateRead, stateAfter, servedState}
-use Rattle.capi_lines.specs.Entries.{addReply, leftAdd, addLeft, linesAdd, serveReply, leftServe, serveLeft, linesServe}
+use Rattle.capi_lines.specs.States.{stateNumbers, stateRead}
+use Rattle.capi_lines.specs.Entries.{addReply, leftAdd, stateAfter, addLeft, linesAdd, serveReply, leftServe, servedState, serveLeft, linesServe}
 use Rattle.capi_lines.specs.Internal.{SmallAnswer}
+
+-- ---- the state afterwards, by the case that a match found
+pub kept-added : (before : List ℕ) (s : State) {x y : Addition} {now : List ℕ} → x ≡ y → now ≡ stateAfter (additionModel y) before s
+    → now ≡ stateAfter (additionModel x) before s
+kept-added before s e h = h ∙ sym (ap (λ (a : Addition). stateAfter (additionModel a) before s) e)
+
+pub kept-served : (before : List ℕ) (s : State) {x y : answers.Answer} {now : List ℕ} → x ≡ y → now ≡ servedState (answerModel y) before s
+    → now ≡ servedState (answerModel x) before s
+kept-served before s e h = h ∙ sym (ap (λ (a : answers.Answer). servedState (answerModel a) before s) e)
 
 -- ---- nothing is done
 module _ (state answer store : List ℕ) where

@@ -5,9 +5,9 @@ use Prim.Native.Nat.{ℕ}
 use Rattle.program.specs.Screening.{Screening, clear, found}
 use Rattle.semantics.specs.Runs.{Buffers}
 use Rattle.replies.specs.Replies.{Reply, refusal, runReply, unfit, written, writtenNine, notDone, left}
-use Rattle.queues.specs.Queues.{Job, Added, addOf}
+use Rattle.queues.specs.Queues.{Job, State, Added, addOf}
 use Rattle.lines.specs.Serving.{Told, idle, told, Served, serveOf}
-use Rattle.states.specs.States.{stateNumbers, stateRead, stateAfter, servedState}
+use Rattle.capi_lines.specs.States.{stateNumbers, stateRead, stateWritten}
 
 -- ---- a job is added
 
@@ -23,6 +23,11 @@ pub record AddLeft : Type 0 where
 
 abbrev pub leftAdd : (status : ℕ) (answer state : List ℕ) → AddLeft
 leftAdd status answer state = record { reply = left status answer; state = state }
+
+-- the state is written anew, or, by a refusal, left
+abbrev pub stateAfter : Screening → (before : List ℕ) → State → List ℕ
+stateAfter clear before s = stateWritten s
+stateAfter (found c p) before s = before
 
 abbrev pub addLeft : (state answer : List ℕ) → Added → AddLeft
 addLeft state answer r = record { reply = written (addReply (r .answer)) answer; state = stateAfter (r .answer) state (r .state) }
@@ -46,6 +51,11 @@ pub record ServeLeft : Type 0 where
 
 abbrev pub leftServe : (status : ℕ) (answer state : List ℕ) → Buffers → ServeLeft
 leftServe status answer state b = record { reply = left status answer; state = state; buffers = b }
+
+-- with no job the state is left
+abbrev pub servedState : Told → (before : List ℕ) → State → List ℕ
+servedState idle before s = before
+servedState (told a) before s = stateWritten s
 
 -- the ninth number is the line that was served
 abbrev pub serveLeft : (state answer : List ℕ) → Served → ServeLeft

@@ -1,10 +1,14 @@
 -- What the contracts of internal functions say; no reader of an entry's promise needs it.
-use mathlib.Core.List.{[], _∷_}
-use Prim.Native.Nat.{ℕ}
+use mathlib.Core.List.{List, [], _∷_}
+use mathlib.Core.Path.{_≡_}
+use Prim.Native.Nat.{ℕ, _<_}
+use lib.ListN.{length}
+use Rattle.queues.specs.Queues.{maxLines}
 use Rattle.replies.specs.Replies.{Reply}
 use Rattle.replies.specs.Internal.{Small}
 use Rattle.lines.specs.declared.answer.Answer.{Answer}
 use Rattle.lines.specs.declared.answer.Answer.the-variants.{Idle, Outside, Run}
+use Rattle.capi_lines.specs.States.{stateNumbers}
 
 -- a status with a cause
 abbrev pub numbered : (status cause : ℕ) → Reply
@@ -15,3 +19,8 @@ abbrev pub SmallAnswer : Answer → Type 0
 SmallAnswer Idle = Unit {0}
 SmallAnswer Outside = Unit {0}
 SmallAnswer (Run r) = Small r
+
+-- the list of a state, and a line of it
+pub record LineAt (state : List ℕ) (line : ℕ) : Type 0 where
+  pub long : length state ≡ stateNumbers
+  pub inside : line < maxLines

@@ -1,3 +1,4 @@
+pub mod States
 pub mod Entries
 pub mod Internal
 pub mod Theorems

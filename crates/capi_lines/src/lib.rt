@@ -1,4 +1,4 @@
-// The four lines for C: the two entries over their state, a list of numbers. include/sovzedal.h documents each argument.
+// The four lines for C: their state as a list of numbers, and the two entries over it. include/sovzedal.h documents each argument.
 ghost use mathlib.Core.List.{[]};
 ghost use mathlib.Core.Path.{_≡_};
 ghost use Rattle.interp.specs.Answers.{buffersOf};
@@ -6,14 +6,15 @@ ghost use Rattle.queues.specs.Answers.{jobOf};
 ghost use Rattle.capi_lines.specs.Entries.{linesAdd, leftAdd, linesServe, leftServe};
 
 pub mod reply;
+pub mod state;
 
 use replies::put;
 use reply::of_added;
 use reply::of_served;
-use states::STATE_NUMBERS;
-use states::keep_added;
-use states::keep_served;
-use states::load;
+use state::STATE_NUMBERS;
+use state::keep_added;
+use state::keep_served;
+use state::load;
 
 // A job for a line.
 pub fn add(

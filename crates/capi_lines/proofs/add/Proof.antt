@@ -3,7 +3,7 @@
 use borrow.Author.Needs.{needs}
 use Rattle.queues.specs.Answers.{jobOf}
 use Rattle.replies.specs.Laws.{other-size, too-short}
-use Rattle.states.specs.States.{stateNumbers}
+use Rattle.capi_lines.specs.States.{stateNumbers}
 use Rattle.capi_lines.proofs.EntryLaws.{add-away, add-given}
 use Rattle.capi_lines.proofs.add.Statement.{statement}
 use Rattle.capi_lines.proofs.add.Tie as tie

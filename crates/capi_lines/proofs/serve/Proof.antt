@@ -7,7 +7,7 @@ use mathlib.Core.List.{[]}
 use Rattle.interp.specs.Answers.{buffersOf}
 use Rattle.queues.specs.Answers.{linesModel}
 use Rattle.replies.specs.Laws.{other-size, too-short}
-use Rattle.states.specs.States.{stateNumbers}
+use Rattle.capi_lines.specs.States.{stateNumbers}
 use Rattle.capi_lines.proofs.EntryLaws.{serve-away, serve-given, small-answer}
 use Rattle.capi_lines.proofs.serve.Statement.{statement}
 use Rattle.capi_lines.proofs.serve.Tie as tie

@@ -1,8 +1,8 @@
 -- `load` reads the four queues, the turn and the place (state-read).
 use borrow.Author.Needs.{needs}
-use Rattle.states.proofs.StateLaws.{state-read}
-use Rattle.states.proofs.load.Statement.{statement}
-use Rattle.states.proofs.load.Tie as tie
+use Rattle.capi_lines.proofs.StateLaws.{state-read}
+use Rattle.capi_lines.proofs.state.load.Statement.{statement}
+use Rattle.capi_lines.proofs.state.load.Tie as tie
 
 shared-slice-read-turn : tie.Need-shared-slice-read-turn
 shared-slice-read-turn c = search needs

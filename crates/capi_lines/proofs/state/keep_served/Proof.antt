@@ -1,9 +1,9 @@
 -- `keep_served` leaves the list if no job was served, and writes the state anew otherwise (kept-served).
 use borrow.Author.Needs.{needs}
 use Rattle.queues.specs.Answers.{linesModel}
-use Rattle.states.proofs.StateLaws.{kept-served}
-use Rattle.states.proofs.keep_served.Statement.{statement}
-use Rattle.states.proofs.keep_served.Tie as tie
+use Rattle.capi_lines.proofs.EntryLaws.{kept-served}
+use Rattle.capi_lines.proofs.state.keep_served.Statement.{statement}
+use Rattle.capi_lines.proofs.state.keep_served.Tie as tie
 
 enum-told : tie.Need-enum-told
 enum-told c = search needs

@@ -6,10 +6,8 @@ use mathlib.Core.List.{List, [], _∷_}
 use Prim.Native.Nat.{ℕ, zero, suc, _+_, _-_, _*_, _/_, _%_, min}
 use lib.Dec.{ltb}
 use lib.ListN.{length, getD, take}
-use Rattle.program.specs.Screening.{Screening, clear, found}
 use Rattle.queues.specs.Queues.{maxLines, Job, State, queueAt}
 use Rattle.queues.specs.Answers.{noJob}
-use Rattle.lines.specs.Serving.{Told, idle, told}
 
 abbrev pub stateNumbers : ℕ
 stateNumbers = 102
@@ -67,15 +65,3 @@ tabulate f i (suc n) = f i ∷ tabulate f (suc i) n
 
 unfoldable pub stateWritten : State → List ℕ
 stateWritten s = tabulate (numberAt s) 0 stateNumbers
-
--- ---- what an entry leaves of a list
-
--- the state is written anew, or, by a refusal, left
-abbrev pub stateAfter : Screening → (before : List ℕ) → State → List ℕ
-stateAfter clear before s = stateWritten s
-stateAfter (found c p) before s = before
-
--- with no job the state is left
-abbrev pub servedState : Told → (before : List ℕ) → State → List ℕ
-servedState idle before s = before
-servedState (told a) before s = stateWritten s

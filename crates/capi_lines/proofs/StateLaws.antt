@@ -1,4 +1,4 @@
--- The lines' state, from the numbers of a list to the struct, and back, and what is left of the list, by the case that a match found.
+-- The lines' state, from the numbers of a list to the struct, and back.
 use mathlib.Core.Bool.{cond}
 use mathlib.Core.List.{List, [], _∷_, map}
 use mathlib.Core.Path.{_≡_, refl, sym, ap, _∙_}
@@ -9,16 +9,13 @@ use lib.ListN.{length, getD, take}
 use borrow.Author.Tests.{lt-ltb, le-ltb}
 use Rattle.queues.specs.Queues as queues
 use Rattle.queues.specs.Queues.{maxLines, State, queueAt}
-use Rattle.queues.specs.Answers.{noJob, jobModel, queueModel, linesModel, additionModel}
+use Rattle.queues.specs.Answers.{noJob, jobModel, queueModel, linesModel}
 use Rattle.queues.specs.Internal.{SizeIs}
 use Rattle.queues.specs.Laws.{none, queue-is}
 use Rattle.queues.specs.declared.state.Job.{Job}
 use Rattle.queues.specs.declared.state.Queue.{Queue}
 use Rattle.queues.specs.declared.state.Lines.{Lines}
-use Rattle.queues.specs.declared.state.Addition.{Addition}
-use Rattle.lines.specs.Answers.{answerModel}
-use Rattle.lines.specs.declared.answer.Answer.{Answer}
-use Rattle.states.specs.States.{stateNumbers, maxAllowance, jobRead, queueRead, stateRead, jobPart, jobNumber, numberAt, tabulate, stateWritten, stateAfter, servedState}
+use Rattle.capi_lines.specs.States.{stateNumbers, maxAllowance, jobRead, queueRead, stateRead, jobPart, jobNumber, numberAt, tabulate, stateWritten}
 
 -- ---- reading
 pub job-read : (n : List ℕ) (at : ℕ) {a : ℕ} → a ≡ min (getD n (at + 2) 0) maxAllowance
@@ -88,6 +85,10 @@ module _ (q : Lines) where
         ∙ (λ k. cond (sym (le-ltb (i - 2) maxLines (omega arith)) k) (length (queueAt S (i - 2))) (jobNumber S (i - 2 - 4)))
         ∙ sym past-two
 
+length-tabulate : (f : ℕ → ℕ) (i n : ℕ) → length (tabulate f i n) ≡ n
+length-tabulate f i zero = refl
+length-tabulate f i (suc n) = ap suc (length-tabulate f (suc i) n)
+
 getD-tabulate : (f : ℕ → ℕ) (i n k : ℕ) → k < n → getD (tabulate f i n) k 0 ≡ f (i + k)
 getD-tabulate f i zero k h = absurd (omega arith)
 getD-tabulate f i (suc n) zero h = ap f (sym (add-zero i))
@@ -95,15 +96,11 @@ getD-tabulate f i (suc n) (suc k) h =
     let e : suc i + k ≡ i + suc k = omega arith in
     getD-tabulate f (suc i) n k (omega arith) ∙ ap f e
 
-pub written-at : (s : State) (i : ℕ) → i < stateNumbers → getD (stateWritten s) i 0 ≡ numberAt s i
-unfolding stateWritten
-written-at s i h = let e : 0 + i ≡ i = omega arith in getD-tabulate (numberAt s) 0 stateNumbers i h ∙ ap (numberAt s) e
+module _ (s : State) where
+  pub written-size : length (stateWritten s) ≡ stateNumbers
+  unfolding stateWritten
+  written-size = length-tabulate (numberAt s) 0 stateNumbers
 
--- ---- the state afterwards, by the case that a match found
-pub kept-added : (before : List ℕ) (s : State) {x y : Addition} {now : List ℕ} → x ≡ y → now ≡ stateAfter (additionModel y) before s
-    → now ≡ stateAfter (additionModel x) before s
-kept-added before s e h = h ∙ sym (ap (λ (a : Addition). stateAfter (additionModel a) before s) e)
-
-pub kept-served : (before : List ℕ) (s : State) {x y : Answer} {now : List ℕ} → x ≡ y → now ≡ servedState (answerModel y) before s
-    → now ≡ servedState (answerModel x) before s
-kept-served before s e h = h ∙ sym (ap (λ (a : Answer). servedState (answerModel a) before s) e)
+  pub written-at : (i : ℕ) → i < stateNumbers → getD (stateWritten s) i 0 ≡ numberAt s i
+  unfolding stateWritten
+  written-at i h = let e : 0 + i ≡ i = omega arith in getD-tabulate (numberAt s) 0 stateNumbers i h ∙ ap (numberAt s) e

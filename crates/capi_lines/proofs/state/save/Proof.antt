@@ -7,11 +7,10 @@ use Prim.Native.Nat.{_-_}
 use lib.ListN.{set}
 use Rattle.queues.specs.Answers.{linesModel}
 use Rattle.replies.specs.Laws.{Copied, written-length, written-more, written-over}
-use Rattle.states.specs.States.{stateNumbers, stateWritten}
-use Rattle.states.specs.Theorems.{written-size}
-use Rattle.states.proofs.StateLaws.{written-at}
-use Rattle.states.proofs.save.Statement.{statement}
-use Rattle.states.proofs.save.Tie as tie
+use Rattle.capi_lines.specs.States.{stateNumbers, stateWritten}
+use Rattle.capi_lines.proofs.StateLaws.{written-size, written-at}
+use Rattle.capi_lines.proofs.state.save.Statement.{statement}
+use Rattle.capi_lines.proofs.state.save.Tie as tie
 
 abbrev Inv-loop : tie.InvT-loop
 Inv-loop q state₀ i₀ state i = Copied stateNumbers (stateWritten (linesModel q)) state₀ i state

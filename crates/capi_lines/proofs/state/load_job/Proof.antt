@@ -1,8 +1,8 @@
 -- `load_job` reads the three numbers of a job (job-read).
 use borrow.Author.Needs.{needs}
-use Rattle.states.proofs.StateLaws.{job-read}
-use Rattle.states.proofs.load_job.Statement.{statement}
-use Rattle.states.proofs.load_job.Tie as tie
+use Rattle.capi_lines.proofs.StateLaws.{job-read}
+use Rattle.capi_lines.proofs.state.load_job.Statement.{statement}
+use Rattle.capi_lines.proofs.state.load_job.Tie as tie
 
 mul-t3 : tie.Need-mul-t3
 mul-t3 c = search needs

@@ -1,9 +1,9 @@
 -- `keep_added` writes the state anew if the add is done, and leaves the list by a refusal (kept-added).
 use borrow.Author.Needs.{needs}
 use Rattle.queues.specs.Answers.{linesModel}
-use Rattle.states.proofs.StateLaws.{kept-added}
-use Rattle.states.proofs.keep_added.Statement.{statement}
-use Rattle.states.proofs.keep_added.Tie as tie
+use Rattle.capi_lines.proofs.EntryLaws.{kept-added}
+use Rattle.capi_lines.proofs.state.keep_added.Statement.{statement}
+use Rattle.capi_lines.proofs.state.keep_added.Tie as tie
 
 enum-told : tie.Need-enum-told
 enum-told c = search needs

@@ -1,8 +1,8 @@
 -- `number_at` gives the turn, the place, a line's count (is-count) or a number of the jobs (is-job).
 use borrow.Author.Needs.{needs}
-use Rattle.states.proofs.StateLaws.{is-turn, is-count, is-job}
-use Rattle.states.proofs.number_at.Statement.{statement}
-use Rattle.states.proofs.number_at.Tie as tie
+use Rattle.capi_lines.proofs.StateLaws.{is-turn, is-count, is-job}
+use Rattle.capi_lines.proofs.state.number_at.Statement.{statement}
+use Rattle.capi_lines.proofs.state.number_at.Tie as tie
 
 returns : tie.Need-returns
 returns c =

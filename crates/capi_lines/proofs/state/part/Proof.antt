@@ -1,9 +1,9 @@
 -- `part` gives a part of a job; the last if it is neither the first nor the second (last-part).
 use borrow.Author.Needs.{needs}
 use Rattle.queues.specs.Answers.{jobModel}
-use Rattle.states.proofs.StateLaws.{last-part}
-use Rattle.states.proofs.part.Statement.{statement}
-use Rattle.states.proofs.part.Tie as tie
+use Rattle.capi_lines.proofs.StateLaws.{last-part}
+use Rattle.capi_lines.proofs.state.part.Statement.{statement}
+use Rattle.capi_lines.proofs.state.part.Tie as tie
 
 returns : tie.Need-returns
 returns c = search needs

@@ -1,8 +1,8 @@
 -- `load_queue` reads the eight places of a line and how many of them have a job (queue-read).
 use borrow.Author.Needs.{needs}
-use Rattle.states.proofs.StateLaws.{queue-read}
-use Rattle.states.proofs.load_queue.Statement.{statement}
-use Rattle.states.proofs.load_queue.Tie as tie
+use Rattle.capi_lines.proofs.StateLaws.{queue-read}
+use Rattle.capi_lines.proofs.state.load_queue.Statement.{statement}
+use Rattle.capi_lines.proofs.state.load_queue.Tie as tie
 
 add-count : tie.Need-add-count
 add-count c = search needs

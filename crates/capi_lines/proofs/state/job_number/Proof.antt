@@ -1,8 +1,8 @@
 -- `job_number` gives the part that a number is of the job in its place (job-number).
 use borrow.Author.Needs.{needs}
-use Rattle.states.proofs.StateLaws.{job-number}
-use Rattle.states.proofs.job_number.Statement.{statement}
-use Rattle.states.proofs.job_number.Tie as tie
+use Rattle.capi_lines.proofs.StateLaws.{job-number}
+use Rattle.capi_lines.proofs.state.job_number.Statement.{statement}
+use Rattle.capi_lines.proofs.state.job_number.Tie as tie
 
 mul-queue : tie.Need-mul-queue
 mul-queue c = search needs
