@@ -96,7 +96,7 @@ module _ (s : List ℕ) (q : Request) (b : Buffers) where
   starts-exactly = (λ st. clear-none (runConditions s q (sizes b)) (starts-screened st), λ n. (_, _, answer-course _ (course-clear (none-clear n))))
 
   started-well : Starts → WellFormed s
-  started-well st = clear-well (starts-screened st)
+  started-well st = clear-well s q b (starts-screened st)
 
 -- ---- By which causes a run stops
 module _ (s : List ℕ) (q : Request) (b : Buffers) where
