@@ -7,7 +7,6 @@ use lib.ListN.{length, set}
 use Rattle.semantics.specs.Runs.{Buffers}
 use Rattle.interp.specs.Answers.{buffersOf, outcomeModel, countsModel}
 use Rattle.interp.specs.declared.answer.Run.the-variants.{Refused, Ran}
-use Rattle.replies.specs.Replies as replies
 use Rattle.replies.specs.Replies.{unfit, writtenNine, left}
 use Rattle.replies.specs.Internal.{replyOf, Put}
 use Rattle.replies.specs.Laws.{fit, in-place, run-eight, in-nine}
