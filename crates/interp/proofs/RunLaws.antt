@@ -50,7 +50,7 @@ refused-after s q cells posts frames noted f t e =
     let b = buffersOf cells posts frames in
     let is : run s q b ≡ after (Refused f) cells posts frames = run-course s q b _ (course-found s q b (refusalCause f) (refusalPlace f) e) in
     ap (λ (r : RecordedRun). afterRecording r cells posts frames noted) t
-    ∙ (λ i. record { after = sym is i; entries = 0; trace = noted })
+    ∙ (λ i. record { after = sym is i; entries = 0; noted = noted })
     ∙ sym (refused-unrecorded s q b noted (refusalCause f) (refusalPlace f) (ap (λ (a : After). a .answer) is))
 
 -- ---- without a record
@@ -69,9 +69,9 @@ module _ (s : List ℕ) (q : Request) (cells posts frames store noted : List ℕ
   listed = decidedIn (left (evaluationIn (traced (q .enforce)) (q .runner) s q z))
 
   -- the answer in the words of the meaning, from the tally of the root
-  record Answers (d : Done) (r : RecordedRun) (b : Buffers) (trace : List ℕ) : Type 0 where
+  record Answers (d : Done) (r : RecordedRun) (b : Buffers) (noted′ : List ℕ) : Type 0 where
     tally : Tally
-    tallied : Tallied (q .calls) d tally b trace
+    tallied : Tallied (q .calls) d tally b noted′
     answer-is : runModel (r .run) ≡ ran (outcomeOf (root s) (outOf (tally .word))) (countsModel (tally .made))
     entries-are : r .entries ≡ tally .entries
 
@@ -92,7 +92,7 @@ module _ (s : List ℕ) (q : Request) (cells posts frames store noted : List ℕ
       λ i. record {
         after = same i;
         entries = (v .entries-are ∙ v .tallied .entries-are ∙ R .same-entries ∙ ap (λ (es : List Event). length (recorded (length noted) es)) all) i;
-        trace = (v .tallied .trace-is ∙ R .same-trace ∙ ap (λ (es : List Event). withEntries (recorded (length noted) es) noted) all) i;
+        noted = (v .tallied .noted-is ∙ R .same-noted ∙ ap (λ (es : List Event). withEntries (recorded (length noted) es) noted) all) i;
       }
 
 -- ---- evaluation
@@ -118,7 +118,7 @@ tallied-by calls e z = record {
   cells-are = z ∙ ap (λ (d : Done). zerosLike (d .store .cells)) e;
   posts-are = ap (λ (d : Done). d .store .posts) e;
   frames-are = ap (λ (d : Done). d .store .frames) e;
-  trace-is = ap (λ (d : Done). d .store .noted) e;
+  noted-is = ap (λ (d : Done). d .store .noted) e;
 }
 
 pub answered-by : (root₀ : ℕ) (t : Tally) {x : Out} (o : Outcome) → x ≡ outOf (t .word) → outcomeModel o ≡ outcomeOf root₀ x

@@ -1,7 +1,7 @@
 -- What is told of a term from the reader's answer, from its place, and from its judgement there. Assumes nothing.
 use mathlib.Core.Bool.{true, false}
 use mathlib.Core.List.{List, []}
-use mathlib.Core.Option.{Option, none, some}
+use mathlib.Core.Option.{Option, some}
 use mathlib.Core.Path.{_≡_, refl, sym, ap, _∙_}
 use Prim.Native.Nat.{ℕ, _-_}
 use Rattle.program.specs.Layout.{authority, typesOf}
@@ -15,7 +15,8 @@ use Rattle.program.specs.declared.answer.Decoded.the-variants.{Readable, Refuse
 use Rattle.program.specs.declared.records.Counts.{Counts}
 use Rattle.typing.specs.Places.{Placed, placed}
 use Rattle.typing.specs.declared.answer.Inferred.{Inferred}
-use Rattle.rules.specs.Inference.{inferredModel, lastFirst, context, Sheet, termJudgement}
+use Rattle.subtyping.specs.Internal.{Sheet}
+use Rattle.rules.specs.Inference.{inferredModel, lastFirst, context, termJudgement}
 use Rattle.rules.specs.declared.bindings.Bindings.{Bindings}
 use Rattle.checker.proofs.VerdictLaws.{root-ready}
 use Rattle.places.specs.Internal.{present, childAt}

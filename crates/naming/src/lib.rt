@@ -3,7 +3,7 @@ ghost use mathlib.Core.List.{[], _∷_};
 ghost use mathlib.Core.Path.{_≡_};
 ghost use lib.Dec.{leb};
 ghost use Rattle.program.specs.Screening.{screen, unless};
-ghost use Rattle.rules.specs.Inference.{Sheet};
+ghost use Rattle.subtyping.specs.Internal.{Sheet};
 ghost use Rattle.semantics.specs.Names.{names as namesOf};
 ghost use Rattle.irrelevance.specs.Naming.{firstNaming, toldOf, unlessFound, naming};
 ghost use Rattle.irrelevance.specs.Answers.{namedModel};

@@ -17,8 +17,9 @@ use Rattle.program.specs.declared.answer.Decoded.the-variants.{Readable, Refuse
 use Rattle.program.specs.declared.records.Counts.{Counts}
 use Rattle.typing.specs.Places.{Placed, placed}
 use Rattle.typing.specs.declared.answer.Fault.{Fault}
-use Rattle.rules.specs.Inference.{lastFirst, Sheet}
-use Rattle.rules.specs.Known.{Known}
+use Rattle.subtyping.specs.Internal.{Sheet}
+use Rattle.subtyping.specs.Known.{Known}
+use Rattle.rules.specs.Inference.{lastFirst}
 use Rattle.rules.specs.declared.bindings.Bindings.{Bindings}
 use Rattle.checker.proofs.VerdictLaws.{root-ready}
 use Rattle.places.specs.Internal.{present, childAt}
@@ -26,14 +27,15 @@ use Rattle.subterms.specs.Smallest.{subterms, Refused, smallestOf, Piece, told,
 use Rattle.subterms.specs.Laws.Subterms.{subtermsIn}
 use Rattle.subterms.specs.Theorems.{record-inside, place-most, length-most}
 use Rattle.subterms.specs.declared.answer.Piece.the-variants.{Smallest, NoPiece, Unreadable}
+use Rattle.smallest.specs.Internal.{candidateModel, Visitable, VisitedAs}
+use Rattle.smallest.specs.declared.candidates.Candidate.{Candidate}
+use Rattle.smallest.specs.declared.candidates.Candidate.the-variants as candidate
+use Rattle.smallest.specs.declared.candidates.Candidate.the-variants.{Nothing}
+use Rattle.smallest.specs.declared.visit.Visited.{Visited}
+use Rattle.smallest.proofs.candidates.Candidate.{the-type}
 use Rattle.piece.specs.Answers.{LocatedAs}
-use Rattle.piece.specs.Internal.{candidateModel, Visitable, VisitedAs, pieceIn}
+use Rattle.piece.specs.Internal.{pieceIn}
 use Rattle.piece.specs.declared.Located.{Located}
-use Rattle.piece.specs.declared.candidates.Candidate.{Candidate}
-use Rattle.piece.specs.declared.candidates.Candidate.the-variants as candidate
-use Rattle.piece.specs.declared.candidates.Candidate.the-variants.{Nothing}
-use Rattle.piece.specs.declared.visit.Visited.{Visited}
-use Rattle.piece.proofs.candidates.Candidate.{the-type}
 use Rattle.places.specs.declared.Child.{Child}
 
 -- ---- the reader's answer

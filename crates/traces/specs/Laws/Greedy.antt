@@ -3,15 +3,15 @@ use mathlib.Core.Bool.{Bool, true, false, cond, true≢false, false≢true}
 use mathlib.Core.List.{List, [], _∷_}
 use mathlib.Core.Option.{Option, none, some}
 use mathlib.Core.Path.{_≡_, refl, sym, ap, _∙_, subst}
-use Prim.Native.Nat.{ℕ, zero, suc, _-_, _+_, _<_, _≤_}
+use Prim.Native.Nat.{ℕ, zero, suc, _-_, _<_, _≤_}
 use native.Mathlib.Omega.{arith}
 use lib.ListN.{length, take}
 use lib.Seq.{length-take-le, take-take}
 use Rattle.privileges.specs.Booleans.{bool-ext}
 use Rattle.program.specs.Screening.{lowest}
-use Rattle.program.specs.Laws.Screening.{Lowest, lowest-some, lowest-at}
+use Rattle.program.specs.Laws.Screening.{lowest-some, lowest-at}
 use Rattle.traces.specs.Traces.{Event}
-use Rattle.traces.specs.Comparing.{Subsequence, nothing, here, later, sameEvent, occurs, Comparison, fits, diverges, told, compared}
+use Rattle.traces.specs.Comparing.{Subsequence, nothing, here, later, sameEvent, occurs, fits, diverges, told, compared}
 use Rattle.traces.specs.Laws.Subsequences.{same-true, same-self, beginning, no-longer, behind-same, behind-other, occurs-decides}
 
 -- how many of the unit's events are placed, one after the other, each as early as it can be
