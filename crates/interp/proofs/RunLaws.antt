@@ -31,7 +31,7 @@ use Rattle.machine.specs.Store.{Done, storeOf, doneOf}
 use Rattle.refinement.specs.Claims.{outcomeOf, countsOf, laidOut, Refined}
 use Rattle.refinement.specs.Theorems.{eager-refined, lazy-refined}
 use Rattle.interp.specs.Answers.{refusalCause, refusalPlace, outcomeModel, countsModel, runModel, requestOf, buffersOf, after, afterRecording}
-use Rattle.interp.specs.Internal.{Cleared, Admits, StartAccess, turnedBack, rootDone, Tallied, Evaluated}
+use Rattle.interp.specs.Internal.{Cleared, Admits, StartAccess, rejectedRun, rootDone, Tallied, Evaluated}
 use Rattle.interp.specs.Laws.{access-may, access-is, tallied-at, tallied-after}
 use Rattle.interp.specs.declared.answer.Refusal.{Refusal}
 use Rattle.interp.specs.declared.answer.Run.the-variants.{Refused, Ran as IsRan}
@@ -43,7 +43,7 @@ use Rattle.interp.specs.declared.answer.Admission.the-variants.{Admitted
 use Rattle.interp.proofs.StartLaws.{laid-length}
 
 -- ---- a run that is turned back
-pub refused-after : (s : List ℕ) (q : Request) (cells posts frames noted : List ℕ) (f : Refusal) {r : RecordedRun} → r ≡ turnedBack f
+pub refused-after : (s : List ℕ) (q : Request) (cells posts frames noted : List ℕ) (f : Refusal) {r : RecordedRun} → r ≡ rejectedRun f
     → screen (runConditions s q (sizes (buffersOf cells posts frames))) ≡ found (refusalCause f) (refusalPlace f)
     → afterRecording r cells posts frames noted ≡ recording s q (buffersOf cells posts frames) noted
 refused-after s q cells posts frames noted f t e =
@@ -194,13 +194,13 @@ module _ (s start : List ℕ) (e : Bool) (cells posts noted : List ℕ) (calls d
 -- ---- each runner turned back
 module _ (s start : List ℕ) (e : Bool) (cells posts noted : List ℕ) (calls depth : ℕ) where
   pub eager-refused : {a : Admission} {f : Refusal} {r : RecordedRun} → a ≡ TurnedBack f → Admits s start (length cells) (length posts) true calls depth a
-      → r ≡ turnedBack f → afterRecording r cells posts [] noted ≡ recording s (requestOf eager e start calls depth) (buffersOf cells posts []) noted
+      → r ≡ rejectedRun f → afterRecording r cells posts [] noted ≡ recording s (requestOf eager e start calls depth) (buffersOf cells posts []) noted
   eager-refused {f = f} p h t =
       refused-after s (requestOf eager e start calls depth) cells posts [] noted f t
       (subst (Admits s start (length cells) (length posts) true calls depth) p h)
 
   pub lazy-refused : (frames : List ℕ) {a : Admission} {f : Refusal} {r : RecordedRun} → a ≡ TurnedBack f
-      → Admits s start (length cells) (length posts) (eqb (length frames) frameNumbers) calls depth a → r ≡ turnedBack f
+      → Admits s start (length cells) (length posts) (eqb (length frames) frameNumbers) calls depth a → r ≡ rejectedRun f
       → afterRecording r cells posts frames noted ≡ recording s (requestOf lazy e start calls depth) (buffersOf cells posts frames) noted
   lazy-refused frames {f = f} p h t =
       refused-after s (requestOf lazy e start calls depth) cells posts frames noted f t

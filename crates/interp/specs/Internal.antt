@@ -81,8 +81,8 @@ Admits s start cells posts frames calls depth (Refused f) = screen (conditions s
 
 -- ---- evaluation
 -- a run that is turned back has no entry
-abbrev pub turnedBack : Refusal → RecordedRun
-turnedBack f = record { run = Rejected f; entries = 0 }
+abbrev pub rejectedRun : Refusal → RecordedRun
+rejectedRun f = record { run = Rejected f; entries = 0 }
 
 -- what the interpreter comes to at the root, with the terms' words in `terms` and a record lent
 abbrev pub rootDone : (terms : List ℕ) (root mode acc calls depth : ℕ) → Buffers → (noted : List ℕ) → Done

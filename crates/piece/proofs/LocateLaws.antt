@@ -23,7 +23,7 @@ use Rattle.rules.specs.Inference.{lastFirst}
 use Rattle.rules.specs.declared.bindings.Bindings.{Bindings}
 use Rattle.checker.proofs.VerdictLaws.{root-ready}
 use Rattle.places.specs.Internal.{present, childAt}
-use Rattle.subterms.specs.Smallest.{subterms, Refused, smallestOf, Piece, told, ifReadable, pieceOf, recordLength, recordOf}
+use Rattle.subterms.specs.Smallest.{subterms, Refused, smallestOf, Piece, pieceFrom, ifReadable, pieceOf, recordLength, recordOf}
 use Rattle.subterms.specs.Laws.Subterms.{subtermsIn}
 use Rattle.subterms.specs.Theorems.{record-inside, place-most, length-most}
 use Rattle.subterms.specs.declared.answer.Piece.the-variants.{Smallest, NoPiece, Unreadable}
@@ -70,7 +70,7 @@ module _ {s : List ℕ} {c : Counts} (S : Sheet s c) (b : Bindings) (none-bound 
     pub nothing-located : tagOf the-type (v .smallest) ≡ 0 → {r : Located} → r ≡ record { piece = NoPiece; at = 0; len = 0 } → LocatedAs s (pieceIn s) r
     nothing-located e q =
         subst (LocatedAs s (pieceIn s)) (sym q)
-        (subst (λ (o : Option Refused). LocatedAs s (told o) (record { piece = NoPiece; at = 0; len = 0 })) (sym (nothing-is (v .smallest) e) ∙ found-is)
+        (subst (λ (o : Option Refused). LocatedAs s (pieceFrom o) (record { piece = NoPiece; at = 0; len = 0 })) (sym (nothing-is (v .smallest) e) ∙ found-is)
         (record { piece-is = refl; at-is = refl; len-is = refl }))
 
     pub smallest-located : {t n : ℕ} {g : Fault} → v .smallest ≡ candidate.Refused t n g
@@ -78,7 +78,7 @@ module _ {s : List ℕ} {c : Counts} (S : Sheet s c) (b : Bindings) (none-bound 
     smallest-located {t} {n} {g} e =
         subst
         (λ (o : Option Refused).
-        LocatedAs s (told o) (record { piece = Smallest t n g; at = 14 + 4 * c .principals + 10 * c .types + 8 * t; len = 8 }))
+        LocatedAs s (pieceFrom o) (record { piece = Smallest t n g; at = 14 + 4 * c .principals + 10 * c .types + 8 * t; len = 8 }))
         (sym (ap candidateModel e) ∙ found-is)
         (record { piece-is = refl; at-is = omega (arith, S .counts .principals-are, S .counts .types-are); len-is = refl })
 

@@ -3,8 +3,8 @@ use mathlib.Core.List.{List, []}
 use Prim.Native.Nat.{ℕ}
 use Rattle.program.specs.Layout.{authority, typesOf}
 use Rattle.program.specs.Terms.{program}
-use Rattle.subterms.specs.Smallest.{subterms, smallestOf, Piece, told}
+use Rattle.subterms.specs.Smallest.{subterms, smallestOf, Piece, pieceFrom}
 
 -- the whole of a readable sheet
 abbrev pub pieceIn : List ℕ → Piece
-pieceIn s = told (smallestOf (typesOf s) (authority s) (subterms (typesOf s) [] 0 (program s)))
+pieceIn s = pieceFrom (smallestOf (typesOf s) (authority s) (subterms (typesOf s) [] 0 (program s)))
