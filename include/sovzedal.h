@@ -218,8 +218,8 @@ enum {
  * with a small stack picks `depth` by it; SOVZEDAL_STACK is enough for any call. reference/stack measures what runs use and is held to these. */
 enum {
     SOVZEDAL_STACK_BASE = 45056,
-    SOVZEDAL_STACK_PER_CALL = 5120,
-    SOVZEDAL_STACK = 557056
+    SOVZEDAL_STACK_PER_CALL = 3584,
+    SOVZEDAL_STACK = 403456
 };
 
 /* The heading of a cause in docs/REFUSALS.md; "none" for 0 and "unknown" for a number that is no cause. */

@@ -1,11 +1,18 @@
--- What the contract of a read without a test says. No reader of the public promise needs this file.
+-- What the contract of a read without a test says, and what is known of a sheet with right fields. No reader of the public promise needs this file.
 use mathlib.Core.List.{List}
 use Prim.Native.Nat.{ℕ, _+_, _*_, _<_, _≤_}
 use native.Mathlib.Omega.{arith}
 use lib.ListN.{length}
 use Rattle.program.specs.Layout.{terms, termAt}
+use Rattle.program.specs.Screening.{None}
+use Rattle.program.specs.Decoding.{fieldConditions}
 use Rattle.program.specs.Records.{CountsOf}
 use Rattle.program.specs.declared.records.Counts.{Counts}
+
+-- the fields are right, and these are their counts
+pub record Laid (s : List ℕ) (c : Counts) : Type 0 where
+  pub counts-are : CountsOf s c
+  pub none-found : None (fieldConditions s)
 
 -- the record of term t is in its table, and all of it in the sheet
 pub record TermInside (s : List ℕ) (c : Counts) (t : ℕ) : Type 0 where

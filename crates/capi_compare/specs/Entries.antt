@@ -8,13 +8,13 @@ use Rattle.traces.specs.Comparing.{Comparison, refused, fits, diverges, compari
 use Rattle.replies.specs.Replies.{Reply, refusal, notDone, replied}
 
 -- 1 and the number missing, or 0 and the number of the unit's first entry up to which they do not occur; or the refusal's cause and place
-abbrev pub toldReply : (fits entries : ℕ) → Reply
-toldReply f n = record { status = 0; numbers = 0 ∷ 0 ∷ f ∷ n ∷ 0 ∷ 0 ∷ 0 ∷ 0 ∷ [] }
+abbrev pub comparedReply : (fits entries : ℕ) → Reply
+comparedReply f n = record { status = 0; numbers = 0 ∷ 0 ∷ f ∷ n ∷ 0 ∷ 0 ∷ 0 ∷ 0 ∷ [] }
 
 abbrev pub comparisonReply : Comparison → Reply
 comparisonReply (refused c p) = refusal c p
-comparisonReply (fits missing) = toldReply 1 missing
-comparisonReply (diverges entry) = toldReply 0 entry
+comparisonReply (fits missing) = comparedReply 1 missing
+comparisonReply (diverges entry) = comparedReply 0 entry
 
 -- A number of entries is told in 32 bits, so that a record of 2^32 bytes or more is not held.
 abbrev pub long : List ℕ → Bool

@@ -4,7 +4,7 @@ ghost use Prim.Native.Nat.{_<_};
 ghost use Rattle.compare.specs.Answers.{comparisonModel};
 ghost use Rattle.replies.specs.Replies.{left};
 ghost use Rattle.replies.specs.Internal.{replyOf};
-ghost use Rattle.capi_compare.specs.Entries.{toldReply, comparisonReply, compareCall};
+ghost use Rattle.capi_compare.specs.Entries.{comparedReply, comparisonReply, compareCall};
 ghost use Rattle.capi_compare.specs.Internal.{Told};
 use compare::answer::Comparison;
 use replies::Reply;
@@ -31,7 +31,7 @@ pub fn compare(unit: &[u8], office: &[u8], answer: &mut [u32]) -> u32
 
 fn told(fits: u32, entries: usize) -> Reply
     requires { ⌜ entries < 4294967296 ⌝ }
-    ensures { λ r. ⌜ replyOf r ≡ toldReply fits entries ⌝ }
+    ensures { λ r. ⌜ replyOf r ≡ comparedReply fits entries ⌝ }
 {
     Reply {
         status: 0,

@@ -1,18 +1,17 @@
 -- What the entry for an explanation leaves, from the promises of the functions that it calls.
 use mathlib.Core.Bool.{Bool, true, false, cond, _||_}
-use mathlib.Core.List.{List, [], _∷_, _++_, map}
+use mathlib.Core.List.{List, _++_}
 use mathlib.Core.Option.{Option, none, some}
 use mathlib.Core.Path.{_≡_, refl, sym, ap, _∙_}
 use Prim.Native.Nat.{ℕ, zero, suc, _<_, _≤_}
 use native.Mathlib.Omega.{arith}
-use lib.Dec.{ltb, leb}
-use lib.ListN.{length, take, drop, length-map}
+use lib.Dec.{leb}
+use lib.ListN.{length, drop, length-map}
 use borrow.Author.Tests.{lt-ltb, le-ltb}
 use Rattle.privileges.specs.Sets.{has}
 use Rattle.program.specs.Limits.{maxNesting}
 use Rattle.program.specs.Layout.{Types, authority, typesOf}
 use Rattle.typing.specs.Verdicts.{Verdict, accepted, rejected, verdict}
-use Rattle.replies.specs.Replies as replies
 use Rattle.replies.specs.Replies.{short}
 use Rattle.replies.specs.Internal.{replyOf, Put}
 use Rattle.replies.specs.Laws.{in-place}

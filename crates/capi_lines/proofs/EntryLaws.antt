@@ -2,12 +2,11 @@
 use mathlib.Core.Bool.{true, false, cond}
 use mathlib.Core.List.{List, []}
 use mathlib.Core.Path.{_≡_, refl, sym, ap, _∙_}
-use Prim.Native.Nat.{ℕ, _<_, _≤_}
+use Prim.Native.Nat.{ℕ, _≤_}
 use lib.ListN.{length, set}
 use Rattle.semantics.specs.Runs.{Buffers}
 use Rattle.interp.specs.Answers.{buffersOf, outcomeModel, countsModel}
 use Rattle.interp.specs.declared.answer.Run.the-variants.{Refused, Ran}
-use Rattle.replies.specs.Replies as replies
 use Rattle.replies.specs.Replies.{unfit, writtenNine, left}
 use Rattle.replies.specs.Internal.{replyOf, Put}
 use Rattle.replies.specs.Laws.{fit, in-place, run-eight, in-nine}
@@ -24,7 +23,7 @@ use Rattle.queues.specs.declared.state.Added.{Added}
 use Rattle.lines.specs.declared.answer.Answer as answers
 use Rattle.lines.specs.declared.answer.Answer.the-variants.{Idle, Outside, Run}
 use Rattle.lines.specs.declared.answer.Served.{Served}
-use Rattle.capi_lines.specs.States.{stateNumbers, stateRead, stateWritten}
+use Rattle.capi_lines.specs.States.{stateNumbers, stateRead}
 use Rattle.capi_lines.specs.Entries.{addReply, leftAdd, stateAfter, addLeft, linesAdd, serveReply, leftServe, servedState, serveLeft, linesServe}
 use Rattle.capi_lines.specs.Internal.{SmallAnswer}
 

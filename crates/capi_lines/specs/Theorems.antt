@@ -3,7 +3,7 @@
 use mathlib.Core.Bool.{Bool, true, false, cond}
 use mathlib.Core.List.{List, [], _∷_, _++_}
 use mathlib.Core.Path.{_≡_, refl, sym, ap, _∙_, subst}
-use Prim.Native.Nat.{ℕ, zero, suc, _+_, _%_, _<_, _≤_, min}
+use Prim.Native.Nat.{ℕ, zero, suc, _+_, _%_, _≤_, min}
 use native.Mathlib.Omega.{arith}
 use lib.Dec.{eqb}
 use lib.ListN.{length, getD, take, replicate, length-take}
@@ -14,9 +14,9 @@ use Rattle.semantics.specs.Runs.{Buffers}
 use Rattle.replies.specs.Replies.{notDone}
 use Rattle.replies.specs.Laws.{fit}
 use Rattle.lines.specs.Serving.{serveTurn, serveOf}
-use Rattle.lines.specs.Sessions.{Operation, add, serve, stepped, session, only, accepted, addedBy, addedIn, servedIn, Sound}
+use Rattle.lines.specs.Sessions.{Operation, add, serve, stepped, session, accepted, addedBy, addedIn, servedIn, Sound}
 use Rattle.lines.specs.Theorems.{start-sound, session-sound, in-order}
-use Rattle.capi_lines.specs.States.{stateNumbers, maxAllowance, placesRead, queueRead, stateRead, stateWritten, tabulate, numberAt}
+use Rattle.capi_lines.specs.States.{stateNumbers, maxAllowance, placesRead, queueRead, stateRead, stateWritten}
 use Rattle.capi_lines.specs.Entries.{AddLeft, stateAfter, addLeft, linesAdd, ServeLeft, servedState, serveLeft, linesServe}
 
 -- "The queues start empty": a list of zeros is that state

@@ -1,7 +1,7 @@
 // The lines' state between a caller's list of numbers and the struct. specs/States.antt says where each number stands.
 ghost use mathlib.Core.Path.{_≡_};
-ghost use Prim.Native.Nat.{_+_, _<_, _≤_, min as least};
-ghost use lib.ListN.{length, getD};
+ghost use Prim.Native.Nat.{_+_, _<_, min as least};
+ghost use lib.ListN.{length};
 ghost use Rattle.queues.specs.Answers.{jobModel, queueModel, linesModel, additionModel};
 ghost use Rattle.lines.specs.Answers.{answerModel};
 ghost use Rattle.capi_lines.specs.States.{stateNumbers, maxAllowance, jobRead, queueRead, stateRead, jobPart, jobNumber, numberAt, stateWritten};

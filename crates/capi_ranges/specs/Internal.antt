@@ -1,6 +1,6 @@
 -- What the contracts of internal functions say; no reader of an entry's promise needs it.
 use mathlib.Core.Path.{_≡_}
-use Rattle.semantics.specs.Theorems.{Few}
+use Rattle.semantics.specs.Claims.{Few}
 use Rattle.interp.specs.Answers.{countsModel}
 use Rattle.interp.specs.declared.answer.Made.{Made}
 use Rattle.ranges.specs.declared.answer.RangeRun.{RangeRun}

@@ -35,6 +35,6 @@ module _ (s : List ℕ) (q : Request) (b : Buffers) (t : List ℕ) where
         → left status after ≡ writtenNine (runReply (runModel (r .run))) (r .entries) answer
         → leftRecord status after (buffersOf cells posts frames) noted ≡ recordCall answer b t (recording s q b t)
     told answer h p =
-        (λ i. record { reply = p i; buffers = buffersOf cells posts frames; trace = noted })
+        (λ i. record { reply = p i; buffers = buffersOf cells posts frames; noted = noted })
         ∙ ap (recordLeft answer) e
         ∙ (λ i. cond (sym (le-ltb (length answer) 9 h) i) (leftRecord 3 answer b t) (recordLeft answer (recording s q b t)))

@@ -26,13 +26,13 @@ use Rattle.program.specs.Laws.Records.{term-is, authority-is, guard-is}
 use Rattle.program.specs.Laws.Trees.{Below, below, parts, tree-node}
 use Rattle.typing.specs.Rules.{removeAuthorised}
 use Rattle.typing.specs.Checking.{Judgement, typed, _next_, require, bodyFits, infer}
+use Rattle.subtyping.specs.Laws.Records.{TypeParts, type-parts}
 use Rattle.rules.specs.Inference.{inferredModel, context, room, roomAt, termJudgement, Ready}
 use Rattle.rules.specs.Steps.{Pushed, leafStep, checkStep, enableStep, signStep, postStep, GuardByte, testStep, ifStep, binaryStep, bodyStep, functionStep, letrecStep, callStep, resultOf}
 use Rattle.checker.specs.Internal.{ReadyTerm, ReadyAt}
 use Rattle.typing.specs.declared.answer.Inferred.{Inferred}
 use Rattle.typing.specs.declared.answer.Inferred.the-variants.{Typed}
 use Rattle.rules.specs.declared.bindings.Bindings.{Bindings}
-use Rattle.rules.specs.Laws.Records.{TypeParts, type-parts}
 use Rattle.rules.proofs.StepLaws.{stop}
 
 up : {m k : ℕ} → (k ≡ m → ⊥) → m ≤ k → suc m ≤ k

@@ -16,7 +16,8 @@ use Rattle.program.specs.Laws.Readable.{well-formed}
 use Rattle.typing.specs.Checking.{Judgement}
 use Rattle.typing.specs.Verdicts.{Verdict, accepted, rejected, concluded, ifReadable, judgement, verdict}
 use Rattle.typing.specs.Answers.{faultCause, faultPlace}
-use Rattle.rules.specs.Inference.{inferredModel, Sheet, termJudgement, Ready}
+use Rattle.subtyping.specs.Internal.{Sheet}
+use Rattle.rules.specs.Inference.{inferredModel, termJudgement, Ready}
 use Rattle.rules.specs.Laws.Room.{root-room}
 use Rattle.typing.specs.declared.answer.Fault.{Fault}
 use Rattle.typing.specs.declared.answer.Inferred.{Inferred}

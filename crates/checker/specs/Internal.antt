@@ -9,8 +9,8 @@ use Rattle.program.specs.Records.{termRecord, CountsOf}
 use Rattle.program.specs.declared.records.Counts.{Counts}
 use Rattle.program.specs.declared.records.TermRecord.{TermRecord}
 use Rattle.typing.specs.declared.answer.Inferred.{Inferred}
+use Rattle.subtyping.specs.Known.{Known, Answered}
 use Rattle.rules.specs.Inference.{inferredModel, termJudgement, Ready}
-use Rattle.rules.specs.Known.{Known, Answered}
 use Rattle.rules.specs.declared.bindings.Bindings.{Bindings}
 
 -- a sheet that the decoder reads, with its own counts

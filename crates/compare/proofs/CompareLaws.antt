@@ -1,6 +1,6 @@
 -- What the loops of a comparison keep, and what each of its answers says.
 use mathlib.Core.Bool.{Bool, true, false, cond, _&&_, true≢false, false≢true}
-use mathlib.Core.List.{List, [], _∷_}
+use mathlib.Core.List.{List, _∷_}
 use mathlib.Core.Path.{_≡_, refl, sym, ap, _∙_, subst}
 use Prim.Native.Nat.{ℕ, suc, _+_, _*_, _/_, _%_, _-_, _<_, _≤_}
 use native.Mathlib.Omega.{arith}
@@ -8,7 +8,7 @@ use lib.Dec.{eqb, leb}
 use lib.ListN.{length, drop}
 use lib.Seq.{drop-length}
 use borrow.Author.Tests.{eqb-true, eq-eqb, le-leb, lt-leb}
-use Rattle.privileges.specs.Booleans.{and-left, and-right, bool-ext}
+use Rattle.privileges.specs.Booleans.{bool-ext}
 use Rattle.program.specs.Bytes.{byte}
 use Rattle.traces.specs.Traces.{Event, eventOf, eventAt, wellFormed, trace}
 use Rattle.traces.specs.Comparing.{sameEvent, refused, fits, diverges, compared, ifBoth, comparison}

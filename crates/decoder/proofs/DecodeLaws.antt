@@ -13,15 +13,17 @@ use Rattle.program.specs.Laws.Readable.{fields-ok}
 use Rattle.program.specs.Laws.Records.{guard-laid}
 use Rattle.program.specs.Laws.Screening.{first-found, none-screen, first-left}
 use Rattle.program.specs.Answers.{decodingCause, decodingPlace}
-use Rattle.tables.specs.Internal.{Laid, foundOf, HeaderIs}
+use Rattle.accessors.specs.Internal.{Laid}
+use Rattle.headers.specs.Internal.{HeaderIs}
+use Rattle.tables.specs.Internal.{foundOf}
 use Rattle.decoder.specs.Answers.{DecodedAs}
 use Rattle.program.specs.declared.answer.Decoded.{Decoded}
 use Rattle.tables.specs.declared.search.Found.{Found}
 use Rattle.tables.specs.declared.search.Found.the-variants.{At, Nothing}
 use Rattle.program.specs.declared.answer.Refusal.{Refusal}
 use Rattle.program.specs.declared.records.Counts.{Counts}
-use Rattle.tables.specs.declared.header.Header.{Header}
-use Rattle.tables.specs.declared.header.Header.the-variants.{Laid as HeaderLaid, Fault as HeaderFault}
+use Rattle.headers.specs.declared.Header.{Header}
+use Rattle.headers.specs.declared.Header.the-variants.{Laid as HeaderLaid, Fault as HeaderFault}
 
 -- ---- a search's answer, by its cases
 pub found-at : {r : Found} {t : ℕ} {o : Option ℕ} → r ≡ At t → foundOf r ≡ o → o ≡ some t

@@ -13,8 +13,8 @@ use Rattle.program.specs.Limits.{maxTerms}
 use Rattle.program.specs.Layout.{terms, termAt, root, kindByte, first, second, third}
 use Rattle.program.specs.Formats.{Part, isChild, Kind, Boolean, Number, Variable, Function, Letrec, Call, If, Check, Enable, Sign, Test, Sum, Difference, Less, Post, kindOf, format}
 use Rattle.program.specs.Decoding.{formatAt, termOk, counts, timesIn, timesBelow, isSign, signedBody, placedOk, parent}
-use Rattle.accessors.specs.Internal.{TermInside, term-inside}
-use Rattle.tables.specs.Internal.{Laid, childrenOf, shapeIf, shapeAt}
+use Rattle.accessors.specs.Internal.{Laid, TermInside, term-inside}
+use Rattle.tables.specs.Internal.{childrenOf, shapeIf, shapeAt}
 use Rattle.decoder.specs.Internal.{TermsOk, TableTerm, linkStep, Linked, linkTimes, one, among, LinkedAll, ChildrenBelow, linkOf, Links}
 use Rattle.program.specs.Records.{termAtByte, termRecord}
 use Rattle.program.specs.Laws.Screening.{lowest-none}

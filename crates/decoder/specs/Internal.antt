@@ -12,7 +12,7 @@ use Rattle.program.specs.Tests.{orElse}
 use Rattle.program.specs.Screening.{lowest}
 use Rattle.program.specs.Decoding.{typeOk, termOk, timesBelow, placedOk, parent, nestedIn}
 use Rattle.program.specs.declared.records.Counts.{Counts}
-use Rattle.tables.specs.Internal.{Laid}
+use Rattle.accessors.specs.Internal.{Laid}
 use Rattle.tables.specs.declared.terms.Shape.{Shape}
 use Rattle.tables.specs.declared.terms.Shape.the-variants.{Leaf, One, Two, Three, Function as FunctionShape, Letrec as LetrecShape, Wrong}
 

@@ -1,7 +1,7 @@
 // The decoder: what any bytes are as a sheet.
 ghost use Rattle.program.specs.Screening.{screen};
 ghost use Rattle.program.specs.Decoding.{tableConditions, decoding};
-ghost use Rattle.tables.specs.Internal.{Laid};
+ghost use Rattle.accessors.specs.Internal.{Laid};
 ghost use Rattle.decoder.specs.Answers.{DecodedAs};
 ghost use Rattle.decoder.specs.Internal.{Tables, PlacedTables, NestedTables};
 
@@ -9,11 +9,11 @@ pub mod guards;
 pub mod nesting;
 pub mod places;
 
+use headers::Header;
 use program::answer::Decoded;
 use program::answer::Refusal;
 use program::limits::TERM_PLACES;
 use program::records::Counts;
-use tables::header::Header;
 use tables::search::Found;
 
 // The guards of a sheet whose terms are right.
@@ -70,7 +70,7 @@ fn tables(s: &[u8], c: Counts) -> Decoded
 pub fn decode(sheet: &[u8]) -> Decoded
     ensures { λ r. ⌜ DecodedAs (now (sheet .entry)) (decoding (now (sheet .entry))) r ⌝ }
 {
-    match tables::header::read_header(sheet) {
+    match headers::read_header(sheet) {
         Header::Fault(f) => Decoded::Refused(f),
         Header::Laid(c) => tables(sheet, c),
     }

@@ -3,27 +3,27 @@ use mathlib.Core.Bool.{Bool, true, false}
 use mathlib.Core.List.{List, [], _∷_}
 use mathlib.Core.Logic.{_⊎_, inl, inr, ⊎-elim}
 use mathlib.Core.Path.{_≡_, refl, sym, ap, ap₂, _∙_, fun-ext, subst}
-use Prim.Native.Nat.{ℕ, zero, suc, _+_, _-_, _*_, _/_, _<_, _≤_}
-use native.Mathlib.Decide.{ℕ-discrete}
+use Prim.Native.Nat.{ℕ, zero, suc, _+_, _-_, _/_, _<_, _≤_}
+use native.Mathlib.Decide.{decLt, ℕ-discrete}
 use native.Mathlib.Nat.{eq-or-lt-of-le}
 use native.Mathlib.Numerals.{sub-one}
 use native.Mathlib.Omega.{arith}
-use lib.Dec.{leb, ltb, eqb}
-use lib.ListN.{length, getD, set, List·getD-eq-default}
-use lib.Seq.{getD-set-same, getD-set-other}
-use borrow.Author.Tests.{eq-eqb, ne-eqb, le-leb, lt-leb, lt-ltb, le-ltb, ltb-true, ltb-false}
+use lib.Dec.{ltb, eqb}
+use lib.ListN.{length, getD, set}
+use lib.Seq.{getD-set-other}
+use borrow.Author.Tests.{eq-eqb, ne-eqb, le-leb, lt-leb, lt-ltb, le-ltb}
 use Rattle.stores.specs.Words.{pick, booleanWord, intervalWord, functionWord, stopWord, sortOf, payloadOf, envOf, isStop}
-use Rattle.machine.specs.Table.{wordKind, wordSmall, wordFirst, wordSecond, wordThird, wordAuthority, wordGuard}
-use Rattle.stores.specs.Cells.{lookOf, cellSet, madeWith, storeWith, Bound}
-use Rattle.stores.specs.Access.{grantedOf, allowedOf, signAccess, signFrames, enableAccess, enableFrames, enabledNow, restoreFrames}
+use Rattle.machine.specs.Table.{wordKind, wordSmall, wordFirst, wordSecond, wordThird, wordGuard}
+use Rattle.stores.specs.Cells.{lookOf, Bound}
+use Rattle.stores.specs.Access.{enableAccess, enableFrames, enabledNow, restoreFrames}
 use Rattle.machine.specs.Steps.{callsLeft, cellsMade, postsMade, modeOf, saturatedMade, operateSaturates, wrapped, countSaturated, operateCounters, Operated, noteCounters, Guard, guardDecides, postCause, postCounters, Appended}
-use Rattle.machine.specs.Store.{Store, Done, storeOf, doneOf, withFrames, andThen, Runs, Applier, Shape, childless, letrec, call, if, check, enable, sign, test, binary, post, shapeOf, leafOf, hasRoom, ownCell, bound, called, letrecS, callS, branchS, ifS, checkS, testS, signS, restored, enableS, operateDone, binaryS, postDone, postS, byShape, begin, step, below, applyAt, evalAt}
+use Rattle.machine.specs.Store.{Store, Done, storeOf, doneOf, withFrames, andThen, Runs, Applier, Shape, childless, call, if, enable, binary, post, shapeOf, leafOf, hasRoom, ownCell, callS, branchS, ifS, restored, enableS, operateDone, binaryS, postDone, postS, byShape, begin, step, below, applyAt, evalAt}
 use Rattle.machine.specs.Lower.{evaluatesFirst, evaluatesSecond, evaluatesThird, readsPrivilege, readsGuard, Lower}
 use Rattle.machine.specs.Enter.{Enterable, goesTo, Enters}
 use Rattle.machine.specs.declared.enter.Entered.{Entered}
 use Rattle.stores.proofs.CellLaws.{bound-room}
 use Rattle.machine.proofs.NoteLaws.{note-others}
-use Rattle.evaluator.specs.Contracts.{Table, Node, Tail, Pair}
+use Rattle.evaluator.specs.Contracts.{Table, Node, Tail, First, Pair, pairEnd, secondAt}
 
 module _ (terms : List ℕ) where
   -- below any number above it, a term is evaluated alike
@@ -59,16 +59,14 @@ module _ {terms : List ℕ} (T : Table terms) {t x k : ℕ} (small : t < 65536) 
     tail = subst Enterable kind h;
   }
 
-  pub pair-of : (k ≡ 5) ⊎ ((11 ≤ k) × (k < 14)) → Pair terms t x
-  pair-of h = record {
-    ready = T;
-    term-small = small;
-    word-is = is;
-    kind-is = ⊎-elim (λ e. inl (sym kind ∙ e)) (λ l. inr (omega (arith, kind, l .0), omega (arith, kind, l .1))) h;
+  pub first-of : (k ≡ 5) ⊎ ((k ≡ 6) ⊎ (11 ≤ k)) → First terms t x
+  first-of h = record {
+    node = record { ready = T; term-small = small; word-is = is; shape-is = refl };
+    kind-is = ⊎-elim (λ e. inl (sym kind ∙ e)) (λ r. inr (⊎-elim (λ e. inl (sym kind ∙ e)) (λ l. inr (omega (arith, kind, l))) r)) h;
   }
 
   -- sum, difference and less, and what is past them
-  pub node-binary : 11 ≤ k → k ≤ 13 → Node terms t x binary
+  node-binary : 11 ≤ k → k ≤ 13 → Node terms t x binary
   unfolding shapeOf
   node-binary l h =
       node-by (simp (
@@ -83,7 +81,7 @@ module _ {terms : List ℕ} (T : Table terms) {t x k : ℕ} (small : t < 65536) 
         le-leb k 13 h,
       ))
 
-  pub node-post : 13 < k → Node terms t x post
+  node-post : 13 < k → Node terms t x post
   unfolding shapeOf
   node-post h =
       node-by (simp (
@@ -98,12 +96,17 @@ module _ {terms : List ℕ} (T : Table terms) {t x k : ℕ} (small : t < 65536) 
         lt-leb k 13 h,
       ))
 
--- a kind below 11 that is none of 0 to 8
-pub nine-or-ten : (k : ℕ) → (k ≡ 0 → ⊥) → (k ≡ 1 → ⊥) → (k ≡ 2 → ⊥) → (k ≡ 3 → ⊥) → (k ≡ 4 → ⊥) → (k ≡ 5 → ⊥) → (k ≡ 6 → ⊥) → (k ≡ 7 → ⊥) → (k ≡ 8 → ⊥) → k < 11
-    → (k ≡ 9) ⊎ (k ≡ 10)
-nine-or-ten k n0 n1 n2 n3 n4 n5 n6 n7 n8 h =
-    let low : 9 ≤ k = up n8 (up n7 (up n6 (up n5 (up n4 (up n3 (up n2 (up n1 (up n0 (omega arith))))))))) in
-    ⊎-elim (λ e. inl (sym e)) (λ l. inr (omega arith)) (eq-or-lt-of-le {n = 9} {m = k} low)
+-- what the match tells of the kinds that evaluate first, 5, 6 and 11 on
+pub first-kind : (k : ℕ) → 5 ≤ k → (k < 7) ⊎ (11 ≤ k) → (k ≡ 5) ⊎ ((k ≡ 6) ⊎ (11 ≤ k))
+first-kind k l h = ⊎-elim (λ low. ⊎-elim (λ e. inl (sym e)) (λ m. inr (inl (omega arith))) (eq-or-lt-of-le {n = 5} {m = k} l)) (λ high. inr (inr high)) h
+
+-- and of those that it leaves over, 4, 7, 9 and 10
+pub tail-kind : (k : ℕ) → (k ≡ 0 → ⊥) → (k ≡ 1 → ⊥) → (k ≡ 2 → ⊥) → (k ≡ 3 → ⊥) → (k ≡ 8 → ⊥) → (k < 5) ⊎ ((7 ≤ k) × (k < 11)) → Enterable k
+tail-kind k n0 n1 n2 n3 n8 h =
+    ⊎-elim (λ low. inl (omega (arith, low, up n3 (up n2 (up n1 (up n0 (omega arith)))))))
+    (λ r. inr (⊎-elim (λ e. inl (sym e)) (λ l. inr (⊎-elim (λ e. inl (sym e)) (λ m. inr (omega (arith, m, r .1)))
+    (eq-or-lt-of-le {n = 9} {m = k} (up n8 l)))) (eq-or-lt-of-le {n = 7} {m = k} (r .0))))
+    h
 
 module _ {terms : List ℕ} {t x : ℕ} {h : Shape} (N : Node terms t x h) where
   pub lower : Lower h t x
@@ -117,13 +120,13 @@ module _ {terms : List ℕ} {t x : ℕ} {h : Shape} (N : Node terms t x h) where
   pub second-below : {u : ℕ} → evaluatesSecond h ≡ true → u ≡ wordSecond x → u < t
   second-below e q = omega (arith, q, lower .second-lower e)
 
-  pub third-below : {u : ℕ} → evaluatesThird h ≡ true → u ≡ wordThird x → u < t
+  third-below : {u : ℕ} → evaluatesThird h ≡ true → u ≡ wordThird x → u < t
   third-below e q = omega (arith, q, lower .third-lower e)
 
   pub privilege-below : {p : ℕ} → readsPrivilege h ≡ true → p ≡ wordSmall x → p < 32
   privilege-below e q = omega (arith, q, lower .privilege e)
 
-  pub guard-right : readsGuard h ≡ true → Guard (wordGuard x)
+  guard-right : readsGuard h ≡ true → Guard (wordGuard x)
   guard-right e = lower .guard e
 
   module _ (k : ℕ) where
@@ -140,7 +143,7 @@ picked : {A : Type 0} (b : Bool) (u v : ℕ) (to : ℕ → A) → pick b (to u) 
 picked true u v to = refl
 picked false u v to = refl
 
-pub chosen-below : {u v t o : ℕ} (b : Bool) → o ≡ pick b u v → u < t → v < t → o < t
+chosen-below : {u v t o : ℕ} (b : Bool) → o ≡ pick b u v → u < t → v < t → o < t
 chosen-below true e l h = omega (arith, e, l)
 chosen-below false e l h = omega (arith, e, h)
 
@@ -168,12 +171,12 @@ module _ {terms : List ℕ} {t x : ℕ} (k env acc : ℕ) where
       function-is j p q = leaf-is (q ∙ rw (← e, j, p) refl)
 
   module _ (N : Node terms t x post) {u : ℕ} (p : u ≡ wordFirst x) where
-    pub post-is : (st : Store) → evalAt terms k t env acc st ≡ andThen (evalAt terms k u env acc st) (λ w st₁. postDone t x acc w st₁)
+    post-is : (st : Store) → evalAt terms k t env acc st ≡ andThen (evalAt terms k u env acc st) (λ w st₁. postDone t x acc w st₁)
     unfolding postS
     post-is st = top N k env acc st ∙ ap (λ (f : Runs). postS f t x env acc st) (child N k p (first-below N refl p))
 
   module _ (N : Node terms t x if) {u v z : ℕ} (p : u ≡ wordFirst x) (q : v ≡ wordSecond x) (r : z ≡ wordThird x) where
-    pub if-is : (st : Store) → evalAt terms k t env acc st
+    if-is : (st : Store) → evalAt terms k t env acc st
         ≡ andThen (evalAt terms k u env acc st) (λ w st₁. branchS t w (evalAt terms k v env acc st₁) (evalAt terms k z env acc st₁) st₁)
     unfolding ifS
     if-is st =
@@ -212,59 +215,135 @@ module _ {terms : List ℕ} {t x : ℕ} (T : Tail terms t x) (k env acc : ℕ) {
   tail-goes posts h =
       tail-is posts ∙ rw h refl ∙ (λ i. child (T .node) k {u = e .next} refl next-below i (e .env) (e .acc) (storeOf n′ cells′ posts frames′ noted′))
 
--- ---- a call or an operation
+-- ---- a call, an if, an operation or a post
+module _ {terms : List ℕ} {t x : ℕ} (N : Node terms t x (shapeOf (wordKind x))) where
+  shaped : (j : ℕ) → wordKind x ≡ j → Node terms t x (shapeOf j)
+  shaped = node-of (N .ready) (N .term-small) (N .word-is) refl
+
+  binary-node : (11 ≤ wordKind x) × (wordKind x ≤ 13) → Node terms t x binary
+  binary-node h = node-binary (N .ready) (N .term-small) (N .word-is) refl (h .0) (h .1)
+
+  post-node : 13 < wordKind x → Node terms t x post
+  post-node = node-post (N .ready) (N .term-small) (N .word-is) refl
+
+-- how a call or an operation ends: an application, or a word
 module _ {terms : List ℕ} {t x : ℕ} (P : Pair terms t x) where
   call-node : wordKind x ≡ 5 → Node terms t x call
   unfolding shapeOf
-  call-node = node-of (P .ready) (P .term-small) (P .word-is) refl 5
-
-  binary-node : (11 ≤ wordKind x) × (wordKind x ≤ 13) → Node terms t x binary
-  binary-node h = node-binary (P .ready) (P .term-small) (P .word-is) refl (h .0) (h .1)
+  call-node = shaped (P .node) 5
 
   pub operand-below : {u v : ℕ} → u ≡ wordFirst x → v ≡ wordSecond x → (u < t) × (v < t)
   operand-below p q =
       ⊎-elim (λ e. (first-below (call-node e) refl p, second-below (call-node e) refl q))
-      (λ h. (first-below (binary-node h) refl p, second-below (binary-node h) refl q))
+      (λ h. (first-below (binary-node (P .node) h) refl p, second-below (binary-node (P .node) h) refl q))
       (P .kind-is)
 
-  -- how it ends: an application, or a word
-  unfoldable pub pairEnd : (k acc a b : ℕ) → Store → Done
-  pairEnd k acc a b st = pick (eqb (wordKind x) 5) (applyAt terms k t a b acc st) (operateDone (wordKind x) t a b st)
-
-  pub pair-is : (k env acc : ℕ) {u v : ℕ} → u ≡ wordFirst x → v ≡ wordSecond x → (st : Store) → evalAt terms k t env acc st
-      ≡ andThen (evalAt terms k u env acc st) (λ a st₁. andThen (evalAt terms k v env acc st₁) (λ b st₂. pairEnd k acc a b st₂))
+  pair-is : (k env acc : ℕ) {u : ℕ} → u ≡ wordFirst x → (st : Store)
+      → evalAt terms k t env acc st ≡ andThen (evalAt terms k u env acc st) (λ a st₁. secondAt terms k t x env acc a st₁)
   unfolding callS binaryS pairEnd
-  pair-is k env acc {u} {v} p q st = ⊎-elim (λ e. top (call-node e) k env acc st ∙ applied e) (λ h. top (binary-node h) k env acc st ∙ operated h) (P .kind-is)
+  pair-is k env acc {u} p st =
+      ⊎-elim (λ e. top (call-node e) k env acc st ∙ applied e) (λ h. top (binary-node (P .node) h) k env acc st ∙ operated h) (P .kind-is)
     where
       ending : Bool → Done
       ending c = andThen (evalAt terms k u env acc st)
-          (λ a st₁. andThen (evalAt terms k v env acc st₁) (λ b st₂. pick c (applyAt terms k t a b acc st₂) (operateDone (wordKind x) t a b st₂)))
+          (λ a st₁. andThen (evalAt terms k (wordSecond x) env acc st₁) (λ b st₂. pick c (applyAt terms k t a b acc st₂) (operateDone (wordKind x) t a b st₂)))
 
       applied : wordKind x ≡ 5 → callS (below terms (applyAt terms k) t (wordFirst x)) (below terms (applyAt terms k) t (wordSecond x))
           (applyAt terms k) t env acc st
           ≡ ending (eqb (wordKind x) 5)
       applied e =
-          ap₂ (λ (f g : Runs). callS f g (applyAt terms k) t env acc st) (child (call-node e) k p (first-below (call-node e) refl p))
-          (child (call-node e) k q (second-below (call-node e) refl q))
+          ap₂ (λ (f g : Runs). callS f g (applyAt terms k) t env acc st) (child (call-node e) k p (operand-below p refl .0))
+          (child (call-node e) k refl (operand-below p refl .1))
           ∙ ap ending (sym (eq-eqb (wordKind x) 5 e))
 
       operated : (h : (11 ≤ wordKind x) × (wordKind x ≤ 13))
           → binaryS (below terms (applyAt terms k) t (wordFirst x)) (below terms (applyAt terms k) t (wordSecond x)) (wordKind x) t env acc st
           ≡ ending (eqb (wordKind x) 5)
       operated h =
-          ap₂ (λ (f g : Runs). binaryS f g (wordKind x) t env acc st) (child (binary-node h) k p (first-below (binary-node h) refl p))
-          (child (binary-node h) k q (second-below (binary-node h) refl q))
+          ap₂ (λ (f g : Runs). binaryS f g (wordKind x) t env acc st) (child (binary-node (P .node) h) k p (operand-below p refl .0))
+          (child (binary-node (P .node) h) k refl (operand-below p refl .1))
           ∙ ap ending (sym (ne-eqb (wordKind x) 5 (λ e. omega (arith, e, h .0))))
 
-  pub pair-applies : (k acc a b : ℕ) (st : Store) {o : ℕ} → o ≡ wordKind x → o ≡ 5 → pairEnd k acc a b st ≡ applyAt terms k t a b acc st
+  pub second-is : (k env acc a : ℕ) {v : ℕ} → v ≡ wordSecond x → (st : Store)
+      → secondAt terms k t x env acc a st ≡ andThen (evalAt terms k v env acc st) (λ b st₁. pairEnd terms k t x acc a b st₁)
+  second-is k env acc a q st = ap (λ (w : ℕ). andThen (evalAt terms k w env acc st) (λ b st₁. pairEnd terms k t x acc a b st₁)) (sym q)
+
+  pub pair-applies : (k acc a b : ℕ) (st : Store) {o : ℕ} → o ≡ wordKind x → o ≡ 5 → pairEnd terms k t x acc a b st ≡ applyAt terms k t a b acc st
   unfolding pairEnd
   pair-applies k acc a b st e z = rw (eq-eqb (wordKind x) 5 (sym e ∙ z)) refl
 
   pub pair-operates : (k acc a b : ℕ) (cells posts frames noted : List ℕ) {o w : ℕ} {n n′ : List ℕ} → o ≡ wordKind x → (o ≡ 5 → ⊥) → Operated o t a b n w n′
-      → doneOf w (storeOf n′ cells posts frames noted) ≡ pairEnd k acc a b (storeOf n cells posts frames noted)
+      → doneOf w (storeOf n′ cells posts frames noted) ≡ pairEnd terms k t x acc a b (storeOf n cells posts frames noted)
   unfolding pairEnd operateDone
   pair-operates k acc a b c p f l e n d =
       (λ i. doneOf (d .word-is i) (storeOf (d .counters-are i) c p f l)) ∙ rw (ne-eqb (wordKind x) 5 (λ z. n (e ∙ z)), ← e) refl
+
+-- how a shape goes on after its first child: a post, a branch, or a second child
+module _ {terms : List ℕ} {t x : ℕ} (F : First terms t x) where
+  if-node : wordKind x ≡ 6 → Node terms t x if
+  unfolding shapeOf
+  if-node = shaped (F .node) 6
+
+  pub pair-of : {o : ℕ} → o ≡ wordKind x → o ≤ 13 → (o ≡ 6 → ⊥) → Pair terms t x
+  pair-of e l n = record {
+    node = F .node;
+    kind-is = ⊎-elim (λ h. inl h) (λ r. ⊎-elim (λ h. absurd (n (e ∙ h))) (λ h. inr (h, omega (arith, e, l))) r) (F .kind-is);
+  }
+
+  -- in the order of the code
+  cases : {A : Type 0} → (13 < wordKind x → A) → (wordKind x ≡ 6 → A) → (wordKind x ≤ 13 → (wordKind x ≡ 6 → ⊥) → A) → A
+  cases a b c =
+      elim (decLt 13 (wordKind x)) [
+        | yes h ↦ a h
+        | no h ↦ elim (ℕ-discrete (wordKind x) 6) [ yes e ↦ b e | no n ↦ c (omega arith) n ]
+      ]
+
+  pub leading-below : {u : ℕ} → u ≡ wordFirst x → u < t
+  leading-below p =
+      cases (λ h. first-below (post-node (F .node) h) refl p) (λ e. first-below (if-node e) refl p)
+      (λ l n. operand-below (pair-of refl l n) p refl .0)
+
+  module _ {o : ℕ} (e : o ≡ wordKind x) where
+    pub guard-of : 13 < o → Guard (wordGuard x)
+    guard-of h = guard-right (post-node (F .node) (omega (arith, e, h))) refl
+
+    pub branch-below : {v z w : ℕ} → o ≡ 6 → v ≡ wordSecond x → z ≡ wordThird x → (b : Bool) → w ≡ pick b v z → w < t
+    branch-below six q r b p = chosen-below b p (second-below (if-node (sym e ∙ six)) refl q) (third-below (if-node (sym e ∙ six)) refl r)
+
+  unfoldable pub firstEnd : (k env acc a : ℕ) → Store → Done
+  firstEnd k env acc a st =
+      pick (ltb 13 (wordKind x)) (postDone t x acc a st)
+      (pick (eqb (wordKind x) 6) (branchS t a (evalAt terms k (wordSecond x) env acc st) (evalAt terms k (wordThird x) env acc st) st)
+      (secondAt terms k t x env acc a st))
+
+  pub first-is : (k env acc : ℕ) {u : ℕ} → u ≡ wordFirst x → (st : Store)
+      → evalAt terms k t env acc st ≡ andThen (evalAt terms k u env acc st) (λ a st₁. firstEnd k env acc a st₁)
+  unfolding firstEnd
+  first-is k env acc {u} p st =
+      cases (λ h. post-is k env acc (post-node (F .node) h) p st ∙ ap (λ (b : Bool). ending b (eqb (wordKind x) 6)) (sym (lt-ltb 13 (wordKind x) h)))
+      (λ e. if-is k env acc (if-node e) p refl refl st ∙ ap₂ ending (sym (le-ltb 13 (wordKind x) (omega (arith, e)))) (sym (eq-eqb (wordKind x) 6 e)))
+      (λ l n. pair-is (pair-of refl l n) k env acc p st ∙ ap₂ ending (sym (le-ltb 13 (wordKind x) l)) (sym (ne-eqb (wordKind x) 6 n)))
+    where
+      ending : (isPost isIf : Bool) → Done
+      ending b c = andThen (evalAt terms k u env acc st)
+          (λ a st₁. pick b (postDone t x acc a st₁)
+          (pick c (branchS t a (evalAt terms k (wordSecond x) env acc st₁) (evalAt terms k (wordThird x) env acc st₁) st₁)
+          (secondAt terms k t x env acc a st₁)))
+
+  module _ (k env acc a : ℕ) (st : Store) {o : ℕ} (e : o ≡ wordKind x) where
+    pub first-posts : 13 < o → firstEnd k env acc a st ≡ postDone t x acc a st
+    unfolding firstEnd
+    first-posts h = rw (lt-ltb 13 (wordKind x) (omega (arith, e, h))) refl
+
+    module _ (l : o ≤ 13) where
+      pub first-branches : {v z : ℕ} → o ≡ 6 → v ≡ wordSecond x → z ≡ wordThird x
+          → firstEnd k env acc a st ≡ branchS t a (evalAt terms k v env acc st) (evalAt terms k z env acc st) st
+      unfolding firstEnd
+      first-branches six q r = rw (le-ltb 13 (wordKind x) (omega (arith, e, l)), eq-eqb (wordKind x) 6 (sym e ∙ six), q, r) refl
+
+      pub first-seconds : (o ≡ 6 → ⊥) → firstEnd k env acc a st ≡ secondAt terms k t x env acc a st
+      unfolding firstEnd
+      first-seconds n = rw (le-ltb 13 (wordKind x) (omega (arith, e, l)), ne-eqb (wordKind x) 6 (λ z. n (e ∙ z))) refl
 
 -- ---- a branch, by the condition's word
 pub branch-stuck : (t w : ℕ) (p q : Done) (st : Store) {s r : ℕ} → s ≡ sortOf w → (s ≡ 0 → ⊥) → r ≡ stopWord 18 t → branchS t w p q st ≡ doneOf r st
@@ -329,7 +408,7 @@ module _ (terms : List ℕ) (k t f v acc : ℕ) (st : Store) where
             ∙ simp (ne-eqb (callsLeft (st .n)) 0 calls, lt-ltb (cellsMade (st .n)) (length (st .cells) / 8) (h .0)) (rw (h .1 .0, h .1 .1, b, e, o) refl)
 
 -- ---- the calls left after a cell is counted, after a call is, and after an operation
-pub same-calls : (n : List ℕ) (m : ℕ) → callsLeft (set n 1 m) ≡ callsLeft n
+same-calls : (n : List ℕ) (m : ℕ) → callsLeft (set n 1 m) ≡ callsLeft n
 same-calls n m = getD-set-other n 1 0 m 0 (λ e. omega (arith, e))
 
 pub one-call-less : (n : List ℕ) (m : ℕ) → (callsLeft n ≡ 0 → ⊥) → callsLeft (set (set n 0 (callsLeft n - 1)) 1 m) < callsLeft n

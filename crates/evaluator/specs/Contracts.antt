@@ -3,14 +3,16 @@ use mathlib.Core.List.{List}
 use mathlib.Core.Logic.{_⊎_}
 use mathlib.Core.Path.{_≡_}
 use Prim.Native.Nat.{ℕ, _+_, _*_, _<_, _≤_}
+use lib.Dec.{eqb}
 use lib.ListN.{length, getD}
 use denote.Ref.{RefT}
 use Rattle.program.specs.Limits.{maxTerms}
-use Rattle.machine.specs.Table.{wordKind}
+use Rattle.stores.specs.Words.{pick}
+use Rattle.machine.specs.Table.{wordKind, wordSecond}
 use Rattle.machine.specs.Lower.{Lower}
 use Rattle.machine.specs.Steps.{callsLeft}
 use Rattle.machine.specs.Enter.{Enterable}
-use Rattle.machine.specs.Store.{Store, Done, storeOf, doneOf, Shape, shapeOf}
+use Rattle.machine.specs.Store.{Store, Done, storeOf, doneOf, andThen, Shape, shapeOf, operateDone, evalAt, applyAt}
 
 -- ---- what is asked: of the words, and of a function for one shape
 pub record Table (terms : List ℕ) : Type 0 where
@@ -28,12 +30,22 @@ pub record Tail (terms : List ℕ) (t x : ℕ) : Type 0 where
   pub node : Node terms t x (shapeOf (wordKind x))
   pub tail : Enterable (wordKind x)
 
--- a call, or an operation on two numbers: the two shapes that evaluate first and second and end by their values
+-- a call, an if, an operation on two numbers or a post: the shapes that evaluate first and go on by its word
+pub record First (terms : List ℕ) (t x : ℕ) : Type 0 where
+  pub node : Node terms t x (shapeOf (wordKind x))
+  pub kind-is : (wordKind x ≡ 5) ⊎ ((wordKind x ≡ 6) ⊎ (11 ≤ wordKind x))
+
+-- a call or an operation: of these the ones that evaluate second, too, and end by both words
 pub record Pair (terms : List ℕ) (t x : ℕ) : Type 0 where
-  pub ready : Table terms
-  pub term-small : t < 65536
-  pub word-is : x ≡ getD terms t 0
+  pub node : Node terms t x (shapeOf (wordKind x))
   pub kind-is : (wordKind x ≡ 5) ⊎ ((11 ≤ wordKind x) × (wordKind x ≤ 13))
+
+-- what a call or an operation goes on with after the word a of first: second, and then an application or a result
+unfoldable pub pairEnd : (terms : List ℕ) (depth t x acc a b : ℕ) → Store → Done
+pairEnd terms k t x acc a b st = pick (eqb (wordKind x) 5) (applyAt terms k t a b acc st) (operateDone (wordKind x) t a b st)
+
+abbrev pub secondAt : (terms : List ℕ) (depth t x env acc a : ℕ) → Store → Done
+secondAt terms k t x env acc a st = andThen (evalAt terms k (wordSecond x) env acc st) (λ b st₁. pairEnd terms k t x acc a b st₁)
 
 -- ---- what is given: the lent slices are those that came, under the names that the checker follows them by
 pub record Names : Type 0 where
@@ -55,7 +67,8 @@ pub record Evaluated (run : Store → Done) (n : List ℕ) (cells posts frames n
   pub calls : callsLeft n′ ≤ callsLeft n
   pub names : namesOf cells′ posts′ frames′ noted′ ≡ namesOf cells posts frames noted
 
--- What falls at each call of the cycle: a call left is worth more than any term's number, which has 16 bits, and a term's number twice as much as the
--- step from `eval` to the function of its shape. 131076 is 2 * 65536 + 4: two for each number of 16 bits, and room for the steps.
+-- What falls at each call of the cycle: a call left is worth more than any term's number, which has 16 bits, and a term's number as much as the three
+-- steps down from `eval`: to the function of its shape, from there to its second operand, and to an application. 196612 is 3 * 65536 + 4: three for each
+-- number of 16 bits, and room for the steps.
 abbrev pub workLeft : (n : List ℕ) (t step : ℕ) → ℕ
-workLeft n t step = callsLeft n * 131076 + t * 2 + step
+workLeft n t step = callsLeft n * 196612 + t * 3 + step

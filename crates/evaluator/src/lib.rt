@@ -2,8 +2,8 @@
 // speak of the store-level interpreter in machine/specs/Store.antt; the crate `refinement` takes that to the meaning. `n` holds the calls left, the
 // cells made, the posts made, the run's mode, the saturated results and the entries of the record, whose bytes are `noted`. The lent stores are handed on
 // as references to the slices, so that no call copies one. What few terms look at comes last among the parameters: the first six are in registers.
-ghost use Rattle.machine.specs.Store.{if, enable, post, evalAt, applyAt};
-ghost use Rattle.evaluator.specs.Contracts.{Table, Node, Tail, Pair, Evaluated};
+ghost use Rattle.machine.specs.Store.{enable, evalAt, applyAt};
+ghost use Rattle.evaluator.specs.Contracts.{Table, Node, Tail, First, Pair, secondAt, Evaluated};
 use machine::enter::enter;
 use machine::steps::append;
 use machine::steps::choose;
@@ -45,11 +45,22 @@ pub fn eval(
         1 => words::interval(first_of(x), second_of(x)),
         2 => look(*cells, t, env, first_of(x)),
         3 => words::function(second_of(x), env),
-        4 | 7 | 9 | 10 => eval_tail(terms, cells, n, t, env, acc, x, depth, frames, posts, noted),
-        5 | 11..=13 => eval_pair(terms, cells, n, t, env, acc, x, depth, frames, posts, noted),
-        6 => eval_if(terms, cells, n, t, env, acc, x, depth, frames, posts, noted),
+        5 | 6 | 11..=255 => eval_first(
+            terms,
+            cells,
+            n,
+            t,
+            env,
+            acc,
+            x,
+            depth,
+            frames,
+            posts,
+            noted,
+        ),
         8 => eval_enable(terms, cells, n, t, env, acc, x, depth, frames, posts, noted),
-        _ => eval_post(terms, cells, n, t, env, acc, x, depth, frames, posts, noted),
+        // letrec, check, sign and test: 4, 7, 9 and 10
+        _ => eval_tail(terms, cells, n, t, env, acc, x, depth, frames, posts, noted),
     }
 }
 
@@ -82,115 +93,6 @@ fn eval_tail(
         e.next,
         e.env,
         e.acc,
-        depth,
-        frames,
-        posts,
-        noted,
-    )
-}
-
-// Two operands, from left to right: function and argument of a call, or two numbers.
-fn eval_pair(
-    terms: &[u64; TERM_PLACES],
-    cells: &mut &mut [u8],
-    n: &mut [usize; 6],
-    t: u16,
-    env: u16,
-    acc: u64,
-    x: u64,
-    depth: usize,
-    frames: &mut &mut [u32],
-    posts: &mut &mut [u32],
-    noted: &mut &mut [u8],
-) -> u64
-    requires { ⌜ Pair (now terms) t x ⌝ }
-    ensures { λ r. ⌜ Evaluated (evalAt (now (terms .entry)) depth t env acc) (now (n .entry)) (now (cells .entry)) (now (posts .entry)) (now (frames .entry))
-        (now (noted .entry)) r (now (n .exit)) (now (cells .exit)) (now (posts .exit)) (now (frames .exit)) (now (noted .exit)) ⌝ }
-{
-    let a = eval(
-        terms,
-        cells,
-        n,
-        first_of(x),
-        env,
-        acc,
-        depth,
-        frames,
-        posts,
-        noted,
-    );
-    if words::is_stop(a) {
-        return a;
-    }
-    let b = eval(
-        terms,
-        cells,
-        n,
-        second_of(x),
-        env,
-        acc,
-        depth,
-        frames,
-        posts,
-        noted,
-    );
-    if words::is_stop(b) {
-        return b;
-    }
-    let kind = kind_of(x);
-    if kind == 5 {
-        return apply(terms, cells, n, t, acc, a, b, depth, frames, posts, noted);
-    }
-    operate(n, kind, t, a, b)
-}
-
-// A condition and one of two branches.
-fn eval_if(
-    terms: &[u64; TERM_PLACES],
-    cells: &mut &mut [u8],
-    n: &mut [usize; 6],
-    t: u16,
-    env: u16,
-    acc: u64,
-    x: u64,
-    depth: usize,
-    frames: &mut &mut [u32],
-    posts: &mut &mut [u32],
-    noted: &mut &mut [u8],
-) -> u64
-    requires { ⌜ Node (now terms) t x if ⌝ }
-    ensures { λ r. ⌜ Evaluated (evalAt (now (terms .entry)) depth t env acc) (now (n .entry)) (now (cells .entry)) (now (posts .entry)) (now (frames .entry))
-        (now (noted .entry)) r (now (n .exit)) (now (cells .exit)) (now (posts .exit)) (now (frames .exit)) (now (noted .exit)) ⌝ }
-{
-    let b = eval(
-        terms,
-        cells,
-        n,
-        first_of(x),
-        env,
-        acc,
-        depth,
-        frames,
-        posts,
-        noted,
-    );
-    if words::is_stop(b) {
-        return b;
-    }
-    if words::sort(b) != 0 {
-        return words::stop(18, t);
-    }
-    if words::payload(b) == 2 {
-        return words::stop(36, t);
-    }
-    let branch = choose(0 < words::payload(b), second_of(x), third_of(x));
-    eval(
-        terms,
-        cells,
-        n,
-        branch,
-        env,
-        acc,
         depth,
         frames,
         posts,
@@ -235,8 +137,8 @@ fn eval_enable(
     w
 }
 
-// Appends a number, if the guard of its channel passes.
-fn eval_post(
+// A call, an if, an operation or a post: its first child, and by that word what follows; of an if, one of two branches.
+fn eval_first(
     terms: &[u64; TERM_PLACES],
     cells: &mut &mut [u8],
     n: &mut [usize; 6],
@@ -249,11 +151,11 @@ fn eval_post(
     posts: &mut &mut [u32],
     noted: &mut &mut [u8],
 ) -> u64
-    requires { ⌜ Node (now terms) t x post ⌝ }
+    requires { ⌜ First (now terms) t x ⌝ }
     ensures { λ r. ⌜ Evaluated (evalAt (now (terms .entry)) depth t env acc) (now (n .entry)) (now (cells .entry)) (now (posts .entry)) (now (frames .entry))
         (now (noted .entry)) r (now (n .exit)) (now (cells .exit)) (now (posts .exit)) (now (frames .exit)) (now (noted .exit)) ⌝ }
 {
-    let w = eval(
+    let a = eval(
         terms,
         cells,
         n,
@@ -265,10 +167,89 @@ fn eval_post(
         posts,
         noted,
     );
-    if words::is_stop(w) {
-        return w;
+    if words::is_stop(a) {
+        return a;
     }
-    append(*posts, *frames, *noted, n, t, x, acc, w)
+    let kind = kind_of(x);
+    if 13 < kind {
+        return append(*posts, *frames, *noted, n, t, x, acc, a);
+    }
+    if kind != 6 {
+        return eval_second(
+            terms,
+            cells,
+            n,
+            t,
+            env,
+            acc,
+            x,
+            a,
+            depth,
+            frames,
+            posts,
+            noted,
+        );
+    }
+    if words::sort(a) != 0 {
+        return words::stop(18, t);
+    }
+    if words::payload(a) == 2 {
+        return words::stop(36, t);
+    }
+    let branch = choose(0 < words::payload(a), second_of(x), third_of(x));
+    eval(
+        terms,
+        cells,
+        n,
+        branch,
+        env,
+        acc,
+        depth,
+        frames,
+        posts,
+        noted,
+    )
+}
+
+// A call or an operation after the word a of its first child: the argument or the second number, and what both come to.
+fn eval_second(
+    terms: &[u64; TERM_PLACES],
+    cells: &mut &mut [u8],
+    n: &mut [usize; 6],
+    t: u16,
+    env: u16,
+    acc: u64,
+    x: u64,
+    a: u64,
+    depth: usize,
+    frames: &mut &mut [u32],
+    posts: &mut &mut [u32],
+    noted: &mut &mut [u8],
+) -> u64
+    requires { ⌜ Pair (now terms) t x ⌝ }
+    ensures { λ r. ⌜ Evaluated (secondAt (now (terms .entry)) depth t x env acc a) (now (n .entry)) (now (cells .entry)) (now (posts .entry))
+        (now (frames .entry)) (now (noted .entry)) r (now (n .exit)) (now (cells .exit)) (now (posts .exit)) (now (frames .exit)) (now (noted .exit)) ⌝ }
+{
+    let b = eval(
+        terms,
+        cells,
+        n,
+        second_of(x),
+        env,
+        acc,
+        depth,
+        frames,
+        posts,
+        noted,
+    );
+    if words::is_stop(b) {
+        return b;
+    }
+    let kind = kind_of(x);
+    if kind == 5 {
+        return apply(terms, cells, n, t, acc, a, b, depth, frames, posts, noted);
+    }
+    operate(n, kind, t, a, b)
 }
 
 // Applies f to v at the call t: 18, 19, 20, 21, or its body runs in the caller's access, with its argument in a new cell.

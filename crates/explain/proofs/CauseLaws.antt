@@ -18,9 +18,10 @@ use Rattle.typing.specs.Checking.{Judgement, typed, fault}
 use Rattle.typing.specs.declared.answer.Inferred.{Inferred}
 use Rattle.typing.specs.declared.answer.Inferred.the-variants.{Typed, Faulty}
 use Rattle.typing.proofs.answer.Inferred.{the-type}
-use Rattle.rules.specs.Inference.{inferredModel, context, termJudgement, Sheet, Ready}
+use Rattle.subtyping.specs.Internal.{Sheet}
+use Rattle.subtyping.specs.Laws.Records.{type-parts}
+use Rattle.rules.specs.Inference.{inferredModel, context, termJudgement, Ready}
 use Rattle.rules.specs.Steps.{callStep}
-use Rattle.rules.specs.Laws.Records.{type-parts}
 use Rattle.rules.specs.declared.bindings.Bindings.{Bindings}
 use Rattle.checker.proofs.TermLaws.{post-guard, call-is, call-stops}
 use Rattle.typing.specs.Places.{placed}

@@ -21,7 +21,7 @@ use Rattle.typing.specs.Answers.{faultCause, faultPlace, verdictModel}
 use Rattle.typing.specs.declared.answer.Fault.{Fault}
 use Rattle.typing.specs.declared.answer.Verdict.{Verdict as VerdictAnswer}
 use Rattle.typing.specs.declared.answer.Verdict.the-variants as answer
-use Rattle.rules.specs.Inference.{Sheet}
+use Rattle.subtyping.specs.Internal.{Sheet}
 use Rattle.typing.specs.Places.{placedNumber, rootOf}
 use Rattle.explain.specs.Explaining.{needing, needs, chainOf, Explained as ExplainedOf, explained, not-needed, refused, tracedIn, explainedBy, explanation}
 use Rattle.explain.specs.Answers.{answerModel, chainTerms, chainLength, Told}

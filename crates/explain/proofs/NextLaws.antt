@@ -18,9 +18,9 @@ use Rattle.program.specs.declared.records.TermRecord.{TermRecord}
 use Rattle.typing.specs.declared.answer.Inferred.{Inferred}
 use Rattle.typing.specs.declared.answer.Inferred.the-variants.{Typed}
 use Rattle.typing.proofs.answer.Inferred.{the-type}
+use Rattle.subtyping.specs.Known.{Known, Answered}
 use Rattle.rules.specs.Inference.{inferredModel, context, termJudgement, Ready}
 use Rattle.rules.specs.declared.bindings.Bindings.{Bindings}
-use Rattle.rules.specs.Known.{Known, Answered}
 use Rattle.checker.specs.Internal.{Judged}
 use Rattle.typing.specs.Places.{Placed, placed, Among, among-first, among-later}
 use Rattle.explain.specs.Explaining.{needing, needs, testsIt, followed, firstNeeding, next}

@@ -11,9 +11,9 @@ use Rattle.program.specs.Limits.{maxTypes, maxNesting}
 use Rattle.program.specs.Layout.{authority, typesOf}
 use Rattle.program.specs.Terms.{tree}
 use Rattle.program.specs.declared.records.Counts.{Counts}
+use Rattle.subtyping.proofs.KnownLaws.{known-none}
 use Rattle.rules.specs.Inference.{lastFirst, context}
 use Rattle.rules.specs.declared.bindings.Bindings.{Bindings}
-use Rattle.rules.proofs.KnownLaws.{known-none}
 use Rattle.checker.proofs.VerdictLaws.{root-ready}
 use Rattle.typing.specs.Places.{Placed, placed, placedNumber, rootOf}
 use Rattle.typing.specs.Laws.Places.{tree-number}

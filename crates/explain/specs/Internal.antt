@@ -10,8 +10,8 @@ use Rattle.program.specs.Limits.{maxNesting}
 use Rattle.program.specs.Layout.{Types, authority, typesOf}
 use Rattle.program.specs.Records.{termRecord}
 use Rattle.program.specs.declared.records.Counts.{Counts}
-use Rattle.rules.specs.Inference.{Sheet}
-use Rattle.rules.specs.Known.{Known}
+use Rattle.subtyping.specs.Internal.{Sheet}
+use Rattle.subtyping.specs.Known.{Known}
 use Rattle.typing.specs.Places.{Placed, placed, rootOf}
 use Rattle.explain.specs.Explaining.{needs, isCause, testsIt, next}
 use Rattle.explain.specs.declared.answer.Explanation.{Explanation}

@@ -31,7 +31,7 @@ use Rattle.machine.specs.Store.{Done, storeOf, doneOf}
 use Rattle.refinement.specs.Claims.{outcomeOf, countsOf, laidOut, Refined}
 use Rattle.refinement.specs.Theorems.{eager-refined, lazy-refined}
 use Rattle.interp.specs.Answers.{refusalCause, refusalPlace, outcomeModel, countsModel, runModel, requestOf, buffersOf, after, afterRecording}
-use Rattle.interp.specs.Internal.{Cleared, Admits, StartAccess, turnedBack, rootDone, Tallied, Evaluated}
+use Rattle.interp.specs.Internal.{Cleared, Admits, StartAccess, rejectedRun, rootDone, Tallied, Evaluated}
 use Rattle.interp.specs.Laws.{access-may, access-is, tallied-at, tallied-after}
 use Rattle.interp.specs.declared.answer.Refusal.{Refusal}
 use Rattle.interp.specs.declared.answer.Run.the-variants.{Refused, Ran as IsRan}
@@ -43,14 +43,14 @@ use Rattle.interp.specs.declared.answer.Admission.the-variants.{Admitted
 use Rattle.interp.proofs.StartLaws.{laid-length}
 
 -- ---- a run that is turned back
-pub refused-after : (s : List ℕ) (q : Request) (cells posts frames noted : List ℕ) (f : Refusal) {r : RecordedRun} → r ≡ turnedBack f
+pub refused-after : (s : List ℕ) (q : Request) (cells posts frames noted : List ℕ) (f : Refusal) {r : RecordedRun} → r ≡ rejectedRun f
     → screen (runConditions s q (sizes (buffersOf cells posts frames))) ≡ found (refusalCause f) (refusalPlace f)
     → afterRecording r cells posts frames noted ≡ recording s q (buffersOf cells posts frames) noted
 refused-after s q cells posts frames noted f t e =
     let b = buffersOf cells posts frames in
     let is : run s q b ≡ after (Refused f) cells posts frames = run-course s q b _ (course-found s q b (refusalCause f) (refusalPlace f) e) in
     ap (λ (r : RecordedRun). afterRecording r cells posts frames noted) t
-    ∙ (λ i. record { after = sym is i; entries = 0; trace = noted })
+    ∙ (λ i. record { after = sym is i; entries = 0; noted = noted })
     ∙ sym (refused-unrecorded s q b noted (refusalCause f) (refusalPlace f) (ap (λ (a : After). a .answer) is))
 
 -- ---- without a record
@@ -69,9 +69,9 @@ module _ (s : List ℕ) (q : Request) (cells posts frames store noted : List ℕ
   listed = decidedIn (left (evaluationIn (traced (q .enforce)) (q .runner) s q z))
 
   -- the answer in the words of the meaning, from the tally of the root
-  record Answers (d : Done) (r : RecordedRun) (b : Buffers) (trace : List ℕ) : Type 0 where
+  record Answers (d : Done) (r : RecordedRun) (b : Buffers) (noted′ : List ℕ) : Type 0 where
     tally : Tally
-    tallied : Tallied (q .calls) d tally b trace
+    tallied : Tallied (q .calls) d tally b noted′
     answer-is : runModel (r .run) ≡ ran (outcomeOf (root s) (outOf (tally .word))) (countsModel (tally .made))
     entries-are : r .entries ≡ tally .entries
 
@@ -92,7 +92,7 @@ module _ (s : List ℕ) (q : Request) (cells posts frames store noted : List ℕ
       λ i. record {
         after = same i;
         entries = (v .entries-are ∙ v .tallied .entries-are ∙ R .same-entries ∙ ap (λ (es : List Event). length (recorded (length noted) es)) all) i;
-        trace = (v .tallied .trace-is ∙ R .same-trace ∙ ap (λ (es : List Event). withEntries (recorded (length noted) es) noted) all) i;
+        noted = (v .tallied .noted-is ∙ R .same-noted ∙ ap (λ (es : List Event). withEntries (recorded (length noted) es) noted) all) i;
       }
 
 -- ---- evaluation
@@ -118,7 +118,7 @@ tallied-by calls e z = record {
   cells-are = z ∙ ap (λ (d : Done). zerosLike (d .store .cells)) e;
   posts-are = ap (λ (d : Done). d .store .posts) e;
   frames-are = ap (λ (d : Done). d .store .frames) e;
-  trace-is = ap (λ (d : Done). d .store .noted) e;
+  noted-is = ap (λ (d : Done). d .store .noted) e;
 }
 
 pub answered-by : (root₀ : ℕ) (t : Tally) {x : Out} (o : Outcome) → x ≡ outOf (t .word) → outcomeModel o ≡ outcomeOf root₀ x
@@ -194,13 +194,13 @@ module _ (s start : List ℕ) (e : Bool) (cells posts noted : List ℕ) (calls d
 -- ---- each runner turned back
 module _ (s start : List ℕ) (e : Bool) (cells posts noted : List ℕ) (calls depth : ℕ) where
   pub eager-refused : {a : Admission} {f : Refusal} {r : RecordedRun} → a ≡ TurnedBack f → Admits s start (length cells) (length posts) true calls depth a
-      → r ≡ turnedBack f → afterRecording r cells posts [] noted ≡ recording s (requestOf eager e start calls depth) (buffersOf cells posts []) noted
+      → r ≡ rejectedRun f → afterRecording r cells posts [] noted ≡ recording s (requestOf eager e start calls depth) (buffersOf cells posts []) noted
   eager-refused {f = f} p h t =
       refused-after s (requestOf eager e start calls depth) cells posts [] noted f t
       (subst (Admits s start (length cells) (length posts) true calls depth) p h)
 
   pub lazy-refused : (frames : List ℕ) {a : Admission} {f : Refusal} {r : RecordedRun} → a ≡ TurnedBack f
-      → Admits s start (length cells) (length posts) (eqb (length frames) frameNumbers) calls depth a → r ≡ turnedBack f
+      → Admits s start (length cells) (length posts) (eqb (length frames) frameNumbers) calls depth a → r ≡ rejectedRun f
       → afterRecording r cells posts frames noted ≡ recording s (requestOf lazy e start calls depth) (buffersOf cells posts frames) noted
   lazy-refused frames {f = f} p h t =
       refused-after s (requestOf lazy e start calls depth) cells posts frames noted f t

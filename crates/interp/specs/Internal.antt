@@ -35,11 +35,6 @@ pub record ReadSheet (s : List ℕ) (c : Counts) : Type 0 where
   pub readable : Readable s
   pub counts-are : CountsOf s c
 
--- and as the evaluator needs it
-pub record FormedSheet (s : List ℕ) (c : Counts) : Type 0 where
-  pub well-formed : WellFormed s
-  pub counts-are : CountsOf s c
-
 -- ---- the start stack
 -- at most 16 frames, none of them half
 pub record Whole (start : List ℕ) : Type 0 where
@@ -86,23 +81,23 @@ Admits s start cells posts frames calls depth (Refused f) = screen (conditions s
 
 -- ---- evaluation
 -- a run that is turned back has no entry
-abbrev pub turnedBack : Refusal → RecordedRun
-turnedBack f = record { run = Rejected f; entries = 0 }
+abbrev pub rejectedRun : Refusal → RecordedRun
+rejectedRun f = record { run = Rejected f; entries = 0 }
 
 -- what the interpreter comes to at the root, with the terms' words in `terms` and a record lent
-abbrev pub rootDone : (terms : List ℕ) (root mode acc calls depth : ℕ) → Buffers → (trace : List ℕ) → Done
+abbrev pub rootDone : (terms : List ℕ) (root mode acc calls depth : ℕ) → Buffers → (noted : List ℕ) → Done
 rootDone terms root mode acc calls depth b t =
     evalAt terms depth root 0 acc (storeOf (calls ∷ 0 ∷ 0 ∷ mode ∷ 0 ∷ 0 ∷ []) (b .cells) (b .posts) (b .frames) t)
 
 -- word, counts and entries from what it comes to, and the stores: cells cleared, posts, frames and record as it leaves them
-pub record Tallied (calls : ℕ) (d : Done) (r : Tally) (b : Buffers) (trace : List ℕ) : Type 0 where
+pub record Tallied (calls : ℕ) (d : Done) (r : Tally) (b : Buffers) (noted : List ℕ) : Type 0 where
   pub word-is : r .word ≡ d .out
   pub made-is : countsModel (r .made) ≡ countsOf calls (d .store .n)
   pub entries-are : r .entries ≡ entriesMade (d .store .n)
   pub cells-are : b .cells ≡ zerosLike (d .store .cells)
   pub posts-are : b .posts ≡ d .store .posts
   pub frames-are : b .frames ≡ d .store .frames
-  pub trace-is : trace ≡ d .store .noted
+  pub noted-is : noted ≡ d .store .noted
 
 -- the words of a sheet's terms, a tally of the root, and the answer from it
 pub record Evaluated (s : List ℕ) (c : Counts) (mode acc calls depth : ℕ) (b : Buffers) (t : List ℕ) (r : RecordedRun) (b′ : Buffers) (t′ : List ℕ)

@@ -7,9 +7,10 @@ ghost use lib.ListN.{length};
 ghost use Rattle.semantics.specs.Runs.{eager as eagerRunner, lazy as lazyRunner, run};
 ghost use Rattle.semantics.specs.Recording.{recording};
 ghost use Rattle.program.specs.Limits.{frameNumbers};
+ghost use Rattle.machine.specs.Table.{FormedSheet};
 ghost use Rattle.refinement.specs.Claims.{outcomeOf};
 ghost use Rattle.interp.specs.Answers.{outcomeModel, requestOf, buffersOf, after, afterRecording};
-ghost use Rattle.interp.specs.Internal.{FormedSheet, Cleared, turnedBack, Evaluated};
+ghost use Rattle.interp.specs.Internal.{Cleared, rejectedRun, Evaluated};
 
 pub mod admission;
 pub mod answer;
@@ -50,7 +51,7 @@ fn outcome_of(root: u16, out: Out) -> Outcome
 }
 
 fn turned_back(f: Refusal) -> RecordedRun
-    ensures { λ r. ⌜ r ≡ turnedBack f ⌝ }
+    ensures { λ r. ⌜ r ≡ rejectedRun f ⌝ }
 {
     RecordedRun {
         run: Run::Refused(f),

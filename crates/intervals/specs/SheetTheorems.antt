@@ -15,7 +15,7 @@ use Rattle.program.specs.Laws.Readable.{well-formed}
 use Rattle.semantics.specs.Values.{Result}
 use Rattle.semantics.specs.Meaning.{plain}
 use Rattle.semantics.specs.Runs.{Request, Buffers, sizes, runConditions, evaluationOver, evaluation, settled, afterCourse, course, run}
-use Rattle.semantics.specs.Theorems.{clear-well}
+use Rattle.semantics.specs.Laws.Starting.{clear-well}
 use Rattle.intervals.specs.Pairs.{isNumber}
 use Rattle.intervals.specs.Runs.{rangeRun}
 use Rattle.intervals.specs.Claims.{Words, Choice, chosen, chosenCourse, chosenRun, Contains, Decided}

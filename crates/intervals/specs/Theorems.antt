@@ -21,8 +21,8 @@ use Rattle.semantics.specs.Values.{Budget, budget, ResultOf, Result}
 use Rattle.semantics.specs.Meaning.{plain}
 use Rattle.semantics.specs.Access.{lazyControl, eagerControl}
 use Rattle.semantics.specs.Runs.{Runner, eager, lazy, Request, Buffers, Sizes, sizes, runConditions, evaluationOver, rejected, started, settled, OutcomeOf, Outcome, stopped, Counts, AnswerOf, refused, ran, outcome, left, counts, inOrder, AfterOf, afterCourse, course, run}
-use Rattle.semantics.specs.Theorems.{clear-well, evaluation-spends, after-sizes, Few, clear-few, countsIn}
-use Rattle.semantics.specs.Claims.{IfAt}
+use Rattle.semantics.specs.Laws.Starting.{clear-well, evaluation-spends, after-sizes, clear-few, countsIn}
+use Rattle.semantics.specs.Claims.{IfAt, Few}
 use Rattle.semantics.specs.Laws.Stops.{evaluation-stop, stop-told}
 use Rattle.semantics.specs.Laws.Saturation.{saturatedIn}
 use Rattle.soundness.specs.Laws.Runs.{posts-listed}

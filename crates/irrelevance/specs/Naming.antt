@@ -18,9 +18,9 @@ pub data Naming : Type 0 where
 abbrev pub firstNaming : List ℕ → (p : ℕ) → Option ℕ
 firstNaming s p = lowest (λ t. not (names s p t)) 0 (terms s)
 
-abbrev pub toldOf : Option ℕ → Naming
-toldOf none = unnamed
-toldOf (some t) = named t
+abbrev pub namingOf : Option ℕ → Naming
+namingOf none = unnamed
+namingOf (some t) = named t
 
 -- the decoder's refusals, then 30, "a privilege above 31" (W7)
 abbrev pub namingConditions : List ℕ → (p : ℕ) → List Condition
@@ -31,4 +31,4 @@ unlessFound clear k = k tt
 unlessFound (found c at) k = refused c at
 
 unfoldable pub naming : List ℕ → (p : ℕ) → Naming
-naming s p = unlessFound (screen (namingConditions s p)) λ _. toldOf (firstNaming s p)
+naming s p = unlessFound (screen (namingConditions s p)) λ _. namingOf (firstNaming s p)

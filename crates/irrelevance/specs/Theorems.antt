@@ -13,7 +13,7 @@ use Rattle.semantics.specs.Runs.{Request, Buffers, sizes, run}
 use Rattle.semantics.specs.Theorems.{course-clear, run-course, starts-screened}
 use Rattle.soundness.specs.Claims.{SameRun}
 use Rattle.soundness.specs.Laws.Runs.{same-whole, clear-readable}
-use Rattle.irrelevance.specs.Naming.{refused, unnamed, named, toldOf, namingConditions, naming}
+use Rattle.irrelevance.specs.Naming.{refused, unnamed, named, namingOf, namingConditions, naming}
 use Rattle.irrelevance.specs.Claims.{Unnamed, LowestNaming, Answerable, DifferAtMost, withdrawn, TwoStarts}
 use Rattle.irrelevance.specs.Laws.Naming.{none-unnamed, unnamed-none, some-lowest, lowest-first, answer-told, told-answer, found-refused, refused-found}
 use Rattle.irrelevance.specs.Laws.Runs.{withdrawn-grants, same-result}
@@ -39,14 +39,14 @@ module _ (s : List ℕ) (p : ℕ) where
   pub unnamed-exactly : (naming s p ≡ unnamed) ↔ (Answerable s p × Unnamed s p)
   unnamed-exactly = (
     λ e. let a = told-answer s p none e in (a .0, none-unnamed s p (a .1)),
-    λ h. answer-told s p (h .0) ∙ ap toldOf (unnamed-none s p (h .1)),
+    λ h. answer-told s p (h .0) ∙ ap namingOf (unnamed-none s p (h .1)),
   )
 
   -- yes, with the lowest term that names it
   pub named-exactly : (t : ℕ) → (naming s p ≡ named t) ↔ (Answerable s p × LowestNaming s p t)
   named-exactly t = (
     λ e. let a = told-answer s p (some t) e in (a .0, some-lowest s p t (a .1)),
-    λ h. answer-told s p (h .0) ∙ ap toldOf (lowest-first s p t (h .1)),
+    λ h. answer-told s p (h .0) ∙ ap namingOf (lowest-first s p t (h .1)),
   )
 
   -- and a refusal exactly if one of 1 to 8, 31 or 30 is found: the first, in this order

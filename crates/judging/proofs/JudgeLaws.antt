@@ -1,7 +1,7 @@
 -- What is told of a term from the reader's answer, from its place, and from its judgement there. Assumes nothing.
 use mathlib.Core.Bool.{true, false}
 use mathlib.Core.List.{List, []}
-use mathlib.Core.Option.{Option, none, some}
+use mathlib.Core.Option.{Option, some}
 use mathlib.Core.Path.{_≡_, refl, sym, ap, _∙_}
 use Prim.Native.Nat.{ℕ, _-_}
 use Rattle.program.specs.Layout.{authority, typesOf}
@@ -15,13 +15,14 @@ use Rattle.program.specs.declared.answer.Decoded.the-variants.{Readable, Refuse
 use Rattle.program.specs.declared.records.Counts.{Counts}
 use Rattle.typing.specs.Places.{Placed, placed}
 use Rattle.typing.specs.declared.answer.Inferred.{Inferred}
-use Rattle.rules.specs.Inference.{inferredModel, lastFirst, context, Sheet, termJudgement}
+use Rattle.subtyping.specs.Internal.{Sheet}
+use Rattle.rules.specs.Inference.{inferredModel, lastFirst, context, termJudgement}
 use Rattle.rules.specs.declared.bindings.Bindings.{Bindings}
 use Rattle.checker.proofs.VerdictLaws.{root-ready}
 use Rattle.places.specs.Internal.{present, childAt}
 use Rattle.places.specs.declared.Place.{Place}
 use Rattle.places.specs.declared.Child.{Child}
-use Rattle.subterms.specs.Judging.{withNumber, JudgedTerm, refused, judgedAs, told, ifReadable, judging}
+use Rattle.subterms.specs.Judging.{withNumber, JudgedTerm, refused, judgedAs, judgedOf, ifReadable, judging}
 use Rattle.subterms.specs.Laws.Subterms.{subtermsIn}
 use Rattle.judging.specs.Internal.{Searchable, FoundAs, judgedAt, judgedIn}
 
@@ -44,14 +45,14 @@ module _ {s : List ℕ} {c : Counts} (S : Sheet s c) (b : Bindings) (none-bound 
   root-is = rw q (λ i. some (placed (lastFirst (b .types) (none-bound i)) 0 (tree s (S .counts .terms-are i - 1))))
 
   module _ (t : ℕ) {r : Child} (f : FoundAs s c t (childAt s y) r) where
-    told-is : told (typesOf s) (authority s) (childAt s r) ≡ judgedIn s t
-    told-is = ap (told (typesOf s) (authority s)) (f .is ∙ ap (λ (o : Option Placed). withNumber t (subtermsIn (typesOf s) o)) root-is)
+    told-is : judgedOf (typesOf s) (authority s) (childAt s r) ≡ judgedIn s t
+    told-is = ap (judgedOf (typesOf s) (authority s)) (f .is ∙ ap (λ (o : Option Placed). withNumber t (subtermsIn (typesOf s) o)) root-is)
 
     pub absent-judged : r .present ≡ false → refused 37 0 ≡ judgedIn s t
-    absent-judged e = (let z : refused 37 0 ≡ told (typesOf s) (authority s) (childAt s r) = rw e refl in z) ∙ told-is
+    absent-judged e = (let z : refused 37 0 ≡ judgedOf (typesOf s) (authority s) (childAt s r) = rw e refl in z) ∙ told-is
 
     pub present-judged : r .present ≡ true → {j : JudgedTerm} → j ≡ judgedAt s (r .place) → j ≡ judgedIn s t
-    present-judged e h = h ∙ (let z : judgedAt s (r .place) ≡ told (typesOf s) (authority s) (childAt s r) = rw e refl in z) ∙ told-is
+    present-judged e h = h ∙ (let z : judgedAt s (r .place) ≡ judgedOf (typesOf s) (authority s) (childAt s r) = rw e refl in z) ∙ told-is
 
 -- ---- the term at a place, from its judgement
 pub place-judged : (s : List ℕ) (at : Place) {j : Inferred} → inferredModel j ≡ termJudgement s (context (at .bindings)) (at .principal) (at .term)

@@ -12,7 +12,7 @@ use Rattle.places.specs.Internal.{placedAt, childAt, ReadyPlace}
 use Rattle.places.specs.declared.Place.{Place}
 use Rattle.places.specs.declared.Child.{Child}
 use Rattle.subterms.specs.Smallest.{subterms}
-use Rattle.subterms.specs.Judging.{withNumber, JudgedTerm, told}
+use Rattle.subterms.specs.Judging.{withNumber, JudgedTerm, judgedOf}
 use Rattle.subterms.specs.Laws.Subterms.{subtermsIn}
 
 -- a place that is there may be judged
@@ -26,8 +26,8 @@ pub record FoundAs (s : List ℕ) (c : Counts) (t : ℕ) (o : Option Placed) (r 
 
 -- what is told of the term at a place
 abbrev pub judgedAt : List ℕ → Place → JudgedTerm
-judgedAt s at = told (typesOf s) (authority s) (some (placedAt s at))
+judgedAt s at = judgedOf (typesOf s) (authority s) (some (placedAt s at))
 
 -- what is told of term t of a readable sheet
 abbrev pub judgedIn : List ℕ → (t : ℕ) → JudgedTerm
-judgedIn s t = told (typesOf s) (authority s) (withNumber t (subterms (typesOf s) [] 0 (program s)))
+judgedIn s t = judgedOf (typesOf s) (authority s) (withNumber t (subterms (typesOf s) [] 0 (program s)))

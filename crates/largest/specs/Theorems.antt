@@ -12,7 +12,8 @@ use Rattle.program.specs.Decoding.{decodingConditions, decoding, Readable}
 use Rattle.program.specs.Laws.Screening.{screen-clear, screen-found}
 use Rattle.semantics.specs.Values.{Budget, budget}
 use Rattle.semantics.specs.Runs.{Request, Buffers, Sizes, sizes, startOk, buffersOk, limitsOk, runConditions, Course, rejected, started, course, Outcome, Counts, Answer, refused, ran, left, counts, answerOf, inOrder, buffersAfter, After, run}
-use Rattle.semantics.specs.Theorems.{course-found, run-course, refused-untouched, lengths-kept, Few, counts-few}
+use Rattle.semantics.specs.Claims.{Few}
+use Rattle.semantics.specs.Theorems.{course-found, run-course, refused-untouched, lengths-kept, counts-few}
 use Rattle.largest.specs.Largest.{lentConditions, unlessFound, lentRun}
 
 -- ---- "a buffer asked for as the largest and lent in another length is 15"

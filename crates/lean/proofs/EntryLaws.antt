@@ -15,7 +15,7 @@ use Rattle.typing.specs.Answers.{faultCause, faultPlace, verdictModel}
 use Rattle.typing.specs.declared.answer.Fault.{Fault}
 use Rattle.typing.specs.declared.answer.Verdict.{Verdict as VerdictAnswer}
 use Rattle.typing.specs.declared.answer.Verdict.the-variants as answer
-use Rattle.rules.specs.Inference.{Sheet}
+use Rattle.subtyping.specs.Internal.{Sheet}
 use Rattle.erasure.specs.Lean.{leanSheet, erasable}
 use Rattle.erasure.specs.Erasure.{After, ifRoom, ifErasable, erased, erasure}
 use Rattle.erasure.specs.declared.answer.Erased.the-variants.{Lean, Unreadable, Refused, NotErasable, NoRoom}

@@ -13,7 +13,7 @@ use Rattle.program.specs.Records.{termAtByte, termRecord}
 use Rattle.program.specs.Laws.Records.{term-laid}
 use Rattle.program.specs.declared.records.Counts.{Counts}
 use Rattle.program.specs.declared.records.TermRecord.{TermRecord}
-use Rattle.rules.specs.Inference.{Sheet}
+use Rattle.subtyping.specs.Internal.{Sheet}
 use Rattle.erasure.specs.Kept.{keptBelow}
 use Rattle.erasure.specs.Lean.{idle, keptTerm, newTerm, untested, erasable}
 use Rattle.erasure.specs.Laws.Terms.{idle-kept, idle-gone, idle-child, term-kept, term-idle}

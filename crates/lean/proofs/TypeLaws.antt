@@ -16,7 +16,7 @@ use Rattle.program.specs.Laws.Readable.{WellFormed}
 use Rattle.program.specs.Laws.Records.{type-laid}
 use Rattle.program.specs.declared.records.Counts.{Counts}
 use Rattle.program.specs.declared.records.TypeRecord.{TypeRecord}
-use Rattle.rules.specs.Inference.{Sheet}
+use Rattle.subtyping.specs.Internal.{Sheet}
 use Rattle.erasure.specs.Kept.{keptBelow}
 use Rattle.erasure.specs.Lean.{alike, orSelf, heads, head, keptType, newType}
 use Rattle.erasure.specs.Laws.Kept.{kept-strict}

@@ -5,7 +5,7 @@ use Prim.Native.Nat.{ℕ, _+_, _*_, _<_, _≤_}
 use lib.ListN.{length, getD, take, drop}
 use Rattle.program.specs.Layout.{types, terms}
 use Rattle.program.specs.declared.records.Counts.{Counts}
-use Rattle.rules.specs.Inference.{Sheet}
+use Rattle.subtyping.specs.Internal.{Sheet}
 use Rattle.erasure.specs.Lean.{newTypes, newType, newTerms, newTerm, leanSheet}
 use Rattle.lean.specs.declared.types.TypeNumbers.{TypeNumbers}
 use Rattle.lean.specs.declared.terms.TermNumbers.{TermNumbers}

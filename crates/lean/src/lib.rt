@@ -2,7 +2,7 @@
 ghost use mathlib.Core.Path.{_≡_};
 ghost use lib.Dec.{leb};
 ghost use lib.ListN.{length};
-ghost use Rattle.rules.specs.Inference.{Sheet};
+ghost use Rattle.subtyping.specs.Internal.{Sheet};
 ghost use Rattle.checker.specs.Internal.{ReadableSheet};
 ghost use Rattle.erasure.specs.Lean.{erasable as erasableOf, leanSheet};
 ghost use Rattle.erasure.specs.Erasure.{ifErasable, erasure};

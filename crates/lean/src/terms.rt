@@ -3,7 +3,7 @@ ghost use mathlib.Core.Bool.{_&&_};
 ghost use mathlib.Core.Path.{_≡_};
 ghost use lib.Dec.{leb};
 ghost use Rattle.program.specs.Layout.{terms as termsOf};
-ghost use Rattle.rules.specs.Inference.{Sheet};
+ghost use Rattle.subtyping.specs.Internal.{Sheet};
 ghost use Rattle.erasure.specs.Lean.{untested as untestedBelow};
 ghost use Rattle.lean.specs.Internal.{TermsNumbered};
 use accessors::term;

@@ -1,6 +1,6 @@
 // Types whose records become equal are merged into the first of them; those that are kept are numbered anew without gaps.
 ghost use mathlib.Core.Path.{_≡_};
-ghost use Rattle.rules.specs.Inference.{Sheet};
+ghost use Rattle.subtyping.specs.Internal.{Sheet};
 ghost use Rattle.erasure.specs.Lean.{alike as alikeOf, heads, head};
 ghost use Rattle.lean.specs.Internal.{Merging, Pair, TypesNumbered};
 use accessors::type_record;

@@ -1,29 +1,18 @@
 -- Runs, from the promises of the decoder and of the eager runner to that of a job's run.
-use mathlib.Core.Bool.{Bool, true, false}
 use mathlib.Core.List.{List, [], _++_, append-nil}
-use mathlib.Core.Path.{_≡_, refl, sym, ap, _∙_}
+use mathlib.Core.Path.{_≡_, ap, _∙_}
 use Prim.Native.Nat.{ℕ, _+_, _-_, min}
 use native.Mathlib.Omega.{arith}
 use lib.Dec.{eqb}
 use lib.ListN.{length, take, drop, length-drop, drop-of-length-le}
 use lib.Seq.{take-all}
 use Rattle.program.specs.Limits.{maxCells}
-use Rattle.program.specs.Decoding.{decoding}
-use Rattle.program.specs.Answers.{decodedModel}
-use Rattle.program.specs.declared.answer.Refusal.{Refusal}
-use Rattle.program.specs.declared.answer.Decoded.{Decoded}
-use Rattle.program.specs.declared.answer.Decoded.the-variants.{Readable, Refused as Unread}
-use Rattle.program.specs.declared.records.Counts.{Counts}
-use Rattle.semantics.specs.Runs.{After, run}
 use Rattle.interp.specs.Answers.{buffersOf, after}
-use Rattle.interp.specs.declared.answer.Refusal.the-variants.{Unreadable, Buffers as BadBuffers}
 use Rattle.interp.specs.declared.answer.Run.{Run}
-use Rattle.interp.specs.declared.answer.Run.the-variants.{Refused}
 use Rattle.largest.specs.Largest.{request, lentRun}
 use Rattle.queues.specs.Queues.{Job, partOf}
 use Rattle.lines.specs.Serving.{behind, jobRun}
 use Rattle.lines.proofs.ListLaws.{take-least, drop-least}
-use Rattle.largest.specs.Theorems.{unreadable-first, other-length, same-run}
 
 -- ---- the run of a job: a part of the store, and the list of posts from the place on
 module _ (job : Job) (place : ℕ) (store cells posts : List ℕ) (at : ℕ) (lower : at ≡ min place (length posts)) where

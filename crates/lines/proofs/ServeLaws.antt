@@ -1,14 +1,13 @@
 -- A serve, from the promises of what it calls to the state, the answer and the buffers that 02 asks for.
-use mathlib.Core.Bool.{Bool, true, false, not}
+use mathlib.Core.Bool.{Bool, true, false}
 use mathlib.Core.List.{List, [], _∷_}
-use mathlib.Core.Path.{_≡_, refl, sym, ap, _∙_, subst}
+use mathlib.Core.Path.{_≡_, sym, ap, _∙_, subst}
 use Prim.Native.Nat.{ℕ, _+_, _^_, _<_, _≤_}
 use native.Mathlib.Nat.{add-zero}
 use native.Mathlib.Omega.{arith}
-use lib.ListN.{length, getD, drop, length-drop}
-use borrow.Author.Tests.{not-true}
+use lib.ListN.{length, getD, length-drop}
 use Rattle.program.specs.Limits.{maxCells}
-use Rattle.semantics.specs.Runs.{Buffers, Answer, refused, After}
+use Rattle.semantics.specs.Runs.{Buffers, refused, After}
 use Rattle.interp.specs.Answers.{buffersOf, runModel, outcomeModel, countsModel, after}
 use Rattle.interp.specs.declared.answer.Refusal.{Refusal}
 use Rattle.interp.specs.declared.answer.Outcome.{Outcome}
@@ -17,7 +16,7 @@ use Rattle.interp.specs.declared.answer.Run.{Run}
 use Rattle.interp.specs.declared.answer.Run.the-variants.{Refused, Ran}
 use Rattle.largest.specs.Largest.{request, isLargest}
 use Rattle.queues.specs.Queues.{maxLines, Job, State, inside, Turn, nobody, serves, turnAt, turnOf, partOf, dequeued}
-use Rattle.lines.specs.Serving.{restFrom, jobRun, jobAfter, postCount, idle, told, Served, servedAs, serveTurn, serveOf}
+use Rattle.lines.specs.Serving.{restFrom, jobRun, jobAfter, postCount, idle, told, servedAs, serveTurn, serveOf}
 use Rattle.queues.specs.Answers.{jobModel, queueModel, linesModel}
 use Rattle.queues.specs.Internal.{hasJob, Next}
 use Rattle.lines.specs.Internal.{Movable}

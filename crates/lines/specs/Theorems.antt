@@ -11,7 +11,7 @@ use Prim.Native.Nat.{ℕ, zero, suc, _+_, _-_, _*_, _%_, _<_, _≤_}
 use native.Mathlib.Decide.{ℕ-discrete, decLt}
 use native.Mathlib.Nat.{add-zero}
 use native.Mathlib.Omega.{arith}
-use lib.Dec.{eqb, leb, ltb}
+use lib.Dec.{leb}
 use lib.ListN.{length, getD, set, take, drop, length-append, length-map, length-take, length-drop, length-reverse, length-set, take-append-drop, List·getD-append, List·getD-eq-default}
 use lib.Seq.{getD-set-same, getD-set-other, take-at, drop-at, drop-drop}
 use borrow.Author.Tests.{eq-eqb, ne-eqb, ltb-true, leb-false, le-leb, lt-leb}
@@ -22,7 +22,9 @@ use Rattle.program.specs.Laws.Screening.{found≢clear, found-first, first-foun
 use Rattle.program.specs.Limits.{maxCells, maxPosts}
 use Rattle.semantics.specs.Values.{Budget, budget}
 use Rattle.semantics.specs.Runs.{Request, Buffers, Sizes, sizes, startOk, buffersOk, limitsOk, runConditions, Course, rejected, started, course, Outcome, Counts, Answer, refused, ran, left, counts, answerOf, inOrder, postsMade, buffersAfter, After, run}
-use Rattle.semantics.specs.Theorems.{refused-exactly, Few, countsIn}
+use Rattle.semantics.specs.Claims.{Few}
+use Rattle.semantics.specs.Laws.Starting.{countsIn}
+use Rattle.semantics.specs.Theorems.{refused-exactly}
 use Rattle.largest.specs.Largest.{request, isLargest, lentConditions, unlessFound, lentRun}
 use Rattle.lines.specs.Sessions.{Operation, add, serve, stepped, session, servesIn, only, accepted, addedBy, inTurn, servedBy, addedIn, servedIn, Sound}
 use Rattle.largest.specs.Theorems.{same-run, lent-few, lent-untouched, lent-lengths}
@@ -32,7 +34,7 @@ use Rattle.queues.specs.Laws.{none as noQueue, queue-is}
 use Rattle.queues.specs.declared.state.Queue.{Queue}
 use Rattle.queues.specs.declared.state.Lines.{Lines}
 use Rattle.queues.specs.Theorems.{FirstWaiting, served-first, nobody-waiting}
-use Rattle.lines.specs.Serving.{restFrom, behind, jobRun, jobAfter, postCount, Told, idle, told, Served, servedAs, serveTurn, serveOf}
+use Rattle.lines.specs.Serving.{restFrom, behind, jobRun, jobAfter, postCount, idle, told, Served, servedAs, serveTurn, serveOf}
 
 -- ---- states that the entries make
 none-waits : (l : ℕ) → queueAt start l ≡ []

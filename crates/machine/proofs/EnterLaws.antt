@@ -1,22 +1,23 @@
 -- A letrec, check, sign or test is what it enters: a law for each of its ends. Assumes nothing.
-use mathlib.Core.Bool.{Bool, true, false}
+use mathlib.Core.Bool.{Bool, true, false, _&&_, not, true≢false}
 use mathlib.Core.List.{List}
-use mathlib.Core.Logic.{⊎-elim}
+use mathlib.Core.Logic.{_⊎_, inl, inr, ⊎-elim}
 use mathlib.Core.Path.{_≡_, refl, sym, ap, _∙_, subst}
-use Prim.Native.Nat.{ℕ, _+_, _*_, _%_, _/_, _<_, _≤_}
+use Prim.Native.Nat.{ℕ, _+_, _*_, _%_, _/_, _<_}
 use native.Mathlib.Omega.{arith}
-use lib.Dec.{ltb}
+use lib.Dec.{eqb}
 use lib.ListN.{length, set}
 use lib.Seq.{getD-set-other}
-use borrow.Author.Tests.{lt-ltb, le-ltb}
+use borrow.Author.Tests.{lt-ltb, le-ltb, eq-eqb, eqb-true, not-true}
 use Rattle.machine.specs.declared.enter.Entered.{Entered}
+use Rattle.privileges.specs.Booleans.{and-left, and-right}
 use Rattle.traces.specs.Traces.{Event}
 use Rattle.stores.specs.Words.{pick, functionWord, stopWord, isStop}
 use Rattle.machine.specs.Table.{wordKind, wordSmall, wordFirst, wordSecond, wordThird, wordAuthority}
-use Rattle.stores.specs.Cells.{cellSet, nextCell, Bound}
+use Rattle.stores.specs.Cells.{nextCell, Bound}
 use Rattle.stores.specs.Access.{enforced, grantedOf, allowedOf, signAccess, signFrames}
 use Rattle.machine.specs.Steps.{callsLeft, cellsMade, modeOf, decisionOf, noteCounters, noteBytes, Noted}
-use Rattle.machine.specs.Store.{Store, Done, storeOf, doneOf, Runs, Applier, Shape, letrec, check, sign, test, shapeOf, hasRoom, letrecS, checkS, testS, signS, byShape}
+use Rattle.machine.specs.Store.{Done, storeOf, Runs, Applier, Shape, letrec, check, sign, test, shapeOf, hasRoom, letrecS, checkS, testS, signS, byShape}
 use Rattle.machine.specs.Lower.{Lower, readsPrivilege}
 use Rattle.machine.specs.Enter.{Enterable, going, halting, goesTo, Enters}
 use Rattle.stores.proofs.CellLaws.{bound-full, bound-room}
@@ -115,12 +116,29 @@ module _ (t x env acc : ℕ) (n cells frames noted : List ℕ) where
         least true c l h = l
         least false c l h = h
 
--- ---- a privilege is below 32 where one is read, and a kind that is none of the others is a test's
+-- ---- what the tests before a decision leave: a check that is enforced, or a test; its privilege is below 32
 module _ (x : ℕ) {k : ℕ} (kind : k ≡ wordKind x) where
-  pub privileged : {p : ℕ} (j : ℕ) → readsPrivilege (shapeOf j) ≡ true → k ≡ j → (readsPrivilege (shapeOf (wordKind x)) ≡ true → wordSmall x < 32) → p
-      ≡ wordSmall x → p < 32
-  privileged j r e h q = omega (arith, q, h (ap (λ (m : ℕ). readsPrivilege (shapeOf m)) (sym kind ∙ e) ∙ r))
+  module _ (h : Enterable (wordKind x)) (no-letrec : k ≡ 4 → ⊥) (no-sign : k ≡ 9 → ⊥) where
+    decides : (k ≡ 7) ⊎ (k ≡ 10)
+    decides =
+        ⊎-elim (λ e. absurd (no-letrec (kind ∙ e)))
+        (λ h. ⊎-elim (λ e. inl (kind ∙ e)) (λ h. ⊎-elim (λ e. absurd (no-sign (kind ∙ e))) (λ e. inr (kind ∙ e)) h) h)
+        h
 
-  pub only-test : Enterable (wordKind x) → (k ≡ 4 → ⊥) → (k ≡ 9 → ⊥) → (k ≡ 7 → ⊥) → k ≡ 10
-  only-test h a b c =
-      ⊎-elim (λ e. absurd (a (kind ∙ e))) (λ h. ⊎-elim (λ e. absurd (c (kind ∙ e))) (λ h. ⊎-elim (λ e. absurd (b (kind ∙ e))) (λ e. kind ∙ e) h) h) h
+    pub only-check : (k ≡ 10 → ⊥) → k ≡ 7
+    only-check n = ⊎-elim (λ e. e) (λ e. absurd (n e)) decides
+
+    pub privileged : {p : ℕ} → (readsPrivilege (shapeOf (wordKind x)) ≡ true → wordSmall x < 32) → p ≡ wordSmall x → p < 32
+    unfolding shapeOf
+    privileged low q =
+        let reads : (j : ℕ) → readsPrivilege (shapeOf j) ≡ true → k ≡ j → readsPrivilege (shapeOf (wordKind x)) ≡ true
+        = λ j r e. ap (λ (m : ℕ). readsPrivilege (shapeOf m)) (sym kind ∙ e) ∙ r in
+        omega (arith, q, low (⊎-elim (reads 7 refl) (reads 10 refl) decides))
+
+-- a check that is skipped, and a check that is not
+pub skipped : (k : ℕ) (b : Bool) → (eqb k 7 && not b) ≡ true → (k ≡ 7) × (b ≡ false)
+skipped k b h = (eqb-true k 7 (and-left (eqb k 7) (not b) h), not-true b (and-right (eqb k 7) (not b) h))
+
+pub not-skipped : (k : ℕ) (b : Bool) → k ≡ 7 → (eqb k 7 && not b) ≡ false → b ≡ true
+not-skipped k true e h = refl
+not-skipped k false e h = absurd (true≢false (rw (eq-eqb k 7 e) at h))

@@ -45,6 +45,11 @@ pub record Holds (s : List ℕ) (c : Counts) (t x : ℕ) : Type 0 where
   pub authority-is : termRecord s c t .kind ≡ 9 → wordAuthority x ≡ authorityRecord s (termRecord s c t .small)
   pub guard-is : termRecord s c t .kind ≡ 14 → wordGuard x ≡ guardRecord s c (termRecord s c t .small)
 
+-- a well-formed sheet with its own counts
+pub record FormedSheet (s : List ℕ) (c : Counts) : Type 0 where
+  pub well-formed : WellFormed s
+  pub counts-are : CountsOf s c
+
 -- a table that is empty still
 pub record Empty (terms : List ℕ) : Type 0 where
   pub long : length terms ≡ maxTerms

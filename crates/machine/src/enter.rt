@@ -75,19 +75,18 @@ pub fn enter(
     if kind == 9 {
         return goes(first_of(x), env, sign(frames, mode, acc, authority_of(x)));
     }
-    let p = small_of(x);
-    if kind == 7 {
-        if !enforces(mode) {
-            return goes(first_of(x), env, acc);
-        }
-        let allowed = granted(frames, mode, acc, p);
-        note(noted, n, t, p, allowed);
-        if allowed {
-            return goes(first_of(x), env, acc);
-        }
-        return halts(words::stop(17, t), first_of(x));
+    // A check that is skipped decides nothing; any other decides and notes as a test does.
+    if (kind == 7) & !enforces(mode) {
+        return goes(first_of(x), env, acc);
     }
+    let p = small_of(x);
     let yes = granted(frames, mode, acc, p);
     note(noted, n, t, p, yes);
-    goes(choose(yes, first_of(x), second_of(x)), env, acc)
+    if kind == 10 {
+        return goes(choose(yes, first_of(x), second_of(x)), env, acc);
+    }
+    if yes {
+        return goes(first_of(x), env, acc);
+    }
+    halts(words::stop(17, t), first_of(x))
 }

@@ -1,5 +1,4 @@
 // The record of a run: four bytes for each check, test and guard that it decides.
-ghost use mathlib.Core.Bool.{true};
 ghost use mathlib.Core.Path.{_≡_};
 ghost use Prim.Native.Nat.{_+_, _≤_};
 ghost use lib.ListN.{length};

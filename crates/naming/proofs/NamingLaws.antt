@@ -27,7 +27,7 @@ use Rattle.program.specs.declared.answer.Decoded.the-variants.{Readable, Refuse
 use Rattle.program.specs.declared.records.Counts.{Counts}
 use Rattle.program.specs.declared.records.TermRecord.{TermRecord}
 use Rattle.semantics.specs.Names.{namedBy, names}
-use Rattle.irrelevance.specs.Naming.{Naming, refused, unnamed, named, toldOf, firstNaming, unlessFound, naming}
+use Rattle.irrelevance.specs.Naming.{Naming, refused, unnamed, named, namingOf, firstNaming, unlessFound, naming}
 use Rattle.naming.specs.Internal.{Asked, AskedTerm}
 
 -- ---- a term of a kind that names none
@@ -97,13 +97,13 @@ module _ {s : List ℕ} {c : Counts} {p t : ℕ} (R : AskedTerm s c p t) {x : Te
 -- ---- 30
 module _ (s : List ℕ) (p : ℕ) where
   abbrev readableAnswer : Bool → Naming
-  readableAnswer low = unlessFound (screen (unless 30 low ∷ [])) (λ _. toldOf (firstNaming s p))
+  readableAnswer low = unlessFound (screen (unless 30 low ∷ [])) (λ _. namingOf (firstNaming s p))
 
   pub too-high : 31 < p → refused 30 0 ≡ readableAnswer (leb p 31)
   unfolding screen tell
   too-high h = λ i. readableAnswer (sym (lt-leb p 31 h) i)
 
-  pub not-above : p ≤ 31 → {a : Naming} → a ≡ toldOf (firstNaming s p) → a ≡ readableAnswer (leb p 31)
+  pub not-above : p ≤ 31 → {a : Naming} → a ≡ namingOf (firstNaming s p) → a ≡ readableAnswer (leb p 31)
   unfolding screen tell
   not-above h e = e ∙ λ i. readableAnswer (sym (le-leb p 31 h) i)
 
@@ -114,12 +114,12 @@ module _ (s : List ℕ) (p : ℕ) where
     unreadable-told {f} e = λ i.
         unlessFound
         (sym (screen-found (decodingConditions s) (unless 30 (leb p 31) ∷ []) (decodingCause f) (decodingPlace f) (sym m ∙ ap decodedModel e)) i)
-        (λ _. toldOf (firstNaming s p))
+        (λ _. namingOf (firstNaming s p))
 
     pub readable-told : {c : Counts} → d ≡ Readable c → {a : Naming} → a ≡ readableAnswer (leb p 31) → a ≡ naming s p
     unfolding naming decoding
     readable-told e h = h ∙ λ i.
-        unlessFound (sym (screen-clear (decodingConditions s) (unless 30 (leb p 31) ∷ []) (sym m ∙ ap decodedModel e)) i) (λ _. toldOf (firstNaming s p))
+        unlessFound (sym (screen-clear (decodingConditions s) (unless 30 (leb p 31) ∷ []) (sym m ∙ ap decodedModel e)) i) (λ _. namingOf (firstNaming s p))
 
 -- ---- the search
 pub asked-term : {s : List ℕ} {c : Counts} {p t n : ℕ} → Asked s c p → n ≡ terms s → t < n → AskedTerm s c p t
@@ -143,11 +143,11 @@ module _ (s : List ℕ) (p : ℕ) where
   seek-start = lowest-starts other (terms s)
 
   module _ {t n : ℕ} (e : n ≡ terms s) (k : Seeking t) where
-    pub seek-here : t < n → {b : Bool} → b ≡ names s p t → b ≡ true → named t ≡ toldOf (firstNaming s p)
-    seek-here h q z = ap toldOf (lowest-here other t (terms s) (omega (arith, e, h)) (ap not (sym q ∙ z)) ∙ sym k)
+    pub seek-here : t < n → {b : Bool} → b ≡ names s p t → b ≡ true → named t ≡ namingOf (firstNaming s p)
+    seek-here h q z = ap namingOf (lowest-here other t (terms s) (omega (arith, e, h)) (ap not (sym q ∙ z)) ∙ sym k)
 
     pub seek-more : t < n → {b : Bool} → b ≡ names s p t → b ≡ false → Seeking (t + 1)
     seek-more h q z = k ∙ lowest-more other t (terms s) (omega (arith, e, h)) (ap not (sym q ∙ z))
 
-    pub seek-past : n ≤ t → unnamed ≡ toldOf (firstNaming s p)
-    seek-past h = ap toldOf (lowest-past other t (terms s) (omega (arith, e, h)) ∙ sym k)
+    pub seek-past : n ≤ t → unnamed ≡ namingOf (firstNaming s p)
+    seek-past h = ap namingOf (lowest-past other t (terms s) (omega (arith, e, h)) ∙ sym k)

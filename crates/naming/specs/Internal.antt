@@ -3,7 +3,7 @@ use mathlib.Core.List.{List}
 use Prim.Native.Nat.{ℕ, _<_}
 use Rattle.program.specs.Layout.{terms}
 use Rattle.program.specs.declared.records.Counts.{Counts}
-use Rattle.rules.specs.Inference.{Sheet}
+use Rattle.subtyping.specs.Internal.{Sheet}
 
 -- a readable sheet with its counts, and a privilege
 pub record Asked (s : List ℕ) (c : Counts) (p : ℕ) : Type 0 where

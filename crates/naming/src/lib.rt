@@ -3,9 +3,9 @@ ghost use mathlib.Core.List.{[], _∷_};
 ghost use mathlib.Core.Path.{_≡_};
 ghost use lib.Dec.{leb};
 ghost use Rattle.program.specs.Screening.{screen, unless};
-ghost use Rattle.rules.specs.Inference.{Sheet};
+ghost use Rattle.subtyping.specs.Internal.{Sheet};
 ghost use Rattle.semantics.specs.Names.{names as namesOf};
-ghost use Rattle.irrelevance.specs.Naming.{firstNaming, toldOf, unlessFound, naming};
+ghost use Rattle.irrelevance.specs.Naming.{firstNaming, namingOf, unlessFound, naming};
 ghost use Rattle.irrelevance.specs.Answers.{namedModel};
 ghost use Rattle.naming.specs.Internal.{Asked, AskedTerm};
 use accessors::guard;
@@ -28,7 +28,7 @@ pub fn names(sheet: &[u8], privilege: u32) -> Named
 // The same of a readable sheet with its counts.
 fn names_readable(s: &[u8], c: Counts, privilege: u32) -> Named
     requires { ⌜ Sheet (now s) c ⌝ }
-    ensures { λ r. ⌜ namedModel r ≡ unlessFound (screen (unless 30 (leb privilege 31) ∷ [])) (λ _. toldOf (firstNaming (now (s .entry)) privilege)) ⌝ }
+    ensures { λ r. ⌜ namedModel r ≡ unlessFound (screen (unless 30 (leb privilege 31) ∷ [])) (λ _. namingOf (firstNaming (now (s .entry)) privilege)) ⌝ }
 {
     if 31 < privilege {
         return Named::NoPrivilege;
@@ -39,7 +39,7 @@ fn names_readable(s: &[u8], c: Counts, privilege: u32) -> Named
 // The lowest term that names p.
 fn first_naming(s: &[u8], c: Counts, p: u8) -> Named
     requires { ⌜ Asked (now s) c p ⌝ }
-    ensures { λ r. ⌜ namedModel r ≡ toldOf (firstNaming (now (s .entry)) p) ⌝ }
+    ensures { λ r. ⌜ namedModel r ≡ namingOf (firstNaming (now (s .entry)) p) ⌝ }
 {
     let n = c.terms;
     let mut t = 0;

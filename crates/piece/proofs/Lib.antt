@@ -1,4 +1,1 @@
-pub mod CandidateLaws
-pub mod JudgeLaws
-pub mod VisitLaws
 pub mod LocateLaws

@@ -17,23 +17,25 @@ use Rattle.program.specs.declared.answer.Decoded.the-variants.{Readable, Refuse
 use Rattle.program.specs.declared.records.Counts.{Counts}
 use Rattle.typing.specs.Places.{Placed, placed}
 use Rattle.typing.specs.declared.answer.Fault.{Fault}
-use Rattle.rules.specs.Inference.{lastFirst, Sheet}
-use Rattle.rules.specs.Known.{Known}
+use Rattle.subtyping.specs.Internal.{Sheet}
+use Rattle.subtyping.specs.Known.{Known}
+use Rattle.rules.specs.Inference.{lastFirst}
 use Rattle.rules.specs.declared.bindings.Bindings.{Bindings}
 use Rattle.checker.proofs.VerdictLaws.{root-ready}
 use Rattle.places.specs.Internal.{present, childAt}
-use Rattle.subterms.specs.Smallest.{subterms, Refused, smallestOf, Piece, told, ifReadable, pieceOf, recordLength, recordOf}
+use Rattle.subterms.specs.Smallest.{subterms, Refused, smallestOf, Piece, pieceFrom, ifReadable, pieceOf, recordLength, recordOf}
 use Rattle.subterms.specs.Laws.Subterms.{subtermsIn}
 use Rattle.subterms.specs.Theorems.{record-inside, place-most, length-most}
 use Rattle.subterms.specs.declared.answer.Piece.the-variants.{Smallest, NoPiece, Unreadable}
+use Rattle.smallest.specs.Internal.{candidateModel, Visitable, VisitedAs}
+use Rattle.smallest.specs.declared.candidates.Candidate.{Candidate}
+use Rattle.smallest.specs.declared.candidates.Candidate.the-variants as candidate
+use Rattle.smallest.specs.declared.candidates.Candidate.the-variants.{Nothing}
+use Rattle.smallest.specs.declared.visit.Visited.{Visited}
+use Rattle.smallest.proofs.candidates.Candidate.{the-type}
 use Rattle.piece.specs.Answers.{LocatedAs}
-use Rattle.piece.specs.Internal.{candidateModel, Visitable, VisitedAs, pieceIn}
+use Rattle.piece.specs.Internal.{pieceIn}
 use Rattle.piece.specs.declared.Located.{Located}
-use Rattle.piece.specs.declared.candidates.Candidate.{Candidate}
-use Rattle.piece.specs.declared.candidates.Candidate.the-variants as candidate
-use Rattle.piece.specs.declared.candidates.Candidate.the-variants.{Nothing}
-use Rattle.piece.specs.declared.visit.Visited.{Visited}
-use Rattle.piece.proofs.candidates.Candidate.{the-type}
 use Rattle.places.specs.declared.Child.{Child}
 
 -- ---- the reader's answer
@@ -68,7 +70,7 @@ module _ {s : List ℕ} {c : Counts} (S : Sheet s c) (b : Bindings) (none-bound 
     pub nothing-located : tagOf the-type (v .smallest) ≡ 0 → {r : Located} → r ≡ record { piece = NoPiece; at = 0; len = 0 } → LocatedAs s (pieceIn s) r
     nothing-located e q =
         subst (LocatedAs s (pieceIn s)) (sym q)
-        (subst (λ (o : Option Refused). LocatedAs s (told o) (record { piece = NoPiece; at = 0; len = 0 })) (sym (nothing-is (v .smallest) e) ∙ found-is)
+        (subst (λ (o : Option Refused). LocatedAs s (pieceFrom o) (record { piece = NoPiece; at = 0; len = 0 })) (sym (nothing-is (v .smallest) e) ∙ found-is)
         (record { piece-is = refl; at-is = refl; len-is = refl }))
 
     pub smallest-located : {t n : ℕ} {g : Fault} → v .smallest ≡ candidate.Refused t n g
@@ -76,7 +78,7 @@ module _ {s : List ℕ} {c : Counts} (S : Sheet s c) (b : Bindings) (none-bound 
     smallest-located {t} {n} {g} e =
         subst
         (λ (o : Option Refused).
-        LocatedAs s (told o) (record { piece = Smallest t n g; at = 14 + 4 * c .principals + 10 * c .types + 8 * t; len = 8 }))
+        LocatedAs s (pieceFrom o) (record { piece = Smallest t n g; at = 14 + 4 * c .principals + 10 * c .types + 8 * t; len = 8 }))
         (sym (ap candidateModel e) ∙ found-is)
         (record { piece-is = refl; at-is = omega (arith, S .counts .principals-are, S .counts .types-are); len-is = refl })
 

@@ -1,19 +1,15 @@
 // The smallest faulty piece of a sheet: the smallest term that is refused where it stands, and the record of that term.
-mod candidates;
-mod judge;
-mod visit;
-
-use crate::candidates::Candidate;
-use crate::visit::visit;
 use places::present;
 use program::answer::Decoded;
 use program::records::Counts;
 use rules::bindings::Bindings;
-use rules::known::KNOWN_WORDS;
-use rules::known::Known;
+use smallest::candidates::Candidate;
+use smallest::visit::visit;
 use subterms::answer::Piece;
+use subtyping::known::KNOWN_WORDS;
+use subtyping::known::Known;
 ghost use mathlib.Core.Path.{_≡_};
-ghost use Rattle.rules.specs.Inference.{Sheet};
+ghost use Rattle.subtyping.specs.Internal.{Sheet};
 ghost use Rattle.subterms.specs.Smallest.{pieceOf, recordOf};
 ghost use Rattle.subterms.specs.Answers.{pieceModel};
 ghost use Rattle.piece.specs.Answers.{LocatedAs};

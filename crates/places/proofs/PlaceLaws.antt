@@ -20,11 +20,11 @@ use Rattle.program.specs.declared.records.TypeRecord.{TypeRecord}
 use Rattle.program.specs.Laws.Readable.{WellFormed}
 use Rattle.program.specs.Laws.Records.{term-is}
 use Rattle.program.specs.Laws.Trees.{parts, tree-node}
+use Rattle.subtyping.specs.Laws.Records.{type-parts}
+use Rattle.subtyping.proofs.KnownLaws.{known-none}
 use Rattle.rules.specs.Inference.{context, Ready}
 use Rattle.rules.specs.Steps.{Pushed}
-use Rattle.rules.specs.Laws.Records.{type-parts}
 use Rattle.rules.specs.declared.bindings.Bindings.{Bindings}
-use Rattle.rules.proofs.KnownLaws.{known-none}
 use Rattle.checker.specs.Internal.{ReadyAt}
 use Rattle.checker.proofs.TermLaws.{Child as Below, kind-most, check-child, enable-child, sign-child, post-child, call-first, call-second, test-first, test-second, binary-first, binary-second, if-first, if-second, if-third, function-room, function-child, letrec-room, letrec-body, letrec-rest}
 use Rattle.typing.specs.Places.{Placed, placed}

@@ -2,13 +2,13 @@
 use mathlib.Core.Bool.{Bool, true, false, not, _||_, true≢false}
 use mathlib.Core.List.{List, [], _∷_, _++_, map}
 use mathlib.Core.Path.{_≡_, refl, sym, ap, _∙_}
-use Prim.Native.Nat.{ℕ, zero, suc, _+_, _-_, _%_, _<_, _≤_}
+use Prim.Native.Nat.{ℕ, suc, _+_, _-_, _%_, _<_, _≤_}
 use native.Mathlib.Omega.{arith}
 use lib.Dec.{ltb, leb}
 use lib.ListN.{length, getD, set}
 use borrow.Author.Tests.{lt-ltb, le-ltb, le-leb, lt-leb, leb-true, leb-false, not-true, not-false}
-use Rattle.program.specs.Screening.{Screening, clear, found, tell, screen, unless}
-use Rattle.queues.specs.Queues.{maxLines, maxJobs, Job, State, start, queueAt, inside, Added, enqueued, addedTo, addOf, Turn, nobody, turnAt, nextLine, turnFrom, turnOf, dequeued}
+use Rattle.program.specs.Screening.{clear, found, tell, screen, unless}
+use Rattle.queues.specs.Queues.{maxLines, maxJobs, Job, State, start, queueAt, inside, Added, addedTo, addOf, nobody, turnAt, nextLine, turnFrom, turnOf, dequeued}
 use Rattle.queues.specs.Answers.{queueModel, linesModel}
 use Rattle.queues.specs.Internal.{hasJob, SizeIs, Next}
 use Rattle.queues.specs.declared.state.Queue.{Queue}

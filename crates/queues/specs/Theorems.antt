@@ -8,7 +8,7 @@ use Prim.Native.Nat.{ℕ, zero, suc, _+_, _-_, _%_, _<_}
 use native.Mathlib.Omega.{arith}
 use Rattle.program.specs.Screening.{Screening, clear, found, screen, First}
 use Rattle.program.specs.Laws.Screening.{found≢clear, found-first, first-found}
-use Rattle.queues.specs.Queues.{maxLines, Job, State, queueAt, addConditions, addedTo, addOf, Turn, nobody, serves, turnAt, nextLine, turnFrom, turnOf}
+use Rattle.queues.specs.Queues.{maxLines, Job, State, queueAt, addConditions, addedTo, addOf, nobody, serves, turnAt, nextLine, turnFrom, turnOf}
 
 -- ---- a job is added
 module _ (s : State) (l : ℕ) (j : Job) (store : List ℕ) where

@@ -1,2 +1,2 @@
-pub mod PairLaws
+pub mod TableLaws
 pub mod RangeLaws

@@ -12,7 +12,6 @@ ghost use Rattle.ranges.specs.Answers.{truthOf, outcomeModel, afterRange
 ghost use Rattle.ranges.specs.Internal.{PairedRun};
 
 pub mod answer;
-pub mod pairs;
 
 use answer::Outcome;
 use answer::RangeRun;

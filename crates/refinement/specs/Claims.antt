@@ -73,20 +73,20 @@ laidOut A [] = []
 laidOut A (f ∷ fs) = laidOut A fs ++ (A (f .principal) ∷ f .enabled ∷ [])
 
 -- where a run starts, with a record lent
-abbrev pub startOf : (mode : ℕ) → Request → Buffers → (trace : List ℕ) → Store
+abbrev pub startOf : (mode : ℕ) → Request → Buffers → (noted : List ℕ) → Store
 startOf mode q b t = storeOf (q .calls ∷ 0 ∷ 0 ∷ mode ∷ 0 ∷ 0 ∷ []) (b .cells) (b .posts) (b .frames) t
 
 -- evaluating the root of a sheet gives and leaves what the meaning's result says, and of the decisions what the record takes; `tells` reads the word that it
 -- gives
-pub record RefinedBy {D : Domain} (tells : (root word : ℕ) → OutcomeOf D) (root : ℕ) (q : Request) (b : Buffers) (trace : List ℕ) (d : Done)
+pub record RefinedBy {D : Domain} (tells : (root word : ℕ) → OutcomeOf D) (root : ℕ) (q : Request) (b : Buffers) (noted : List ℕ) (d : Done)
     (x : ResultOf D) (decided : List Event) : Type 0 where
   pub same-outcome : tells root (d .out) ≡ outcome root x
   pub same-counts : countsOf (q .calls) (d .store .n) ≡ wrappedCounts (counts q (sizes b) (left x))
   pub same-posts : d .store .posts ≡ inOrder (left x) ++ drop (length (inOrder (left x))) (b .posts)
   pub same-sizes : sizesOf (d .store) ≡ sizes b
-  pub same-entries : entriesMade (d .store .n) ≡ length (recorded (length trace) decided)
-  pub same-trace : d .store .noted ≡ withEntries (recorded (length trace) decided) trace
+  pub same-entries : entriesMade (d .store .n) ≡ length (recorded (length noted) decided)
+  pub same-noted : d .store .noted ≡ withEntries (recorded (length noted) decided) noted
 
 -- of a plain run
-abbrev pub Refined : (root : ℕ) → Request → Buffers → (trace : List ℕ) → Done → Result → (decided : List Event) → Type 0
+abbrev pub Refined : (root : ℕ) → Request → Buffers → (noted : List ℕ) → Done → Result → (decided : List Event) → Type 0
 Refined root q b t d x ds = RefinedBy (λ r w. outcomeOf r (outOf w)) root q b t d x ds

@@ -8,7 +8,7 @@ use lib.ListN.{set}
 use mir.Val.{boolByte}
 use borrow.Author.Tests.{eq-eqb, ne-eqb}
 use Rattle.program.specs.Bytes.{byte}
-use Rattle.semantics.specs.Runs.{Buffers, ran, After}
+use Rattle.semantics.specs.Runs.{Buffers, areLargest, ran, After}
 use Rattle.interp.specs.Answers.{refusalCause, refusalPlace, runModel, outcomeModel, countsModel, buffersOf, after}
 use Rattle.interp.specs.declared.answer.Run.{Run}
 use Rattle.interp.specs.declared.answer.Run.the-variants.{Refused, Ran}
@@ -27,7 +27,7 @@ use Rattle.largest.specs.Theorems.{lent-few}
 use Rattle.blocks.specs.Block.{allowance, RunRegisters, registersOf, without, afterRun, isKept, Register, kept, fixed}
 use Rattle.blocks.specs.Laws.{at-inside}
 use Rattle.blocks.specs.Internal.{keptOf}
-use Rattle.registers.specs.Writes.{areLargest, Written, done, ranOn, commanded, writeTo, writeOf}
+use Rattle.registers.specs.Writes.{Written, done, ranOn, commanded, writeTo, writeOf}
 use Rattle.registers.specs.Internal.{endRegisters, FewCalls}
 
 -- its calls

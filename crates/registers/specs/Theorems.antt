@@ -12,13 +12,13 @@ use lib.Seq.{getD-set-same, getD-set-other}
 use borrow.Author.Tests.{leb-true, ne-eqb}
 use Rattle.privileges.specs.Booleans.{and-left, and-right}
 use Rattle.program.specs.Bytes.{byte}
-use Rattle.semantics.specs.Runs.{Buffers, refused}
+use Rattle.semantics.specs.Runs.{Buffers, areLargest, refused}
 use Rattle.largest.specs.Largest.{request}
 use Rattle.largest.specs.Theorems.{lent-untouched}
 use Rattle.blocks.specs.Block.{newBlock, allowance, RunRegisters, registersOf, without, afterRun, access-refused, isKept, Register, command, status, kept, fixed, absent, registerAt}
 use Rattle.blocks.specs.Laws.{at-kept, at-fixed, at-absent}
 use Rattle.blocks.specs.Theorems.{run-keeps}
-use Rattle.registers.specs.Writes.{areLargest, blockRun, done, ranOn, commanded, writeTo, writeOf}
+use Rattle.registers.specs.Writes.{blockRun, done, ranOn, commanded, writeTo, writeOf}
 
 -- ---- "An address above 15 is answered with 23 and leaves the block."
 pub absent-written : (block : List ℕ) (a : ℕ) → 15 < a → (v : ℕ) (s : List ℕ) (b : Buffers)

@@ -1,19 +1,15 @@
 -- What a write to the register block answers and leaves, with the run that it may ask for: 02, W2. `blocks`, Block has the block itself.
-use mathlib.Core.Bool.{Bool, true, false, _&&_}
+use mathlib.Core.Bool.{Bool, true, false}
 use mathlib.Core.List.{List}
 use Prim.Native.Nat.{ℕ}
 use lib.Dec.{eqb}
 use lib.ListN.{set}
-use Rattle.program.specs.Limits.{maxCells, maxPosts}
 use Rattle.program.specs.Bytes.{byte}
-use Rattle.semantics.specs.Runs.{Buffers, After}
-use Rattle.largest.specs.Largest.{request, isLargest, lentRun}
+use Rattle.semantics.specs.Runs.{Buffers, areLargest, After}
+use Rattle.largest.specs.Largest.{request, lentRun}
 use Rattle.blocks.specs.Block.{allowance, registersOf, without, afterRun, Access, access-done, access-refused, Register, command, status, kept, fixed, absent, registerAt}
 
 -- "with 100 open calls and the largest buffers, which are lent"
-abbrev pub areLargest : Buffers → Bool
-areLargest b = isLargest maxCells (b .cells) && isLargest maxPosts (b .posts)
-
 abbrev pub blockRun : (block s : List ℕ) → Buffers → After
 blockRun block s b = lentRun (areLargest b) s (request (allowance block)) b
 

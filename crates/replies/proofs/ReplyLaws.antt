@@ -8,7 +8,7 @@ use Rattle.interp.specs.Answers.{countsModel}
 use Rattle.interp.specs.declared.answer.Made.{Made}
 use Rattle.numbers.specs.Codes.{CodeIs}
 use Rattle.numbers.specs.declared.Code.{Code}
-use Rattle.replies.specs.Replies.{Reply, refusal, finished}
+use Rattle.replies.specs.Replies.{Reply, finished}
 use Rattle.replies.specs.Internal.{withCounts}
 
 -- ---- a stop

@@ -6,7 +6,7 @@ use lib.ListN.{drop}
 use Rattle.program.specs.Answers.{decodingCause, decodingPlace}
 use Rattle.program.specs.declared.answer.Decoded.{Decoded}
 use Rattle.program.specs.declared.answer.Decoded.the-variants.{Readable, Refused as Unreadable}
-use Rattle.semantics.specs.Theorems.{Few}
+use Rattle.semantics.specs.Claims.{Few}
 use Rattle.interp.specs.Answers.{countsModel}
 use Rattle.interp.specs.declared.answer.Made.{Made}
 use Rattle.interp.specs.declared.answer.Run.{Run}

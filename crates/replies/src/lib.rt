@@ -4,7 +4,7 @@ ghost use Prim.Native.Nat.{_≤_};
 ghost use lib.ListN.{length};
 ghost use Rattle.typing.specs.Answers.{verdictModel};
 ghost use Rattle.interp.specs.Answers.{runModel, outcomeModel, countsModel};
-ghost use Rattle.semantics.specs.Theorems.{Few};
+ghost use Rattle.semantics.specs.Claims.{Few};
 ghost use Rattle.replies.specs.Replies.{refusal, verdictReply, finished, runReply};
 ghost use Rattle.replies.specs.Internal.{replyOf, ofDecoded, withCounts, Small, Put};
 use interp::answer::Made;

@@ -2,7 +2,7 @@
 use mathlib.Core.Bool.{Bool, true, _&&_, cond}
 use mathlib.Core.List.{List, [], _++_}
 use mathlib.Core.Path.{_≡_, sym, ap, _∙_}
-use Prim.Native.Nat.{ℕ, suc, _+_, _<_, _≤_}
+use Prim.Native.Nat.{ℕ, _+_, _<_, _≤_}
 use native.Mathlib.Omega.{arith}
 use lib.Dec.{leb, eqb}
 use lib.ListN.{length, take, drop}
@@ -18,7 +18,7 @@ use Rattle.interp.specs.declared.answer.Outcome.{Outcome}
 use Rattle.interp.specs.declared.answer.Made.{Made}
 use Rattle.interp.specs.declared.answer.Run.{Run}
 use Rattle.interp.specs.declared.answer.Run.the-variants.{Refused, Ran}
-use Rattle.report.specs.Text.{line, acceptance, outcomeText, countsText, refusal, request, largest, answer, ofRun, ofVerdict, printed}
+use Rattle.report.specs.Text.{line, acceptance, outcomeText, countsText, refusal, request, eagerSizes, answer, ofRun, ofVerdict, printed}
 use Rattle.report.specs.Reports.{Fate, written, tooShort, unfit, Report, leaving, delivered, used, reported}
 use Rattle.report.specs.Internal.{held, Holds, LargestBuffers, RunReported, Rendered, Delivered}
 use Rattle.report.specs.declared.answer.Reported.{Reported}
@@ -96,11 +96,11 @@ module _ (s : List ℕ) (b : Buffers) where
   }
 
   -- the answer depends on the buffers' lengths alone
-  same-answer : sizes b ≡ largest → run s request b .answer ≡ answer s
+  same-answer : sizes b ≡ eagerSizes → run s request b .answer ≡ answer s
   unfolding run
   same-answer e = ap (λ (z : Sizes). answerOf (root s) request z (course s request z)) e
 
-  pub accepted-reported : {n τ N : ℕ} {b′ : Buffers} {r : Draft} → accepted n τ N ≡ verdict s → sizes b ≡ largest → RunReported s n τ N b b′ r
+  pub accepted-reported : {n τ N : ℕ} {b′ : Buffers} {r : Draft} → accepted n τ N ≡ verdict s → sizes b ≡ eagerSizes → RunReported s n τ N b b′ r
       → Rendered s b b′ r
   unfolding printed
   accepted-reported {n = n} {τ = τ} {N = N} e z p = record {
@@ -109,7 +109,7 @@ module _ (s : List ℕ) (b : Buffers) where
     buffers-are = p .buffers-are ∙ ap (λ (v : Verdict). used v s b) e;
   }
 
-pub buffers-largest : (cells posts : List ℕ) → LargestBuffers cells posts → sizes (buffersOf cells posts []) ≡ largest
+pub buffers-largest : (cells posts : List ℕ) → LargestBuffers cells posts → sizes (buffersOf cells posts []) ≡ eagerSizes
 buffers-largest cells posts h = λ i. record { cells = h .cells-are i; posts = h .posts-are i; frames = 0 }
 
 -- ---- the whole report

@@ -1,12 +1,11 @@
 -- What a report answers and leaves in the buffers that it was lent.
-use mathlib.Core.Bool.{Bool, true, false, _&&_, cond}
+use mathlib.Core.Bool.{Bool, true, false, cond}
 use mathlib.Core.List.{List, [], _++_}
 use Prim.Native.Nat.{ℕ}
-use lib.Dec.{leb, eqb}
+use lib.Dec.{leb}
 use lib.ListN.{length, drop}
-use Rattle.program.specs.Limits.{maxCells, maxPosts}
 use Rattle.typing.specs.Verdicts.{Verdict, accepted, rejected, verdict}
-use Rattle.semantics.specs.Runs.{Buffers, run}
+use Rattle.semantics.specs.Runs.{Buffers, areLargest, run}
 use Rattle.interp.specs.Answers.{buffersOf}
 use Rattle.report.specs.Text.{request, printed}
 use Rattle.report.specs.declared.answer.Reported.{Reported}
@@ -41,10 +40,7 @@ abbrev pub used : Verdict → List ℕ → Buffers → Buffers
 used (accepted n τ N) s b = run s request b .buffers
 used (rejected c p) s b = b
 
--- "with the largest … buffers": 65,536 bytes of cells and 256 posts
-abbrev pub areLargest : Buffers → Bool
-areLargest b = eqb (length (b .cells)) maxCells && eqb (length (b .posts)) maxPosts
-
+-- "with the largest … buffers"
 unfoldable pub reported : (s : List ℕ) → Buffers → (text : List ℕ) → Report
 reported s b text =
     cond (areLargest b) (delivered (leb (length (printed s)) (length text)) (printed s) text (used (verdict s) s b))

@@ -80,11 +80,11 @@ refusal c t = line (labelled "refused " c ++ at t)
 abbrev pub request : Request
 request = requestOf eager true [] maxCalls maxDepth
 
-abbrev pub largest : Sizes
-largest = record { cells = maxCells; posts = maxPosts; frames = 0 }
+abbrev pub eagerSizes : Sizes
+eagerSizes = record { cells = maxCells; posts = maxPosts; frames = 0 }
 
 abbrev pub answer : List ℕ → Answer
-answer s = answerOf (root s) request largest (course s request largest)
+answer s = answerOf (root s) request eagerSizes (course s request eagerSizes)
 
 -- The run of an accepted sheet is never turned back (Theorems: accepted-runs).
 abbrev pub ofRun : (accepted : List ℕ) → Answer → List ℕ

@@ -19,9 +19,9 @@ use Rattle.program.specs.Laws.Screening.{screen-clear}
 use Rattle.program.specs.Laws.Longest.{cut-alike, longer-refused}
 use Rattle.typing.specs.Verdicts.{Verdict, accepted, rejected, verdict}
 use Rattle.typing.specs.Theorems.{acceptance as acceptance-theorem}
-use Rattle.semantics.specs.Runs.{eager, Buffers, startOk, buffersOk, limitsOk, runConditions, evaluation, settled, course, ground-bool, ground-num, Outcome, ended, stopped, Counts, Answer, refused, ran, answerOf}
-use Rattle.report.specs.Text.{ascii, digit, hexadecimal, decimalIn, decimal, line, labelled, typeLine, acceptance, at, outcomeText, countsText, refusal, request, largest, answer, ofRun, ofVerdict, printed}
-use Rattle.report.specs.Reports.{written, tooShort, unfit, Report, leaving, delivered, used, areLargest, reported}
+use Rattle.semantics.specs.Runs.{eager, Buffers, areLargest, startOk, buffersOk, limitsOk, runConditions, evaluation, settled, course, ground-bool, ground-num, Outcome, ended, stopped, Counts, Answer, refused, ran, answerOf}
+use Rattle.report.specs.Text.{ascii, digit, hexadecimal, decimalIn, decimal, line, labelled, typeLine, acceptance, at, outcomeText, countsText, refusal, request, eagerSizes, answer, ofRun, ofVerdict, printed}
+use Rattle.report.specs.Reports.{written, tooShort, unfit, Report, leaving, delivered, used, reported}
 use Rattle.report.specs.declared.answer.Reported.{Reported}
 use Rattle.report.specs.declared.answer.Reported.the-variants.{Written}
 
@@ -44,16 +44,16 @@ tenth n g h = ap (λ (b : Bool). cond b [] (decimalIn 19 (n / 10)) ++ (digit (n 
     ∙ ap (λ (xs : List ℕ). xs ++ (digit (n % 10) ∷ [])) (enough 18 (n / 10) (omega (arith, h)))
 
 -- ---- an accepted sheet is run: its run is never turned back
-starts : (s : List ℕ) → Readable s → screen (runConditions s request largest) ≡ clear
+starts : (s : List ℕ) → Readable s → screen (runConditions s request eagerSizes) ≡ clear
 unfolding decoding screen tell
-starts s r = screen-clear (decodingConditions s) (unless 14 (startOk s request) ∷ unless 15 (buffersOk eager largest) ∷ unless 16 (limitsOk request) ∷ []) r
+starts s r = screen-clear (decodingConditions s) (unless 14 (startOk s request) ∷ unless 15 (buffersOk eager eagerSizes) ∷ unless 16 (limitsOk request) ∷ []) r
 
 pub accepted-runs : (s : List ℕ) (n τ N : ℕ) → verdict s ≡ accepted n τ N → (o : Outcome) × (k : Counts) × (answer s ≡ ran o k)
 unfolding course
 accepted-runs s n τ N e = (
   _,
   _,
-  λ i. answerOf (root s) request largest (settled (starts s (acceptance-theorem s n τ N e .readable) i) (λ _. evaluation eager s request largest)),
+  λ i. answerOf (root s) request eagerSizes (settled (starts s (acceptance-theorem s n τ N e .readable) i) (λ _. evaluation eager s request eagerSizes)),
 )
 
 -- ---- an input longer than any sheet

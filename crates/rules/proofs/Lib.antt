@@ -1,4 +1,2 @@
 pub mod BindingLaws
-pub mod KnownLaws
-pub mod SubtypeLaws
 pub mod StepLaws

@@ -5,13 +5,12 @@ use lib.ListN.{getD}
 use Rattle.program.specs.Limits.{maxNesting}
 use Rattle.program.specs.Layout.{principals, terms, authority, typesOf}
 use Rattle.program.specs.Terms.{Term, boolean, number, variable, function, letrec, call, if, check, enable, sign, test, binary, post, tree}
-use Rattle.program.specs.Records.{CountsOf}
-use Rattle.program.specs.Laws.Readable.{WellFormed}
 use Rattle.program.specs.declared.records.Counts.{Counts}
 use Rattle.typing.specs.Checking.{Judgement, typed, fault, infer}
 use Rattle.typing.specs.Answers.{faultCause, faultPlace}
 use Rattle.typing.specs.declared.answer.Inferred.{Inferred}
 use Rattle.typing.specs.declared.answer.Inferred.the-variants.{Typed, Faulty}
+use Rattle.subtyping.specs.Internal.{Sheet}
 use Rattle.rules.specs.declared.bindings.Bindings.{Bindings}
 
 abbrev pub inferredModel : Inferred → Judgement
@@ -28,11 +27,6 @@ context b = lastFirst (b .types) (b .len)
 
 unfoldable pub termJudgement : List ℕ → (Γ : List ℕ) (n t : ℕ) → Judgement
 termJudgement s Γ n t = infer (typesOf s) (authority s) Γ n (tree s t)
-
--- a well-formed sheet with its own counts
-pub record Sheet (s : List ℕ) (c : Counts) : Type 0 where
-  pub well-formed : WellFormed s
-  pub counts : CountsOf s c
 
 -- how many bindings judging a term adds; of a term of a readable sheet it is less than the term's height (Laws/Room.antt)
 abbrev pub room : Term → ℕ

@@ -1,4 +1,3 @@
 pub mod Inference
-pub mod Known
 pub mod Steps
 pub mod Laws

@@ -1,7 +1,7 @@
 -- What the contracts of internal functions say. No reader of the public promise needs this file.
 use mathlib.Core.Bool.{true, cond, _&&_, _||_}
 use mathlib.Core.List.{List, _∷_}
-use mathlib.Core.Option.{Option, none, some}
+use mathlib.Core.Option.{Option}
 use mathlib.Core.Path.{_≡_}
 use Prim.Native.Nat.{ℕ, zero, suc, _+_}
 use lib.Dec.{leb, eqb}
@@ -15,13 +15,6 @@ use Rattle.typing.specs.Rules.{bound, postNeeds}
 use Rattle.typing.specs.Checking.{Judgement, typed, _next_, require, variableType, joined}
 use Rattle.rules.specs.Inference.{context}
 use Rattle.rules.specs.declared.bindings.Bindings.{Bindings}
-use Rattle.rules.specs.declared.bindings.Found.{Found}
-use Rattle.rules.specs.declared.bindings.Found.the-variants.{At, Nothing}
-
--- ---- a type that is looked for: of a binding, or of two branches
-abbrev pub foundOf : Found → Option ℕ
-foundOf (At ty) = some ty
-foundOf Nothing = none
 
 -- ---- bindings
 pub record Pushed (b : Bindings) (ty : ℕ) (r : Bindings) : Type 0 where

@@ -1,19 +1,16 @@
 // The types of the bindings around a term, by value. 32 places suffice: a sheet's nesting bounds its bindings (specs/Laws/Room.antt).
+use subtyping::subtypes::Found;
 ghost use mathlib.Core.Path.{_≡_};
 ghost use Prim.Native.Nat.{_<_, _≤_};
 ghost use Rattle.typing.specs.Rules.{bound};
+ghost use Rattle.subtyping.specs.Internal.{foundOf};
 ghost use Rattle.rules.specs.Inference.{context};
-ghost use Rattle.rules.specs.Steps.{Pushed, foundOf};
+ghost use Rattle.rules.specs.Steps.{Pushed};
 
 // The nearest binding is the last of the first `len`.
 pub struct Bindings {
     pub types: [u16; 32],
     pub len: usize,
-}
-
-pub enum Found {
-    At(u16),
-    Nothing,
 }
 
 // One binding more.

@@ -1,6 +1,4 @@
-// Each kind's rule once its children are judged, in proved code: subtyping and the wider of two types, what is known of pairs of types, the bindings
-// around a term, and the judgement of a term from those of its children. The crate `checker` walks the terms.
+// Each kind's rule once its children are judged, in proved code: the bindings around a term, and the judgement of a term from those of its children. The
+// crate `checker` walks the terms.
 pub mod bindings;
-pub mod known;
 pub mod steps;
-pub mod subtypes;

@@ -1,15 +1,15 @@
 // Each kind's rule once its children are judged: the judgement of a term from that of its last child, the earlier ones being typed.
 use crate::bindings::Bindings;
-use crate::bindings::Found;
 use crate::bindings::lookup;
-use crate::known::Known;
-use crate::subtypes::is_function;
-use crate::subtypes::subtype;
-use crate::subtypes::wider;
 use program::limits::NO_GUARD;
 use program::records::Counts;
 use program::records::TermRecord;
 use program::records::TypeRecord;
+use subtyping::known::Known;
+use subtyping::subtypes::Found;
+use subtyping::subtypes::is_function;
+use subtyping::subtypes::subtype;
+use subtyping::subtypes::wider;
 use typing::answer::Fault;
 use typing::answer::Inferred;
 ghost use mathlib.Core.Path.{_≡_};
@@ -17,10 +17,10 @@ ghost use Prim.Native.Nat.{_<_, _≤_};
 ghost use Rattle.program.specs.Layout.{typesOf, guardIn};
 ghost use Rattle.typing.specs.Rules.{postNeeds};
 ghost use Rattle.typing.specs.Checking.{joined as joinedOf};
+ghost use Rattle.subtyping.specs.Internal.{foundOf};
+ghost use Rattle.subtyping.specs.Known.{Judging, Testing, Answered};
 ghost use Rattle.rules.specs.Inference.{inferredModel, context};
-ghost use Rattle.rules.specs.Known.{Judging, Testing, Answered};
 ghost use Rattle.rules.specs.Steps.{
-  foundOf,
   leafStep,
   checkStep,
   enableStep,

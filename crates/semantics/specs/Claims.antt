@@ -1,11 +1,13 @@
--- The words in which the theorems about runs speak of a sheet's terms: where 17 and 36 are told, which entries are of its channels, and what a decision of a
--- run is about.
+-- The words in which the theorems about runs speak of a sheet's terms: where 17 and 36 are told, which entries are of its channels, what a decision of a
+-- run is about, and how large the counts are.
 use mathlib.Core.List.{List, [], _∷_}
 use mathlib.Core.Option.{some}
 use mathlib.Core.Path.{_≡_}
-use Prim.Native.Nat.{ℕ, _*_, _<_}
+use Prim.Native.Nat.{ℕ, _*_, _<_, _≤_}
+use Rattle.program.specs.Limits.{maxCalls, maxPosts, maxSaturated}
 use Rattle.program.specs.Layout.{terms, channels, guardOf, kindByte, small}
 use Rattle.program.specs.Formats.{If, Check, Test, Post, kindOf}
+use Rattle.semantics.specs.Runs.{Counts}
 
 -- what every entry of a list has
 abbrev pub Each : {A : Type 0} → (A → Type 0) → List A → Type 0
@@ -36,3 +38,10 @@ pub data Asks (s : List ℕ) (t p : ℕ) : Type 0 where
 pub record Decision (s : List ℕ) (t p : ℕ) : Type 0 where
   pub a-term : t < terms s
   pub asks : Asks s t p
+
+-- How large the counts are that a run tells: a cell has eight of 65,536 bytes.
+pub record Few (k : Counts) : Type 0 where
+  pub calls-most : k .calls ≤ maxCalls
+  pub cells-most : k .cells ≤ 8192
+  pub posts-most : k .posts ≤ maxPosts
+  pub saturated-most : k .saturated ≤ maxSaturated

@@ -6,5 +6,6 @@ pub mod Access
 pub mod Budgets
 pub mod Saturation
 pub mod Posts
+pub mod Starting
 pub mod Tracing
 pub mod Refusals

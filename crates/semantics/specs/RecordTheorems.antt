@@ -30,7 +30,8 @@ use Rattle.semantics.specs.Laws.Saturation.{listedIn, evaluation-load}
 use Rattle.semantics.specs.Claims.{Each, Asks, by-check, by-test, by-guard, Decision}
 use Rattle.semantics.specs.Laws.Posts.{evaluation-decides}
 use Rattle.semantics.specs.Laws.Refusals.{refused-last, others-go-on}
-use Rattle.semantics.specs.Theorems.{Starts, refused-exactly, starts-screened, clear-well, clear-calls}
+use Rattle.semantics.specs.Laws.Starting.{clear-well, clear-calls}
+use Rattle.semantics.specs.Theorems.{Starts, refused-exactly, starts-screened}
 
 -- ---- the answer: "Its answer is as without a record"
 module _ (r : ℕ) (q : Request) (b : Buffers) where
@@ -83,10 +84,10 @@ module _ (s : List ℕ) (q : Request) (b : Buffers) (t : List ℕ) where
     pub same-run : r .after ≡ run s q b
     -- "a full record takes no more"
     pub as-many : r .entries ≡ min (length t / 4) (length (decisions s q (sizes b)))
-    pub first-bytes : take (4 * r .entries) (r .trace) ≡ traceBytes kept
+    pub first-bytes : take (4 * r .entries) (r .noted) ≡ traceBytes kept
     -- "bytes past the last entry are untouched"
-    pub rest-untouched : drop (4 * r .entries) (r .trace) ≡ drop (4 * r .entries) t
-    pub same-length : length (r .trace) ≡ length t
+    pub rest-untouched : drop (4 * r .entries) (r .noted) ≡ drop (4 * r .entries) t
+    pub same-length : length (r .noted) ≡ length t
 
   pub record-holds : Record (recording s q b t)
   unfolding recording
@@ -104,7 +105,7 @@ module _ (s : List ℕ) (q : Request) (b : Buffers) (t : List ℕ) where
       }
 
   abbrev unrecorded : Recorded
-  unrecorded = record { after = run s q b; entries = 0; trace = t }
+  unrecorded = record { after = run s q b; entries = 0; noted = t }
 
   -- a record without room for an entry stays as it is: the run with an empty record is the run
   pub too-short : length t < 4 → recording s q b t ≡ unrecorded
@@ -114,7 +115,7 @@ module _ (s : List ℕ) (q : Request) (b : Buffers) (t : List ℕ) where
       λ i. record {
         after = run s q b;
         entries = length (take (none i) (decisions s q (sizes b)));
-        trace = withEntries (take (none i) (decisions s q (sizes b))) t;
+        noted = withEntries (take (none i) (decisions s q (sizes b))) t;
       }
 
   -- a run that is turned back decides nothing, and its record is untouched
@@ -141,7 +142,7 @@ module _ (s : List ℕ) (w : WellFormed s) where
       omega (arith, leb-true (small s t) 31 (subst (λ (x : Part). partOk s t x (small s t) ≡ true) h ok))
 
   -- a term below 1,024 and a privilege below 32
-  pub decision-low : (t p : ℕ) → Decision s t p → (t < maxTerms) × (p < 32)
+  decision-low : (t p : ℕ) → Decision s t p → (t < maxTerms) × (p < 32)
   decision-low t p d = (omega (arith, d .a-term, w .terms-most), go (d .asks))
     where
       go : Asks s t p → p < 32

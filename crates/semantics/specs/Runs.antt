@@ -40,6 +40,10 @@ pub record Sizes : Type 0 where
 abbrev pub sizes : Buffers → Sizes
 sizes b = record { cells = length (b .cells); posts = length (b .posts); frames = length (b .frames) }
 
+-- "the largest … buffers" of an eager run, which has no frame store: 65,536 bytes of cells and 256 posts
+abbrev pub areLargest : Buffers → Bool
+areLargest b = eqb (length (b .cells)) maxCells && eqb (length (b .posts)) maxPosts
+
 -- ---- the start stack: "A frame is two 32-bit numbers."
 abbrev pub stack : List ℕ → List Frame
 stack [] = []

@@ -2,40 +2,36 @@
 -- keeps its length; the counts stay within the largest allowances and buffers, and the count of held sums below 2^32; the posts made stand in the lent list
 -- and the stores are zero; a run stops by 17 to 22 alone, by 17 at checks and guarded posts alone, and posts are of the sheet's channels; version 1 has
 -- neither guards nor channels; a sum or difference is counted as held unless it is the exact one.
-use mathlib.Core.Bool.{Bool, true, false, _&&_}
-use mathlib.Core.List.{List, _++_, reverse}
+use mathlib.Core.Bool.{Bool, true, false}
+use mathlib.Core.List.{List}
 use mathlib.Core.Logic.{_↔_}
 use mathlib.Core.Option.{none, Option·none-ne-some}
 use mathlib.Core.Path.{_≡_, refl, sym, ap, _∙_, subst}
-use Prim.Native.Nat.{ℕ, suc, _+_, _*_, _<_, _≤_}
+use Prim.Native.Nat.{ℕ, suc, _+_, _<_, _≤_}
 use native.Mathlib.Omega.{arith}
-use lib.Dec.{leb}
-use lib.ListN.{length, take, drop, length-replicate, length-append, length-drop, length-reverse}
+use lib.ListN.{length, take, drop, length-reverse}
 use lib.Seq.{take-append-seam, drop-append-seam}
-use borrow.Author.Tests.{leb-true, ltb-false, le-ltb}
-use Rattle.program.specs.Limits.{maxTerms, maxCells, maxPosts, maxCalls, maxDepth, maxSaturated}
+use borrow.Author.Tests.{ltb-false, le-ltb}
 use Rattle.privileges.specs.Sets.{has}
-use Rattle.privileges.specs.Booleans.{and-left, and-right}
 use Rattle.program.specs.Bytes.{Bytes}
-use Rattle.program.specs.Layout.{version, root, kindByte, small, authority}
+use Rattle.program.specs.Layout.{version, root, kindByte, small}
 use Rattle.program.specs.Formats.{Check, kindOf}
-use Rattle.program.specs.Terms.{sum, difference, Term, post, program}
+use Rattle.program.specs.Terms.{sum, difference, Term, post}
 use Rattle.program.specs.Screening.{Screening, clear, found, screen, First, None}
-use Rattle.program.specs.Decoding.{decodingConditions, decoding}
-use Rattle.program.specs.Laws.Screening.{found-first, first-found, clear-none, none-clear, none-append, none-cons, unless-none}
-use Rattle.program.specs.Laws.Readable.{WellFormed, well-formed}
+use Rattle.program.specs.Laws.Screening.{found-first, first-found, clear-none, none-clear}
+use Rattle.program.specs.Laws.Readable.{WellFormed}
 use Rattle.program.specs.Laws.Guards.{without-guards}
-use Rattle.semantics.specs.Domains.{Domain, Interpretation, saturates, postEntry, single, standard}
-use Rattle.semantics.specs.Values.{num, Env, empty, Log, logPost, Budget, budget, ResultOf, Result, ends}
+use Rattle.semantics.specs.Domains.{saturates, postEntry, single, standard}
+use Rattle.semantics.specs.Values.{num, Env, Log, logPost, Budget, budget, Result, ends}
 use Rattle.semantics.specs.Meaning.{Control, Mode, plain, _then_, postValue, eventIf, listsChecks, evalWith, eval}
-use Rattle.semantics.specs.Access.{Frame, chk, privs, lazyControl, rights, eagerControl}
-use Rattle.semantics.specs.Runs.{Runner, eager, lazy, Request, Buffers, Sizes, sizes, stack, framesOk, runConditions, initial, evaluationOver, evaluation, Course, rejected, started, settled, course, Outcome, stopped, Counts, AnswerOf, refused, ran, left, counts, answerOf, inOrder, postsMade, zeros, clearedFrames, buffersAfter, After, run}
+use Rattle.semantics.specs.Access.{Frame, chk, privs}
+use Rattle.semantics.specs.Runs.{Runner, eager, lazy, Request, Buffers, Sizes, sizes, runConditions, evaluation, Course, rejected, started, settled, course, Outcome, stopped, Counts, refused, ran, left, counts, answerOf, inOrder, postsMade, zeros, clearedFrames, buffersAfter, After, run}
 use Rattle.semantics.specs.Laws.Bodies.{Stop}
-use Rattle.semantics.specs.Claims.{Each, MayRefuse, at-check, at-guard, OnChannel}
+use Rattle.semantics.specs.Claims.{Each, MayRefuse, at-check, at-guard, OnChannel, Few}
 use Rattle.semantics.specs.Laws.Stops.{Recorded, evaluation-stop, refusing, stop-single}
 use Rattle.semantics.specs.Laws.Access.{privs-chk}
-use Rattle.semantics.specs.Laws.Budgets.{places, Spent, spends}
-use Rattle.semantics.specs.Laws.Saturation.{saturatedIn, evaluation-load}
+use Rattle.semantics.specs.Laws.Saturation.{evaluation-load}
+use Rattle.semantics.specs.Laws.Starting.{clear-well, evaluation-spends, after-sizes, clear-few, countsIn}
 use Rattle.semantics.specs.Laws.Posts.{each-all, evaluation-posts}
 
 -- ---- What a stack grants
@@ -99,18 +95,8 @@ module _ (s : List ℕ) (q : Request) (b : Buffers) where
   pub starts-exactly : Starts ↔ None (runConditions s q (sizes b))
   starts-exactly = (λ st. clear-none (runConditions s q (sizes b)) (starts-screened st), λ n. (_, _, answer-course _ (course-clear (none-clear n))))
 
-  pub clear-well : conditions ≡ clear → WellFormed s
-  unfolding decoding
-  clear-well e = well-formed s (none-clear (none-append (decodingConditions s) _ (clear-none (runConditions s q (sizes b)) e) .0))
-
   started-well : Starts → WellFormed s
-  started-well st = clear-well (starts-screened st)
-
-  pub clear-calls : conditions ≡ clear → q .calls ≤ maxCalls
-  clear-calls e =
-      let callers = none-append (decodingConditions s) _ (clear-none (runConditions s q (sizes b)) e) .1 in
-      let within : (leb (q .calls) maxCalls && leb (q .depth) maxDepth) ≡ true = unless-none 16 _ (none-cons (none-cons (none-cons callers .1) .1) .0) in
-      leb-true (q .calls) maxCalls (search (within, and-left))
+  started-well st = clear-well s q b (starts-screened st)
 
 -- ---- By which causes a run stops
 module _ (s : List ℕ) (q : Request) (b : Buffers) where
@@ -173,68 +159,13 @@ difference-held m n = (λ e. omega (arith, ltb-false m n e), λ e. le-ltb m n (o
 
 -- ---- What a run leaves
 -- Every buffer keeps its length, whatever becomes of the run: the posts made find their places in the lent list.
-pub evaluation-spends : (I : Interpretation) (M : Mode) (r : Runner) (s : List ℕ) (q : Request) (z : Sizes)
-    → Spent (initial q z) (left (evaluationOver I M r s q z))
-evaluation-spends I M eager s q z =
-    spends I (eagerControl (authority s)) M (q .depth) (program s) (rights 0 (privs (authority s) (stack (q .start)))) empty (initial q z)
-evaluation-spends I M lazy s q z = spends I (lazyControl (authority s)) M (q .depth) (program s) (stack (q .start)) empty (initial q z)
-
-frames-length : (r : Runner) (fs : List ℕ) → length (clearedFrames r fs) ≡ length fs
-frames-length eager fs = refl
-frames-length lazy fs = length-replicate {A = ℕ} (length fs) 0
-
-posts-length : (u : Budget) (ps : List ℕ) → places u ≡ length ps + 0 → length (inOrder u ++ drop (length (inOrder u)) ps) ≡ length ps
-posts-length (budget c d r l) ps e =
-    let qs = l .posts in
-    length-append (reverse qs) _ ∙ ap (λ (n : ℕ). length (reverse qs) + n) (length-drop (length (reverse qs)) ps)
-    ∙ omega (arith, length-reverse qs)
-
-pub after-sizes : {D : Domain} (q : Request) (b : Buffers) (x : Screening) (y : ResultOf D) → Spent (initial q (sizes b)) (left y)
-    → sizes (buffersAfter (q .runner) b (settled x (λ _. y))) ≡ sizes b
-after-sizes q b (found c p) y h = refl
-after-sizes q b clear y h = λ i. record {
-  cells = length-replicate {A = ℕ} (length (b .cells)) 0 i;
-  posts = posts-length (left y) (b .posts) (h .posts) i;
-  frames = frames-length (q .runner) (b .frames) i;
-}
-
 pub lengths-kept : (s : List ℕ) (q : Request) (b : Buffers) → sizes (run s q b .buffers) ≡ sizes b
 unfolding run course
 lengths-kept s q b =
     after-sizes q b (screen (runConditions s q (sizes b))) (evaluation (q .runner) s q (sizes b))
     (evaluation-spends standard (plain (q .enforce)) (q .runner) s q (sizes b))
 
--- How large the counts are that a run tells.
-pub record Few (k : Counts) : Type 0 where
-  pub calls-most : k .calls ≤ maxCalls
-  pub cells-most : k .cells ≤ 8192
-  pub posts-most : k .posts ≤ maxPosts
-  pub saturated-most : k .saturated ≤ maxSaturated
-
-few : (q : Request) (z : Sizes) (u : Budget) → q .calls ≤ maxCalls → z .cells ≤ maxCells → z .posts ≤ maxPosts → Spent (initial q z) u
-    → saturatedIn u ≤ q .calls * maxTerms + maxTerms → Few (counts q z u)
-few q z (budget c d r l) calls cells posts h n = record {
-  calls-most = omega (arith, calls);
-  cells-most = omega (arith, cells);
-  posts-most = omega (arith, posts, h .posts);
-  saturated-most = omega (arith, calls, n);
-}
-
--- of a run that starts
-pub clear-few : (s : List ℕ) (q : Request) (b : Buffers) → screen (runConditions s q (sizes b)) ≡ clear → (u : Budget) → Spent (initial q (sizes b)) u
-    → saturatedIn u ≤ q .calls * maxTerms + maxTerms → Few (counts q (sizes b) u)
-clear-few s q b e u h n =
-    let callers = none-append (decodingConditions s) _ (clear-none (runConditions s q (sizes b)) e) .1 in
-    let fits : (leb (length (b .cells)) maxCells && leb (length (b .posts)) maxPosts && framesOk (q .runner) (length (b .frames)))
-    ≡ true = unless-none 15 _ (none-cons (none-cons callers .1) .0) in
-    few q (sizes b) u (clear-calls s q b e) (leb-true (length (b .cells)) maxCells (search (fits, and-left, and-right)))
-    (leb-true (length (b .posts)) maxPosts (search (fits, and-left, and-right))) h n
-
-abbrev pub countsIn : {D : Domain} → Counts → AnswerOf D → Counts
-countsIn k (refused c p) = k
-countsIn k (ran o k′) = k′
-
--- the counts told are those of the evaluation
+-- How large the counts are that a run tells (Claims: Few). They are those of the evaluation.
 counts-told : (s : List ℕ) (q : Request) (b : Buffers) (o : Outcome) (k : Counts) → run s q b .answer ≡ ran o k
     → counts q (sizes b) (left (evaluation (q .runner) s q (sizes b))) ≡ k
 counts-told s q b o k e = ap (countsIn k) (sym (answer-course s q b _ (course-clear s q b (starts-screened s q b (o, k, e)))) ∙ e)

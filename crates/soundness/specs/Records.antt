@@ -13,7 +13,8 @@ use Rattle.traces.specs.Theorems.{dropped-fits, fuller-fits}
 use Rattle.semantics.specs.Meaning.{traced}
 use Rattle.semantics.specs.Runs.{Request, Buffers, sizes, evaluationIn, started}
 use Rattle.semantics.specs.Recording.{decisionsMade, decisions, recording}
-use Rattle.semantics.specs.Theorems.{starts-screened, clear-well}
+use Rattle.semantics.specs.Laws.Starting.{clear-well}
+use Rattle.semantics.specs.Theorems.{starts-screened}
 use Rattle.semantics.specs.RecordTheorems.{traced-clear, record-holds}
 use Rattle.soundness.specs.Claims.{LikeRuns, entriesIn, SameRecord, Begins}
 use Rattle.soundness.specs.Laws.Runs.{same-evaluation}

@@ -28,13 +28,13 @@ judgedAs n (typed τ N) = typed-under n τ N
 judgedAs n (fault cause at) = refused cause at
 
 -- no such term: 37, a number of our own
-abbrev pub told : Types → (A : ℕ → ℕ) → Option Placed → JudgedTerm
-told T A none = refused 37 0
-told T A (some (placed Γ n c)) = judgedAs n (infer T A Γ n c)
+abbrev pub judgedOf : Types → (A : ℕ → ℕ) → Option Placed → JudgedTerm
+judgedOf T A none = refused 37 0
+judgedOf T A (some (placed Γ n c)) = judgedAs n (infer T A Γ n c)
 
 abbrev pub ifReadable : Screening → (Unit {0} → JudgedTerm) → JudgedTerm
 ifReadable clear k = k tt
 ifReadable (found cause place) k = refused cause place
 
 unfoldable pub judging : List ℕ → (t : ℕ) → JudgedTerm
-judging s t = ifReadable (decoding s) λ _. told (typesOf s) (authority s) (withNumber t (subterms (typesOf s) [] 0 (program s)))
+judging s t = ifReadable (decoding s) λ _. judgedOf (typesOf s) (authority s) (withNumber t (subterms (typesOf s) [] 0 (program s)))

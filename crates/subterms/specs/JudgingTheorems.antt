@@ -26,7 +26,7 @@ use Rattle.typing.specs.Theorems.{acceptance}
 use Rattle.typing.specs.Laws.Checking.{infer-derives, derives-least}
 use Rattle.typing.specs.Laws.Faults.{decoding-readers}
 use Rattle.subterms.specs.Smallest.{subterms}
-use Rattle.subterms.specs.Judging.{withNumber, JudgedTerm, typed-under, refused, judgedAs, told, ifReadable, judging}
+use Rattle.subterms.specs.Judging.{withNumber, JudgedTerm, typed-under, refused, judgedAs, judgedOf, ifReadable, judging}
 use Rattle.subterms.specs.Claims.{byRules, HasFault, has-fault, Stands}
 use Rattle.subterms.specs.Laws.Judgements.{ruled, within-fault}
 use Rattle.subterms.specs.Laws.Numbers.{number-stands, number-past, within-standard}
@@ -52,13 +52,13 @@ no-rule : (cause : ℕ) → byRules cause ≡ true → cause ≡ 37 → ⊥
 no-rule cause h e = true≢false (sym h ∙ ap byRules e)
 
 module _ (s : List ℕ) (t : ℕ) where
-  readable-told : Readable s → judging s t ≡ told (typesOf s) (authority s) (withNumber t (subterms (typesOf s) [] 0 (program s)))
+  readable-told : Readable s → judging s t ≡ judgedOf (typesOf s) (authority s) (withNumber t (subterms (typesOf s) [] 0 (program s)))
   unfolding judging
-  readable-told r = λ i. ifReadable (r i) (λ _. told (typesOf s) (authority s) (withNumber t (subterms (typesOf s) [] 0 (program s))))
+  readable-told r = λ i. ifReadable (r i) (λ _. judgedOf (typesOf s) (authority s) (withNumber t (subterms (typesOf s) [] 0 (program s))))
 
   -- "in the bindings and under the principal it has in the sheet": wherever term t stands in a readable sheet, it is judged there
   pub judged-there : Readable s → (Γ : List ℕ) (n : ℕ) → Stands s Γ n t → judging s t ≡ judgedAs n (judgementOf s Γ n t)
-  judged-there r Γ n v = readable-told r ∙ ap (told (typesOf s) (authority s)) (number-stands s (well-formed s r) Γ n t v)
+  judged-there r Γ n v = readable-told r ∙ ap (judgedOf (typesOf s) (authority s)) (number-stands s (well-formed s r) Γ n t v)
 
   -- every number below the count of terms is that of a term which stands in the sheet, in one place (`every-term-stands`, `stands-once`) and is judged there
   pub every-term-judged : Readable s → t < terms s → (Γ : List ℕ) × (n : ℕ) × Stands s Γ n t × (judging s t ≡ judgedAs n (judgementOf s Γ n t))
@@ -79,13 +79,13 @@ module _ (s : List ℕ) (t : ℕ) where
   -- an unreadable sheet gets the reader's refusal
   pub unreadable-told : {cause place : ℕ} → decoding s ≡ found cause place → judging s t ≡ refused cause place
   unfolding judging
-  unreadable-told e = λ i. ifReadable (e i) (λ _. told (typesOf s) (authority s) (withNumber t (subterms (typesOf s) [] 0 (program s))))
+  unreadable-told e = λ i. ifReadable (e i) (λ _. judgedOf (typesOf s) (authority s) (withNumber t (subterms (typesOf s) [] 0 (program s))))
 
   -- 37 is told exactly for a number past the last term of a readable sheet
   pub no-term-exactly : (judging s t ≡ refused 37 0) ↔ (Readable s × terms s ≤ t)
   no-term-exactly = (
     λ e. screened (decoding s) refl e,
-    λ h. readable-told (h .0) ∙ ap (told (typesOf s) (authority s)) (number-past s (well-formed s (h .0)) t (h .1)),
+    λ h. readable-told (h .0) ∙ ap (judgedOf (typesOf s) (authority s)) (number-past s (well-formed s (h .0)) t (h .1)),
   )
     where
       past : Readable s → judging s t ≡ refused 37 0 → Dec (t < terms s) → terms s ≤ t

@@ -62,16 +62,16 @@ pub data Piece : Type 0 where
   no-piece : Piece
   unreadable : (cause place : ℕ) → Piece
 
-abbrev pub told : Option Refused → Piece
-told none = no-piece
-told (some x) = smallest (x .term) (x .count) (x .cause) (x .place)
+abbrev pub pieceFrom : Option Refused → Piece
+pieceFrom none = no-piece
+pieceFrom (some x) = smallest (x .term) (x .count) (x .cause) (x .place)
 
 abbrev pub ifReadable : Screening → (Unit {0} → Piece) → Piece
 ifReadable clear k = k tt
 ifReadable (found cause place) k = unreadable cause place
 
 unfoldable pub pieceOf : List ℕ → Piece
-pieceOf s = ifReadable (decoding s) λ _. told (smallestOf (typesOf s) (authority s) (subterms (typesOf s) [] 0 (program s)))
+pieceOf s = ifReadable (decoding s) λ _. pieceFrom (smallestOf (typesOf s) (authority s) (subterms (typesOf s) [] 0 (program s)))
 
 -- "those eight bytes of the caller's own sheet that are its record": where they begin, how many there are, and they themselves; none without a piece
 abbrev pub recordPlace : List ℕ → Piece → ℕ

@@ -23,7 +23,7 @@ use Rattle.typing.specs.Verdicts as verdicts
 use Rattle.typing.specs.Verdicts.{accepted, rejected, concluded, judgement, verdict}
 use Rattle.typing.specs.Laws.Checking.{infer-complete, infer-derives}
 use Rattle.typing.specs.Laws.Faults.{decoding-readers}
-use Rattle.subterms.specs.Smallest.{subterms, Refused, smallestOf, Piece, smallest, no-piece, unreadable, told, ifReadable, pieceOf, recordPlace, recordLength}
+use Rattle.subterms.specs.Smallest.{subterms, Refused, smallestOf, Piece, smallest, no-piece, unreadable, pieceFrom, ifReadable, pieceOf, recordPlace, recordLength}
 use Rattle.subterms.specs.Claims.{byRules, HasFault, has-fault, Stands, Faulty, SmallestPiece}
 use Rattle.subterms.specs.Laws.Judgements.{ruled}
 use Rattle.subterms.specs.Laws.Numbers.{within-standard}
@@ -121,7 +121,7 @@ module _ (s : List ℕ) where
   unfolding pieceOf
   given = screened (decoding s) refl
     where
-      listed : Readable s → (o : Option Refused) → smallestOf (typesOf s) (authority s) (subterms (typesOf s) [] 0 (program s)) ≡ o → Given s (told o)
+      listed : Readable s → (o : Option Refused) → smallestOf (typesOf s) (authority s) (subterms (typesOf s) [] 0 (program s)) ≡ o → Given s (pieceFrom o)
       listed r none e = given-none (record {
         readable = r;
         other = λ h. let x = some-refused s (root-faulty s h .1) in Option·none-ne-some (x .0) (sym e ∙ x .1);
@@ -131,7 +131,7 @@ module _ (s : List ℕ) where
           given-smallest (h .0) (h .1) (refused-by-rules s r (root-refused s e (well-formed s r)))
 
       screened : (d : Screening) → decoding s ≡ d
-          → Given s (ifReadable d λ _. told (smallestOf (typesOf s) (authority s) (subterms (typesOf s) [] 0 (program s))))
+          → Given s (ifReadable d λ _. pieceFrom (smallestOf (typesOf s) (authority s) (subterms (typesOf s) [] 0 (program s))))
       screened clear e = listed e (smallestOf (typesOf s) (authority s) (subterms (typesOf s) [] 0 (program s))) refl
       screened (found cause place) e = given-unreadable e
 
@@ -154,14 +154,14 @@ module _ (s : List ℕ) where
       back h =
           let q = root-faulty s h in
           let x = some-refused s (q .1) in
-          (x .0 .term, x .0 .count, x .0 .cause, x .0 .place, λ i. ifReadable (q .0 i) (λ _. told (x .1 i)))
+          (x .0 .term, x .0 .count, x .0 .cause, x .0 .place, λ i. ifReadable (q .0 i) (λ _. pieceFrom (x .1 i)))
 
   -- "An unreadable sheet gets the reader's refusal"
   pub unreadable-exactly : (cause place : ℕ) → (pieceOf s ≡ unreadable cause place) ↔ (decoding s ≡ found cause place)
   unfolding pieceOf
   unreadable-exactly cause place = (
     λ e. forth (subst (Given s) e given),
-    λ e. λ i. ifReadable (e i) (λ _. told (smallestOf (typesOf s) (authority s) (subterms (typesOf s) [] 0 (program s)))),
+    λ e. λ i. ifReadable (e i) (λ _. pieceFrom (smallestOf (typesOf s) (authority s) (subterms (typesOf s) [] 0 (program s)))),
   )
     where
       forth : {cause place : ℕ} → Given s (unreadable cause place) → decoding s ≡ found cause place

@@ -1,4 +1,3 @@
-pub mod FieldLaws
 pub mod TermLaws
 pub mod TypeLaws
 pub mod WordLaws

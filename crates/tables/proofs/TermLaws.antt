@@ -11,7 +11,8 @@ use Rattle.program.specs.Layout.{terms, kindByte, small, first, second, third}
 use Rattle.program.specs.Formats.{Part, unused, flag, anyNumber, privilege, principal, channel, functionType, child, bodyChild, Kind, Boolean, Number, Variable, Function, Letrec, Call, If, Check, Enable, Sign, Test, Sum, Difference, Less, Post, kindOf, format}
 use Rattle.program.specs.Decoding.{partOk, formatAt, termOk}
 use Rattle.program.specs.Records.{CountsOf, termRecord}
-use Rattle.tables.specs.Internal.{Laid, partIn, recordOk, childrenOf, shapeIf, shapeFrom, shapeOf, shapeAt, isWrong}
+use Rattle.accessors.specs.Internal.{Laid}
+use Rattle.tables.specs.Internal.{partIn, recordOk, childrenOf, shapeIf, shapeFrom, shapeOf, shapeAt, isWrong}
 use Rattle.program.specs.Laws.Readable.{fields-ok}
 use Rattle.program.specs.Laws.Records.{term-laid}
 use Rattle.program.specs.declared.records.Counts.{Counts}

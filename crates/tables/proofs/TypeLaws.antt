@@ -1,14 +1,14 @@
 -- The type table: what each way out of the code has found of a record.
 use mathlib.Core.Bool.{Bool, true, false, not, cond, _&&_, false≢true}
 use mathlib.Core.List.{List}
-use mathlib.Core.Path.{_≡_, refl, sym, ap, _∙_, subst}
+use mathlib.Core.Path.{_≡_, refl, sym, ap, _∙_}
 use Prim.Native.Nat.{ℕ, zero, suc, _+_, _*_, _-_, _<_, _≤_, max}
 use native.Mathlib.Decide.{ℕ-discrete}
 use native.Mathlib.Omega.{arith}
 use lib.Dec.{leb, ltb, eqb}
 use lib.ListN.{getD, length, set}
 use lib.Seq.{getD-set-same, getD-set-other}
-use borrow.Author.Tests.{ltb-true, leb-true, leb-false, lt-ltb, le-ltb, le-leb, lt-leb, eq-eqb, ne-eqb, eqb-true}
+use borrow.Author.Tests.{ltb-true, leb-true, leb-false, lt-ltb, le-ltb, le-leb, lt-leb}
 use Rattle.privileges.specs.Booleans.{and-left, and-right}
 use Rattle.program.specs.Limits.{maxTypes}
 use Rattle.program.specs.Tests.{also, orElse}
@@ -16,7 +16,8 @@ use Rattle.program.specs.Bytes.{Bytes}
 use Rattle.program.specs.Layout.{principals, types, typeAt, typesOf}
 use Rattle.program.specs.Decoding.{baseOk, functionOk, shallow, sameBytes, fresh, typeOk}
 use Rattle.program.specs.Records.{typeAtByte, typeRecord}
-use Rattle.tables.specs.Internal.{leWord, Laid, Passed, TableAt, Depths, Deep}
+use Rattle.accessors.specs.Internal.{Laid}
+use Rattle.tables.specs.Internal.{leWord, Passed, TableAt, Depths, Deep}
 use Rattle.program.specs.Laws.Readable.{FieldsOk, fields-ok}
 use Rattle.program.specs.Laws.Records.{type-laid}
 use Rattle.tables.proofs.WordLaws.{eight-differ}

@@ -1,89 +1,26 @@
--- What the contracts of the functions that look at fields and records for the decoder say. No reader of the public promise needs this file.
-use mathlib.Core.Bool.{Bool, true, false, _&&_, _||_}
-use mathlib.Core.List.{List, [], _∷_, _++_}
+-- What the contracts of the functions that look at records for the decoder say. No reader of the public promise needs this file.
+use mathlib.Core.Bool.{Bool, true, false, _&&_}
+use mathlib.Core.List.{List}
 use mathlib.Core.Option.{Option, none, some}
 use mathlib.Core.Path.{_≡_}
-use Prim.Native.Nat.{ℕ, zero, suc, _+_, _*_, _-_, _/_, _<_, _≤_}
+use Prim.Native.Nat.{ℕ, zero, suc, _+_, _*_, _-_, _<_, _≤_}
 use lib.Dec.{leb, ltb, eqb}
 use lib.ListN.{length, getD}
 use Rattle.program.specs.Limits.{maxPrincipals}
-use Rattle.program.specs.Bytes.{byte, word16}
-use Rattle.program.specs.Layout.{version, types, terms, typeAt, guardField, sheetEnd, channels, kindByte, first, second, third}
-use Rattle.program.specs.Screening.{Condition, First, None, unless, lowest}
+use Rattle.program.specs.Bytes.{byte}
+use Rattle.program.specs.Layout.{types, terms, typeAt, kindByte, first, second, third}
+use Rattle.program.specs.Screening.{lowest}
 use Rattle.program.specs.Formats.{Part, unused, flag, anyNumber, privilege, principal, channel, functionType, child, bodyChild, Kind, Boolean, Number, Variable, Function, Letrec, Call, If, Check, Enable, Sign, Test, Sum, Difference, Less, Post, kindOf, format}
-use Rattle.program.specs.Decoding.{holds, field, guardConditions, fieldConditions, shallow, typeOk, termOk}
-use Rattle.program.specs.Answers.{decodingCause, decodingPlace}
-use Rattle.program.specs.Records.{CountsOf}
+use Rattle.program.specs.Decoding.{shallow, typeOk, termOk}
 use Rattle.program.specs.declared.records.Counts.{Counts}
 use Rattle.program.specs.declared.records.TermRecord.{TermRecord}
+use Rattle.accessors.specs.Internal.{Laid}
 use Rattle.tables.specs.declared.terms.Shape.{Shape}
 use Rattle.tables.specs.declared.terms.Shape.the-variants.{Leaf, One, Two, Three, Function as FunctionShape, Letrec as LetrecShape, Wrong}
-use Rattle.tables.specs.declared.header.Field.{Field}
-use Rattle.tables.specs.declared.header.Field.the-variants.{Records, Fault as FieldFault}
-use Rattle.tables.specs.declared.header.Version.{Version}
-use Rattle.tables.specs.declared.header.Version.the-variants.{Channels, Fault as VersionFault}
-use Rattle.tables.specs.declared.header.End.{End}
-use Rattle.tables.specs.declared.header.End.the-variants.{Whole, Fault as EndFault}
-use Rattle.tables.specs.declared.header.Header.{Header}
-use Rattle.tables.specs.declared.header.Header.the-variants.{Laid as HeaderLaid, Fault as HeaderFault}
 use Rattle.tables.specs.declared.search.Found.{Found}
 use Rattle.tables.specs.declared.search.Found.the-variants.{At, Nothing}
 use Rattle.tables.specs.declared.types.Depth.{Depth}
 use Rattle.tables.specs.declared.types.Depth.the-variants.{Is, Fault as DepthFault}
-
--- ---- the fields
--- the fields are right, and these are their counts
-pub record Laid (s : List ℕ) (c : Counts) : Type 0 where
-  pub counts-are : CountsOf s c
-  pub none-found : None (fieldConditions s)
-
--- a field of records of this size can be sought here: no index is too large, and a length can be divided by the size
-pub record FieldAt (at size : ℕ) : Type 0 where
-  pub near : at < 16384
-  pub positive : 0 < size
-
-pub record FieldHolds (s : List ℕ) (at tag size least most n : ℕ) : Type 0 where
-  pub count : n ≡ word16 s (at + 1) / size
-  pub least-are : least ≤ n
-  pub most-are : n ≤ most
-  pub inside : at + 3 + n * size ≤ length s
-  pub none-found : None (field s at tag (holds size least most))
-
-abbrev pub FieldIs : List ℕ → (at tag size least most : ℕ) → Field → Type 0
-FieldIs s at tag size least most (Records n) = FieldHolds s at tag size least most n
-FieldIs s at tag size least most (FieldFault f) = First (decodingCause f) (decodingPlace f) (field s at tag (holds size least most))
-
--- the conditions of the fields before those of the second field, and after those of the fourth
-abbrev pub versionConditions : List ℕ → List Condition
-versionConditions s = field s 0 1 (holds 2 1 1) ++ unless 3 (eqb (version s) 1 || eqb (version s) 2) ∷ []
-
-abbrev pub endAt : List ℕ → (at : ℕ) → List Condition
-endAt s at = unless 2 (eqb at (length s)) ∷ []
-
-abbrev pub endConditions : List ℕ → List Condition
-endConditions s = guardConditions s ++ endAt s (sheetEnd s)
-
-pub record VersionHolds (s : List ℕ) (n : ℕ) : Type 0 where
-  pub channels-are : n ≡ channels s
-  pub none-found : None (versionConditions s)
-
-abbrev pub VersionIs : List ℕ → Version → Type 0
-VersionIs s (Channels n) = VersionHolds s n
-VersionIs s (VersionFault f) = First (decodingCause f) (decodingPlace f) (versionConditions s)
-
--- what the fifth field is sought from: where the terms end, and the sheet's channels
-pub record AfterTerms (s : List ℕ) (at n : ℕ) : Type 0 where
-  pub near : at < 16384
-  pub place : at ≡ guardField s
-  pub channels-are : n ≡ channels s
-
-abbrev pub EndIs : List Condition → End → Type 0
-EndIs cs Whole = None cs
-EndIs cs (EndFault f) = First (decodingCause f) (decodingPlace f) cs
-
-abbrev pub HeaderIs : List ℕ → Header → Type 0
-HeaderIs s (HeaderLaid c) = Laid s c
-HeaderIs s (HeaderFault f) = First (decodingCause f) (decodingPlace f) (fieldConditions s)
 
 -- ---- a search over a table
 abbrev pub foundOf : Found → Option ℕ

@@ -1,5 +1,4 @@
-// The fields of a sheet and its two tables, record by record: refusals 1 to 6.
-pub mod header;
+// The two tables of a sheet, record by record: refusals 5 and 6.
 pub mod search;
 pub mod terms;
 pub mod types;

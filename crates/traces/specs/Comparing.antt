@@ -33,13 +33,13 @@ pub data Comparison : Type 0 where
   fits : (missing : ℕ) → Comparison
   diverges : (entry : ℕ) → Comparison
 
-abbrev pub told : (missing : ℕ) → Option ℕ → Comparison
-told missing none = fits missing
-told missing (some k) = diverges k
+abbrev pub comparisonOf : (missing : ℕ) → Option ℕ → Comparison
+comparisonOf missing none = fits missing
+comparisonOf missing (some k) = diverges k
 
 -- "the number, from 0, of the unit's first entry up to which they no longer can": the lowest k whose entries 0 to k do not occur
 unfoldable pub compared : (unit office : List Event) → Comparison
-compared u o = told (length o - length u) (lowest (λ k. occurs (take (suc k) u) o) 0 (length u))
+compared u o = comparisonOf (length o - length u) (lowest (λ k. occurs (take (suc k) u) o) 0 (length u))
 
 abbrev pub ifBoth : Bool → (unit office : List ℕ) → Comparison
 ifBoth true u o = compared (trace u) (trace o)

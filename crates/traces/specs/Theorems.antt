@@ -14,7 +14,7 @@ use Rattle.traces.specs.Traces.{Event, traceBytes, recorded, wellFormed,
 use Rattle.traces.specs.Comparing.{Subsequence, occurs, Comparison, refused, fits, diverges, compared, ifBoth, comparison}
 use Rattle.traces.specs.Claims.{WellFormed, Storable, Fits, Diverges}
 use Rattle.traces.specs.Laws.Subsequences.{whole, beginning, no-longer, occurs-decides}
-use Rattle.traces.specs.Laws.Greedy.{placed, placed-most, placed-occurs, placed-least, compared-fits, compared-diverges}
+use Rattle.traces.specs.Laws.Greedy.{placed, placed-occurs, placed-least, compared-fits, compared-diverges}
 use Rattle.traces.specs.Laws.Records.{bytes-well-formed, bytes-trace, bytes-take, bytes-below, trace-back, well-formed-true, true-well-formed}
 
 -- ---- subsequences

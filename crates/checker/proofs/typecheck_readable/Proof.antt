@@ -3,7 +3,7 @@
 use native.Mathlib.Omega.{arith}
 use borrow.Author.Needs.{needs}
 use mathlib.Core.Path.{refl}
-use Rattle.rules.proofs.KnownLaws.{known-none}
+use Rattle.subtyping.proofs.KnownLaws.{known-none}
 use Rattle.checker.proofs.VerdictLaws.{sheet-of, some-terms, root-ready, program-is, verdict-is}
 use Rattle.checker.proofs.typecheck_readable.Statement.{statement}
 use Rattle.checker.proofs.typecheck_readable.Tie as tie

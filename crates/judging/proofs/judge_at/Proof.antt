@@ -2,7 +2,7 @@
 -- is (place-judged).
 use mathlib.Core.Path.{refl}
 use borrow.Author.Needs.{needs}
-use Rattle.rules.proofs.KnownLaws.{known-none}
+use Rattle.subtyping.proofs.KnownLaws.{known-none}
 use Rattle.judging.proofs.JudgeLaws.{place-judged}
 use Rattle.judging.proofs.judge_at.Statement.{statement}
 use Rattle.judging.proofs.judge_at.Tie as tie

@@ -1,7 +1,7 @@
 -- The root is visited without bindings, and nothing is known of the types yet. What is found of it is the sheet's piece (LocateLaws).
 use borrow.Author.Needs.{needs}
 use mathlib.Core.Path.{refl}
-use Rattle.rules.proofs.KnownLaws.{known-none}
+use Rattle.subtyping.proofs.KnownLaws.{known-none}
 use Rattle.piece.proofs.LocateLaws.{root-visitable, nothing-located, smallest-located}
 use Rattle.piece.proofs.locate_readable.Statement.{statement}
 use Rattle.piece.proofs.locate_readable.Tie as tie

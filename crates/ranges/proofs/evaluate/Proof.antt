@@ -5,7 +5,7 @@ use borrow.Author.Needs.{needs}
 use mathlib.Core.List.{[], _∷_}
 use mathlib.Core.Path.{refl}
 use Rattle.interp.specs.Laws.{empty-table}
-use Rattle.ranges.proofs.PairLaws.{pairs-enough, interval-table, laid-table}
+use Rattle.ranges.proofs.TableLaws.{pairs-enough, interval-table, laid-table}
 use Rattle.ranges.proofs.RangeLaws.{ranges-after}
 use Rattle.ranges.proofs.evaluate.Statement.{statement}
 use Rattle.ranges.proofs.evaluate.Tie as tie

@@ -34,7 +34,7 @@ pub record Fixed : Type 1 where
   pub terms : List ℕ
   pub may : ℕ → ℕ
   pub posts : List ℕ
-  pub trace : List ℕ
+  pub noted : List ℕ
   pub mode : ℕ
   pub coding : Coding (interpretation .domain) mode
 
@@ -61,7 +61,7 @@ length-written l (p ∷ ps) = length-set (written l ps) (length ps) p ∙ length
 -- with m cells made
 abbrev pub countersOf : Fixed → (calls m : ℕ) → Log → List ℕ
 countersOf z c m log =
-    c ∷ m ∷ length (log .posts) ∷ z .mode ∷ wrapped (log .saturated) ∷ length (recorded (length (z .trace)) (reverse (log .decisions))) ∷ []
+    c ∷ m ∷ length (log .posts) ∷ z .mode ∷ wrapped (log .saturated) ∷ length (recorded (length (z .noted)) (reverse (log .decisions))) ∷ []
 
 pub record Balance (z : Fixed) (st : State) (c m d r : ℕ) (log : Log) : Type 0 where
   pub counters : st .n ≡ countersOf z c m log
@@ -69,7 +69,7 @@ pub record Balance (z : Fixed) (st : State) (c m d r : ℕ) (log : Log) : Type 0
   pub most : length (st .cells) ≤ maxCells
   pub room : length (log .posts) + r ≡ length (z .posts)
   pub list : st .posts ≡ written (z .posts) (log .posts)
-  pub trace-is : st .noted ≡ recordOf (z .trace) (reverse (log .decisions))
+  pub noted-is : st .noted ≡ recordOf (z .noted) (reverse (log .decisions))
 
 pub data Balances (z : Fixed) (st : State) : Budget → Type 0 where
   balance : {c m d r : ℕ} {log : Log} → Balance z st c m d r log → Balances z st (budget c d r log)

@@ -79,7 +79,7 @@ module _ (I : Interpretation) {mode : ℕ} (K : Coding (I .domain) mode) {tells 
     posts-agree : st .posts ≡ inOrder u ++ drop (length (inOrder u)) (b .posts)
     sizes-agree : sizesOf st ≡ sizes b
     entries-agree : entriesMade (st .n) ≡ length (recorded (length t) (decidedIn u))
-    trace-agrees : st .noted ≡ withEntries (recorded (length t) (decidedIn u)) t
+    noted-agrees : st .noted ≡ withEntries (recorded (length t) (decidedIn u)) t
 
   agrees : {depth : ℕ} {st : State} {u : Budget} → Balances run st u → Later depth (startOf mode q b t) st → Agrees st u
   agrees (balance {c = c} {m = m} {d = d} {log = log} h) l =
@@ -91,7 +91,7 @@ module _ (I : Interpretation) {mode : ℕ} (K : Coding (I .domain) mode) {tells 
         posts-agree = h .list ∙ written-is (b .posts) ps (omega (arith, h .room)) ∙ ap (λ (n : ℕ). reverse ps ++ drop n (b .posts)) (sym (length-reverse ps));
         sizes-agree = λ i. record { cells = l .old .long i; posts = (ap length (h .list) ∙ length-written (b .posts) ps) i; frames = l .frames .long i };
         entries-agree = λ i. entriesMade (h .counters i);
-        trace-agrees = h .trace-is;
+        noted-agrees = h .noted-is;
       }
 
   refined-by : (n : ℕ) {w : ℕ} {st : State} (x : ResultOf (I .domain)) → tells n w ≡ outcome n x → Agrees st (left x)
@@ -102,7 +102,7 @@ module _ (I : Interpretation) {mode : ℕ} (K : Coding (I .domain) mode) {tells 
     same-posts = a .posts-agree ∙ ap (λ (l : List ℕ). l ++ drop (length l) (b .posts)) (posts-forgotten x);
     same-sizes = a .sizes-agree;
     same-entries = a .entries-agree;
-    same-trace = a .trace-agrees;
+    same-noted = a .noted-agrees;
   }
 
   meets-refined : (n : ℕ) {depth : ℕ} {d : Done} {x : ResultOf (I .domain)} → Meets run depth (startOf mode q b t) d x
@@ -139,7 +139,7 @@ module _ (I : Interpretation) {mode : ℕ} (K : Coding (I .domain) mode) {tells 
         most = most;
         room = omega arith;
         list = refl;
-        trace-is = λ i. withEntries (none i) t;
+        noted-is = λ i. withEntries (none i) t;
       })))
 
   -- an eager one, that holds any set

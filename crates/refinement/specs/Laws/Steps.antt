@@ -137,7 +137,7 @@ module _ (z : Fixed) where
     most = omega (arith, h .most, length-cell (st .cells) (cellsMade (st .n)) w e);
     room = h .room;
     list = h .list;
-    trace-is = h .trace-is;
+    noted-is = h .noted-is;
   }
 
   -- the frames are no part of the counters
@@ -148,7 +148,7 @@ module _ (z : Fixed) where
     most = h .most;
     room = h .room;
     list = h .list;
-    trace-is = h .trace-is;
+    noted-is = h .noted-is;
   }
 
   -- ---- steps that evaluate no other term
@@ -189,12 +189,12 @@ module _ (z : Fixed) where
       let one-more : wrapped (wrapped (log .saturated) + 1) ≡ wrapped (suc (log .saturated)) = omega arith in
       record {
         counters = (λ i. set (h .counters i) 4 (wrapped (saturatedMade (h .counters i) + 1)))
-            ∙ (λ i. c ∷ m ∷ length (log .posts) ∷ z .mode ∷ one-more i ∷ length (recorded (length (z .trace)) (reverse (log .decisions))) ∷ []);
+            ∙ (λ i. c ∷ m ∷ length (log .posts) ∷ z .mode ∷ one-more i ∷ length (recorded (length (z .noted)) (reverse (log .decisions))) ∷ []);
         cells = h .cells;
         most = h .most;
         room = h .room;
         list = h .list;
-        trace-is = h .trace-is;
+        noted-is = h .noted-is;
       }
 
   meets-counted : {depth : ℕ} {st : State} {o : Budget} {w : ℕ} {x : Value z} (over : Bool) → RepAt z st w x → Balances z st o
@@ -253,11 +253,11 @@ module _ (z : Fixed) where
 
   -- ---- a decision is noted
   entries-are : {st : State} {c m d r : ℕ} {log : Log} → Balance z st c m d r log
-      → entriesMade (st .n) ≡ length (recorded (length (z .trace)) (reverse (log .decisions)))
+      → entriesMade (st .n) ≡ length (recorded (length (z .noted)) (reverse (log .decisions)))
   entries-are h = λ i. entriesMade (h .counters i)
 
-  noted-long : {st : State} {c m d r : ℕ} {log : Log} → Balance z st c m d r log → length (st .noted) ≡ length (z .trace)
-  noted-long {log = log} h = ap length (h .trace-is) ∙ length-record (z .trace) (reverse (log .decisions))
+  noted-long : {st : State} {c m d r : ℕ} {log : Log} → Balance z st c m d r log → length (st .noted) ≡ length (z .noted)
+  noted-long {log = log} h = ap length (h .noted-is) ∙ length-record (z .noted) (reverse (log .decisions))
 
   abbrev withNote : Event → State → State
   withNote e st = storeOf (noteCounters true (st .n) (st .noted)) (st .cells) (st .posts) (st .frames) (noteBytes true e (st .n) (st .noted))
@@ -267,7 +267,7 @@ module _ (z : Fixed) where
   note-tally e {st} {c} {m} {d} {r} {log} h = go (decLt (length ds) (length t / 4))
     where
       t : List ℕ
-      t = z .trace
+      t = z .noted
 
       ds : List Event
       ds = reverse (log .decisions)
@@ -296,8 +296,8 @@ module _ (z : Fixed) where
             most = h .most;
             room = h .room;
             list = h .list;
-            trace-is = (λ i. pick (room i) (overwrite (4 * entriesMade (st .n)) (eventBytes e) (st .noted)) (st .noted))
-                ∙ (λ i. overwrite (4 * entries-are h i) (eventBytes e) (h .trace-is i)) ∙ entry-made t ds e l ∙ (λ i. recordOf t (behind i));
+            noted-is = (λ i. pick (room i) (overwrite (4 * entriesMade (st .n)) (eventBytes e) (st .noted)) (st .noted))
+                ∙ (λ i. overwrite (4 * entries-are h i) (eventBytes e) (h .noted-is i)) ∙ entry-made t ds e l ∙ (λ i. recordOf t (behind i));
           }
       go (no g) =
           let no-room : ltb (entriesMade (st .n)) (length (st .noted) / 4) ≡ false =
@@ -310,7 +310,7 @@ module _ (z : Fixed) where
             most = h .most;
             room = h .room;
             list = h .list;
-            trace-is = (λ i. pick (no-room i) (overwrite (4 * entriesMade (st .n)) (eventBytes e) (st .noted)) (st .noted)) ∙ h .trace-is
+            noted-is = (λ i. pick (no-room i) (overwrite (4 * entriesMade (st .n)) (eventBytes e) (st .noted)) (st .noted)) ∙ h .noted-is
                 ∙ (λ i. withEntries (same i) t);
           }
 
@@ -357,7 +357,7 @@ module _ (z : Fixed) where
           most = h .most;
           room = omega (arith, h .room);
           list = λ i. set (h .list i) (posts-are h i) (z .coding .entry-coded x e i);
-          trace-is = h .trace-is;
+          noted-is = h .noted-is;
         }
 
     post-number : {depth c m d : ℕ} {y : z .interpretation .domain .Number} {log : Log} (r : ℕ) → t < 65536 → z .coding .Number w y → Balance z st c m d r log

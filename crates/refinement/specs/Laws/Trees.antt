@@ -31,9 +31,9 @@ flag-is (suc zero) h = refl
 flag-is (suc (suc n)) h = absurd (omega arith)
 
 -- what stays in a run of a sheet
-abbrev pub fixedOf : (I : Interpretation) {mode : ℕ} → Coding (I .domain) mode → (s table posts trace : List ℕ) → Fixed
-fixedOf I {mode} K s table posts trace =
-    record { interpretation = I; terms = table; may = authority s; posts = posts; trace = trace; mode = mode; coding = K }
+abbrev pub fixedOf : (I : Interpretation) {mode : ℕ} → Coding (I .domain) mode → (s table posts noted : List ℕ) → Fixed
+fixedOf I {mode} K s table posts noted =
+    record { interpretation = I; terms = table; may = authority s; posts = posts; noted = noted; mode = mode; coding = K }
 
 -- the words of a sheet's terms: as decoded, but that of a number term stands for what the term is interpreted as
 pub record Tabled (I : Interpretation) {mode : ℕ} (K : Coding (I .domain) mode) (s : List ℕ) (c : Counts) (table : List ℕ) : Type 0 where
@@ -43,9 +43,9 @@ pub record Tabled (I : Interpretation) {mode : ℕ} (K : Coding (I .domain) mode
       → K .Number (intervalWord (wordFirst (getD table t 0)) (wordSecond (getD table t 0))) (I .literal t (first s t))
 
 module _ (I : Interpretation) {mode : ℕ} (K : Coding (I .domain) mode) (s : List ℕ) (w : WellFormed s) (c : Counts) (counts-are : CountsOf s c)
-    (table : List ℕ) (tabled : Tabled I K s c table) (posts trace : List ℕ) where
+    (table : List ℕ) (tabled : Tabled I K s c table) (posts noted : List ℕ) where
   abbrev run : Fixed
-  run = fixedOf I K s table posts trace
+  run = fixedOf I K s table posts noted
 
   module _ (t : ℕ) (sub : ℕ → Term) (h : (x : ℕ) → x < t → Stands run x (sub x)) where
     abbrev x : ℕ

@@ -3,7 +3,7 @@
 use borrow.Author.Needs.{needs}
 use Rattle.interp.specs.Answers.{buffersOf}
 use mathlib.Core.List.{[]}
-use Rattle.registers.specs.Writes.{areLargest}
+use Rattle.semantics.specs.Runs.{areLargest}
 use Rattle.registers.proofs.RunLaws.{few-calls, not-run, has-run}
 use Rattle.registers.proofs.command.Statement.{statement}
 use Rattle.registers.proofs.command.Tie as tie

@@ -1,7 +1,7 @@
 -- Where and by which cause the run of a readable sheet stops, over any domain: 17 at a check or a guarded post, 18 to 22, or 36 at an if.
 use mathlib.Core.List.{List}
 use mathlib.Core.Logic.{_⊎_, inl, inr, ⊎-elim}
-use mathlib.Core.Option.{none, some, Option·none-ne-some}
+use mathlib.Core.Option.{none, Option·none-ne-some}
 use mathlib.Core.Path.{_≡_, refl, sym, subst₂}
 use Prim.Native.Nat.{ℕ, _<_, _≤_}
 use native.Mathlib.Omega.{arith}

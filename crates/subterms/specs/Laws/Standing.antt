@@ -14,7 +14,7 @@ use borrow.Author.Tests.{eqb-true, eq-eqb}
 use Rattle.program.specs.Layout.{Types, terms, root, guardOf, kindByte, small, first, second, third, typesOf}
 use Rattle.program.specs.Formats.{Kind, Boolean, Number, Variable, Function, Letrec, Call, If, Check, Enable, Sign, Test, Sum, Difference, Less, Post, kindOf, format}
 use Rattle.program.specs.Terms.{Term, node, tree, program}
-use Rattle.program.specs.Decoding.{counts, timesIn, timesBelow, parent}
+use Rattle.program.specs.Decoding.{counts, timesIn, timesBelow}
 use Rattle.program.specs.Laws.Readable.{WellFormed}
 use Rattle.program.specs.Laws.Trees.{tree-node, root-lower}
 use Rattle.program.specs.Laws.Nesting.{one-parent, parent-is, times-least}

@@ -3,15 +3,15 @@ use mathlib.Core.Bool.{Bool, true, false, cond, true≢false, false≢true}
 use mathlib.Core.List.{List, [], _∷_}
 use mathlib.Core.Option.{Option, none, some}
 use mathlib.Core.Path.{_≡_, refl, sym, ap, _∙_, subst}
-use Prim.Native.Nat.{ℕ, zero, suc, _-_, _+_, _<_, _≤_}
+use Prim.Native.Nat.{ℕ, zero, suc, _-_, _<_, _≤_}
 use native.Mathlib.Omega.{arith}
 use lib.ListN.{length, take}
 use lib.Seq.{length-take-le, take-take}
 use Rattle.privileges.specs.Booleans.{bool-ext}
 use Rattle.program.specs.Screening.{lowest}
-use Rattle.program.specs.Laws.Screening.{Lowest, lowest-some, lowest-at}
+use Rattle.program.specs.Laws.Screening.{lowest-some, lowest-at}
 use Rattle.traces.specs.Traces.{Event}
-use Rattle.traces.specs.Comparing.{Subsequence, nothing, here, later, sameEvent, occurs, Comparison, fits, diverges, told, compared}
+use Rattle.traces.specs.Comparing.{Subsequence, nothing, here, later, sameEvent, occurs, fits, diverges, comparisonOf, compared}
 use Rattle.traces.specs.Laws.Subsequences.{same-true, same-self, beginning, no-longer, behind-same, behind-other, occurs-decides}
 
 -- how many of the unit's events are placed, one after the other, each as early as it can be
@@ -89,7 +89,7 @@ module _ (u o : List Event) where
   unfolding compared
   compared-fits h = go (lowest occursTo 0 (length u)) refl
     where
-      go : (x : Option ℕ) → lowest occursTo 0 (length u) ≡ x → told (length o - length u) x ≡ fits (length o - length u)
+      go : (x : Option ℕ) → lowest occursTo 0 (length u) ≡ x → comparisonOf (length o - length u) x ≡ fits (length o - length u)
       go none e = refl
       go (some k) e =
           let l = lowest-some occursTo 0 (length u) k e in
@@ -97,7 +97,7 @@ module _ (u o : List Event) where
 
   pub compared-diverges : placed u o < length u → compared u o ≡ diverges (placed u o)
   unfolding compared
-  compared-diverges h = ap (told (length o - length u)) (lowest-at occursTo 0 (length u) (placed u o) (record {
+  compared-diverges h = ap (comparisonOf (length o - length u)) (lowest-at occursTo 0 (length u) (placed u o) (record {
     from = omega arith;
     inside = omega arith;
     fails = to-false h;

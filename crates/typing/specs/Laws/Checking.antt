@@ -7,14 +7,14 @@ use mathlib.Core.Path.{_≡_, refl, sym, ap, _∙_, subst}
 use Prim.Native.Nat.{ℕ}
 use lib.Dec.{eqb}
 use borrow.Author.Tests.{eqb-true, eq-eqb}
-use Rattle.privileges.specs.Booleans.{and-left, and-right, and-both}
+use Rattle.privileges.specs.Booleans.{and-left, and-right}
 use Rattle.privileges.specs.Sets.{has, union, insert, remove, _⊆_}
 use Rattle.privileges.specs.Laws.{⊆-refl, ⊆-trans, union-mono, insert-mono, remove-mono, subset-⊆, ⊆-subset}
 use Rattle.program.specs.Layout.{Types}
 use Rattle.program.specs.Terms.{Term, boolean, number, variable, function, letrec, call, if, check, enable, sign, test, binary, post}
 use Rattle.program.specs.Laws.Types.{Lower}
 use Rattle.program.specs.Laws.Trees.{Standard}
-use Rattle.typing.specs.Subtyping.{Wider, subtype, wider}
+use Rattle.typing.specs.Subtyping.{Wider, wider}
 use Rattle.typing.specs.Rules.{bound, removeAuthorised, postNeeds, Same, Variant, afterW1, current, Derives, d-boolean, d-number, d-variable, d-function, d-letrec, d-call, d-if, d-test, d-check, d-enable, d-sign, d-binary, d-post, d-widen}
 use Rattle.typing.specs.Checking.{Judgement, typed, fault, _next_, require, variableType, joined, bodyFits, infer}
 use Rattle.typing.specs.Laws.Subtyping.{subtype-sound, subtype-complete, wider-sound, wider-complete}

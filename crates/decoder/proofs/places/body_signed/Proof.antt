@@ -1,7 +1,6 @@
 -- Only kinds 3 and 4, functions and letrecs, have a body. It is the second part, a lower term since the record is right (body-in), and it is asked whether
 -- that is a sign; any other kind passes.
 use Rattle.decoder.proofs.PlaceLaws.{record-inside, body-in, body-is, no-body}
-use borrow.Author.Needs.{needs}
 use Rattle.decoder.proofs.places.body_signed.Statement.{statement}
 use Rattle.decoder.proofs.places.body_signed.Tie as tie
 

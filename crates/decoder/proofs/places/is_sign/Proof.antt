@@ -1,6 +1,5 @@
 -- The record that is read has the kind of term t, since the fields are right and t is in the table. Kind 9 is the sign.
 use Rattle.decoder.proofs.PlaceLaws.{record-inside, sign-is}
-use borrow.Author.Needs.{needs}
 use Rattle.decoder.proofs.places.is_sign.Statement.{statement}
 use Rattle.decoder.proofs.places.is_sign.Tie as tie
 

@@ -1,9 +1,6 @@
 -- A letrec, check, sign or test is what it enters: a law for each of its seven ends.
 use borrow.Author.Needs.{needs}
-use mathlib.Core.Path.{refl}
-use borrow.Author.Tests.{not-true, not-false}
-use Rattle.machine.specs.Store.{shapeOf}
-use Rattle.machine.proofs.EnterLaws.{enter-full, enter-cell, enter-sign, enter-passed, enter-allowed, enter-refused, enter-test, privileged, only-test}
+use Rattle.machine.proofs.EnterLaws.{enter-full, enter-cell, enter-sign, enter-passed, enter-allowed, enter-refused, enter-test, only-check, privileged, skipped, not-skipped}
 use Rattle.machine.proofs.enter.enter.Statement.{statement}
 use Rattle.machine.proofs.enter.enter.Tie as tie
 
@@ -96,9 +93,6 @@ returns-3 c =
     enter-sign _ _ _ _ _ _ _ _ (at-kind-of .kind-of .ensures) (at-if3 .if3 .taken) (at-first-of .first-of .ensures) (at-authority-of .authority-of .ensures)
     (at-sign .sign .ensures .answer-is) (at-sign .sign .ensures .lent-is) (c .goes2 .ensures)
 
-small-of-requires : tie.Need-small-of-requires
-small-of-requires c κs = search needs
-
 enforces-requires : tie.Need-enforces-requires
 enforces-requires c κs = search needs
 
@@ -110,24 +104,33 @@ goes-requires-3 c κs = search needs
 
 returns-4 : tie.Need-returns-4
 returns-4 c =
-    let at-if4 = c .before .before .before .before in
-    let at-kind-of = at-if4 .before .before .before .before .before in
-    enter-passed _ _ _ _ _ _ _ _ (at-kind-of .kind-of .ensures) (at-if4 .if4 .taken) (c .before .first-of2 .ensures)
-    (c .before .before .before .enforces .ensures) (not-true _ (c .before .before .if5 .taken)) (c .goes3 .ensures)
+    let at-kind-of = c .before .before .before .before .before .before .before in
+    let skip = skipped _ _ (c .before .before .if4 .taken) in enter-passed _ _ _ _ _ _ _ _ (at-kind-of .kind-of .ensures) (skip .0)
+    (c .before .first-of2 .ensures) (c .before .before .before .enforces .ensures) (skip .1) (c .goes3 .ensures)
+
+small-of-requires : tie.Need-small-of-requires
+small-of-requires c κs = search needs
 
 granted-requires : tie.Need-granted-requires
-unfolding shapeOf
 granted-requires c κs =
-    let at-small-of = c .before .before .before .before in
-    let at-kind-of = at-small-of .before .before .before .before in
+    let at-if3 = c .before .before .before .before in
+    let at-if1 = at-if3 .before .before in
+    let at-kind-of = at-if1 .before in
     let start = at-kind-of .before .before .before .before in
-    privileged _ (at-kind-of .kind-of .ensures) 7 refl (c .before .before .before .if4 .taken) (start .pre .privilege) (at-small-of .small-of .ensures)
+    privileged _ (at-kind-of .kind-of .ensures) (start .pre .kind) (at-if1 .if1 .left) (at-if3 .if3 .left) (start .pre .privilege)
+    (c .before .small-of .ensures)
 
 note-requires : tie.Need-note-requires
 note-requires c κs = search needs
 
 first-of-requires-3 : tie.Need-first-of-requires-3
 first-of-requires-3 c κs = search needs
+
+second-of-requires-2 : tie.Need-second-of-requires-2
+second-of-requires-2 c κs = search needs
+
+choose-requires : tie.Need-choose-requires
+choose-requires c κs = search needs
 
 goes-requires-4 : tie.Need-goes-requires-4
 goes-requires-4 c κs = search needs
@@ -140,25 +143,20 @@ same-length-5 c = search needs
 
 returns-5 : tie.Need-returns-5
 returns-5 c =
-    let at-note = c .before .before .before .before .before in
+    let at-if5 = c .before .before .before .before in
+    let at-note = at-if5 .before .before .before in
     let at-granted = at-note .before .before .before .before .before in
-    let at-if5 = at-granted .before .before in
-    let at-enforces = at-if5 .before in
-    let at-if4 = at-enforces .before in
-    let at-small-of = at-if4 .before in
-    let at-kind-of = at-small-of .before .before .before .before in
-    enter-allowed _ _ _ _ _ _ _ _ (at-kind-of .kind-of .ensures) (at-if4 .if4 .taken) (c .before .first-of3 .ensures) (at-enforces .enforces .ensures)
-    (not-false _ (at-if5 .if5 .left)) (at-small-of .small-of .ensures) (at-granted .granted .ensures .answer-is) (at-granted .granted .ensures .lent-is)
-    (at-note .note .ensures) (c .before .before .if6 .taken) (c .goes4 .ensures)
-
-stop-requires-2 : tie.Need-stop-requires-2
-stop-requires-2 c κs = search needs
+    let at-small-of = at-granted .before .before in
+    let at-kind-of = at-small-of .before .before .before .before .before .before in
+    enter-test _ _ _ _ _ _ _ _ (at-kind-of .kind-of .ensures) (at-if5 .if5 .taken) (at-small-of .small-of .ensures) (at-granted .granted .ensures .answer-is)
+    (at-granted .granted .ensures .lent-is) (at-note .note .ensures) (c .before .before .before .first-of3 .ensures) (c .before .before .second-of2 .ensures)
+    (c .before .choose .ensures) (c .goes4 .ensures)
 
 first-of-requires-4 : tie.Need-first-of-requires-4
 first-of-requires-4 c κs = search needs
 
-halts-requires-2 : tie.Need-halts-requires-2
-halts-requires-2 c κs = search needs
+goes-requires-5 : tie.Need-goes-requires-5
+goes-requires-5 c κs = search needs
 
 same-length-6 : tie.Need-same-length-6
 same-length-6 c = search needs
@@ -170,38 +168,26 @@ returns-6 : tie.Need-returns-6
 returns-6 c =
     let at-note = c .before .before .before .before .before .before in
     let at-granted = at-note .before .before .before .before .before in
-    let at-if5 = at-granted .before .before in
-    let at-enforces = at-if5 .before in
-    let at-if4 = at-enforces .before in
-    let at-small-of = at-if4 .before in
-    let at-kind-of = at-small-of .before .before .before .before in
-    enter-refused _ _ _ _ _ _ _ _ (at-kind-of .kind-of .ensures) (at-if4 .if4 .taken) (c .before .first-of4 .ensures) (at-enforces .enforces .ensures)
-    (not-false _ (at-if5 .if5 .left)) (at-small-of .small-of .ensures) (at-granted .granted .ensures .answer-is) (at-granted .granted .ensures .lent-is)
-    (at-note .note .ensures) (c .before .before .before .if6 .left) (c .before .before .stop2 .ensures) (c .halts2 .ensures)
-
-granted-requires-2 : tie.Need-granted-requires-2
-unfolding shapeOf
-granted-requires-2 c κs =
-    let at-if1 = c .before .before .before .before .before in
+    let at-small-of = at-granted .before .before in
+    let at-if4 = at-small-of .before in
+    let at-enforces = at-if4 .before in
+    let at-if3 = at-enforces .before in
+    let at-if1 = at-if3 .before .before in
     let at-kind-of = at-if1 .before in
     let start = at-kind-of .before .before .before .before in
-    privileged _ (at-kind-of .kind-of .ensures) 10 refl (only-test _ (at-kind-of .kind-of .ensures) (start .pre .kind) (at-if1 .if1 .left)
-    (c .before .before .before .if3 .left) (c .before .if4 .left)) (start .pre .privilege) (c .before .before .small-of .ensures)
+    let check = only-check _ (at-kind-of .kind-of .ensures) (start .pre .kind) (at-if1 .if1 .left) (at-if3 .if3 .left)
+    (c .before .before .before .if5 .left) in enter-allowed _ _ _ _ _ _ _ _ (at-kind-of .kind-of .ensures) check (c .before .first-of4 .ensures)
+    (at-enforces .enforces .ensures) (not-skipped _ _ check (at-if4 .if4 .left)) (at-small-of .small-of .ensures) (at-granted .granted .ensures .answer-is)
+    (at-granted .granted .ensures .lent-is) (at-note .note .ensures) (c .before .before .if6 .taken) (c .goes5 .ensures)
 
-note-requires-2 : tie.Need-note-requires-2
-note-requires-2 c κs = search needs
+stop-requires-2 : tie.Need-stop-requires-2
+stop-requires-2 c κs = search needs
 
 first-of-requires-5 : tie.Need-first-of-requires-5
 first-of-requires-5 c κs = search needs
 
-second-of-requires-2 : tie.Need-second-of-requires-2
-second-of-requires-2 c κs = search needs
-
-choose-requires : tie.Need-choose-requires
-choose-requires c κs = search needs
-
-goes-requires-5 : tie.Need-goes-requires-5
-goes-requires-5 c κs = search needs
+halts-requires-2 : tie.Need-halts-requires-2
+halts-requires-2 c κs = search needs
 
 same-length-8 : tie.Need-same-length-8
 same-length-8 c = search needs
@@ -211,18 +197,21 @@ same-length-9 c = search needs
 
 returns-7 : tie.Need-returns-7
 returns-7 c =
-    let at-note2 = c .before .before .before .before .before .before in
-    let at-granted2 = at-note2 .before .before .before .before .before in
-    let at-if4 = at-granted2 .before .before in
-    let at-small-of = at-if4 .before in
-    let at-if3 = at-small-of .before in
+    let at-if5 = c .before .before .before .before in
+    let at-note = at-if5 .before .before .before in
+    let at-granted = at-note .before .before .before .before .before in
+    let at-small-of = at-granted .before .before in
+    let at-if4 = at-small-of .before in
+    let at-enforces = at-if4 .before in
+    let at-if3 = at-enforces .before in
     let at-if1 = at-if3 .before .before in
     let at-kind-of = at-if1 .before in
     let start = at-kind-of .before .before .before .before in
-    enter-test _ _ _ _ _ _ _ _ (at-kind-of .kind-of .ensures)
-    (only-test _ (at-kind-of .kind-of .ensures) (start .pre .kind) (at-if1 .if1 .left) (at-if3 .if3 .left) (at-if4 .if4 .left)) (at-small-of .small-of .ensures)
-    (at-granted2 .granted2 .ensures .answer-is) (at-granted2 .granted2 .ensures .lent-is) (at-note2 .note2 .ensures)
-    (c .before .before .before .first-of5 .ensures) (c .before .before .second-of2 .ensures) (c .before .choose .ensures) (c .goes5 .ensures)
+    let check = only-check _ (at-kind-of .kind-of .ensures) (start .pre .kind) (at-if1 .if1 .left) (at-if3 .if3 .left)
+    (at-if5 .if5 .left) in enter-refused _ _ _ _ _ _ _ _ (at-kind-of .kind-of .ensures) check (c .before .first-of5 .ensures) (at-enforces .enforces .ensures)
+    (not-skipped _ _ check (at-if4 .if4 .left)) (at-small-of .small-of .ensures) (at-granted .granted .ensures .answer-is)
+    (at-granted .granted .ensures .lent-is) (at-note .note .ensures) (c .before .before .before .if6 .left) (c .before .before .stop2 .ensures)
+    (c .halts2 .ensures)
 
 pub enter-spec : {M : Type 1} → statement M
 enter-spec =
@@ -251,30 +240,28 @@ enter-spec =
     goes-requires-2
     same-length-3
     returns-3
-    small-of-requires
     enforces-requires
     first-of-requires-2
     goes-requires-3
     returns-4
+    small-of-requires
     granted-requires
     note-requires
     first-of-requires-3
+    second-of-requires-2
+    choose-requires
     goes-requires-4
     same-length-4
     same-length-5
     returns-5
-    stop-requires-2
     first-of-requires-4
-    halts-requires-2
+    goes-requires-5
     same-length-6
     same-length-7
     returns-6
-    granted-requires-2
-    note-requires-2
+    stop-requires-2
     first-of-requires-5
-    second-of-requires-2
-    choose-requires
-    goes-requires-5
+    halts-requires-2
     same-length-8
     same-length-9
     returns-7)

@@ -1,0 +1,3 @@
+pub mod CandidateLaws
+pub mod JudgeLaws
+pub mod VisitLaws

@@ -1,0 +1,3 @@
+pub mod Internal
+pub mod Known
+pub mod Laws
