@@ -9,9 +9,9 @@ use lib.ListN.{length, getD, take}
 use borrow.Author.Tests.{lt-ltb, le-ltb}
 use Rattle.queues.specs.Queues as queues
 use Rattle.queues.specs.Queues.{maxLines, State, queueAt}
-use Rattle.queues.specs.Answers.{noJob, jobModel, queueModel, linesModel}
+use Rattle.queues.specs.Answers.{noQueue, noJob, jobModel, queueModel, linesModel}
 use Rattle.queues.specs.Internal.{SizeIs}
-use Rattle.queues.specs.Laws.{none, queue-is}
+use Rattle.queues.specs.Laws.{queue-is}
 use Rattle.queues.specs.declared.state.Job.{Job}
 use Rattle.queues.specs.declared.state.Queue.{Queue}
 use Rattle.queues.specs.declared.state.Lines.{Lines}
@@ -52,7 +52,7 @@ module _ (q : Lines) where
   abbrev S : State
   S = linesModel q
 
-  pub job-number : (i : ℕ) {j : Job} {r : ℕ} → jobModel j ≡ getD (queueModel (getD (q .queues) (i / 24) none)) (i % 24 / 3) noJob
+  pub job-number : (i : ℕ) {j : Job} {r : ℕ} → jobModel j ≡ getD (queueModel (getD (q .queues) (i / 24) noQueue)) (i % 24 / 3) noJob
       → r ≡ jobPart (i % 3) (jobModel j) → r ≡ jobNumber S i
   job-number i e h =
       h ∙ ap (jobPart (i % 3)) (e ∙ ap (λ (js : List queues.Job). getD js (i % 24 / 3) noJob) (sym (queue-is q (i / 24))))
@@ -72,7 +72,7 @@ module _ (q : Lines) where
         go (suc zero) h g = absurd (g refl)
         go (suc (suc k)) h g = let e : k ≡ suc (suc k) - 2 = omega arith in ap past e
 
-    pub is-count : i < 6 → (n : ℕ) → SizeIs (getD (q .queues) (i - 2) none) n → n ≡ numberAt S i
+    pub is-count : i < 6 → (n : ℕ) → SizeIs (getD (q .queues) (i - 2) noQueue) n → n ≡ numberAt S i
     is-count h n size =
         size .size-is ∙ ap length (sym (queue-is q (i - 2)))
         ∙ (λ k. cond (sym (lt-ltb (i - 2) maxLines (omega arith)) k) (length (queueAt S (i - 2))) (jobNumber S (i - 2 - 4)))
@@ -85,10 +85,6 @@ module _ (q : Lines) where
         ∙ (λ k. cond (sym (le-ltb (i - 2) maxLines (omega arith)) k) (length (queueAt S (i - 2))) (jobNumber S (i - 2 - 4)))
         ∙ sym past-two
 
-length-tabulate : (f : ℕ → ℕ) (i n : ℕ) → length (tabulate f i n) ≡ n
-length-tabulate f i zero = refl
-length-tabulate f i (suc n) = ap suc (length-tabulate f (suc i) n)
-
 getD-tabulate : (f : ℕ → ℕ) (i n k : ℕ) → k < n → getD (tabulate f i n) k 0 ≡ f (i + k)
 getD-tabulate f i zero k h = absurd (omega arith)
 getD-tabulate f i (suc n) zero h = ap f (sym (add-zero i))
@@ -96,11 +92,6 @@ getD-tabulate f i (suc n) (suc k) h =
     let e : suc i + k ≡ i + suc k = omega arith in
     getD-tabulate f (suc i) n k (omega arith) ∙ ap f e
 
-module _ (s : State) where
-  pub written-size : length (stateWritten s) ≡ stateNumbers
-  unfolding stateWritten
-  written-size = length-tabulate (numberAt s) 0 stateNumbers
-
-  pub written-at : (i : ℕ) → i < stateNumbers → getD (stateWritten s) i 0 ≡ numberAt s i
-  unfolding stateWritten
-  written-at i h = let e : 0 + i ≡ i = omega arith in getD-tabulate (numberAt s) 0 stateNumbers i h ∙ ap (numberAt s) e
+pub written-at : (s : State) (i : ℕ) → i < stateNumbers → getD (stateWritten s) i 0 ≡ numberAt s i
+unfolding stateWritten
+written-at s i h = let e : 0 + i ≡ i = omega arith in getD-tabulate (numberAt s) 0 stateNumbers i h ∙ ap (numberAt s) e

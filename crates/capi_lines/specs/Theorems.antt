@@ -216,16 +216,17 @@ module _ (s : State) (store : List ℕ) where
       go nobody = refl
       go (serves l j js) = refl
 
-written-length : (s : State) → length (stateWritten s) ≡ stateNumbers
+-- A state is written as 102 numbers.
+pub written-size : (s : State) → length (stateWritten s) ≡ stateNumbers
 unfolding stateWritten
-written-length s = refl
+written-size s = refl
 
 same-step : (o : Operation) (answer : List ℕ) (s : State) → Readable s → Room o answer → listStepped o answer (stateWritten s) ≡ stateWritten (stepped o s)
 same-step (add l j store) answer s r room =
-    ap (λ (x : AddLeft). x .state) (add-read (stateWritten s) (written-length s) s (read-back s (r .sound) (r .small)) store answer room l j)
+    ap (λ (x : AddLeft). x .state) (add-read (stateWritten s) (written-size s) s (read-back s (r .sound) (r .small)) store answer room l j)
     ∙ add-written s store l j
 same-step (serve store b) answer s r room =
-    ap (λ (x : ServeLeft). x .state) (serve-read (stateWritten s) (written-length s) s (read-back s (r .sound) (r .small)) store answer room b)
+    ap (λ (x : ServeLeft). x .state) (serve-read (stateWritten s) (written-size s) s (read-back s (r .sound) (r .small)) store answer room b)
     ∙ serve-written s store b
 
 first-small : (o : Operation) (os : List Operation) → SmallAdds (o ∷ os) → SmallAdds (o ∷ []) × SmallAdds os
@@ -250,7 +251,7 @@ module _ (cs : List Call) (room : Rooms cs) (h : SmallAdds (operations cs)) wher
   same-session = sym (ap (listSession cs) start-written) ∙ same-from cs room h start start-readable
 
   same-size : length (listAfter cs) ≡ stateNumbers
-  same-size = ap length same-session ∙ written-length (session (operations cs) start)
+  same-size = ap length same-session ∙ written-size (session (operations cs) start)
 
   same-state : stateRead (listAfter cs) ≡ session (operations cs) start
   same-state = ap stateRead same-session ∙ session-read-back (operations cs) h

@@ -17,13 +17,13 @@ use Rattle.interp.specs.declared.answer.Run.the-variants.{Refused, Ran}
 use Rattle.largest.specs.Largest.{request, isLargest}
 use Rattle.queues.specs.Queues.{maxLines, Job, State, inside, Turn, nobody, serves, turnAt, turnOf, partOf, dequeued}
 use Rattle.lines.specs.Serving.{restFrom, jobRun, jobAfter, postCount, idle, told, servedAs, serveTurn, serveOf}
-use Rattle.queues.specs.Answers.{jobModel, queueModel, linesModel}
+use Rattle.queues.specs.Answers.{noQueue, jobModel, queueModel, linesModel}
 use Rattle.queues.specs.Internal.{hasJob, Next}
 use Rattle.lines.specs.Internal.{Movable}
 use Rattle.largest.specs.Theorems.{lent-posts}
 use Rattle.queues.specs.declared.state.Lines.{Lines}
 use Rattle.queues.specs.declared.queue.Taken.{Taken}
-use Rattle.queues.specs.Laws.{none, queue-is}
+use Rattle.queues.specs.Laws.{queue-is}
 
 -- ---- the place moves
 -- what is required of a run's posts, once it is known that it was not refused
@@ -51,10 +51,10 @@ module _ (q : Lines) (l : ℕ) (next : Next q l) (store cells posts : List ℕ) 
   nobody-served h = sym (ap (λ (t : Turn). serveTurn t S store B) (next .or-nobody h))
 
   module _ (below : l < maxLines) where
-    pub has-one : hasJob (queueModel (getD (q .queues) l none)) ≡ true
+    pub has-one : hasJob (queueModel (getD (q .queues) l noQueue)) ≡ true
     has-one = ap hasJob (sym (queue-is q l)) ∙ next .has-job below
 
-    module _ (taken : Taken) (parts : queueModel (getD (q .queues) l none) ≡ jobModel (taken .job) ∷ queueModel (taken .rest)) where
+    module _ (taken : Taken) (parts : queueModel (getD (q .queues) l noQueue) ≡ jobModel (taken .job) ∷ queueModel (taken .rest)) where
       abbrev J : Job
       J = jobModel (taken .job)
 

@@ -29,8 +29,8 @@ use Rattle.largest.specs.Largest.{request, isLargest, lentConditions, unlessFou
 use Rattle.lines.specs.Sessions.{Operation, add, serve, stepped, session, servesIn, only, accepted, addedBy, inTurn, servedBy, addedIn, servedIn, Sound}
 use Rattle.largest.specs.Theorems.{same-run, lent-few, lent-untouched, lent-lengths}
 use Rattle.queues.specs.Queues.{maxLines, maxJobs, Job, State, start, queueAt, addConditions, enqueued, addedTo, addOf, inside, Turn, nobody, serves, turnAt, nextLine, turnFrom, turnOf, partOf, dequeued}
-use Rattle.queues.specs.Answers.{jobModel, queueModel, linesModel}
-use Rattle.queues.specs.Laws.{none as noQueue, queue-is}
+use Rattle.queues.specs.Answers.{noQueue, jobModel, queueModel, linesModel}
+use Rattle.queues.specs.Laws.{queue-is}
 use Rattle.queues.specs.declared.state.Queue.{Queue}
 use Rattle.queues.specs.declared.state.Lines.{Lines}
 use Rattle.queues.specs.Theorems.{FirstWaiting, served-first, nobody-waiting}

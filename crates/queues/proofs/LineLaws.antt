@@ -9,11 +9,11 @@ use lib.ListN.{length, getD, set}
 use borrow.Author.Tests.{lt-ltb, le-ltb, le-leb, lt-leb, leb-true, leb-false, not-true, not-false}
 use Rattle.program.specs.Screening.{clear, found, tell, screen, unless}
 use Rattle.queues.specs.Queues.{maxLines, maxJobs, Job, State, start, queueAt, inside, Added, addedTo, addOf, nobody, turnAt, nextLine, turnFrom, turnOf, dequeued}
-use Rattle.queues.specs.Answers.{queueModel, linesModel}
+use Rattle.queues.specs.Answers.{noQueue, queueModel, linesModel}
 use Rattle.queues.specs.Internal.{hasJob, SizeIs, Next}
 use Rattle.queues.specs.declared.state.Queue.{Queue}
 use Rattle.queues.specs.declared.state.Lines.{Lines}
-use Rattle.queues.specs.Laws.{none, queue-is}
+use Rattle.queues.specs.Laws.{queue-is}
 use Rattle.queues.proofs.ListLaws.{map-set}
 
 -- ---- a part of the store
@@ -36,8 +36,8 @@ by-size : (js : List Job) → ltb 0 (length js) ≡ hasJob js
 by-size [] = refl
 by-size (j ∷ js) = lt-ltb 0 (suc (length js)) (omega arith)
 
-pub waiting : (q : Lines) (l n : ℕ) → SizeIs (getD (q .queues) l none) n → ltb 0 n ≡ hasJob (queueAt (linesModel q) l)
-waiting q l n e = ap (ltb 0) (e .size-is) ∙ by-size (queueModel (getD (q .queues) l none)) ∙ ap hasJob (sym (queue-is q l))
+pub waiting : (q : Lines) (l n : ℕ) → SizeIs (getD (q .queues) l noQueue) n → ltb 0 n ≡ hasJob (queueAt (linesModel q) l)
+waiting q l n e = ap (ltb 0) (e .size-is) ∙ by-size (queueModel (getD (q .queues) l noQueue)) ∙ ap hasJob (sym (queue-is q l))
 
 -- ---- whose turn it is
 module _ (s : State) where
@@ -120,7 +120,7 @@ module _ (q : Lines) (l : ℕ) (j : Job) (store : List ℕ) where
   unfolding screen tell
   past-lines h = sym (by-tests (le-ltb l maxLines h) refl refl)
 
-  module _ (below : l < maxLines) (x : Bool) (within : x ≡ inside j store) (n : ℕ) (size : SizeIs (getD (q .queues) l none) n) where
+  module _ (below : l < maxLines) (x : Bool) (within : x ≡ inside j store) (n : ℕ) (size : SizeIs (getD (q .queues) l noQueue) n) where
     size-of : length (queueAt (linesModel q) l) ≡ n
     size-of = ap length (queue-is q l) ∙ sym (size .size-is)
 
@@ -139,10 +139,10 @@ module _ (q : Lines) (l : ℕ) (j : Job) (store : List ℕ) where
     or-neither true z e = absurd (true≢false e)
     or-neither false z e = (refl, e)
 
-    pub not-full : (not x || leb maxJobs n) ≡ false → length (queueModel (getD (q .queues) l none)) < maxJobs
+    pub not-full : (not x || leb maxJobs n) ≡ false → length (queueModel (getD (q .queues) l noQueue)) < maxJobs
     not-full e = omega (arith, size .size-is, leb-false maxJobs n (or-neither (not x) (leb maxJobs n) e .1))
 
-    pub has-added : (not x || leb maxJobs n) ≡ false → (more : Queue) → queueModel more ≡ queueModel (getD (q .queues) l none) ++ (j ∷ [])
+    pub has-added : (not x || leb maxJobs n) ≡ false → (more : Queue) → queueModel more ≡ queueModel (getD (q .queues) l noQueue) ++ (j ∷ [])
         → record { answer = clear; state = linesModel (record { queues = set (q .queues) l more; turn = q .turn; place = q .place }) }
         ≡ addOf (linesModel q) l j store
     unfolding screen tell

@@ -1,5 +1,5 @@
 -- The queues as 02 speaks of them, however the struct was made, and 02's number for each case of an add's answer.
-use mathlib.Core.List.{List, map}
+use mathlib.Core.List.{List, [], map}
 use Prim.Native.Nat.{ℕ, _%_}
 use lib.ListN.{take}
 use Rattle.program.specs.Screening.{Screening, clear, found}
@@ -20,6 +20,10 @@ noJob = jobOf 0 0 0
 
 abbrev pub jobModel : Job → queues.Job
 jobModel j = jobOf (j .offset) (j .length) (j .calls)
+
+-- the queue of a line that is not there
+abbrev pub noQueue : Queue
+noQueue = record { jobs = []; count = 0 }
 
 -- the first `count` of eight places, so that a count above 8 is read as 8
 abbrev pub queueModel : Queue → List queues.Job

@@ -8,7 +8,8 @@ use lib.ListN.{set}
 use Rattle.queues.specs.Answers.{linesModel}
 use Rattle.replies.specs.Laws.{Copied, written-length, written-more, written-over}
 use Rattle.capi_lines.specs.States.{stateNumbers, stateWritten}
-use Rattle.capi_lines.proofs.StateLaws.{written-size, written-at}
+use Rattle.capi_lines.specs.Theorems.{written-size}
+use Rattle.capi_lines.proofs.StateLaws.{written-at}
 use Rattle.capi_lines.proofs.state.save.Statement.{statement}
 use Rattle.capi_lines.proofs.state.save.Tie as tie
 
