@@ -18,7 +18,7 @@ use Rattle.replies.specs.Laws.{in-place}
 use Rattle.replies.specs.declared.Reply.{Reply}
 use Rattle.typing.specs.Places.{Placed, placedNumber, rootOf}
 use Rattle.explain.specs.Explaining.{next, onward, chain, chainOf, Explained as ExplainedOf, traced, tracedIn, explainedBy, explanation}
-use Rattle.explain.specs.Answers.{answerModel, chainTerms, padded, chainLength, Told}
+use Rattle.explain.specs.Answers.{answerModel, chainTerms, padded, chainLength, ExplainedAs}
 use Rattle.explain.specs.declared.answer.Explanation.{Explanation}
 use Rattle.explain.specs.declared.answer.Explanation.the-variants.{Chain, NotNeeded, Unreadable, Refused, NoPrivilege}
 use Rattle.explain.specs.declared.answer.Explained.{Explained}
@@ -57,7 +57,7 @@ explained-short s p = by-verdict (verdict s)
     by-verdict (accepted n τ N) = by-number N (leb p 31)
     by-verdict (rejected c at) = omega arith
 
-pub listed : (s : List ℕ) (p : ℕ) (r : Explained) → Told r (explanation s p) → Listed (r .answer)
+pub listed : (s : List ℕ) (p : ℕ) (r : Explained) → ExplainedAs r (explanation s p) → Listed (r .answer)
 listed s p r h = omega (arith, h .length-is, explained-short s p)
 
 -- ---- the reply and the list, by the answer
@@ -83,8 +83,8 @@ kept terms chain e h = h ∙ sym (ap (λ (a : Explanation). listAfter a terms ch
 
 -- ---- the entry
 module _ (s : List ℕ) (p : ℕ) (chain answer : List ℕ) where
-  pub away : narrow chain answer ≡ true → leftExplain 3 answer chain ≡ explainCall s p chain answer
-  away e = λ i. cond (sym e i) (leftExplain 3 answer chain) (explainLeft answer chain (explanation s p))
+  pub short-answer : narrow chain answer ≡ true → leftExplain 3 answer chain ≡ explainCall s p chain answer
+  short-answer e = λ i. cond (sym e i) (leftExplain 3 answer chain) (explainLeft answer chain (explanation s p))
 
   pub few-places : length chain < maxNesting → narrow chain answer ≡ true
   few-places h = ap (λ (b : Bool). b || short answer) (lt-ltb (length chain) maxNesting h)
@@ -95,7 +95,7 @@ module _ (s : List ℕ) (p : ℕ) (chain answer : List ℕ) where
   wide : maxNesting ≤ length chain → 8 ≤ length answer → narrow chain answer ≡ false
   wide h g = λ i. le-ltb (length chain) maxNesting h i || le-ltb (length answer) 8 g i
 
-  pub given : maxNesting ≤ length chain → 8 ≤ length answer → (r : Explained) → Told r (explanation s p) → {chain′ : List ℕ}
+  pub given : maxNesting ≤ length chain → 8 ≤ length answer → (r : Explained) → ExplainedAs r (explanation s p) → {chain′ : List ℕ}
       → chain′ ≡ listAfter (r .answer) (r .terms) chain → {x : Reply} → replyOf x ≡ replyFor (r .answer) → {status : ℕ} {after : List ℕ}
       → Put x answer status after → leftExplain status after chain′ ≡ explainCall s p chain answer
   given h g r told {chain′ = chain′} f e put =

@@ -18,7 +18,7 @@ use Rattle.checker.proofs.VerdictLaws.{root-ready}
 use Rattle.typing.specs.Places.{Placed, placed, placedNumber, rootOf}
 use Rattle.typing.specs.Laws.Places.{tree-number}
 use Rattle.explain.specs.Explaining.{needs, next, onward, chain, chainOf, explained}
-use Rattle.explain.specs.Answers.{Told}
+use Rattle.explain.specs.Answers.{ExplainedAs}
 use Rattle.places.specs.Internal.{placedAt}
 use Rattle.explain.specs.Internal.{nextAt, Following, Stepped, Traceable}
 use Rattle.explain.specs.declared.answer.Explanation.the-variants.{Chain}
@@ -70,9 +70,9 @@ module _ (s : List ℕ) (p : ℕ) where
       }
 
   -- nothing follows
-  along-told : {terms : List ℕ} {rest : ℕ → List Placed} {len : ℕ} → Along s p terms rest len → ((k : ℕ) → len + k ≡ maxNesting → rest k ≡ [])
-      → Told (record { answer = Chain len; terms = terms }) (explained (numbers (chainOf s p)))
-  along-told {terms} {rest} {len} a h = record {
+  along-explained : {terms : List ℕ} {rest : ℕ → List Placed} {len : ℕ} → Along s p terms rest len → ((k : ℕ) → len + k ≡ maxNesting → rest k ≡ [])
+      → ExplainedAs (record { answer = Chain len; terms = terms }) (explained (numbers (chainOf s p)))
+  along-explained {terms} {rest} {len} a h = record {
     answer-is = ap explained (ap (take len) (a .terms-are) ∙ take-at (a .done) (replicate (a .left) 0) len (sym (a .len-is)) ∙ sym all);
     length-is = a .len-is ∙ ap length (sym all);
     terms-are = a .terms-are ∙ (λ i. sym all i ++ replicate (left-is i) 0);
@@ -115,13 +115,14 @@ module _ {s : List ℕ} {c : Counts} {p : ℕ} {l terms : List ℕ} {at : Place}
     pub place-more : y .present ≡ true → Tracing s c p k (set terms len (at .term)) (y .place) (len + 1)
     place-more e = record { following = n .following e; along = rw (rw e at (sym (n .is))) at written }
 
-    pub place-last : y .present ≡ false → Told (record { answer = Chain (len + 1); terms = set terms len (at .term) }) (explained (numbers (chainOf s p)))
-    place-last e = along-told s p written λ m _. ap (λ (o : Option Placed). onward-from s p o m) (rw e at (sym (n .is)))
+    pub place-last : y .present ≡ false
+        → ExplainedAs (record { answer = Chain (len + 1); terms = set terms len (at .term) }) (explained (numbers (chainOf s p)))
+    place-last e = along-explained s p written λ m _. ap (λ (o : Option Placed). onward-from s p o m) (rw e at (sym (n .is)))
 
   -- no place is left
-  pub place-none : maxNesting ≤ len → Told (record { answer = Chain len; terms = terms }) (explained (numbers (chainOf s p)))
+  pub place-none : maxNesting ≤ len → ExplainedAs (record { answer = Chain len; terms = terms }) (explained (numbers (chainOf s p)))
   unfolding chain
-  place-none h = along-told s p (w .along) λ m e. none-of m (omega arith)
+  place-none h = along-explained s p (w .along) λ m e. none-of m (omega arith)
     where
       none-of : (m : ℕ) → m ≡ 0 → chain-from s p (placedAt s at) m ≡ []
       none-of zero e = refl

@@ -39,7 +39,7 @@ chainLength (Refused f) = 0
 chainLength NoPrivilege = 0
 
 -- what the answer, its length and its list say
-pub record Told (r : Explained) (e : ExplainedOf) : Type 0 where
+pub record ExplainedAs (r : Explained) (e : ExplainedOf) : Type 0 where
   pub answer-is : explainedModel r ≡ e
   pub length-is : chainLength (r .answer) ≡ length (chainTerms e)
   pub terms-are : r .terms ≡ padded (chainTerms e)

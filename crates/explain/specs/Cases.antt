@@ -3,7 +3,7 @@ use mathlib.Core.List.{List, [], _∷_, map}
 use mathlib.Core.Path.{_≡_, refl}
 use Prim.Native.Nat.{ℕ}
 use Rattle.privileges.specs.Sets.{has, meet, union, insert, remove, subset}
-use Rattle.program.specs.Screening.{tell, screen}
+use Rattle.program.specs.Screening.{refuseAt, screen}
 use Rattle.program.specs.Decoding.{decoding}
 use Rattle.typing.specs.Subtyping.{subtypeIn, subtype, wider}
 use Rattle.typing.specs.Rules.{removeAuthorised}
@@ -82,33 +82,33 @@ posted channel = fields 2 20 (
 
 -- a row: a sheet, a privilege, and the explanation that is due
 pub data Case : Type 0 where
-  asking : (sheet : List ℕ) (p : ℕ) → Explained → Case
+  query : (sheet : List ℕ) (p : ℕ) → Explained → Case
 
 abbrev pub due : Case → Explained
-due (asking s p e) = e
+due (query s p e) = e
 
 abbrev pub observed : Case → Explained
-observed (asking s p e) = explanation s p
+observed (query s p e) = explanation s p
 
 unfoldable pub cases : List Case
 cases =
     -- the sign and the check
-    asking unenabled 1 (explained (3 ∷ 2 ∷ []))
+    query unenabled 1 (explained (3 ∷ 2 ∷ []))
     -- the sign, the test, and the check in its no-branch
-    ∷ asking tested 1 (explained (5 ∷ 4 ∷ 3 ∷ []))
+    ∷ query tested 1 (explained (5 ∷ 4 ∷ 3 ∷ []))
     -- the sign, the sum and the call: the function itself needs nothing
-    ∷ asking called 1 (explained (8 ∷ 7 ∷ 6 ∷ []))
+    ∷ query called 1 (explained (8 ∷ 7 ∷ 6 ∷ []))
     -- the sign and the guarded post, which ends the chain; without a guard it goes on to the check
-    ∷ asking (posted 2) 1 (explained (3 ∷ 2 ∷ []))
-    ∷ asking (posted 3) 1 (explained (3 ∷ 2 ∷ 1 ∷ []))
+    ∷ query (posted 2) 1 (explained (3 ∷ 2 ∷ []))
+    ∷ query (posted 3) 1 (explained (3 ∷ 2 ∷ 1 ∷ []))
     -- the enable takes it out
-    ∷ asking enabled 1 not-needed
-    ∷ asking unenabled 0 not-needed
+    ∷ query enabled 1 not-needed
+    ∷ query unenabled 0 not-needed
     -- a privilege above 31, and a sheet that is refused for itself
-    ∷ asking unenabled 32 (refused 30 0)
-    ∷ asking [] 32 (refused 1 0) ∷ []
+    ∷ query unenabled 32 (refused 30 0)
+    ∷ query [] 32 (refused 1 0) ∷ []
 
 pub worked : map observed cases ≡ map due cases
-unfolding cases explanation verdict decoding screen tell infer subtype subtypeIn wider removeAuthorised has meet union insert remove subset chainOf
+unfolding cases explanation verdict decoding screen refuseAt infer subtype subtypeIn wider removeAuthorised has meet union insert remove subset chainOf
     chain next followed isCause needs
 worked = refl

@@ -28,19 +28,19 @@ use Rattle.explain.specs.Laws.Chains.{heightOf, Way, chain-way, way-root
 
 -- ---- what is asked
 -- an accepted sheet and a privilege, which is among the needs told or is not
-pub record Asked (s : List ℕ) (p : ℕ) (needed : Bool) : Type 0 where
+pub record Answerable (s : List ℕ) (p : ℕ) (needed : Bool) : Type 0 where
   pub count : ℕ
   pub type : ℕ
-  pub told : ℕ
-  pub acceptance-is : verdict s ≡ accepted count type told
+  pub needs : ℕ
+  pub acceptance-is : verdict s ≡ accepted count type needs
   pub privilege : p ≤ 31
-  pub among : has p told ≡ needed
+  pub among : has p needs ≡ needed
 
 abbrev pub Needed : List ℕ → (p : ℕ) → Type 0
-Needed s p = Asked s p true
+Needed s p = Answerable s p true
 
 abbrev pub NotNeeded : List ℕ → (p : ℕ) → Type 0
-NotNeeded s p = Asked s p false
+NotNeeded s p = Answerable s p false
 
 -- ---- the chain
 -- "Given an accepted sheet and a privilege, answer a chain of terms from the root": l is one, with what each sentence says of it
@@ -65,12 +65,12 @@ pub record Chain (s : List ℕ) (p : ℕ) (l : List Placed) : Type 0 where
 root-needs : (s : List ℕ) (p : ℕ) → Needed s p → needs (typesOf s) (authority s) p (rootOf s) ≡ true
 unfolding needs
 root-needs s p h =
-    let a = acceptance s (h .count) (h .type) (h .told) (h .acceptance-is) in
+    let a = acceptance s (h .count) (h .type) (h .needs) (h .acceptance-is) in
     let x = infer-complete (typesOf s) (authority s) (lower-types s (well-formed s (a .readable))) (a .needs .derivation) in
     ap (needing p) (x .is) ∙ a .needs .least (h .type) (x .least) (x .derives) .all p (h .among)
 
 root-height : (s : List ℕ) (p : ℕ) → Needed s p → heightOf (rootOf s) ≤ maxNesting
-root-height s p h = program-height s (well-formed s (acceptance s (h .count) (h .type) (h .told) (h .acceptance-is) .readable))
+root-height s p h = program-height s (well-formed s (acceptance s (h .count) (h .type) (h .needs) (h .acceptance-is) .readable))
 
 root-way : (s : List ℕ) (p k : ℕ) → Needed s p → maxNesting ≤ k → Way (typesOf s) (authority s) p (rootOf s) (chain (typesOf s) (authority s) p k (rootOf s))
 root-way s p k h l = chain-way (typesOf s) (authority s) p k (rootOf s) (omega (arith, root-height s p h)) (root-needs s p h)
@@ -122,7 +122,7 @@ version-1-cause s p h one Γ n at ch g c l =
     let T = typesOf s in
     let A = authority s in
     let w = root-way s p maxNesting h (omega arith) in
-    let u = program-unguarded s (well-formed s (acceptance s (h .count) (h .type) (h .told) (h .acceptance-is) .readable)) one in
+    let u = program-unguarded s (well-formed s (acceptance s (h .count) (h .type) (h .needs) (h .acceptance-is) .readable)) one in
     unguarded (way-posts T A p Plain w u l .0 .1) (cause-holds T A p (placed Γ n (post at ch g c)) (way-last T A p w l))
   where
     unguarded : {g : Option ℕ} → g ≡ none → Cause (typesOf s) (authority s) p (placed Γ n (post at ch g c)) → ⊥
@@ -149,8 +149,8 @@ module _ (s : List ℕ) (p : ℕ) where
   given = judged (verdict s) refl
     where
       needed : (n τ N : ℕ) → verdict s ≡ accepted n τ N → p ≤ 31 → (b : Bool) → has p N ≡ b → Given s p (traced s p b)
-      needed n τ N e l true h = given-chain (record { count = n; type = τ; told = N; acceptance-is = e; privilege = l; among = h })
-      needed n τ N e l false h = given-not-needed (record { count = n; type = τ; told = N; acceptance-is = e; privilege = l; among = h })
+      needed n τ N e l true h = given-chain (record { count = n; type = τ; needs = N; acceptance-is = e; privilege = l; among = h })
+      needed n τ N e l false h = given-not-needed (record { count = n; type = τ; needs = N; acceptance-is = e; privilege = l; among = h })
 
       low : (n τ N : ℕ) → verdict s ≡ accepted n τ N → (b : Bool) → leb p 31 ≡ b → Given s p (tracedIn s p N b)
       low n τ N e true h = needed n τ N e (leb-true p 31 h) (has p N) refl
@@ -160,21 +160,21 @@ module _ (s : List ℕ) (p : ℕ) where
       judged (accepted n τ N) e = low n τ N e (leb p 31) refl
       judged (rejected c at) e = given-rejected e
 
-  asked-is : (b : Bool) → Asked s p b → explanation s p ≡ traced s p b
+  answerable-is : (b : Bool) → Answerable s p b → explanation s p ≡ traced s p b
   unfolding explanation
-  asked-is b h =
-      (λ i. explainedBy s p (h .acceptance-is i)) ∙ (λ i. tracedIn s p (h .told) (le-leb p 31 (h .privilege) i)) ∙ λ i. traced s p (h .among i)
+  answerable-is b h =
+      (λ i. explainedBy s p (h .acceptance-is i)) ∙ (λ i. tracedIn s p (h .needs) (le-leb p 31 (h .privilege) i)) ∙ λ i. traced s p (h .among i)
 
   -- a chain is answered exactly if the sheet is accepted and needs the privilege; and then it is the chain's numbers
   pub explained-exactly : (terms : List ℕ) → (explanation s p ≡ explained terms) ↔ (Needed s p × (terms ≡ map placedNumber (chainOf s p)))
-  explained-exactly terms = (λ e. forth (subst (Given s p) e given), λ h. asked-is true (h .0) ∙ ap explained (sym (h .1)))
+  explained-exactly terms = (λ e. forth (subst (Given s p) e given), λ h. answerable-is true (h .0) ∙ ap explained (sym (h .1)))
     where
       forth : {terms : List ℕ} → Given s p (explained terms) → Needed s p × (terms ≡ map placedNumber (chainOf s p))
       forth (given-chain h) = (h, refl)
 
   -- "If the privilege isn't needed the answer says so, and only then."
   pub not-needed-exactly : (explanation s p ≡ not-needed) ↔ NotNeeded s p
-  not-needed-exactly = (λ e. forth (subst (Given s p) e given), λ h. asked-is false h)
+  not-needed-exactly = (λ e. forth (subst (Given s p) e given), λ h. answerable-is false h)
     where
       forth : Given s p not-needed → NotNeeded s p
       forth (given-not-needed h) = h

@@ -11,6 +11,7 @@ use places::absent;
 use places::first_child;
 use places::second_child;
 use places::third_child;
+use program::limits::NESTING_PLACES;
 use program::records::Counts;
 use rules::bindings::Bindings;
 use subtyping::known::KNOWN_WORDS;
@@ -21,7 +22,7 @@ ghost use Rattle.program.specs.Layout.{typesOf};
 ghost use Rattle.subtyping.specs.Known.{Answered};
 ghost use Rattle.typing.specs.Places.{placedNumber};
 ghost use Rattle.explain.specs.Explaining.{explained, chainOf};
-ghost use Rattle.explain.specs.Answers.{Told};
+ghost use Rattle.explain.specs.Answers.{ExplainedAs};
 ghost use Rattle.places.specs.Internal.{childAt, ReadyPlace, Reached};
 ghost use Rattle.explain.specs.Internal.{followedAt, neededBy, nextAt, Candidate, Following, FollowingCall, FollowingOther, Stepped, Traceable};
 
@@ -118,20 +119,20 @@ fn next_place(s: &[u8], c: Counts, known: &mut Known, at: Place, p: u8) -> Child
 // The chain of a readable sheet whose root needs privilege p: at most 32 terms, the sheet's nesting.
 pub fn trace(s: &[u8], c: Counts, p: u8) -> Explained
     requires { ⌜ Traceable (now s) c p ⌝ }
-    ensures { λ r. ⌜ Told r (explained (map placedNumber (chainOf (now (s .entry)) p))) ⌝ }
+    ensures { λ r. ⌜ ExplainedAs r (explained (map placedNumber (chainOf (now (s .entry)) p))) ⌝ }
 {
     let mut known: Known = [0; KNOWN_WORDS];
-    let mut terms = [0u16; 32];
+    let mut terms = [0u16; NESTING_PLACES];
     let mut at = Place {
         term: c.terms - 1,
         bindings: Bindings {
-            types: [0; 32],
+            types: [0; NESTING_PLACES],
             len: 0,
         },
         principal: 0,
     };
     let mut len: usize = 0;
-    while len < 32 {
+    while len < NESTING_PLACES {
         terms[len] = at.term;
         len += 1;
         let y = next_place(s, c, &mut known, at, p);

@@ -39,7 +39,7 @@ use Rattle.interp.specs.declared.answer.RecordedRun.{RecordedRun}
 use Rattle.interp.specs.declared.answer.Tally.{Tally}
 use Rattle.interp.specs.declared.answer.Outcome.{Outcome}
 use Rattle.interp.specs.declared.answer.Admission.{Admission}
-use Rattle.interp.specs.declared.answer.Admission.the-variants.{Admitted, Refused as TurnedBack}
+use Rattle.interp.specs.declared.answer.Admission.the-variants.{Admitted, Refused as Rejected}
 use Rattle.interp.proofs.StartLaws.{laid-length}
 
 -- ---- a run that is turned back
@@ -193,13 +193,13 @@ module _ (s start : List ℕ) (e : Bool) (cells posts noted : List ℕ) (calls d
 
 -- ---- each runner turned back
 module _ (s start : List ℕ) (e : Bool) (cells posts noted : List ℕ) (calls depth : ℕ) where
-  pub eager-refused : {a : Admission} {f : Refusal} {r : RecordedRun} → a ≡ TurnedBack f → Admits s start (length cells) (length posts) true calls depth a
+  pub eager-refused : {a : Admission} {f : Refusal} {r : RecordedRun} → a ≡ Rejected f → Admits s start (length cells) (length posts) true calls depth a
       → r ≡ rejectedRun f → afterRecording r cells posts [] noted ≡ recording s (requestOf eager e start calls depth) (buffersOf cells posts []) noted
   eager-refused {f = f} p h t =
       refused-after s (requestOf eager e start calls depth) cells posts [] noted f t
       (subst (Admits s start (length cells) (length posts) true calls depth) p h)
 
-  pub lazy-refused : (frames : List ℕ) {a : Admission} {f : Refusal} {r : RecordedRun} → a ≡ TurnedBack f
+  pub lazy-refused : (frames : List ℕ) {a : Admission} {f : Refusal} {r : RecordedRun} → a ≡ Rejected f
       → Admits s start (length cells) (length posts) (eqb (length frames) frameNumbers) calls depth a → r ≡ rejectedRun f
       → afterRecording r cells posts frames noted ≡ recording s (requestOf lazy e start calls depth) (buffersOf cells posts frames) noted
   lazy-refused frames {f = f} p h t =

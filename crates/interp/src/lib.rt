@@ -50,7 +50,7 @@ fn outcome_of(root: u16, out: Out) -> Outcome
     }
 }
 
-fn turned_back(f: Refusal) -> RecordedRun
+fn rejected_run(f: Refusal) -> RecordedRun
     ensures { λ r. ⌜ r ≡ rejectedRun f ⌝ }
 {
     RecordedRun {
@@ -188,7 +188,7 @@ pub fn record_eager(
 {
     let a = admit(sheet, start, cells.len(), posts.len(), true, calls, depth);
     match a {
-        Admission::Refused(f) => turned_back(f),
+        Admission::Refused(f) => rejected_run(f),
         Admission::Admitted(c) => eager(
             sheet,
             c,
@@ -229,7 +229,7 @@ pub fn record_lazy(
         depth,
     );
     match a {
-        Admission::Refused(f) => turned_back(f),
+        Admission::Refused(f) => rejected_run(f),
         Admission::Admitted(c) => lazy(
             sheet,
             c,

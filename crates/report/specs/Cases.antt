@@ -3,7 +3,7 @@ use mathlib.Core.List.{List, [], _∷_}
 use mathlib.Core.Path.{_≡_, refl}
 use Prim.Native.Nat.{ℕ}
 use Rattle.privileges.specs.Sets.{has, meet, union, insert, remove, subset}
-use Rattle.program.specs.Screening.{tell, screen}
+use Rattle.program.specs.Screening.{refuseAt, screen}
 use Rattle.program.specs.Decoding.{decoding}
 use Rattle.typing.specs.Subtyping.{subtypeIn, subtype, wider}
 use Rattle.typing.specs.Rules.{removeAuthorised}
@@ -30,7 +30,7 @@ sheet =
     ∷ 9 ∷ 0 ∷ 0 ∷ 3 ∷ 0 ∷ 0 ∷ 0 ∷ 0 ∷ []
 
 pub prints : printed sheet ≡ ascii "terms 5\nneeds 00000000\ntype num\nend num 7 calls 0 cells 0 posts 1 held 0\n"
-unfolding printed decimal decimalIn hexadecimal verdict decoding screen tell infer subtype subtypeIn wider removeAuthorised course eval apply evalWith
+unfolding printed decimal decimalIn hexadecimal verdict decoding screen refuseAt infer subtype subtypeIn wider removeAuthorised course eval apply evalWith
     addAuthorised has meet union insert remove subset
 prints = refl
 
@@ -51,7 +51,7 @@ pub stops : printed (sheetOf 2 32
     ∷ 7 ∷ 1 ∷ 0 ∷ 1 ∷ 0 ∷ 0 ∷ 0 ∷ 0
     ∷ 9 ∷ 0 ∷ 0 ∷ 2 ∷ 0 ∷ 0 ∷ 0 ∷ 0 ∷ []))
     ≡ ascii "terms 4\nneeds 00000002\ntype num\nstop 17 at 2 calls 0 cells 0 posts 0 held 0\n"
-unfolding printed decimal decimalIn hexadecimal verdict decoding screen tell infer subtype subtypeIn wider removeAuthorised course eval apply evalWith
+unfolding printed decimal decimalIn hexadecimal verdict decoding screen refuseAt infer subtype subtypeIn wider removeAuthorised course eval apply evalWith
     addAuthorised has meet union insert remove subset
 stops = refl
 
@@ -63,14 +63,14 @@ pub refuses : printed (sheetOf 0 40
     ∷ 8 ∷ 1 ∷ 0 ∷ 2 ∷ 0 ∷ 0 ∷ 0 ∷ 0
     ∷ 9 ∷ 0 ∷ 0 ∷ 3 ∷ 0 ∷ 0 ∷ 0 ∷ 0 ∷ []))
     ≡ ascii "refused 11 at 4\n"
-unfolding printed decimal decimalIn hexadecimal verdict decoding screen tell infer subtype subtypeIn wider removeAuthorised course eval apply evalWith
+unfolding printed decimal decimalIn hexadecimal verdict decoding screen refuseAt infer subtype subtypeIn wider removeAuthorised course eval apply evalWith
     addAuthorised has meet union insert remove subset
 refuses = refl
 
 -- "a boolean prints `bool 0` or `bool 1`"
 pub ends-true : printed (sheetOf 0 16 (0 ∷ 1 ∷ 0 ∷ 0 ∷ 0 ∷ 0 ∷ 0 ∷ 0 ∷ 9 ∷ 0 ∷ 0 ∷ 0 ∷ 0 ∷ 0 ∷ 0 ∷ 0 ∷ []))
     ≡ ascii "terms 2\nneeds 00000000\ntype bool\nend bool 1 calls 0 cells 0 posts 0 held 0\n"
-unfolding printed decimal decimalIn hexadecimal verdict decoding screen tell infer subtype subtypeIn wider removeAuthorised course eval apply evalWith
+unfolding printed decimal decimalIn hexadecimal verdict decoding screen refuseAt infer subtype subtypeIn wider removeAuthorised course eval apply evalWith
     addAuthorised has meet union insert remove subset
 ends-true = refl
 
@@ -81,7 +81,7 @@ pub holds-sum : printed (sheetOf 0 32
     ∷ 11 ∷ 0 ∷ 0 ∷ 0 ∷ 0 ∷ 1 ∷ 0 ∷ 0
     ∷ 9 ∷ 0 ∷ 0 ∷ 2 ∷ 0 ∷ 0 ∷ 0 ∷ 0 ∷ []))
     ≡ ascii "terms 4\nneeds 00000000\ntype num\nend num 65535 calls 0 cells 0 posts 0 held 1\n"
-unfolding printed decimal decimalIn hexadecimal verdict decoding screen tell infer subtype subtypeIn wider removeAuthorised course eval apply evalWith
+unfolding printed decimal decimalIn hexadecimal verdict decoding screen refuseAt infer subtype subtypeIn wider removeAuthorised course eval apply evalWith
     addAuthorised has meet union insert remove subset
 holds-sum = refl
 
@@ -95,13 +95,13 @@ pub holds-at-stop : printed (sheetOf 2 56
     ∷ 11 ∷ 0 ∷ 0 ∷ 2 ∷ 0 ∷ 4 ∷ 0 ∷ 0
     ∷ 9 ∷ 0 ∷ 0 ∷ 5 ∷ 0 ∷ 0 ∷ 0 ∷ 0 ∷ []))
     ≡ ascii "terms 7\nneeds 00000002\ntype num\nstop 17 at 4 calls 0 cells 0 posts 0 held 1\n"
-unfolding printed decimal decimalIn hexadecimal verdict decoding screen tell infer subtype subtypeIn wider removeAuthorised course eval apply evalWith
+unfolding printed decimal decimalIn hexadecimal verdict decoding screen refuseAt infer subtype subtypeIn wider removeAuthorised course eval apply evalWith
     addAuthorised has meet union insert remove subset
 holds-at-stop = refl
 
 -- "Empty file: 1."
 pub empty-file : printed [] ≡ ascii "refused 1 at 0\n"
-unfolding printed decimal decimalIn verdict decoding screen tell
+unfolding printed decimal decimalIn verdict decoding screen refuseAt
 empty-file = refl
 
 -- ---- numbers

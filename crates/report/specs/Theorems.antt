@@ -13,7 +13,7 @@ use lib.Seq.{take-at, take-all}
 use borrow.Author.Tests.{lt-ltb, le-ltb, le-leb}
 use Rattle.program.specs.Limits.{maxSheet}
 use Rattle.program.specs.Layout.{root}
-use Rattle.program.specs.Screening.{clear, found, tell, screen, unless}
+use Rattle.program.specs.Screening.{clear, found, refuseAt, screen, unless}
 use Rattle.program.specs.Decoding.{decodingConditions, decoding, Readable}
 use Rattle.program.specs.Laws.Screening.{screen-clear}
 use Rattle.program.specs.Laws.Longest.{cut-alike, longer-refused}
@@ -45,7 +45,7 @@ tenth n g h = ap (λ (b : Bool). cond b [] (decimalIn 19 (n / 10)) ++ (digit (n 
 
 -- ---- an accepted sheet is run: its run is never turned back
 starts : (s : List ℕ) → Readable s → screen (runConditions s request eagerSizes) ≡ clear
-unfolding decoding screen tell
+unfolding decoding screen refuseAt
 starts s r = screen-clear (decodingConditions s) (unless 14 (startOk s request) ∷ unless 15 (buffersOk eager eagerSizes) ∷ unless 16 (limitsOk request) ∷ []) r
 
 pub accepted-runs : (s : List ℕ) (n τ N : ℕ) → verdict s ≡ accepted n τ N → (o : Outcome) × (k : Counts) × (answer s ≡ ran o k)

@@ -14,6 +14,7 @@ use typing::answer::Fault;
 use typing::answer::Inferred;
 ghost use mathlib.Core.Path.{_≡_};
 ghost use Prim.Native.Nat.{_<_, _≤_};
+ghost use Rattle.program.specs.Limits.{maxNesting};
 ghost use Rattle.program.specs.Layout.{typesOf, guardIn};
 ghost use Rattle.typing.specs.Rules.{postNeeds};
 ghost use Rattle.typing.specs.Checking.{joined as joinedOf};
@@ -39,7 +40,7 @@ ghost use Rattle.rules.specs.Steps.{
 
 // A boolean, a number or a variable.
 pub fn leaf(t: u16, x: TermRecord, b: Bindings) -> Inferred
-    requires { ⌜ b .len ≤ 32 ⌝ }
+    requires { ⌜ b .len ≤ maxNesting ⌝ }
     ensures { λ r. ⌜ inferredModel r ≡ leafStep x t (context b) ⌝ }
 {
     let kind = x.kind;

@@ -72,14 +72,14 @@ module _ (mode acc : ℕ) (f : List ℕ) {b : Bool} (q : b ≡ lazyMode mode) wh
     pub sign-lazy : (may : ℕ) {l : ℕ} {g h : List ℕ} → l ≡ lowOf acc → g ≡ set f l may → h ≡ set g (l + 1) 0
         → Returned (l + 2) (signAccess mode acc may) h (signFrames mode acc f may)
     unfolding signAccess signFrames
-    sign-lazy may t u v = record { answer-is = rw (t, mode-lazy) refl; lent-is = v ∙ rw (u, t, mode-lazy) refl }
+    sign-lazy may t u v = record { answer-is = rw (t, mode-lazy) refl; store-is = v ∙ rw (u, t, mode-lazy) refl }
 
     -- i is where the first frame has its enabled set
     module _ {i : ℕ} (at : i ≡ firstEnabled acc) where
       pub enable-lazy : (p : ℕ) {old on : ℕ} {g : List ℕ} → old ≡ getD f i 0 → on ≡ insert p old → g ≡ set f i on
           → Returned acc (enableAccess mode acc p) g (enableFrames mode acc f p)
       unfolding enableAccess enableFrames
-      enable-lazy p u v w = record { answer-is = sym (rw mode-lazy refl); lent-is = w ∙ rw (v, u, at, mode-lazy) refl }
+      enable-lazy p u v w = record { answer-is = sym (rw mode-lazy refl); store-is = w ∙ rw (v, u, at, mode-lazy) refl }
 
       pub enabled-lazy : {r : ℕ} → r ≡ getD f i 0 → r ≡ enabledNow mode acc f
       unfolding enabledNow
@@ -100,7 +100,7 @@ module _ (mode acc : ℕ) (f : List ℕ) {b : Bool} (q : b ≡ lazyMode mode) wh
     pub sign-eager : (may : ℕ) {h r on : ℕ} → h ≡ highOf acc → on ≡ meet h may → r ≡ pairOf may on
         → Returned r (signAccess mode acc may) f (signFrames mode acc f may)
     unfolding signAccess signFrames
-    sign-eager may t u v = record { answer-is = v ∙ rw (u, t, mode-eager) refl; lent-is = sym (rw mode-eager refl) }
+    sign-eager may t u v = record { answer-is = v ∙ rw (u, t, mode-eager) refl; store-is = sym (rw mode-eager refl) }
 
     frames-stay : (p : ℕ) → f ≡ enableFrames mode acc f p
     unfolding enableFrames
@@ -110,11 +110,11 @@ module _ (mode acc : ℕ) (f : List ℕ) {b : Bool} (q : b ≡ lazyMode mode) wh
       pub enable-yes : {h r on : ℕ} → a ≡ true → h ≡ highOf acc → on ≡ insert p h → r ≡ pairOf l on
           → Returned r (enableAccess mode acc p) f (enableFrames mode acc f p)
       unfolding enableAccess
-      enable-yes y t u v = record { answer-is = v ∙ rw (u, t, mode-eager, ← low, ← g, y) refl; lent-is = frames-stay p }
+      enable-yes y t u v = record { answer-is = v ∙ rw (u, t, mode-eager, ← low, ← g, y) refl; store-is = frames-stay p }
 
       pub enable-no : a ≡ false → Returned acc (enableAccess mode acc p) f (enableFrames mode acc f p)
       unfolding enableAccess
-      enable-no y = record { answer-is = sym (rw (mode-eager, ← low, ← g, y) refl); lent-is = frames-stay p }
+      enable-no y = record { answer-is = sym (rw (mode-eager, ← low, ← g, y) refl); store-is = frames-stay p }
 
     pub enabled-eager : 0 ≡ enabledNow mode acc f
     unfolding enabledNow

@@ -1,45 +1,65 @@
 // What the lent buffers hold before a run, and a sum of what they hold after it.
 ghost use mathlib.Core.Path.{_≡_};
+ghost use Prim.Native.Nat.{_+_, _*_};
 ghost use lib.ListN.{length};
+ghost use Rattle.program.specs.Limits.{maxTerms, maxSheet, maxStart, maxCells, maxPosts, frameNumbers};
+use program::limits::FRAME_NUMBERS;
+use program::limits::MAX_CELLS;
+use program::limits::MAX_POSTS;
+use program::limits::MAX_SHEET;
+use program::limits::MAX_START;
+use program::limits::TERM_PLACES;
 use std::num::wrapping_add_u8;
 use std::num::wrapping_add_u32;
 use std::num::wrapping_sub_u32;
 
-// Room for the largest of each, and one more: what is too long must be refused.
-pub fn max_start() -> [u32; 40]
-    ensures { λ r. ⌜ 40 ≡ length r ⌝ }
+// Room for the largest of each, and more: what is too long must be refused. The contracts say that the code's limits are those of the definitions.
+pub const START_ROOM: usize = MAX_START + 8;
+
+pub const SHEET_ROOM: usize = MAX_SHEET + 1;
+
+pub const CELL_ROOM: usize = MAX_CELLS + 1;
+
+pub const POST_ROOM: usize = MAX_POSTS + 1;
+
+pub const FRAME_ROOM: usize = FRAME_NUMBERS + 1;
+
+pub const PAIR_ROOM: usize = 2 * TERM_PLACES + 2;
+
+pub fn max_start() -> [u32; START_ROOM]
+    ensures { λ r. ⌜ maxStart + 8 ≡ length r ⌝ }
 {
-    [0; 40]
+    [0; START_ROOM]
 }
 
-pub fn max_sheet() -> [u8; 10914]
-    ensures { λ r. ⌜ 10914 ≡ length r ⌝ }
+pub fn max_sheet() -> [u8; SHEET_ROOM]
+    ensures { λ r. ⌜ maxSheet + 1 ≡ length r ⌝ }
 {
-    [0; 10914]
+    [0; SHEET_ROOM]
 }
 
-pub fn max_cells() -> [u8; 65537]
-    ensures { λ r. ⌜ 65537 ≡ length r ⌝ }
+pub fn max_cells() -> [u8; CELL_ROOM]
+    ensures { λ r. ⌜ maxCells + 1 ≡ length r ⌝ }
 {
-    [0; 65537]
+    [0; CELL_ROOM]
 }
 
-pub fn max_posts() -> [u32; 257]
-    ensures { λ r. ⌜ 257 ≡ length r ⌝ }
+pub fn max_posts() -> [u32; POST_ROOM]
+    ensures { λ r. ⌜ maxPosts + 1 ≡ length r ⌝ }
 {
-    [0; 257]
+    [0; POST_ROOM]
 }
 
-pub fn max_frames() -> [u32; 6497]
-    ensures { λ r. ⌜ 6497 ≡ length r ⌝ }
+pub fn max_frames() -> [u32; FRAME_ROOM]
+    ensures { λ r. ⌜ frameNumbers + 1 ≡ length r ⌝ }
 {
-    [0; 6497]
+    [0; FRAME_ROOM]
 }
 
-pub fn max_pairs() -> [u16; 2050]
-    ensures { λ r. ⌜ 2050 ≡ length r ⌝ }
+pub fn max_pairs() -> [u16; PAIR_ROOM]
+    ensures { λ r. ⌜ 2 * maxTerms + 2 ≡ length r ⌝ }
 {
-    [0; 2050]
+    [0; PAIR_ROOM]
 }
 
 pub fn fill_cells(a: &mut [u8]) {

@@ -4,6 +4,7 @@ mod buffers;
 mod input;
 mod output;
 
+use buffers::PAIR_ROOM;
 use buffers::fill_all;
 use buffers::fill_cells;
 use buffers::fill_numbers;
@@ -23,10 +24,12 @@ use input::read_start;
 use input::read_vector;
 use output::line;
 use output::run_line;
+use replies::ANSWER_NUMBERS;
+use replies::LONG_ANSWER;
 
 // What is told without a run; of a piece also the sum of the bytes that are handed back.
-fn judge(sheet: &[u8], term: u32) {
-    let mut answer = [0u32; 8];
+fn judgements(sheet: &[u8], term: u32) {
+    let mut answer = [0u32; ANSWER_NUMBERS];
     let r = capi_base::decode(sheet, &mut answer);
     line(b"decode", r, &answer);
     let r2 = capi_base::typecheck(sheet, &mut answer);
@@ -51,7 +54,7 @@ fn eager(
 ) {
     fill_cells(cells);
     fill_numbers(posts, 2, 3);
-    let mut answer = [0u32; 8];
+    let mut answer = [0u32; ANSWER_NUMBERS];
     let r = capi_base::eager(
         sheet,
         start,
@@ -79,7 +82,7 @@ fn lazy(
     frames: &mut [u32],
 ) {
     fill_all(cells, posts, frames);
-    let mut answer = [0u32; 8];
+    let mut answer = [0u32; ANSWER_NUMBERS];
     let r = capi_base::lazy(
         sheet,
         start,
@@ -109,7 +112,7 @@ fn record_eager(
     fill_cells(cells);
     fill_numbers(posts, 2, 3);
     let mut noted = [6u8; 42];
-    let mut answer = [0u32; 9];
+    let mut answer = [0u32; LONG_ANSWER];
     let r = capi_record::eager(
         sheet,
         start,
@@ -138,7 +141,7 @@ fn record_lazy(
 ) {
     fill_all(cells, posts, frames);
     let mut noted = [6u8; 42];
-    let mut answer = [0u32; 9];
+    let mut answer = [0u32; LONG_ANSWER];
     let r = capi_record::lazy(
         sheet,
         start,
@@ -169,7 +172,7 @@ fn ranging(
 ) {
     fill_cells(cells);
     fill_numbers(posts, 2, 3);
-    let mut answer = [0u32; 8];
+    let mut answer = [0u32; ANSWER_NUMBERS];
     let r = capi_ranges::ranges(
         sheet,
         pairs,
@@ -312,8 +315,8 @@ fn ranged(
     posts: &mut [u32],
 ) {
     let mut pairs = max_pairs();
-    let lent = least(numbers, 2050);
-    rangings(&mut pairs[..lent], sheet, start, calls, depth, cells, posts);
+    let used = least(numbers, PAIR_ROOM);
+    rangings(&mut pairs[..used], sheet, start, calls, depth, cells, posts);
 }
 
 fn runs(
@@ -340,7 +343,7 @@ fn vector(
 ) {
     read_start(start);
     io::read_full(0, sheet);
-    judge(sheet, v.term);
+    judgements(sheet, v.term);
     runs(v, sheet, start, cells, posts, frames);
 }
 

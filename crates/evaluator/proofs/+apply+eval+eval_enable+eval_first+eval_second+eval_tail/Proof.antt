@@ -373,7 +373,7 @@ eval-returns-3 t c =
     let at-kind-of = at-match .before in
     let at-word-at = at-kind-of .before in
     let start = at-word-at .before in
-    ends-same (same-cells _ _ _ _ (c .look .ensures .lent-is)) refl
+    ends-same (same-cells _ _ _ _ (c .look .ensures .store-is)) refl
     (variable-is _ _ _ (node-leaf (start .pre .1) (start .fits .t .fits) (at-word-at .word-at .ensures) (at-kind-of .kind-of .ensures)
     (omega (arith, at-match .match .keys3))) _ (at-kind-of .kind-of .ensures) (at-match .match .keys3) (c .before .first-of2 .ensures)
     (c .look .ensures .answer-is))
@@ -457,8 +457,8 @@ eval-enable-returns t c =
     let start = at-enabled-now .before .before .before in
     record {
       done = enable-is _ _ _ (start .pre .1) _ (at-first-of .first-of .ensures) (at-small-of .small-of .ensures)
-          (at-enabled-now .enabled-now .ensures .answer-is) (at-enabled-now .enabled-now .ensures .lent-is)
-          (at-enable .enable .ensures .answer-is) (at-enable .enable .ensures .lent-is) (at-eval .eval .ensures .done) (c .restore .ensures);
+          (at-enabled-now .enabled-now .ensures .answer-is) (at-enabled-now .enabled-now .ensures .store-is)
+          (at-enable .enable .ensures .answer-is) (at-enable .enable .ensures .store-is) (at-eval .eval .ensures .done) (c .restore .ensures);
       calls = at-eval .eval .ensures .calls;
       names = at-eval .eval .ensures .names;
     }

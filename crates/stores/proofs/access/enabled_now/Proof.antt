@@ -23,11 +23,11 @@ returns c =
     record {
       answer-is = enabled-lazy _ _ _ (at-is-lazy .is-lazy .ensures) (c .before .before .before .if1 .taken) (c .before .first-enabled .ensures)
           (c .number-at .ensures);
-      lent-is = refl;
+      store-is = refl;
     }
 
 returns-2 : tie.Need-returns-2
-returns-2 c = record { answer-is = enabled-eager _ _ _ (c .before .is-lazy .ensures) (c .if1 .left); lent-is = refl }
+returns-2 c = record { answer-is = enabled-eager _ _ _ (c .before .is-lazy .ensures) (c .if1 .left); store-is = refl }
 
 pub enabled-now-spec : {M : Type 1} → statement M
 enabled-now-spec =

@@ -23,7 +23,7 @@ returns c =
     record {
       answer-is = granted-lazy _ _ _ (at-is-lazy .is-lazy .ensures) (c .before .before .before .if1 .taken) _ (c .before .low .ensures)
           (c .frames-grant .ensures);
-      lent-is = refl;
+      store-is = refl;
     }
 
 high-requires : tie.Need-high-requires
@@ -36,7 +36,7 @@ returns-2 : tie.Need-returns-2
 returns-2 c = record {
   answer-is = granted-eager _ _ _ (c .before .before .before .is-lazy .ensures) (c .before .before .if1 .left) _ (c .before .high .ensures)
       (c .contains .ensures);
-  lent-is = refl;
+  store-is = refl;
 }
 
 pub granted-spec : {M : Type 1} → statement M

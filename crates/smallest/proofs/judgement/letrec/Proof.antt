@@ -1,8 +1,8 @@
 -- The body's fault, or the step of a letrec over the rest.
 use borrow.Author.Needs.{needs}
-use Rattle.smallest.proofs.JudgeLaws.{goes}
-use Rattle.smallest.proofs.judge.letrec.Statement.{statement}
-use Rattle.smallest.proofs.judge.letrec.Tie as tie
+use Rattle.smallest.proofs.JudgementLaws.{goes}
+use Rattle.smallest.proofs.judgement.letrec.Statement.{statement}
+use Rattle.smallest.proofs.judgement.letrec.Tie as tie
 
 enum-known-j : tie.Need-enum-known-j
 enum-known-j c = search needs

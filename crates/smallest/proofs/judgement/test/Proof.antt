@@ -1,9 +1,9 @@
 -- The first branch's fault, or the step of a test over the second. The table stays right.
 use borrow.Author.Needs.{needs}
 use Rattle.rules.proofs.StepLaws.{stop}
-use Rattle.smallest.proofs.JudgeLaws.{goes}
-use Rattle.smallest.proofs.judge.test.Statement.{statement}
-use Rattle.smallest.proofs.judge.test.Tie as tie
+use Rattle.smallest.proofs.JudgementLaws.{goes}
+use Rattle.smallest.proofs.judgement.test.Statement.{statement}
+use Rattle.smallest.proofs.judgement.test.Tie as tie
 
 enum-known-i : tie.Need-enum-known-i
 enum-known-i c = search needs

@@ -1,9 +1,9 @@
 -- The function's fault, or the step of a call over the argument. The table stays right.
 use borrow.Author.Needs.{needs}
 use Rattle.rules.proofs.StepLaws.{stop}
-use Rattle.smallest.proofs.JudgeLaws.{goes}
-use Rattle.smallest.proofs.judge.call.Statement.{statement}
-use Rattle.smallest.proofs.judge.call.Tie as tie
+use Rattle.smallest.proofs.JudgementLaws.{goes}
+use Rattle.smallest.proofs.judgement.call.Statement.{statement}
+use Rattle.smallest.proofs.judgement.call.Tie as tie
 
 enum-known-i : tie.Need-enum-known-i
 enum-known-i c = search needs

@@ -2,9 +2,9 @@
 use native.Mathlib.Omega.{arith}
 use borrow.Author.Needs.{needs}
 use Rattle.checker.proofs.TermLaws.{past-ten, kind-most, post-guard-byte, check-privilege, enable-privilege, test-privilege}
-use Rattle.smallest.proofs.JudgeLaws.{ready-at, leaf-judged, check-judged, enable-judged, sign-judged, post-judged, call-judged, test-judged, binary-judged, if-judged, function-judged, letrec-judged}
-use Rattle.smallest.proofs.judge.judge.Statement.{statement}
-use Rattle.smallest.proofs.judge.judge.Tie as tie
+use Rattle.smallest.proofs.JudgementLaws.{ready-at, leaf-judged, check-judged, enable-judged, sign-judged, post-judged, call-judged, test-judged, binary-judged, if-judged, function-judged, letrec-judged}
+use Rattle.smallest.proofs.judgement.judgement.Statement.{statement}
+use Rattle.smallest.proofs.judgement.judgement.Tie as tie
 
 term-requires : tie.Need-term-requires
 term-requires c κs = search needs
@@ -194,8 +194,8 @@ returns-11 c =
       known = start .pre .known;
     }
 
-pub judge-spec : {M : Type 1} → statement M
-judge-spec =
+pub judgement-spec : {M : Type 1} → statement M
+judgement-spec =
     tie.close
     (tie.spec
     term-requires

@@ -1,9 +1,9 @@
 -- The condition's fault, that of the first branch, or the step of an if over the second. The table stays right.
 use borrow.Author.Needs.{needs}
 use Rattle.rules.proofs.StepLaws.{stop}
-use Rattle.smallest.proofs.JudgeLaws.{goes}
-use Rattle.smallest.proofs.judge.branches.Statement.{statement}
-use Rattle.smallest.proofs.judge.branches.Tie as tie
+use Rattle.smallest.proofs.JudgementLaws.{goes}
+use Rattle.smallest.proofs.judgement.branches.Statement.{statement}
+use Rattle.smallest.proofs.judgement.branches.Tie as tie
 
 enum-known-i : tie.Need-enum-known-i
 enum-known-i c = search needs

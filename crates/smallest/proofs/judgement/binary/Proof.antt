@@ -1,8 +1,8 @@
 -- The first operand's fault, or the step of the operation over the second.
 use borrow.Author.Needs.{needs}
-use Rattle.smallest.proofs.JudgeLaws.{goes, result-is}
-use Rattle.smallest.proofs.judge.binary.Statement.{statement}
-use Rattle.smallest.proofs.judge.binary.Tie as tie
+use Rattle.smallest.proofs.JudgementLaws.{goes, result-is}
+use Rattle.smallest.proofs.judgement.binary.Statement.{statement}
+use Rattle.smallest.proofs.judgement.binary.Tie as tie
 
 enum-known-i : tie.Need-enum-known-i
 enum-known-i c = search needs

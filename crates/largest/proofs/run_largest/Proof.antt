@@ -2,8 +2,8 @@
 -- sheet that cannot be read gets its own refusal (as-unread), and a readable one 15 (as-buffers), since an empty stack is never 14.
 use borrow.Author.Needs.{needs}
 use Rattle.largest.proofs.RunLaws.{as-run, as-unread, as-buffers}
-use Rattle.largest.proofs.run_lent.Statement.{statement}
-use Rattle.largest.proofs.run_lent.Tie as tie
+use Rattle.largest.proofs.run_largest.Statement.{statement}
+use Rattle.largest.proofs.run_largest.Tie as tie
 
 slice-aggregate-run-eager : tie.Need-slice-aggregate-run-eager
 slice-aggregate-run-eager c = search needs
@@ -47,8 +47,8 @@ returns-3 c =
     as-buffers (start .args .sheet .now) (start .args .calls) (start .args .cells .now) (start .args .posts .now) (start .args .right)
     (c .before .before .before .decode .ensures .answer-is) (at-if1 .if1 .left) (c .before .d2 .given .1)
 
-pub run-lent-spec : {M : Type 1} → statement M
-run-lent-spec =
+pub run-largest-spec : {M : Type 1} → statement M
+run-largest-spec =
     tie.close
     (tie.spec
     slice-aggregate-run-eager

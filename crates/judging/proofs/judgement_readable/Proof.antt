@@ -3,9 +3,9 @@
 use mathlib.Core.Path.{refl}
 use borrow.Author.Needs.{needs}
 use borrow.Author.Tests.{not-true, not-false}
-use Rattle.judging.proofs.JudgeLaws.{root-searchable, absent-judged, present-judged}
-use Rattle.judging.proofs.judge_readable.Statement.{statement}
-use Rattle.judging.proofs.judge_readable.Tie as tie
+use Rattle.judging.proofs.JudgementLaws.{root-searchable, absent-judged, present-judged}
+use Rattle.judging.proofs.judgement_readable.Statement.{statement}
+use Rattle.judging.proofs.judgement_readable.Tie as tie
 
 sub-present : tie.Need-sub-present
 sub-present c = search needs
@@ -23,8 +23,8 @@ returns c =
     let start = at-present .before .before .before in
     absent-judged (start .pre) _ refl (at-present .present .ensures) (start .args .term) (at-find .find .ensures) (not-true _ (c .if1 .taken))
 
-judge-at-requires : tie.Need-judge-at-requires
-judge-at-requires c κs =
+judgement-at-requires : tie.Need-judgement-at-requires
+judgement-at-requires c κs =
     let at-if1 = c .before in
     at-if1 .before .before .find .ensures .ready (not-false _ (at-if1 .if1 .left))
 
@@ -35,9 +35,9 @@ returns-2 c =
     let at-present = at-find .before in
     let start = at-present .before .before .before in
     present-judged (start .pre) _ refl (at-present .present .ensures) (start .args .term) (at-find .find .ensures) (not-false _ (at-if1 .if1 .left))
-    (c .judge-at .ensures)
+    (c .judgement-at .ensures)
 
-pub judge-readable-spec : {M : Type 1} → statement M
-judge-readable-spec =
+pub judgement-readable-spec : {M : Type 1} → statement M
+judgement-readable-spec =
     tie.close
-    (tie.spec sub-present present-requires find-requires returns judge-at-requires returns-2)
+    (tie.spec sub-present present-requires find-requires returns judgement-at-requires returns-2)

@@ -90,7 +90,7 @@ fn binary(kind: u8, t: u16, i: Inferred, j: Inferred) -> Inferred
 }
 
 // By the kind; a child that is absent is not looked at.
-pub fn judge(
+pub fn judgement(
     s: &[u8],
     c: Counts,
     known: &mut Known,

@@ -4,11 +4,11 @@ use borrow.Author.Needs.{needs}
 use Rattle.interp.specs.Answers.{runModel}
 use Rattle.replies.specs.Replies.{runReply}
 use Rattle.replies.specs.Laws.{run-eight, in-nine}
-use Rattle.capi_record.proofs.tell.Statement.{statement}
-use Rattle.capi_record.proofs.tell.Tie as tie
+use Rattle.capi_record.proofs.put_nine.Statement.{statement}
+use Rattle.capi_record.proofs.put_nine.Tie as tie
 
 of-run-requires : tie.Need-of-run-requires
-of-run-requires c κs = c .before .pre .tellable .counts-small
+of-run-requires c κs = c .before .pre .reply-fits .counts-small
 
 put-requires : tie.Need-put-requires
 put-requires c κs = omega (arith, c .before .before .before .pre .room)
@@ -16,7 +16,7 @@ put-requires c κs = omega (arith, c .before .before .before .pre .room)
 cast-answer : tie.Need-cast-answer
 cast-answer c =
     let start = c .before .before .before .before .before .before .before in
-    omega (arith, start .pre .tellable .entries-small)
+    omega (arith, start .pre .reply-fits .entries-small)
 
 slice-write-answer : tie.Need-slice-write-answer
 slice-write-answer c = search needs
@@ -31,7 +31,7 @@ returns c =
     in-nine (start .args .answer .now) (start .pre .room) (runReply (runModel (start .args .r .run))) (run-eight (runModel (start .args .r .run)))
     (start .args .r .entries) (at-of-run .of-run .ensures) (c .before .before .before .put .ensures)
 
-pub tell-spec : {M : Type 1} → statement M
-tell-spec =
+pub put-nine-spec : {M : Type 1} → statement M
+put-nine-spec =
     tie.close
     (tie.spec of-run-requires put-requires cast-answer slice-write-answer same-length returns)
