@@ -7,7 +7,7 @@ ghost use Rattle.program.specs.Limits.{maxNesting};
 ghost use Rattle.replies.specs.Internal.{replyOf};
 ghost use Rattle.capi_explain.specs.Entries.{chainReply, explainCall, leftExplain};
 ghost use Rattle.capi_explain.specs.Internal.{Listed, replyFor, listAfter};
-use explain::answer::Explanation;
+use chains::answer::Explanation;
 use program::limits::NESTING_PLACES;
 use replies::ANSWER_NUMBERS;
 use replies::Reply;

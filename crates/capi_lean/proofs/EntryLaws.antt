@@ -22,6 +22,6 @@ module _ (s b answer : List ℕ) where
   -- it holds the reply
   pub given : 8 ≤ length answer → (r : Erased) {b′ : List ℕ} → after r b′ ≡ erasure s b → {x : Reply} → replyOf x ≡ eraseReply (erasedModel r)
       → {status : ℕ} {answer′ : List ℕ} → Put x answer status answer′ → leftErase status answer′ b′ ≡ eraseCall s b answer
-  given h r {b′ = b′} status-means e put =
-      (λ i. record { reply = in-place answer h e put i; buffer = b′ }) ∙ ap (eraseLeft answer) status-means
+  given h r {b′ = b′} left-is e put =
+      (λ i. record { reply = in-place answer h e put i; buffer = b′ }) ∙ ap (eraseLeft answer) left-is
       ∙ (λ i. cond (sym (le-ltb (length answer) 8 h) i) (leftErase 3 answer b) (eraseLeft answer (erasure s b)))

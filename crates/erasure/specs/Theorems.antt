@@ -144,12 +144,12 @@ module _ (s b : List ℕ) where
   verdict-means (accepted n τ N) e = erasable-means n τ N e (erasable s) refl
   verdict-means (rejected c p) e = (by-checker e, refl)
 
-  as-due : AnswerMeans s b (erasure s b .answer) (erasure s b .buffer)
+  answer-means : AnswerMeans s b (erasure s b .answer) (erasure s b .buffer)
   unfolding erasure
-  as-due = verdict-means (verdict s) refl
+  answer-means = verdict-means (verdict s) refl
 
   abbrev answerMeansAs : (a : Answer) → erasure s b .answer ≡ a → AnswerMeans s b a (erasure s b .buffer)
-  answerMeansAs a e = subst (λ (x : Answer). AnswerMeans s b x (erasure s b .buffer)) e as-due
+  answerMeansAs a e = subst (λ (x : Answer). AnswerMeans s b x (erasure s b .buffer)) e answer-means
 
   -- "The judge's refusals come first, then a test or version 2 is 32 and a buffer shorter than the new sheet 33, and the buffer is untouched by any of them."
   pub refused-exactly : (c p : ℕ) → (erasure s b .answer ≡ refused c p) ↔ Refused s b c p

@@ -23,12 +23,12 @@ use Rattle.typing.specs.declared.answer.Verdict.{Verdict as VerdictAnswer}
 use Rattle.typing.specs.declared.answer.Verdict.the-variants as answer
 use Rattle.subtyping.specs.Internal.{Sheet}
 use Rattle.typing.specs.Places.{placedNumber, rootOf}
-use Rattle.explain.specs.Explaining.{needing, needs, chainOf, Explained as ExplainedOf, explained, not-needed, refused, tracedIn, explainedBy, explanation}
-use Rattle.explain.specs.Answers.{answerModel, chainTerms, chainLength, ExplainedAs}
-use Rattle.explain.specs.Internal.{RootNeeds, Traceable, unchained}
-use Rattle.explain.specs.declared.answer.Explanation.{Explanation}
-use Rattle.explain.specs.declared.answer.Explanation.the-variants.{NotNeeded, Unreadable, Refused, NoPrivilege}
-use Rattle.explain.specs.declared.answer.Explained.{Explained}
+use Rattle.chains.specs.Explaining.{needing, needs, chainOf, Explained as ExplainedOf, explained, not-needed, refused, explainedIn, explainedBy, explanation}
+use Rattle.chains.specs.Answers.{answerModel, chainTerms, chainLength, ExplainedAs}
+use Rattle.following.specs.Internal.{RootNeeds, Followable, unchained}
+use Rattle.chains.specs.declared.answer.Explanation.{Explanation}
+use Rattle.chains.specs.declared.answer.Explanation.the-variants.{NotNeeded, Unreadable, Refused, NoPrivilege}
+use Rattle.chains.specs.declared.answer.Explained.{Explained}
 
 -- ---- an answer with no chain
 unchained-as : {r : Explained} (a : Explanation) (e : ExplainedOf) → r ≡ unchained a → answerModel a (replicate maxNesting 0) ≡ e → chainTerms e ≡ []
@@ -52,7 +52,7 @@ module _ (s : List ℕ) (p : ℕ) {r : Explained} where
     pub refused-fault : {f : Fault} → v ≡ answer.Refused f → r ≡ unchained (Refused f) → ExplainedAs r (explanation s p)
     refused-fault {f} e q = by-verdict s p (rejected (faultCause f) (faultPlace f)) (ap verdictModel (sym e) ∙ w) (unchained-as (Refused f) _ q refl refl refl)
 
-    pub accepted-explained : {n τ N : ℕ} → v ≡ answer.Accepted n τ N → ExplainedAs r (tracedIn s p N (leb p 31)) → ExplainedAs r (explanation s p)
+    pub accepted-explained : {n τ N : ℕ} → v ≡ answer.Accepted n τ N → ExplainedAs r (explainedIn s p N (leb p 31)) → ExplainedAs r (explanation s p)
     accepted-explained {n} {τ} {N} e t = by-verdict s p (accepted n τ N) (ap verdictModel (sym e) ∙ w) t
 
 -- the root's needs are those of the verdict
@@ -78,15 +78,15 @@ accepted-needs {s} S {n = n} {τ = τ} {N = N} w e = record { sheet = S; needs-a
 
 -- ---- an accepted sheet with its needs
 module _ (s : List ℕ) (p N : ℕ) {r : Explained} where
-  pub too-high : 31 < p → r ≡ unchained NoPrivilege → ExplainedAs r (tracedIn s p N (leb p 31))
+  pub too-high : 31 < p → r ≡ unchained NoPrivilege → ExplainedAs r (explainedIn s p N (leb p 31))
   too-high h q = rw (lt-leb p 31 h) (unchained-as NoPrivilege (refused 30 0) q refl refl refl)
 
   module _ (h : p ≤ 31) {z : Bool} (e : z ≡ has p N) where
-    pub needed-not : z ≡ false → r ≡ unchained NotNeeded → ExplainedAs r (tracedIn s p N (leb p 31))
+    pub needed-not : z ≡ false → r ≡ unchained NotNeeded → ExplainedAs r (explainedIn s p N (leb p 31))
     needed-not f q = rw (le-leb p 31 h, sym e ∙ f) (unchained-as NotNeeded not-needed q refl refl refl)
 
-    pub needed : z ≡ true → ExplainedAs r (explained (map placedNumber (chainOf s p))) → ExplainedAs r (tracedIn s p N (leb p 31))
+    pub needed : z ≡ true → ExplainedAs r (explained (map placedNumber (chainOf s p))) → ExplainedAs r (explainedIn s p N (leb p 31))
     needed f t = rw (le-leb p 31 h, sym e ∙ f) t
 
-pub needs-traceable : {s : List ℕ} {c : Counts} {N : ℕ} → RootNeeds s c N → {p : ℕ} → p ≤ 31 → {z : Bool} → z ≡ has p N → z ≡ true → Traceable s c p
-needs-traceable w {p} h e f = record { sheet = w .sheet; privilege = omega arith; needing = w .needs-are p ∙ sym e ∙ f }
+pub needs-followable : {s : List ℕ} {c : Counts} {N : ℕ} → RootNeeds s c N → {p : ℕ} → p ≤ 31 → {z : Bool} → z ≡ has p N → z ≡ true → Followable s c p
+needs-followable w {p} h e f = record { sheet = w .sheet; privilege = omega arith; needing = w .needs-are p ∙ sym e ∙ f }

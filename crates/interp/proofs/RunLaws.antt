@@ -25,7 +25,7 @@ use Rattle.traces.specs.Traces.{Event, recorded}
 use Rattle.stores.specs.declared.state.Out.{Out}
 use Rattle.stores.specs.Words.{outOf}
 use Rattle.stores.specs.Cells.{zerosLike}
-use Rattle.stores.specs.Access.{ModeIs}
+use Rattle.access.specs.Access.{ModeIs}
 use Rattle.machine.specs.Steps.{callsLeft, cellsMade, postsMade, saturatedMade, entriesMade}
 use Rattle.machine.specs.Store.{Done, storeOf, doneOf}
 use Rattle.refinement.specs.Claims.{outcomeOf, countsOf, laidOut, Refined}
@@ -87,8 +87,8 @@ module _ (s : List ℕ) (q : Request) (cells posts frames store noted : List ℕ
       let is = run-course s q b _ (course-clear s q b e) in
       let few = counts-few s q b (outcome (root s) x) (counts q z (left x)) (ap (λ (a : After). a .answer) is) in
       let all : listed ≡ decisions s q z = ap decisionsMade (sym (traced-clear s q z e)) in
-      let told = tallied-after (root s) q cells posts frames store x (λ r w. outcomeOf r (outOf w)) (few .saturated-most) (v .tallied) R l in
-      let same = (λ i. record { answer = v .answer-is i; buffers = buffersOf cells′ posts′ last }) ∙ told ∙ sym is in
+      let same-after = tallied-after (root s) q cells posts frames store x (λ r w. outcomeOf r (outOf w)) (few .saturated-most) (v .tallied) R l in
+      let same = (λ i. record { answer = v .answer-is i; buffers = buffersOf cells′ posts′ last }) ∙ same-after ∙ sym is in
       λ i. record {
         after = same i;
         entries = (v .entries-are ∙ v .tallied .entries-are ∙ R .same-entries ∙ ap (λ (es : List Event). length (recorded (length noted) es)) all) i;

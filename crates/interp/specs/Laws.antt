@@ -19,9 +19,9 @@ use Rattle.traces.specs.Traces.{Event}
 use Rattle.semantics.specs.Domains.{Domain}
 use Rattle.semantics.specs.Values.{Budget, budget, ResultOf}
 use Rattle.semantics.specs.Access.{Frame, privs}
-use Rattle.semantics.specs.Runs.{Request, Buffers, Sizes, sizes, stack, known, started, Counts as Told, OutcomeOf, ran, left, counts, AfterOf, answerOf, clearedFrames, buffersAfter}
-use Rattle.stores.specs.Access.{pairOf}
-use Rattle.machine.specs.Table.{Empty}
+use Rattle.semantics.specs.Runs.{Request, Buffers, Sizes, sizes, stack, known, started, Counts as RunCounts, OutcomeOf, ran, left, counts, AfterOf, answerOf, clearedFrames, buffersAfter}
+use Rattle.access.specs.Access.{pairOf}
+use Rattle.termtable.specs.Table.{Empty}
 use Rattle.machine.specs.Steps.{wrapped}
 use Rattle.machine.specs.Store.{Done}
 use Rattle.refinement.specs.Claims.{wrappedCounts, RefinedBy}
@@ -63,7 +63,7 @@ tallied-at {s} k terms mode calls depth {acc} b noted {t} {b′} {noted′} e v 
 
 -- ---- a run that starts: `store` is what the frame store holds when evaluation begins
 -- the counter of saturated results has room for every count that is told
-unwrapped : (k : Told) → k .saturated ≤ maxSaturated → wrappedCounts k ≡ k
+unwrapped : (k : RunCounts) → k .saturated ≤ maxSaturated → wrappedCounts k ≡ k
 unwrapped k f =
     let same : wrapped (k .saturated) ≡ k .saturated = omega (arith, f) in
     λ i. record { calls = k .calls; cells = k .cells; posts = k .posts; saturated = same i }
@@ -80,9 +80,9 @@ module _ {D : Domain} (root₀ : ℕ) (q : Request) (cells posts frames store : 
   }
 
   pub tallied-after : (decodes : (root word : ℕ) → OutcomeOf D) → counts q (sizes (buffersOf cells posts frames)) (left x) .saturated ≤ maxSaturated
-      → {noted noted′ : List ℕ} {told : List Event} {d : Done} {t : Tally} {cells′ posts′ frames′ last : List ℕ}
+      → {noted noted′ : List ℕ} {events : List Event} {d : Done} {t : Tally} {cells′ posts′ frames′ last : List ℕ}
       → Tallied (q .calls) d t (buffersOf cells′ posts′ frames′) noted′
-      → RefinedBy decodes root₀ q (buffersOf cells posts store) noted d x told → last ≡ clearedFrames (q .runner) frames
+      → RefinedBy decodes root₀ q (buffersOf cells posts store) noted d x events → last ≡ clearedFrames (q .runner) frames
       → record { answer = ran (decodes root₀ (t .word)) (countsModel (t .made)); buffers = buffersOf cells′ posts′ last } ≡ over
   tallied-after decodes f v R l = λ i. record {
     answer = ran

@@ -72,7 +72,7 @@ pub record Case : Type 0 where
   pub sheet : List ℕ
   pub pairs : List ℕ
   pub numbers : List ℕ
-  pub observed : Observed
+  pub due : Observed
 
 -- one cell, two places for posts
 abbrev filled : Buffers
@@ -81,8 +81,8 @@ filled = record { cells = 9 ∷ 9 ∷ 9 ∷ 9 ∷ 9 ∷ 9 ∷ 9 ∷ 9 ∷ []; po
 abbrev left : (posts : List ℕ) → Buffers
 left ps = record { cells = 0 ∷ 0 ∷ 0 ∷ 0 ∷ 0 ∷ 0 ∷ 0 ∷ 0 ∷ []; posts = ps; frames = 7 ∷ [] }
 
-abbrev requestFor : Request
-requestFor = record { runner = eager; enforce = true; start = []; calls = maxCalls; depth = maxDepth }
+abbrev plainRequest : Request
+plainRequest = record { runner = eager; enforce = true; start = []; calls = maxCalls; depth = maxDepth }
 
 abbrev ranges : OutcomeOf intervals → (calls cells posts : ℕ) (list : List ℕ) → AfterOf intervals
 ranges o c d p l = record { answer = ran o (record { calls = c; cells = d; posts = p; saturated = 0 }); buffers = left l }
@@ -91,7 +91,7 @@ abbrev plainly : Outcome → (calls cells posts : ℕ) (list : List ℕ) → Aft
 plainly o c d p l = record { answer = ran o (record { calls = c; cells = d; posts = p; saturated = 0 }); buffers = left l }
 
 abbrev entry : (sheet pairs numbers bytes : List ℕ) → AfterOf intervals → After → Case
-entry s ps ns bytes over plain = record { sheet = s; pairs = ps; numbers = ns; observed = record { bytes = bytes; over-ranges = over; plainly = plain } }
+entry s ps ns bytes over plain = record { sheet = s; pairs = ps; numbers = ns; due = record { bytes = bytes; over-ranges = over; plainly = plain } }
 
 unfoldable pub cases : List Case
 unfolding summed called guarded
@@ -113,8 +113,8 @@ cases =
 unfoldable pub observe : Case → Observed
 observe c =
     let new = withNumbers (λ t. getD (c .numbers) t 0) (c .sheet) in
-    record { bytes = new; over-ranges = rangeRun (c .sheet) (c .pairs) requestFor filled; plainly = run new requestFor filled }
+    record { bytes = new; over-ranges = rangeRun (c .sheet) (c .pairs) plainRequest filled; plainly = run new plainRequest filled }
 
-pub computed : map observe cases ≡ map (λ c. c .observed) cases
+pub computed : map observe cases ≡ map (λ c. c .due) cases
 unfolding cases observe withNumbers withNumbersBelow rangeRun rangeCourse run course screen refuseAt eval apply evalWith addAuthorised has meet union insert
 computed = refl

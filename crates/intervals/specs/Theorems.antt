@@ -256,7 +256,7 @@ module _ (s ps : List ℕ) (ρ : (at n : ℕ) → ℕ) (words : Words ps) (c : C
       let clearly : screen (runConditions s q (sizes b)) ≡ clear = none-clear (n .0) in
       let x = evaluationOver (ranged s ps) (plain (q .enforce)) (q .runner) s q (sizes b) in
       let y = evaluationOver (chosen ρ) (plain (q .enforce)) (q .runner) s q (sizes b) in
-      let observed : ran (outcome (root s) x) (counts q (sizes b) (left x)) ≡ ran (h .result) (h .made) =
+      let same-answer : ran (outcome (root s) x) (counts q (sizes b) (left x)) ≡ ran (h .result) (h .made) =
       sym (answered s ps q b (run-clear s ps q b e)) ∙ h .ran-so in
       let chosen-run : chosenRun ρ s q d ≡ afterCourse s q d (started y) =
       (λ i. afterCourse s q d (chosenCourse ρ s q (sym z i))) ∙ (λ i. afterCourse s q d (settled (clearly i) (λ _. y))) in

@@ -20,9 +20,10 @@ use Rattle.erasure.specs.Lean.{leanSheet, erasable}
 use Rattle.erasure.specs.Erasure.{After, ifRoom, ifErasable, erased, erasure}
 use Rattle.erasure.specs.declared.answer.Erased.the-variants.{Lean, Unreadable, Refused, NotErasable, NoRoom}
 use Rattle.lean.specs.Answers.{after}
-use Rattle.lean.specs.Internal.{TypesNumbered, TermsNumbered, SheetReady}
-use Rattle.lean.specs.declared.types.TypeNumbers.{TypeNumbers}
-use Rattle.lean.specs.declared.terms.TermNumbers.{TermNumbers}
+use Rattle.renumbering.specs.Internal.{TypesNumbered, TermsNumbered}
+use Rattle.leanwriting.specs.Internal.{SheetReady}
+use Rattle.renumbering.specs.declared.types.TypeNumbers.{TypeNumbers}
+use Rattle.renumbering.specs.declared.terms.TermNumbers.{TermNumbers}
 
 -- ---- the verdict
 module _ (s b : List ℕ) where

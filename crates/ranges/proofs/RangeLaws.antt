@@ -19,7 +19,7 @@ use Rattle.intervals.specs.Runs.{rangeConditions, rangeRun}
 use Rattle.intervals.specs.Theorems.{run-clear, run-found, few-clear}
 use Rattle.stores.specs.declared.state.Out.{Out}
 use Rattle.stores.specs.Words.{pick, payloadOf, envOf, outOf}
-use Rattle.stores.specs.Access.{ModeIs}
+use Rattle.access.specs.Access.{ModeIs}
 use Rattle.refinement.specs.Claims.{decidedBy, rangeOutcomeIn, rangeOutcomeBy, rangeOutcomeOf, IntervalTable}
 use Rattle.refinement.specs.Theorems.{interval-refined}
 use Rattle.interp.specs.Answers.{refusalCause, refusalPlace, countsModel, requestOf, buffersOf}
@@ -86,14 +86,14 @@ module _ (s ps start : List ℕ) (e : Bool) (cells posts : List ℕ) (calls dept
           → Tallied calls (rootDone terms (c .terms - 1) mode acc calls depth (buffersOf cells posts store) noted) t (buffersOf cells′ posts′ frames′) noted′
           → outcomeModel o ≡ rangeOutcomeOf (c .terms - 1) (t .word)
           → afterRange (Ran o (t .made)) cells′ posts′ ≡ rangeRun s ps request (buffersOf cells posts [])
-      ranges-after ok store noted {terms} {mode} {t = t} o {cells′ = cells′} {posts′ = posts′} table a is v told =
+      ranges-after ok store noted {terms} {mode} {t = t} o {cells′ = cells′} {posts′ = posts′} table a is v outcome-is =
           let b = buffersOf cells posts [] in
           let w = K .well-formed in
           let x = evaluationOver (ranged s ps) (plain e) eager s request (sizes b) in
           let clear-of : screen (rangeConditions s ps request (sizes b)) ≡ clear =
           screen-clear (runConditions s request (sizes b)) (unless 35 (pairsOk s ps) ∷ []) (K .none-found)
           ∙ none-clear (none-next (none-unless 35 ok) none-end) in
-          let at-root = told ∙ ap (λ (n : ℕ). rangeOutcomeOf (n - 1) (t .word)) (K .counts-are .terms-are) in
+          let at-root = outcome-is ∙ ap (λ (n : ℕ). rangeOutcomeOf (n - 1) (t .word)) (K .counts-are .terms-are) in
           let refined =
           interval-refined s w c (K .counts-are) ps terms table request (buffersOf cells posts store) noted (K .depth-most) (K .cells-most) mode
           (is .enforce-is) (is .interval-is) (a .may) (privs (authority s) (stack start)) (is .lazy-is) (a .may-small) (access-may w a) in

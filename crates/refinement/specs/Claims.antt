@@ -20,7 +20,7 @@ use Rattle.stores.specs.declared.state.Value.the-variants.{Bool as VBool, Num, 
 use Rattle.stores.specs.declared.state.Out.{Out}
 use Rattle.stores.specs.declared.state.Out.the-variants.{Val, Stop as Stopped}
 use Rattle.stores.specs.Words.{pick, sortOf, payloadOf, envOf, outBy, outOf}
-use Rattle.machine.specs.Table.{wordKind, wordFirst, wordSecond, Holds}
+use Rattle.termtable.specs.Table.{wordKind, wordFirst, wordSecond, Holds}
 use Rattle.machine.specs.Steps.{callsLeft, cellsMade, postsMade, saturatedMade, entriesMade, wrapped}
 use Rattle.machine.specs.Store.{Store, Done, storeOf}
 use Rattle.stores.specs.Stops.{stopCause, stopPlace}

@@ -19,8 +19,8 @@ use Rattle.semantics.specs.Access.{Frame, lazyControl, rights, eagerControl}
 use Rattle.semantics.specs.Runs.{Request, Buffers, sizes, initial, left}
 use Rattle.semantics.specs.Recording.{decidedIn}
 use Rattle.intervals.specs.Pairs.{ranged}
-use Rattle.machine.specs.Table.{Decoded}
-use Rattle.stores.specs.Access.{pairOf, enforced, lazyMode, intervalMode}
+use Rattle.termtable.specs.Table.{Decoded}
+use Rattle.access.specs.Access.{pairOf, enforced, lazyMode, intervalMode}
 use Rattle.machine.specs.Store.{evalAt}
 use Rattle.refinement.specs.Claims.{IntervalTable, rangeOutcomeOf, laidOut, startOf, RefinedBy, Refined}
 use Rattle.refinement.specs.Laws.Exact.{exactCoding, exact-decoding, exact-tabled}

@@ -1,11 +1,11 @@
 // The types of the bindings around a term, by value. 32 places suffice: a sheet's nesting bounds its bindings (specs/Laws/Room.antt).
 use program::limits::NESTING_PLACES;
-use subtyping::subtypes::Found;
+use program::search::Found;
 ghost use mathlib.Core.Path.{_≡_};
 ghost use Prim.Native.Nat.{_<_, _≤_};
 ghost use Rattle.program.specs.Limits.{maxNesting};
 ghost use Rattle.typing.specs.Rules.{bound};
-ghost use Rattle.subtyping.specs.Internal.{foundOf};
+ghost use Rattle.program.specs.Search.{foundOf};
 ghost use Rattle.rules.specs.Inference.{context};
 ghost use Rattle.rules.specs.Steps.{Pushed};
 

@@ -5,8 +5,8 @@ use program::limits::NO_GUARD;
 use program::records::Counts;
 use program::records::TermRecord;
 use program::records::TypeRecord;
+use program::search::Found;
 use subtyping::known::Known;
-use subtyping::subtypes::Found;
 use subtyping::subtypes::is_function;
 use subtyping::subtypes::subtype;
 use subtyping::subtypes::wider;
@@ -18,7 +18,7 @@ ghost use Rattle.program.specs.Limits.{maxNesting};
 ghost use Rattle.program.specs.Layout.{typesOf, guardIn};
 ghost use Rattle.typing.specs.Rules.{postNeeds};
 ghost use Rattle.typing.specs.Checking.{joined as joinedOf};
-ghost use Rattle.subtyping.specs.Internal.{foundOf};
+ghost use Rattle.program.specs.Search.{foundOf};
 ghost use Rattle.subtyping.specs.Known.{Judging, Testing, Answered};
 ghost use Rattle.rules.specs.Inference.{inferredModel, context};
 ghost use Rattle.rules.specs.Steps.{

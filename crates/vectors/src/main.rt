@@ -1,31 +1,28 @@
 // Runs the recorded sheets of its standard input through the functions that the entries for C hand on to, and prints every answer in numbers.
 // reference/record writes that input, and the expected output beside it from an implementation of its own.
-mod buffers;
-mod input;
-mod output;
 
-use buffers::PAIR_ROOM;
-use buffers::fill_all;
-use buffers::fill_cells;
-use buffers::fill_numbers;
-use buffers::max_cells;
-use buffers::max_frames;
-use buffers::max_pairs;
-use buffers::max_posts;
-use buffers::max_sheet;
-use buffers::max_start;
-use buffers::mix_all;
-use buffers::mix_cells;
-use buffers::mix_numbers;
-use input::Vector;
-use input::least;
-use input::read_pairs;
-use input::read_start;
-use input::read_vector;
-use output::line;
-use output::run_line;
 use replies::ANSWER_NUMBERS;
 use replies::LONG_ANSWER;
+use vector_io::buffers::PAIR_ROOM;
+use vector_io::buffers::fill_all;
+use vector_io::buffers::fill_cells;
+use vector_io::buffers::fill_numbers;
+use vector_io::buffers::max_cells;
+use vector_io::buffers::max_frames;
+use vector_io::buffers::max_pairs;
+use vector_io::buffers::max_posts;
+use vector_io::buffers::max_sheet;
+use vector_io::buffers::max_start;
+use vector_io::buffers::mix_all;
+use vector_io::buffers::mix_cells;
+use vector_io::buffers::mix_numbers;
+use vector_io::input::Vector;
+use vector_io::input::least;
+use vector_io::input::read_pairs;
+use vector_io::input::read_start;
+use vector_io::input::read_vector;
+use vector_io::output::line;
+use vector_io::output::run_line;
 
 // What is told without a run; of a piece also the sum of the bytes that are handed back.
 fn judgements(sheet: &[u8], term: u32) {

@@ -7,9 +7,9 @@ use Rattle.semantics.specs.Domains.{Domain}
 use Rattle.semantics.specs.Runs.{ground-bool, ground-num, OutcomeOf, ended, stopped}
 use Rattle.stores.specs.declared.state.Stop.{Stop}
 use Rattle.stores.specs.Words.{pick, booleanWord, sortOf, payloadOf}
-use Rattle.stores.specs.Access.{intervalMode}
+use Rattle.access.specs.Access.{intervalMode}
 use Rattle.stores.specs.Stops.{stopCause, stopPlace}
-use Rattle.machine.specs.Table.{wordSmall}
+use Rattle.termtable.specs.Table.{wordSmall}
 use Rattle.machine.specs.Steps.{numbersResult, saturatesOf, listedAs}
 use Rattle.refinement.specs.Claims.{decidedBy}
 

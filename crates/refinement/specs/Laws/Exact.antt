@@ -18,9 +18,9 @@ use Rattle.stores.specs.declared.state.Stop.{Stop}
 use Rattle.stores.specs.declared.state.Stop.the-variants.{Check, Stuck, OpenCalls, Calls, Cells, Posts, Undecided}
 use Rattle.stores.specs.declared.state.Out.the-variants.{Stop as Stopped}
 use Rattle.stores.specs.Words.{pick, booleanWord, numberWord, intervalWord, payloadOf, envOf, outBy, outOf}
-use Rattle.stores.specs.Access.{intervalMode}
+use Rattle.access.specs.Access.{intervalMode}
 use Rattle.stores.specs.Stops.{stopCause, stopPlace}
-use Rattle.machine.specs.Table.{wordSmall, wordFirst, wordSecond, Decoded}
+use Rattle.termtable.specs.Table.{wordSmall, wordFirst, wordSecond, Decoded}
 use Rattle.machine.specs.Steps.{resultOf, saturatesOf, intervalResult, numbersResult, entryOf, listedAs}
 use Rattle.refinement.specs.Claims.{outcomeOf, decidedBy}
 use Rattle.refinement.specs.Laws.Codings.{Word, kindNumber, numbersSaturate, Coding, Decoding}

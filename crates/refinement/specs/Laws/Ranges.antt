@@ -16,9 +16,9 @@ use Rattle.intervals.specs.Pairs.{pairOf, ranged}
 use Rattle.stores.specs.declared.state.Stop.{Stop}
 use Rattle.stores.specs.declared.state.Stop.the-variants.{Check, Stuck, OpenCalls, Calls, Cells, Posts, Undecided}
 use Rattle.stores.specs.Words.{pick, booleanWord, intervalWord, undecidedWord, payloadOf, envOf, outBy}
-use Rattle.stores.specs.Access.{intervalMode}
+use Rattle.access.specs.Access.{intervalMode}
 use Rattle.stores.specs.Stops.{stopCause, stopPlace}
-use Rattle.machine.specs.Table.{wordSmall, wordFirst, wordSecond}
+use Rattle.termtable.specs.Table.{wordSmall, wordFirst, wordSecond}
 use Rattle.machine.specs.Steps.{resultOf, saturatesOf, lessOf as lessWord, intervalResult, numbersResult, entryOf, listedAs}
 use Rattle.refinement.specs.Claims.{decidedBy, rangeOutcomeBy, rangeOutcomeOf, IntervalTable}
 use Rattle.refinement.specs.Laws.Codings.{Word, kindNumber, numbersSaturate, Coding, Decoding}

@@ -23,7 +23,7 @@ use Rattle.semantics.specs.Runs.{Request, Buffers, sizes, OutcomeOf, initial, o
 use Rattle.semantics.specs.Recording.{decidedIn, withEntries}
 use Rattle.semantics.specs.Laws.Tracing.{forget, forgets, outcome-forgotten, counts-forgotten, posts-forgotten}
 use Rattle.stores.specs.Words.{stopWord}
-use Rattle.stores.specs.Access.{pairOf, enforced, lazyMode}
+use Rattle.access.specs.Access.{pairOf, enforced, lazyMode}
 use Rattle.machine.specs.Steps.{entriesMade, wrapped}
 use Rattle.machine.specs.Store.{Store as State, Done, doneOf, evalAt}
 use Rattle.stores.specs.Stops.{stopCause, stopPlace}
