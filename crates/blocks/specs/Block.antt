@@ -9,8 +9,11 @@ use Rattle.program.specs.Bytes.{byte, word16}
 use Rattle.semantics.specs.Runs.{Ground, ground-bool, ground-num, ended, stopped, Answer, refused, ran, zeros}
 
 -- "The block has 16, zero at first"
+abbrev pub blockBytes : ℕ
+blockBytes = 16
+
 abbrev pub newBlock : List ℕ
-newBlock = zeros 16
+newBlock = zeros blockBytes
 
 -- ---- a run
 

@@ -54,17 +54,17 @@ module _ (block : List ℕ) (a : Answer) where
 -- ---- "2 cause, … 6 and 7 value …, 8 and 9 calls made, 10 and 11 term or place … Pairs have the highest byte first."
 -- what a block is read as; of its status, one-bit and other-bits say it
 pub record Registers (block : List ℕ) (t : RunRegisters) : Type 0 where
-  pub cause-told : byte block 2 ≡ t .cause
-  pub value-told : word16 block 6 ≡ t .value
-  pub calls-told : word16 block 8 ≡ t .calls
-  pub place-told : word16 block 10 ≡ t .place
+  pub cause-is : byte block 2 ≡ t .cause
+  pub value-is : word16 block 6 ≡ t .value
+  pub calls-are : word16 block 8 ≡ t .calls
+  pub place-is : word16 block 10 ≡ t .place
 
-pub registers-told : (block : List ℕ) (t : RunRegisters) → Registers (afterRun block t) t
-registers-told block t = record {
-  cause-told = refl;
-  value-told = div-add-mod' (t .value) 256;
-  calls-told = div-add-mod' (t .calls) 256;
-  place-told = div-add-mod' (t .place) 256;
+pub registers-hold : (block : List ℕ) (t : RunRegisters) → Registers (afterRun block t) t
+registers-hold block t = record {
+  cause-is = refl;
+  value-is = div-add-mod' (t .value) 256;
+  calls-are = div-add-mod' (t .calls) 256;
+  place-is = div-add-mod' (t .place) 256;
 }
 
 -- ---- "of 2 and 6 to 11, what has no meaning in that answer becomes zero"

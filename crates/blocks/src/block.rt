@@ -1,6 +1,8 @@
 // The block by value, what a run puts into it, and the answers of its accesses. specs/Answers.antt gives the paper's number and values of each case.
+pub const BLOCK_BYTES: usize = 16;
+
 pub struct Block {
-    pub bytes: [u8; 16],
+    pub bytes: [u8; BLOCK_BYTES],
 }
 
 // The status bit by its worth, and the registers 2 and 6 to 11.

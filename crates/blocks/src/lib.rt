@@ -7,6 +7,7 @@ ghost use Rattle.blocks.specs.Internal.{keptOf};
 pub mod block;
 pub mod update;
 
+use block::BLOCK_BYTES;
 use block::Block;
 use block::Read;
 use update::stored;
@@ -14,7 +15,9 @@ use update::stored;
 pub fn new_block() -> Block
     ensures { λ r. ⌜ r .bytes ≡ newBlock ⌝ }
 {
-    Block { bytes: [0; 16] }
+    Block {
+        bytes: [0; BLOCK_BYTES],
+    }
 }
 
 pub fn read(b: Block, address: u32) -> Read

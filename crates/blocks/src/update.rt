@@ -2,7 +2,7 @@
 ghost use mathlib.Core.Path.{_≡_};
 ghost use Prim.Native.Nat.{_<_};
 ghost use lib.ListN.{set};
-ghost use Rattle.blocks.specs.Block.{without as withoutOf, withFlag as withFlagOf, afterRun};
+ghost use Rattle.blocks.specs.Block.{blockBytes, without as withoutOf, withFlag as withFlagOf, afterRun};
 ghost use Rattle.blocks.specs.Internal.{registersModel, setPair};
 use crate::block::Block;
 use crate::block::RunRegisters;
@@ -23,7 +23,7 @@ fn with_flag(status: u8, flag: u8) -> u8
 
 // A register by its address.
 pub fn stored(b: Block, at: usize, value: u8) -> Block
-    requires { ⌜ at < 16 ⌝ }
+    requires { ⌜ at < blockBytes ⌝ }
     ensures { λ r. ⌜ r .bytes ≡ set (b .bytes) at value ⌝ }
 {
     let mut r = b;

@@ -4,6 +4,7 @@ ghost use mathlib.Core.Path.{_≡_};
 ghost use Rattle.semantics.specs.Runs.{eager as eagerRunner, lazy as lazyRunner, run};
 ghost use Rattle.interp.specs.Answers.{requestOf, buffersOf};
 ghost use Rattle.replies.specs.Replies.{decodeReply, typecheckReply, replied, called, enforces, left, leftAll};
+use replies::ANSWER_NUMBERS;
 use replies::of_decoded;
 use replies::of_run;
 use replies::of_verdict;
@@ -13,7 +14,7 @@ use replies::put;
 pub fn decode(sheet: &[u8], answer: &mut [u32]) -> u32
     ensures { λ r. ⌜ left r (now (answer .exit)) ≡ replied (now (answer .entry)) (decodeReply (now (sheet .entry))) ⌝ }
 {
-    if answer.len() < 8 {
+    if answer.len() < ANSWER_NUMBERS {
         return 3;
     }
     put(of_decoded(decoder::decode(sheet)), answer)
@@ -23,7 +24,7 @@ pub fn decode(sheet: &[u8], answer: &mut [u32]) -> u32
 pub fn typecheck(sheet: &[u8], answer: &mut [u32]) -> u32
     ensures { λ r. ⌜ left r (now (answer .exit)) ≡ replied (now (answer .entry)) (typecheckReply (now (sheet .entry))) ⌝ }
 {
-    if answer.len() < 8 {
+    if answer.len() < ANSWER_NUMBERS {
         return 3;
     }
     put(of_verdict(checker::typecheck(sheet)), answer)
@@ -45,7 +46,7 @@ pub fn eager(
         (run (now (sheet .entry)) (requestOf eagerRunner (enforces enforce) (now (start .entry)) calls depth)
         (buffersOf (now (cells .entry)) (now (posts .entry)) [])) ⌝ }
 {
-    if answer.len() < 8 {
+    if answer.len() < ANSWER_NUMBERS {
         return 3;
     }
     let r = interp::run_eager(sheet, start, calls, depth, enforce != 0, cells, posts);
@@ -69,7 +70,7 @@ pub fn lazy(
         (run (now (sheet .entry)) (requestOf lazyRunner (enforces enforce) (now (start .entry)) calls depth)
         (buffersOf (now (cells .entry)) (now (posts .entry)) (now (frames .entry)))) ⌝ }
 {
-    if answer.len() < 8 {
+    if answer.len() < ANSWER_NUMBERS {
         return 3;
     }
     let r = interp::run_lazy(

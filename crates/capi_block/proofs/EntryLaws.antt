@@ -7,12 +7,12 @@ use lib.ListN.{length}
 use mir.Val.{boolByte}
 use Rattle.semantics.specs.Runs.{Buffers}
 use Rattle.interp.specs.Answers.{buffersOf}
-use Rattle.blocks.specs.Block.{Reading, readOf, raised}
+use Rattle.blocks.specs.Block.{blockBytes, Reading, readOf, raised}
 use Rattle.blocks.specs.Answers.{accessModel}
 use Rattle.registers.specs.Writes.{writeOf}
 use Rattle.registers.specs.Answers.{writtenModel}
 use Rattle.registers.specs.declared.Written.{Written}
-use Rattle.replies.specs.Replies.{unfit, written, notDone, left}
+use Rattle.replies.specs.Replies.{answerNumbers, unfit, written, notDone, left}
 use Rattle.replies.specs.Laws.{fit, in-place}
 use Rattle.capi_block.specs.Blocks.{accessed, readReply, accessReply, blockRead, leftBlock, afterWrite, blockWrite}
 use Rattle.replies.specs.Internal.{replyOf, Put}
@@ -25,11 +25,11 @@ replied-by status cause byte false = refl
 
 module _ (block answer : List ℕ) where
   -- ---- nothing is done
-  pub read-away : (a : ℕ) → unfit 16 8 block answer ≡ true → left 3 answer ≡ blockRead block a answer
-  read-away a e = λ i. cond (sym e i) (notDone answer) (written (readReply (readOf block a) (raised block)) answer)
+  pub short-read : (a : ℕ) → unfit blockBytes answerNumbers block answer ≡ true → left 3 answer ≡ blockRead block a answer
+  short-read a e = λ i. cond (sym e i) (notDone answer) (written (readReply (readOf block a) (raised block)) answer)
 
-  pub write-away : (a v : ℕ) (s : List ℕ) (b : Buffers) → unfit 16 8 block answer ≡ true → leftBlock 3 answer block b ≡ blockWrite block a v s b answer
-  write-away a v s b e = λ i. cond (sym e i) (leftBlock 3 answer block b) (afterWrite answer (writeOf block a v s b))
+  pub short-write : (a v : ℕ) (s : List ℕ) (b : Buffers) → unfit blockBytes answerNumbers block answer ≡ true → leftBlock 3 answer block b ≡ blockWrite block a v s b answer
+  short-write a v s b e = λ i. cond (sym e i) (leftBlock 3 answer block b) (afterWrite answer (writeOf block a v s b))
 
   -- ---- the access is done
   module _ (size : length block ≡ 16) (room : 8 ≤ length answer) {loaded : List ℕ} (load : loaded ≡ block) {x : Reply} {status : ℕ} {after : List ℕ}

@@ -3,9 +3,9 @@ use mathlib.Core.Bool.{Bool, cond}
 use mathlib.Core.List.{List, [], _∷_}
 use Prim.Native.Nat.{ℕ}
 use Rattle.semantics.specs.Runs.{Buffers}
-use Rattle.blocks.specs.Block.{Reading, read-byte, read-refused, Access, access-done, access-refused, readOf, raised}
+use Rattle.blocks.specs.Block.{blockBytes, Reading, read-byte, read-refused, Access, access-done, access-refused, readOf, raised}
 use Rattle.registers.specs.Writes.{Written, writeOf}
-use Rattle.replies.specs.Replies.{Reply, bit, unfit, written, notDone, left}
+use Rattle.replies.specs.Replies.{Reply, bit, answerNumbers, unfit, written, notDone, left}
 
 -- a cause and its place, whether the interrupt is raised after the access, and the byte read; a run's own answer stands in the block
 abbrev pub accessed : (status cause place : ℕ) (raised : Bool) (byte : ℕ) → Reply
@@ -21,7 +21,7 @@ accessReply (access-refused c p) r = accessed 2 c p r 0
 
 -- A block of another length than 16, or a short list: 3; nothing is done, and nothing is written anywhere.
 abbrev pub blockRead : (block : List ℕ) (address : ℕ) (answer : List ℕ) → Reply
-blockRead block a answer = cond (unfit 16 8 block answer) (notDone answer) (written (readReply (readOf block a) (raised block)) answer)
+blockRead block a answer = cond (unfit blockBytes answerNumbers block answer) (notDone answer) (written (readReply (readOf block a) (raised block)) answer)
 
 -- what a write returned and left
 pub record BlockLeft : Type 0 where
@@ -36,5 +36,5 @@ abbrev pub afterWrite : (answer : List ℕ) → Written → BlockLeft
 afterWrite answer w = record { reply = written (accessReply (w .access) (raised (w .block))) answer; block = w .block; buffers = w .buffers }
 
 abbrev pub blockWrite : (block : List ℕ) (address value : ℕ) (s : List ℕ) → Buffers → (answer : List ℕ) → BlockLeft
-blockWrite block a v s b answer = cond (unfit 16 8 block answer) (record { reply = notDone answer; block = block; buffers = b })
+blockWrite block a v s b answer = cond (unfit blockBytes answerNumbers block answer) (record { reply = notDone answer; block = block; buffers = b })
     (afterWrite answer (writeOf block a v s b))

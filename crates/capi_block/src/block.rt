@@ -1,21 +1,23 @@
 // A register block between a caller's list of bytes and the block by value, and the replies to its accesses.
 ghost use mathlib.Core.Path.{_≡_};
 ghost use lib.ListN.{length};
+ghost use Rattle.blocks.specs.Block.{blockBytes};
 ghost use Rattle.blocks.specs.Answers.{readModel, accessModel};
 ghost use Rattle.capi_block.specs.Blocks.{accessed as accessedOf, readReply, accessReply};
 ghost use Rattle.replies.specs.Internal.{replyOf};
 use blocks::block::Access;
+use blocks::block::BLOCK_BYTES;
 use blocks::block::Block;
 use blocks::block::Read;
 use replies::Reply;
 
 pub fn load(block: &[u8]) -> Block
-    requires { ⌜ length (now block) ≡ 16 ⌝ }
+    requires { ⌜ length (now block) ≡ blockBytes ⌝ }
     ensures { λ r. ⌜ r .bytes ≡ now (block .entry) ⌝ }
 {
-    let mut bytes = [0; 16];
+    let mut bytes = [0; BLOCK_BYTES];
     let mut i = 0;
-    while i < 16 {
+    while i < BLOCK_BYTES {
         bytes[i] = block[i];
         i += 1;
     }
@@ -23,12 +25,12 @@ pub fn load(block: &[u8]) -> Block
 }
 
 pub fn save(b: Block, block: &mut [u8])
-    requires { ⌜ length (now block) ≡ 16 ⌝ }
+    requires { ⌜ length (now block) ≡ blockBytes ⌝ }
     ensures { λ _. ⌜ now (block .exit) ≡ b .bytes ⌝ }
 {
     let bytes = b.bytes;
     let mut i = 0;
-    while i < 16 {
+    while i < BLOCK_BYTES {
         block[i] = bytes[i];
         i += 1;
     }

@@ -11,16 +11,18 @@ use block::load;
 use block::of_access;
 use block::of_read;
 use block::save;
+use blocks::block::BLOCK_BYTES;
+use replies::ANSWER_NUMBERS;
 use replies::put;
 
 // A register's byte.
 pub fn read(block: &[u8], address: u32, answer: &mut [u32]) -> u32
     ensures { λ r. ⌜ left r (now (answer .exit)) ≡ blockRead (now (block .entry)) address (now (answer .entry)) ⌝ }
 {
-    if block.len() != 16 {
+    if block.len() != BLOCK_BYTES {
         return 3;
     }
-    if answer.len() < 8 {
+    if answer.len() < ANSWER_NUMBERS {
         return 3;
     }
     let b = load(block);
@@ -42,10 +44,10 @@ pub fn write(
         ≡ blockWrite (now (block .entry)) address value (now (sheet .entry)) (buffersOf (now (cells .entry)) (now (posts .entry)) [])
         (now (answer .entry)) ⌝ }
 {
-    if block.len() != 16 {
+    if block.len() != BLOCK_BYTES {
         return 3;
     }
-    if answer.len() < 8 {
+    if answer.len() < ANSWER_NUMBERS {
         return 3;
     }
     let old = load(block);

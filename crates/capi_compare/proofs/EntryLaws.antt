@@ -17,7 +17,7 @@ use Rattle.replies.specs.Internal.{replyOf, Put}
 use Rattle.replies.specs.Laws as replies
 use Rattle.replies.specs.declared.Reply.{Reply}
 use Rattle.capi_compare.specs.Entries.{comparisonReply, long, compareCall}
-use Rattle.capi_compare.specs.Internal.{Told}
+use Rattle.capi_compare.specs.Internal.{FewEntries}
 
 module _ (u o answer : List ℕ) where
   -- ---- a record is too long: it has more bytes than the largest number of 32 bits tells
@@ -36,13 +36,13 @@ module _ (u o answer : List ℕ) where
         (replied answer (comparisonReply (comparison u o)))
 
     pub few-numbers : length answer < 8 → left 3 answer ≡ compareCall u o answer
-    few-numbers l = replies.away answer l (comparisonReply (comparison u o)) ∙ held
+    few-numbers l = replies.short-answer answer l (comparisonReply (comparison u o)) ∙ held
 
     -- ---- the number is one of entries
-    pub told : (x : Comparison) → comparisonModel x ≡ comparison u o → Told x
-    told (Fits m) e = omega (arith, fits-exactly u o m .0 (sym e) .1 .missing-is, trace-length o)
-    told (Diverges k) e = omega (arith, diverges-exactly u o k .0 (sym e) .1 .an-entry, trace-length u)
-    told Malformed e = omega arith
+    pub few-entries : (x : Comparison) → comparisonModel x ≡ comparison u o → FewEntries x
+    few-entries (Fits m) e = omega (arith, fits-exactly u o m .0 (sym e) .1 .missing-is, trace-length o)
+    few-entries (Diverges k) e = omega (arith, diverges-exactly u o k .0 (sym e) .1 .an-entry, trace-length u)
+    few-entries Malformed e = omega arith
 
     pub given : 8 ≤ length answer → (x : Comparison) → comparisonModel x ≡ comparison u o → {r : Reply} → replyOf r ≡ comparisonReply (comparisonModel x)
         → {status : ℕ} {after : List ℕ} → Put r answer status after → left status after ≡ compareCall u o answer

@@ -10,5 +10,5 @@ entries (Diverges k) = k
 entries Malformed = 0
 
 -- it fits into 32 bits
-abbrev pub Told : Comparison → Type 0
-Told x = entries x < 4294967296
+abbrev pub FewEntries : Comparison → Type 0
+FewEntries x = entries x < 4294967296

@@ -5,8 +5,9 @@ ghost use Rattle.compare.specs.Answers.{comparisonModel};
 ghost use Rattle.replies.specs.Replies.{left};
 ghost use Rattle.replies.specs.Internal.{replyOf};
 ghost use Rattle.capi_compare.specs.Entries.{comparedReply, comparisonReply, compareCall};
-ghost use Rattle.capi_compare.specs.Internal.{Told};
+ghost use Rattle.capi_compare.specs.Internal.{FewEntries};
 use compare::answer::Comparison;
+use replies::ANSWER_NUMBERS;
 use replies::Reply;
 use replies::put;
 
@@ -22,14 +23,14 @@ pub fn compare(unit: &[u8], office: &[u8], answer: &mut [u32]) -> u32
     if MAX_RECORD < office.len() {
         return 3;
     }
-    if answer.len() < 8 {
+    if answer.len() < ANSWER_NUMBERS {
         return 3;
     }
     let x = compare::compare(unit, office);
     put(of_comparison(x), answer)
 }
 
-fn told(fits: u32, entries: usize) -> Reply
+fn compared_reply(fits: u32, entries: usize) -> Reply
     requires { ⌜ entries < 4294967296 ⌝ }
     ensures { λ r. ⌜ replyOf r ≡ comparedReply fits entries ⌝ }
 {
@@ -40,12 +41,12 @@ fn told(fits: u32, entries: usize) -> Reply
 }
 
 fn of_comparison(x: Comparison) -> Reply
-    requires { ⌜ Told x ⌝ }
+    requires { ⌜ FewEntries x ⌝ }
     ensures { λ r. ⌜ replyOf r ≡ comparisonReply (comparisonModel x) ⌝ }
 {
     match x {
-        Comparison::Fits(missing) => told(1, missing),
-        Comparison::Diverges(entry) => told(0, entry),
+        Comparison::Fits(missing) => compared_reply(1, missing),
+        Comparison::Diverges(entry) => compared_reply(0, entry),
         Comparison::Malformed => Reply {
             status: 2,
             numbers: [34, 0, 0, 0, 0, 0, 0, 0],

@@ -17,11 +17,11 @@ use Rattle.replies.specs.Internal.{replyOf, Put}
 use Rattle.replies.specs.Laws.{in-place}
 use Rattle.replies.specs.declared.Reply.{Reply}
 use Rattle.typing.specs.Places.{Placed, placedNumber, rootOf}
-use Rattle.explain.specs.Explaining.{next, onward, chain, chainOf, Explained as ExplainedOf, traced, tracedIn, explainedBy, explanation}
-use Rattle.explain.specs.Answers.{answerModel, chainTerms, padded, chainLength, Told}
-use Rattle.explain.specs.declared.answer.Explanation.{Explanation}
-use Rattle.explain.specs.declared.answer.Explanation.the-variants.{Chain, NotNeeded, Unreadable, Refused, NoPrivilege}
-use Rattle.explain.specs.declared.answer.Explained.{Explained}
+use Rattle.chains.specs.Explaining.{next, onward, chain, chainOf, Explained as ExplainedOf, explainedIf, explainedIn, explainedBy, explanation}
+use Rattle.chains.specs.Answers.{answerModel, chainTerms, padded, chainLength, ExplainedAs}
+use Rattle.chains.specs.declared.answer.Explanation.{Explanation}
+use Rattle.chains.specs.declared.answer.Explanation.the-variants.{Chain, NotNeeded, Unreadable, Refused, NoPrivilege}
+use Rattle.chains.specs.declared.answer.Explained.{Explained}
 use Rattle.capi_explain.specs.Entries.{chainReply, explainReply, chainAfter, leftExplain, explainLeft, narrow, explainCall}
 use Rattle.capi_explain.specs.Internal.{Listed, replyFor, listAfter}
 
@@ -40,7 +40,7 @@ explained-short : (s : List ℕ) (p : ℕ) → length (chainTerms (explanation s
 unfolding explanation chainOf
 explained-short s p = by-verdict (verdict s)
   where
-    by-need : (b : Bool) → length (chainTerms (traced s p b)) ≤ maxNesting
+    by-need : (b : Bool) → length (chainTerms (explainedIf s p b)) ≤ maxNesting
     by-need true =
         omega (
           arith,
@@ -49,7 +49,7 @@ explained-short s p = by-verdict (verdict s)
         )
     by-need false = omega arith
 
-    by-number : (N : ℕ) (b : Bool) → length (chainTerms (tracedIn s p N b)) ≤ maxNesting
+    by-number : (N : ℕ) (b : Bool) → length (chainTerms (explainedIn s p N b)) ≤ maxNesting
     by-number N true = by-need (has p N)
     by-number N false = omega arith
 
@@ -57,7 +57,7 @@ explained-short s p = by-verdict (verdict s)
     by-verdict (accepted n τ N) = by-number N (leb p 31)
     by-verdict (rejected c at) = omega arith
 
-pub listed : (s : List ℕ) (p : ℕ) (r : Explained) → Told r (explanation s p) → Listed (r .answer)
+pub listed : (s : List ℕ) (p : ℕ) (r : Explained) → ExplainedAs r (explanation s p) → Listed (r .answer)
 listed s p r h = omega (arith, h .length-is, explained-short s p)
 
 -- ---- the reply and the list, by the answer
@@ -83,8 +83,8 @@ kept terms chain e h = h ∙ sym (ap (λ (a : Explanation). listAfter a terms ch
 
 -- ---- the entry
 module _ (s : List ℕ) (p : ℕ) (chain answer : List ℕ) where
-  pub away : narrow chain answer ≡ true → leftExplain 3 answer chain ≡ explainCall s p chain answer
-  away e = λ i. cond (sym e i) (leftExplain 3 answer chain) (explainLeft answer chain (explanation s p))
+  pub short-answer : narrow chain answer ≡ true → leftExplain 3 answer chain ≡ explainCall s p chain answer
+  short-answer e = λ i. cond (sym e i) (leftExplain 3 answer chain) (explainLeft answer chain (explanation s p))
 
   pub few-places : length chain < maxNesting → narrow chain answer ≡ true
   few-places h = ap (λ (b : Bool). b || short answer) (lt-ltb (length chain) maxNesting h)
@@ -95,19 +95,19 @@ module _ (s : List ℕ) (p : ℕ) (chain answer : List ℕ) where
   wide : maxNesting ≤ length chain → 8 ≤ length answer → narrow chain answer ≡ false
   wide h g = λ i. le-ltb (length chain) maxNesting h i || le-ltb (length answer) 8 g i
 
-  pub given : maxNesting ≤ length chain → 8 ≤ length answer → (r : Explained) → Told r (explanation s p) → {chain′ : List ℕ}
+  pub given : maxNesting ≤ length chain → 8 ≤ length answer → (r : Explained) → ExplainedAs r (explanation s p) → {chain′ : List ℕ}
       → chain′ ≡ listAfter (r .answer) (r .terms) chain → {x : Reply} → replyOf x ≡ replyFor (r .answer) → {status : ℕ} {after : List ℕ}
       → Put x answer status after → leftExplain status after chain′ ≡ explainCall s p chain answer
-  given h g r told {chain′ = chain′} f e put =
+  given h g r explains {chain′ = chain′} f e put =
       (λ i. record { reply = in-place answer g (e ∙ reply-by (r .terms) (r .answer) as-long) put i; chain = list-after i })
-      ∙ ap (explainLeft answer chain) (told .answer-is)
+      ∙ ap (explainLeft answer chain) (explains .answer-is)
       ∙ (λ i. cond (sym (wide h g) i) (leftExplain 3 answer chain) (explainLeft answer chain (explanation s p)))
     where
       as-long : chainLength (r .answer) ≡ length (chainTerms (answerModel (r .answer) (r .terms)))
-      as-long = told .length-is ∙ sym (ap (λ (x : ExplainedOf). length (chainTerms x)) (told .answer-is))
+      as-long = explains .length-is ∙ sym (ap (λ (x : ExplainedOf). length (chainTerms x)) (explains .answer-is))
 
       as-terms : r .terms ≡ padded (chainTerms (answerModel (r .answer) (r .terms)))
-      as-terms = told .terms-are ∙ sym (ap (λ (x : ExplainedOf). padded (chainTerms x)) (told .answer-is))
+      as-terms = explains .terms-are ∙ sym (ap (λ (x : ExplainedOf). padded (chainTerms x)) (explains .answer-is))
 
       list-after : chain′ ≡ chainAfter (answerModel (r .answer) (r .terms)) chain
       list-after = f ∙ list-by (r .terms) chain (r .answer) as-terms

@@ -6,8 +6,8 @@ use lib.Dec.{ltb}
 use lib.ListN.{length, drop}
 use Rattle.program.specs.Limits.{maxNesting}
 use Rattle.replies.specs.Replies.{Reply, refusal, short, written, notDone, left}
-use Rattle.explain.specs.Explaining.{Explained, explained, not-needed, refused, explanation}
-use Rattle.explain.specs.Answers.{padded}
+use Rattle.chains.specs.Explaining.{Explained, explained, not-needed, refused, explanation}
+use Rattle.chains.specs.Answers.{padded}
 
 -- how many terms the chain has, 0 if the privilege is not needed; or the refusal's cause and place
 abbrev pub chainReply : (terms : ℕ) → Reply

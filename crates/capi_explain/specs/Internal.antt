@@ -6,9 +6,9 @@ use Rattle.program.specs.Limits.{maxNesting}
 use Rattle.program.specs.Answers.{decodingCause, decodingPlace}
 use Rattle.typing.specs.Answers.{faultCause, faultPlace}
 use Rattle.replies.specs.Replies.{Reply, refusal}
-use Rattle.explain.specs.declared.answer.Explanation.{Explanation}
-use Rattle.explain.specs.declared.answer.Explanation.the-variants.{Chain, NotNeeded, Unreadable, Refused, NoPrivilege}
-use Rattle.explain.specs.Answers.{chainLength}
+use Rattle.chains.specs.declared.answer.Explanation.{Explanation}
+use Rattle.chains.specs.declared.answer.Explanation.the-variants.{Chain, NotNeeded, Unreadable, Refused, NoPrivilege}
+use Rattle.chains.specs.Answers.{chainLength}
 use Rattle.capi_explain.specs.Entries.{chainReply}
 
 -- a chain has at most 32 terms

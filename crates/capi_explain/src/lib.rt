@@ -7,22 +7,21 @@ ghost use Rattle.program.specs.Limits.{maxNesting};
 ghost use Rattle.replies.specs.Internal.{replyOf};
 ghost use Rattle.capi_explain.specs.Entries.{chainReply, explainCall, leftExplain};
 ghost use Rattle.capi_explain.specs.Internal.{Listed, replyFor, listAfter};
-use explain::answer::Explanation;
+use chains::answer::Explanation;
+use program::limits::NESTING_PLACES;
+use replies::ANSWER_NUMBERS;
 use replies::Reply;
 use replies::put;
 use replies::refused;
-
-// Places of a chain: no sheet is nested deeper.
-pub const CHAIN_PLACES: usize = 32;
 
 pub fn explain(sheet: &[u8], privilege: u32, chain: &mut [u16], answer: &mut [u32]) -> u32
     ensures { λ r. ⌜ leftExplain r (now (answer .exit)) (now (chain .exit))
         ≡ explainCall (now (sheet .entry)) privilege (now (chain .entry)) (now (answer .entry)) ⌝ }
 {
-    if chain.len() < CHAIN_PLACES {
+    if chain.len() < NESTING_PLACES {
         return 3;
     }
-    if answer.len() < 8 {
+    if answer.len() < ANSWER_NUMBERS {
         return 3;
     }
     let e = explain::explain(sheet, privilege);
@@ -59,7 +58,7 @@ fn of_explained(x: Explanation) -> Reply
 }
 
 // Writes the terms of a chain, or zeros where there is none. A refusal leaves the list.
-fn keep(x: Explanation, terms: [u16; CHAIN_PLACES], chain: &mut [u16])
+fn keep(x: Explanation, terms: [u16; NESTING_PLACES], chain: &mut [u16])
     requires { ⌜ maxNesting ≤ length (now chain) ⌝ }
     ensures { λ _. ⌜ now (chain .exit) ≡ listAfter x terms (now (chain .entry)) ⌝ }
 {
@@ -72,12 +71,12 @@ fn keep(x: Explanation, terms: [u16; CHAIN_PLACES], chain: &mut [u16])
     }
 }
 
-fn copy(terms: [u16; CHAIN_PLACES], chain: &mut [u16])
+fn copy(terms: [u16; NESTING_PLACES], chain: &mut [u16])
     requires { ⌜ maxNesting ≤ length (now chain) ⌝ }
     ensures { λ _. ⌜ now (chain .exit) ≡ terms ++ drop maxNesting (now (chain .entry)) ⌝ }
 {
     let mut i = 0;
-    while i < CHAIN_PLACES {
+    while i < NESTING_PLACES {
         chain[i] = terms[i];
         i += 1;
     }

@@ -16,12 +16,12 @@ use Rattle.capi_lean.specs.Entries.{eraseReply, leftErase, eraseLeft, er
 
 module _ (s b answer : List ℕ) where
   -- the list for the answer is too short
-  pub away : length answer < 8 → leftErase 3 answer b ≡ eraseCall s b answer
-  away h = λ i. cond (sym (lt-ltb (length answer) 8 h) i) (leftErase 3 answer b) (eraseLeft answer (erasure s b))
+  pub short-answer : length answer < 8 → leftErase 3 answer b ≡ eraseCall s b answer
+  short-answer h = λ i. cond (sym (lt-ltb (length answer) 8 h) i) (leftErase 3 answer b) (eraseLeft answer (erasure s b))
 
   -- it holds the reply
   pub given : 8 ≤ length answer → (r : Erased) {b′ : List ℕ} → after r b′ ≡ erasure s b → {x : Reply} → replyOf x ≡ eraseReply (erasedModel r)
       → {status : ℕ} {answer′ : List ℕ} → Put x answer status answer′ → leftErase status answer′ b′ ≡ eraseCall s b answer
-  given h r {b′ = b′} told e put =
-      (λ i. record { reply = in-place answer h e put i; buffer = b′ }) ∙ ap (eraseLeft answer) told
+  given h r {b′ = b′} left-is e put =
+      (λ i. record { reply = in-place answer h e put i; buffer = b′ }) ∙ ap (eraseLeft answer) left-is
       ∙ (λ i. cond (sym (le-ltb (length answer) 8 h) i) (leftErase 3 answer b) (eraseLeft answer (erasure s b)))

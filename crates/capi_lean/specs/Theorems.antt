@@ -22,7 +22,7 @@ pub record Lean (s buffer : List ℕ) (length : ℕ) (after : List ℕ) : Type 0
 
 -- what the status tells: 0, and entry 3 is the length; 2, and entries 0 and 1 are the cause and the place of a refusal, which is the judge's, 32 or 33. Any
 -- other than 0 leaves the buffer.
-pub record Told (s buffer : List ℕ) (status : ℕ) (x : EraseLeft) : Type 0 where
+pub record StatusMeans (s buffer : List ℕ) (status : ℕ) (x : EraseLeft) : Type 0 where
   pub wrote-lean : status ≡ 0 → Lean s buffer (entry x 3) (x .buffer)
   pub refused-for : status ≡ 2 → Refused s buffer (entry x 0) (entry x 1)
   pub untouched : (status ≡ 0 → ⊥) → x .buffer ≡ buffer
@@ -31,26 +31,26 @@ module _ (s b answer : List ℕ) where
   numbers-at : (a : Answer) → erasure s b .answer ≡ a → (i : ℕ) → entry (eraseLeft answer (erasure s b)) i ≡ getD (eraseReply a .numbers ++ drop 8 answer) i 0
   numbers-at a e i = ap (λ (x : Answer). getD (eraseReply x .numbers ++ drop 8 answer) i 0) e
 
-  told-answer : (a : Answer) → erasure s b .answer ≡ a → Told s b (eraseReply a .status) (eraseLeft answer (erasure s b))
-  told-answer (lean n) e = record {
+  answer-status : (a : Answer) → erasure s b .answer ≡ a → StatusMeans s b (eraseReply a .status) (eraseLeft answer (erasure s b))
+  answer-status (lean n) e = record {
     wrote-lean = λ h. subst (λ (k : ℕ). Lean s b k (erasure s b .buffer)) (sym (numbers-at (lean n) e 3))
         (record { bytes = wrote s b n e; sheet = written-sheet s b n e });
     refused-for = λ h. absurd (omega (arith, h));
     untouched = λ h. absurd (h refl);
   }
-  told-answer (refused c p) e = record {
+  answer-status (refused c p) e = record {
     wrote-lean = λ h. absurd (omega (arith, h));
     refused-for = λ h. subst₂ (Refused s b) (sym (numbers-at (refused c p) e 0)) (sym (numbers-at (refused c p) e 1)) (refused-exactly s b c p .0 e);
     untouched = λ h. refused-untouched s b c p e;
   }
 
-  away : Told s b 3 (record { reply = notDone answer; buffer = b })
-  away = record { wrote-lean = λ h. absurd (omega (arith, h)); refused-for = λ h. absurd (omega (arith, h)); untouched = λ h. refl }
+  short-answer : StatusMeans s b 3 (record { reply = notDone answer; buffer = b })
+  short-answer = record { wrote-lean = λ h. absurd (omega (arith, h)); refused-for = λ h. absurd (omega (arith, h)); untouched = λ h. refl }
 
-  pub told : Told s b (eraseCall s b answer .reply .status) (eraseCall s b answer)
-  told = go (short answer)
+  pub status-means : StatusMeans s b (eraseCall s b answer .reply .status) (eraseCall s b answer)
+  status-means = go (short answer)
     where
-      go : (k : Bool) → Told s b (cond k (record { reply = notDone answer; buffer = b }) (eraseLeft answer (erasure s b)) .reply .status)
+      go : (k : Bool) → StatusMeans s b (cond k (record { reply = notDone answer; buffer = b }) (eraseLeft answer (erasure s b)) .reply .status)
           (cond k (record { reply = notDone answer; buffer = b }) (eraseLeft answer (erasure s b)))
-      go true = away
-      go false = told-answer (erasure s b .answer) refl
+      go true = short-answer
+      go false = answer-status (erasure s b .answer) refl

@@ -6,6 +6,7 @@ ghost use Rattle.erasure.specs.Answers.{erasedModel};
 ghost use Rattle.capi_lean.specs.Entries.{eraseReply, eraseCall, leftErase};
 use erasure::answer::Erased;
 use numbers::Code;
+use replies::ANSWER_NUMBERS;
 use replies::Reply;
 use replies::put;
 use replies::refused;
@@ -14,7 +15,7 @@ pub fn erase(sheet: &[u8], lean: &mut [u8], answer: &mut [u32]) -> u32
     ensures { λ r. ⌜ leftErase r (now (answer .exit)) (now (lean .exit))
         ≡ eraseCall (now (sheet .entry)) (now (lean .entry)) (now (answer .entry)) ⌝ }
 {
-    if answer.len() < 8 {
+    if answer.len() < ANSWER_NUMBERS {
         return 3;
     }
     put(of_erased(lean::erase(sheet, lean)), answer)

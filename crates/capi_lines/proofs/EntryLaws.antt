@@ -13,7 +13,7 @@ use Rattle.replies.specs.Laws.{fit, in-place, run-eight, in-nine}
 use Rattle.replies.specs.declared.Reply.{Reply}
 use Rattle.queues.specs.Queues.{Job, State, addOf}
 use Rattle.lines.specs.Serving as serving
-use Rattle.lines.specs.Serving.{Told, idle, told, serveOf}
+use Rattle.lines.specs.Serving.{ServeAnswer, idle, answered, serveOf}
 use Rattle.queues.specs.Answers.{linesModel, additionModel, addedModel}
 use Rattle.lines.specs.Answers.{answerModel, servedModel}
 use Rattle.lines.specs.Theorems.{served-few}
@@ -38,11 +38,11 @@ kept-served before s e h = h ∙ sym (ap (λ (a : answers.Answer). servedState (
 
 -- ---- nothing is done
 module _ (state answer store : List ℕ) where
-  pub add-away : (l : ℕ) (j : Job) → unfit stateNumbers 8 state answer ≡ true → leftAdd 3 answer state ≡ linesAdd state l j store answer
-  add-away l j e = λ i. cond (sym e i) (leftAdd 3 answer state) (addLeft state answer (addOf (stateRead state) l j store))
+  pub short-add : (l : ℕ) (j : Job) → unfit stateNumbers 8 state answer ≡ true → leftAdd 3 answer state ≡ linesAdd state l j store answer
+  short-add l j e = λ i. cond (sym e i) (leftAdd 3 answer state) (addLeft state answer (addOf (stateRead state) l j store))
 
-  pub serve-away : (b : Buffers) → unfit stateNumbers 9 state answer ≡ true → leftServe 3 answer state b ≡ linesServe state store b answer
-  serve-away b e = λ i. cond (sym e i) (leftServe 3 answer state b) (serveLeft state answer (serveOf (stateRead state) store b))
+  pub short-serve : (b : Buffers) → unfit stateNumbers 9 state answer ≡ true → leftServe 3 answer state b ≡ linesServe state store b answer
+  short-serve b e = λ i. cond (sym e i) (leftServe 3 answer state b) (serveLeft state answer (serveOf (stateRead state) store b))
 
 -- ---- a job is added
 module _ (state answer store : List ℕ) (size : length state ≡ stateNumbers) (room : 8 ≤ length answer) (l : ℕ) (j : Job) (old : Lines)
@@ -57,9 +57,9 @@ module _ (state answer store : List ℕ) (size : length state ≡ stateNumbers) 
       ∙ (λ i. cond (sym (fit stateNumbers 8 state answer size room) i) (leftAdd 3 answer state) (addLeft state answer (addOf (stateRead state) l j store)))
 
 -- ---- a job is served
-reply-eight : (t : Told) → length (serveReply t .numbers) ≡ 8
+reply-eight : (t : ServeAnswer) → length (serveReply t .numbers) ≡ 8
 reply-eight idle = refl
-reply-eight (told a) = run-eight a
+reply-eight (answered a) = run-eight a
 
 module _ (state answer store : List ℕ) (size : length state ≡ stateNumbers) (room : 9 ≤ length answer) (b : Buffers) (old : Lines)
     (load : linesModel old ≡ stateRead state) (r : Served) {cells posts : List ℕ} (e : servedModel r cells posts ≡ serveOf (linesModel old) store b) where

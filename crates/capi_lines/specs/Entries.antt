@@ -1,12 +1,12 @@
 -- What the entries for the four lines return and write: a status, the numbers of the answer, the state, and for a serve the buffers. 02, W6.
 use mathlib.Core.Bool.{cond}
 use mathlib.Core.List.{List, [], _∷_}
-use Prim.Native.Nat.{ℕ}
+use Prim.Native.Nat.{ℕ, _+_}
 use Rattle.program.specs.Screening.{Screening, clear, found}
 use Rattle.semantics.specs.Runs.{Buffers}
-use Rattle.replies.specs.Replies.{Reply, refusal, runReply, unfit, written, writtenNine, notDone, left}
+use Rattle.replies.specs.Replies.{Reply, refusal, runReply, answerNumbers, unfit, written, writtenNine, notDone, left}
 use Rattle.queues.specs.Queues.{Job, State, Added, addOf}
-use Rattle.lines.specs.Serving.{Told, idle, told, Served, serveOf}
+use Rattle.lines.specs.Serving.{ServeAnswer, idle, answered, Served, serveOf}
 use Rattle.capi_lines.specs.States.{stateNumbers, stateRead, stateWritten}
 
 -- ---- a job is added
@@ -34,15 +34,15 @@ addLeft state answer r = record { reply = written (addReply (r .answer)) answer;
 
 -- A state of another length, or a short list `answer`: 3; nothing is done, and nothing is written anywhere.
 abbrev pub linesAdd : (state : List ℕ) (line : ℕ) → Job → (store answer : List ℕ) → AddLeft
-linesAdd state l j store answer = cond (unfit stateNumbers 8 state answer) (record { reply = notDone answer; state = state })
+linesAdd state l j store answer = cond (unfit stateNumbers answerNumbers state answer) (record { reply = notDone answer; state = state })
     (addLeft state answer (addOf (stateRead state) l j store))
 
 -- ---- a job is served
 
 -- the first eight numbers are those of a run; no line has a job: 4, and zeros
-abbrev pub serveReply : Told → Reply
+abbrev pub serveReply : ServeAnswer → Reply
 serveReply idle = record { status = 4; numbers = 0 ∷ 0 ∷ 0 ∷ 0 ∷ 0 ∷ 0 ∷ 0 ∷ 0 ∷ [] }
-serveReply (told a) = runReply a
+serveReply (answered a) = runReply a
 
 pub record ServeLeft : Type 0 where
   pub reply : Reply
@@ -53,9 +53,9 @@ abbrev pub leftServe : (status : ℕ) (answer state : List ℕ) → Buffers → 
 leftServe status answer state b = record { reply = left status answer; state = state; buffers = b }
 
 -- with no job the state is left
-abbrev pub servedState : Told → (before : List ℕ) → State → List ℕ
+abbrev pub servedState : ServeAnswer → (before : List ℕ) → State → List ℕ
 servedState idle before s = before
-servedState (told a) before s = stateWritten s
+servedState (answered a) before s = stateWritten s
 
 -- the ninth number is the line that was served
 abbrev pub serveLeft : (state answer : List ℕ) → Served → ServeLeft
@@ -67,5 +67,5 @@ serveLeft state answer r = record {
 
 -- the same, and the list `answer` has room for nine
 abbrev pub linesServe : (state store : List ℕ) → Buffers → (answer : List ℕ) → ServeLeft
-linesServe state store b answer = cond (unfit stateNumbers 9 state answer) (record { reply = notDone answer; state = state; buffers = b })
+linesServe state store b answer = cond (unfit stateNumbers (answerNumbers + 1) state answer) (record { reply = notDone answer; state = state; buffers = b })
     (serveLeft state answer (serveOf (stateRead state) store b))

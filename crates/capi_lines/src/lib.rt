@@ -8,6 +8,8 @@ ghost use Rattle.capi_lines.specs.Entries.{linesAdd, leftAdd, linesServe
 pub mod reply;
 pub mod state;
 
+use replies::ANSWER_NUMBERS;
+use replies::LONG_ANSWER;
 use replies::put;
 use reply::of_added;
 use reply::of_served;
@@ -32,7 +34,7 @@ pub fn add(
     if state.len() != STATE_NUMBERS {
         return 3;
     }
-    if answer.len() < 8 {
+    if answer.len() < ANSWER_NUMBERS {
         return 3;
     }
     let old = load(state);
@@ -57,7 +59,7 @@ pub fn serve(
     if state.len() != STATE_NUMBERS {
         return 3;
     }
-    if answer.len() < 9 {
+    if answer.len() < LONG_ANSWER {
         return 3;
     }
     let old = load(state);
@@ -66,6 +68,6 @@ pub fn serve(
     let q = r.lines;
     keep_served(x, q, state);
     let status = put(of_served(x), answer);
-    answer[8] = r.line;
+    answer[ANSWER_NUMBERS] = r.line;
     status
 }

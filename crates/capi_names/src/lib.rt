@@ -6,6 +6,7 @@ ghost use Rattle.irrelevance.specs.Naming.{naming};
 ghost use Rattle.irrelevance.specs.Answers.{namedModel};
 ghost use Rattle.capi_names.specs.Entries.{namesReply};
 use irrelevance::answer::Named;
+use replies::ANSWER_NUMBERS;
 use replies::Reply;
 use replies::put;
 use replies::refused;
@@ -13,7 +14,7 @@ use replies::refused;
 pub fn names(sheet: &[u8], privilege: u32, answer: &mut [u32]) -> u32
     ensures { λ r. ⌜ left r (now (answer .exit)) ≡ replied (now (answer .entry)) (namesReply (naming (now (sheet .entry)) privilege)) ⌝ }
 {
-    if answer.len() < 8 {
+    if answer.len() < ANSWER_NUMBERS {
         return 3;
     }
     put(of_named(naming::names(sheet, privilege)), answer)

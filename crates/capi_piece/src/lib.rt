@@ -5,6 +5,7 @@ ghost use Rattle.replies.specs.Internal.{replyOf};
 ghost use Rattle.capi_piece.specs.Entries.{pieceReply};
 ghost use Rattle.capi_piece.specs.Internal.{Near, replyFor};
 use piece::Located;
+use replies::ANSWER_NUMBERS;
 use replies::Reply;
 use replies::put;
 use replies::refused;
@@ -13,7 +14,7 @@ use subterms::answer::Piece;
 pub fn piece(sheet: &[u8], answer: &mut [u32]) -> u32
     ensures { λ r. ⌜ left r (now (answer .exit)) ≡ replied (now (answer .entry)) (pieceReply (now (sheet .entry))) ⌝ }
 {
-    if answer.len() < 8 {
+    if answer.len() < ANSWER_NUMBERS {
         return 3;
     }
     let x = piece::locate(sheet);

@@ -9,7 +9,7 @@ ghost use Rattle.replies.specs.Replies.{enforces, leftAll};
 ghost use Rattle.replies.specs.Internal.{replyOf};
 ghost use Rattle.ranges.specs.Answers.{truthOf, outcomeModel, rangeRefusalCause, rangeRefusalPlace, rangeModel};
 ghost use Rattle.capi_ranges.specs.Entries.{truthNumber, rangeFinished, rangeReply, rangeCall};
-ghost use Rattle.capi_ranges.specs.Internal.{Uncounted, Tellable};
+ghost use Rattle.capi_ranges.specs.Internal.{Uncounted, ReplyFits};
 use interp::answer::Made;
 use numbers::Code;
 use ranges::answer::Outcome;
@@ -17,6 +17,7 @@ use ranges::answer::RangeRun;
 use ranges::answer::Refusal;
 use ranges::answer::Truth;
 use ranges::answer::Value;
+use replies::ANSWER_NUMBERS;
 use replies::Reply;
 use replies::counted;
 use replies::put;
@@ -66,7 +67,7 @@ fn of_refusal(f: Refusal) -> Code
 }
 
 fn of_run(x: RangeRun) -> Reply
-    requires { ⌜ Tellable x ⌝ }
+    requires { ⌜ ReplyFits x ⌝ }
     ensures { λ r. ⌜ replyOf r ≡ rangeReply (rangeModel x) ⌝ }
 {
     match x {
@@ -91,7 +92,7 @@ pub fn ranges(
         (rangeRun (now (sheet .entry)) (now (pairs .entry)) (requestOf eagerRunner (enforces enforce) (now (start .entry)) calls depth)
         (buffersOf (now (cells .entry)) (now (posts .entry)) [])) ⌝ }
 {
-    if answer.len() < 8 {
+    if answer.len() < ANSWER_NUMBERS {
         return 3;
     }
     let r = ranges::run(

@@ -14,12 +14,12 @@ use Rattle.interp.specs.declared.answer.RecordedRun.{RecordedRun}
 use Rattle.replies.specs.Replies.{runReply, writtenNine, left}
 use Rattle.replies.specs.Laws.{small}
 use Rattle.capi_record.specs.Entries.{leftRecord, recordLeft, recordCall}
-use Rattle.capi_record.specs.Internal.{Tellable}
+use Rattle.capi_record.specs.Internal.{ReplyFits}
 
 module _ (s : List ℕ) (q : Request) (b : Buffers) (t : List ℕ) where
   -- nothing is done
-  pub away : (answer : List ℕ) → length answer < 9 → leftRecord 3 answer b t ≡ recordCall answer b t (recording s q b t)
-  away answer h = λ i. cond (sym (lt-ltb (length answer) 9 h) i) (leftRecord 3 answer b t) (recordLeft answer (recording s q b t))
+  pub short-answer : (answer : List ℕ) → length answer < 9 → leftRecord 3 answer b t ≡ recordCall answer b t (recording s q b t)
+  short-answer answer h = λ i. cond (sym (lt-ltb (length answer) 9 h) i) (leftRecord 3 answer b t) (recordLeft answer (recording s q b t))
 
   -- a run, with its record
   module _ (r : RecordedRun) {cells posts frames noted : List ℕ} (e : afterRecording r cells posts frames noted ≡ recording s q b t) where
@@ -27,14 +27,14 @@ module _ (s : List ℕ) (q : Request) (b : Buffers) (t : List ℕ) where
     few : r .entries < 4294967296
     few = omega (arith, ap (λ (x : Recorded). x .entries) e, record-holds s q b t .as-many, decisions-few s q b)
 
-    pub tellable : Tellable r
+    pub reply-fits : ReplyFits r
     unfolding recording
-    tellable = record { counts-small = small s q b (r .run) (ap (λ (x : Recorded). x .after .answer) e); entries-small = few }
+    reply-fits = record { counts-small = small s q b (r .run) (ap (λ (x : Recorded). x .after .answer) e); entries-small = few }
 
-    pub told : (answer : List ℕ) → 9 ≤ length answer → {status : ℕ} {after : List ℕ}
+    pub nine-written : (answer : List ℕ) → 9 ≤ length answer → {status : ℕ} {after : List ℕ}
         → left status after ≡ writtenNine (runReply (runModel (r .run))) (r .entries) answer
         → leftRecord status after (buffersOf cells posts frames) noted ≡ recordCall answer b t (recording s q b t)
-    told answer h p =
+    nine-written answer h p =
         (λ i. record { reply = p i; buffers = buffersOf cells posts frames; noted = noted })
         ∙ ap (recordLeft answer) e
         ∙ (λ i. cond (sym (le-ltb (length answer) 9 h) i) (leftRecord 3 answer b t) (recordLeft answer (recording s q b t)))

@@ -6,11 +6,11 @@ use Rattle.replies.specs.Internal.{Small}
 use Rattle.interp.specs.declared.answer.RecordedRun.{RecordedRun}
 
 -- the counts and the number of entries fit into 32 bits
-pub record Tellable (r : RecordedRun) : Type 0 where
+pub record ReplyFits (r : RecordedRun) : Type 0 where
   pub counts-small : Small (r .run)
   pub entries-small : r .entries < 4294967296
 
 -- and there is room for the nine numbers of an answer
-pub record TellableIn (r : RecordedRun) (answer : List ℕ) : Type 0 where
-  pub tellable : Tellable r
+pub record ReplyFitsIn (r : RecordedRun) (answer : List ℕ) : Type 0 where
+  pub reply-fits : ReplyFits r
   pub room : 9 ≤ length answer

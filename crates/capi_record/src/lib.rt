@@ -6,19 +6,21 @@ ghost use Rattle.semantics.specs.Recording.{recording};
 ghost use Rattle.interp.specs.Answers.{runModel, requestOf, buffersOf};
 ghost use Rattle.replies.specs.Replies.{runReply, writtenNine, enforces, left};
 ghost use Rattle.capi_record.specs.Entries.{recordCall, leftRecord};
-ghost use Rattle.capi_record.specs.Internal.{TellableIn};
+ghost use Rattle.capi_record.specs.Internal.{ReplyFitsIn};
 use interp::answer::RecordedRun;
+use replies::ANSWER_NUMBERS;
+use replies::LONG_ANSWER;
 use replies::of_run;
 use replies::put;
 
 // Writes the nine numbers and gives the status.
-fn tell(r: RecordedRun, answer: &mut [u32]) -> u32
-    requires { ⌜ TellableIn r (now answer) ⌝ }
+fn put_nine(r: RecordedRun, answer: &mut [u32]) -> u32
+    requires { ⌜ ReplyFitsIn r (now answer) ⌝ }
     ensures { λ status. ⌜ left status (now (answer .exit)) ≡ writtenNine (runReply (runModel (r .run))) (r .entries) (now (answer .entry)) ⌝ }
 {
     let run = r.run;
     let status = put(of_run(run), answer);
-    answer[8] = r.entries as u32;
+    answer[ANSWER_NUMBERS] = r.entries as u32;
     status
 }
 
@@ -39,7 +41,7 @@ pub fn eager(
         (recording (now (sheet .entry)) (requestOf eagerRunner (enforces enforce) (now (start .entry)) calls depth)
         (buffersOf (now (cells .entry)) (now (posts .entry)) []) (now (noted .entry))) ⌝ }
 {
-    if answer.len() < 9 {
+    if answer.len() < LONG_ANSWER {
         return 3;
     }
     let r = interp::record_eager(
@@ -52,7 +54,7 @@ pub fn eager(
         posts,
         noted,
     );
-    tell(r, answer)
+    put_nine(r, answer)
 }
 
 // A run that walks the frames of a store of 6,496 numbers.
@@ -73,7 +75,7 @@ pub fn lazy(
         (recording (now (sheet .entry)) (requestOf lazyRunner (enforces enforce) (now (start .entry)) calls depth)
         (buffersOf (now (cells .entry)) (now (posts .entry)) (now (frames .entry))) (now (noted .entry))) ⌝ }
 {
-    if answer.len() < 9 {
+    if answer.len() < LONG_ANSWER {
         return 3;
     }
     let r = interp::record_lazy(
@@ -87,5 +89,5 @@ pub fn lazy(
         frames,
         noted,
     );
-    tell(r, answer)
+    put_nine(r, answer)
 }

@@ -5,6 +5,7 @@ ghost use Rattle.replies.specs.Internal.{replyOf};
 ghost use Rattle.subterms.specs.Judging.{judging};
 ghost use Rattle.subterms.specs.Answers.{judgedModel};
 ghost use Rattle.capi_term.specs.Entries.{termReply};
+use replies::ANSWER_NUMBERS;
 use replies::Reply;
 use replies::put;
 use replies::refused;
@@ -13,10 +14,10 @@ use subterms::answer::Judged;
 pub fn term(sheet: &[u8], term: u32, answer: &mut [u32]) -> u32
     ensures { λ r. ⌜ left r (now (answer .exit)) ≡ replied (now (answer .entry)) (termReply (judging (now (sheet .entry)) term)) ⌝ }
 {
-    if answer.len() < 8 {
+    if answer.len() < ANSWER_NUMBERS {
         return 3;
     }
-    put(of_judged(judging::judge(sheet, term)), answer)
+    put(of_judged(judging::judgement(sheet, term)), answer)
 }
 
 fn of_judged(j: Judged) -> Reply

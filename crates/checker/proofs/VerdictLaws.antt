@@ -5,7 +5,7 @@ use Prim.Native.Nat.{ℕ, _-_, _<_, _≤_}
 use native.Mathlib.Omega.{arith}
 use borrow.Author.Tests.{lt-ltb, le-ltb}
 use Rattle.program.specs.Layout.{terms, root}
-use Rattle.program.specs.Screening.{Screening, clear}
+use Rattle.program.specs.Screening.{Screening, clear, unlessFound}
 use Rattle.program.specs.Decoding.{decoding}
 use Rattle.program.specs.Answers.{decodingCause, decodingPlace, decodedModel, Counted}
 use Rattle.program.specs.declared.answer.Refusal.{Refusal}
@@ -14,7 +14,7 @@ use Rattle.program.specs.declared.answer.Decoded.the-variants.{Readable, Refuse
 use Rattle.program.specs.declared.records.Counts.{Counts}
 use Rattle.program.specs.Laws.Readable.{well-formed}
 use Rattle.typing.specs.Checking.{Judgement}
-use Rattle.typing.specs.Verdicts.{Verdict, accepted, rejected, concluded, ifReadable, judgement, verdict}
+use Rattle.typing.specs.Verdicts.{Verdict, accepted, rejected, concluded, judgement, verdict}
 use Rattle.typing.specs.Answers.{faultCause, faultPlace}
 use Rattle.subtyping.specs.Internal.{Sheet}
 use Rattle.rules.specs.Inference.{inferredModel, termJudgement, Ready}
@@ -62,13 +62,13 @@ module _ {s : List ℕ} {c : Counts} (S : Sheet s c) where
 
 pub verdict-is : {s : List ℕ} {c : Counts} → ReadableSheet s c → {r : Verdict} → r ≡ concluded (terms s) (root s) (judgement s) → r ≡ verdict s
 unfolding verdict
-verdict-is {s} R q = q ∙ ap (λ (x : Screening). ifReadable x λ _. concluded (terms s) (root s) (judgement s)) (sym (R .readable))
+verdict-is {s} R q = q ∙ ap (λ (x : Screening). unlessFound rejected x λ _. concluded (terms s) (root s) (judgement s)) (sym (R .readable))
 
 -- ---- the reader's answer
 module _ (s : List ℕ) {d : Decoded} (p : decodedModel d ≡ decoding s) where
   pub unreadable-is : {f : Refusal} → d ≡ Refused f → rejected (decodingCause f) (decodingPlace f) ≡ verdict s
   unfolding verdict
-  unreadable-is e = ap (λ (x : Screening). ifReadable x λ _. concluded (terms s) (root s) (judgement s)) (sym (ap decodedModel e) ∙ p)
+  unreadable-is e = ap (λ (x : Screening). unlessFound rejected x λ _. concluded (terms s) (root s) (judgement s)) (sym (ap decodedModel e) ∙ p)
 
   module _ {c : Counts} (e : d ≡ Readable c) where
     readable : decoding s ≡ clear

@@ -3,6 +3,7 @@ pub mod infer;
 
 use crate::infer::infer;
 use program::answer::Decoded;
+use program::limits::NESTING_PLACES;
 use program::records::Counts;
 use rules::bindings::Bindings;
 use subtyping::known::KNOWN_WORDS;
@@ -35,7 +36,7 @@ pub fn typecheck_readable(s: &[u8], c: Counts) -> Verdict
     let terms = c.terms;
     let root = terms - 1;
     let none = Bindings {
-        types: [0; 32],
+        types: [0; NESTING_PLACES],
         len: 0,
     };
     let mut known: Known = [0; KNOWN_WORDS];

@@ -15,11 +15,11 @@ use Rattle.program.specs.Laws.Screening.{first-found, none-screen, first-left}
 use Rattle.program.specs.Answers.{decodingCause, decodingPlace}
 use Rattle.accessors.specs.Internal.{Laid}
 use Rattle.headers.specs.Internal.{HeaderIs}
-use Rattle.tables.specs.Internal.{foundOf}
+use Rattle.program.specs.Search.{foundOf}
 use Rattle.decoder.specs.Answers.{DecodedAs}
 use Rattle.program.specs.declared.answer.Decoded.{Decoded}
-use Rattle.tables.specs.declared.search.Found.{Found}
-use Rattle.tables.specs.declared.search.Found.the-variants.{At, Nothing}
+use Rattle.program.specs.declared.search.Found.{Found}
+use Rattle.program.specs.declared.search.Found.the-variants.{At, Nothing}
 use Rattle.program.specs.declared.answer.Refusal.{Refusal}
 use Rattle.program.specs.declared.records.Counts.{Counts}
 use Rattle.headers.specs.declared.Header.{Header}

@@ -14,7 +14,7 @@ use Rattle.program.specs.Layout.{terms, termAt, root, kindByte, first, second, 
 use Rattle.program.specs.Formats.{Part, isChild, Kind, Boolean, Number, Variable, Function, Letrec, Call, If, Check, Enable, Sign, Test, Sum, Difference, Less, Post, kindOf, format}
 use Rattle.program.specs.Decoding.{formatAt, termOk, counts, timesIn, timesBelow, isSign, signedBody, placedOk, parent}
 use Rattle.accessors.specs.Internal.{Laid, TermInside, term-inside}
-use Rattle.tables.specs.Internal.{childrenOf, shapeIf, shapeAt}
+use Rattle.termrecords.specs.Internal.{childrenOf, shapeIf, shapeAt}
 use Rattle.decoder.specs.Internal.{TermsOk, TableTerm, linkStep, Linked, linkTimes, one, among, LinkedAll, ChildrenBelow, linkOf, Links}
 use Rattle.program.specs.Records.{termAtByte, termRecord}
 use Rattle.program.specs.Laws.Screening.{lowest-none}
@@ -23,8 +23,8 @@ use Rattle.program.specs.Laws.Records.{term-laid}
 use Rattle.program.specs.Laws.Trees.{Below, below-of}
 use Rattle.program.specs.declared.records.Counts.{Counts as TableCounts}
 use Rattle.program.specs.declared.records.TermRecord.{TermRecord}
-use Rattle.tables.specs.declared.terms.Shape.{Shape}
-use Rattle.tables.specs.declared.terms.Shape.the-variants.{Leaf, One, Two, Three, Function as FunctionShape, Letrec as LetrecShape, Wrong}
+use Rattle.termrecords.specs.declared.Shape.{Shape}
+use Rattle.termrecords.specs.declared.Shape.the-variants.{Leaf, One, Two, Three, Function as FunctionShape, Letrec as LetrecShape, Wrong}
 
 -- ---- one store
 stored : (l : List ℕ) (x v : ℕ) → x < length l → (y : ℕ) → getD (set l x v) y 0 ≡ cond (eqb x y) v (getD l y 0)

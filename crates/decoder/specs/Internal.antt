@@ -13,8 +13,8 @@ use Rattle.program.specs.Screening.{lowest}
 use Rattle.program.specs.Decoding.{typeOk, termOk, timesBelow, placedOk, parent, nestedIn}
 use Rattle.program.specs.declared.records.Counts.{Counts}
 use Rattle.accessors.specs.Internal.{Laid}
-use Rattle.tables.specs.declared.terms.Shape.{Shape}
-use Rattle.tables.specs.declared.terms.Shape.the-variants.{Leaf, One, Two, Three, Function as FunctionShape, Letrec as LetrecShape, Wrong}
+use Rattle.termrecords.specs.declared.Shape.{Shape}
+use Rattle.termrecords.specs.declared.Shape.the-variants.{Leaf, One, Two, Three, Function as FunctionShape, Letrec as LetrecShape, Wrong}
 
 -- ---- what has been sought and not found
 pub record TypesOk (s : List ℕ) : Type 0 where

@@ -4,12 +4,12 @@ ghost use Rattle.program.specs.Limits.{maxChannels};
 ghost use Rattle.program.specs.Screening.{lowest};
 ghost use Rattle.program.specs.Decoding.{guardOk};
 ghost use Rattle.accessors.specs.Internal.{Laid};
-ghost use Rattle.tables.specs.Internal.{foundOf};
+ghost use Rattle.program.specs.Search.{foundOf};
 use accessors::guard;
 use program::limits::MAX_CHANNELS;
 use program::limits::NO_GUARD;
 use program::records::Counts;
-use tables::search::Found;
+use program::search::Found;
 
 // The lowest channel whose guard is neither a privilege nor none. A sheet of version 1 has no guards, so that none is found.
 pub fn bad_guard(s: &[u8], c: Counts) -> Found

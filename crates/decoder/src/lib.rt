@@ -14,7 +14,7 @@ use program::answer::Decoded;
 use program::answer::Refusal;
 use program::limits::TERM_PLACES;
 use program::records::Counts;
-use tables::search::Found;
+use program::search::Found;
 
 // The guards of a sheet whose terms are right.
 fn guarded(s: &[u8], c: Counts) -> Decoded
@@ -57,9 +57,9 @@ fn tables(s: &[u8], c: Counts) -> Decoded
     requires { ⌜ Laid (now s) c ⌝ }
     ensures { λ r. ⌜ DecodedAs (now (s .entry)) (screen (tableConditions (now (s .entry)))) r ⌝ }
 {
-    match tables::types::bad_type(s, c) {
+    match typerecords::bad_type(s, c) {
         Found::At(t) => Decoded::Refused(Refusal::BadType(t)),
-        Found::Nothing => match tables::terms::bad_term(s, c) {
+        Found::Nothing => match termrecords::bad_term(s, c) {
             Found::At(t) => Decoded::Refused(Refusal::BadTerm(t)),
             Found::Nothing => placed(s, c),
         },

@@ -3,13 +3,16 @@ ghost use mathlib.Core.Path.{_≡_};
 ghost use Prim.Native.Nat.{_≤_};
 ghost use Rattle.program.specs.Limits.{maxTerms};
 ghost use Rattle.program.specs.Screening.{lowest};
-ghost use Rattle.tables.specs.Internal.{foundOf};
+ghost use Rattle.program.specs.Search.{foundOf};
 ghost use Rattle.decoder.specs.Internal.{ParentList, Nested, shallowEnough};
 use program::limits::MAX_NESTING;
 use program::limits::TERM_PLACES;
-use tables::search::Found;
+use program::search::Found;
 
-// Each term's nesting, held at 33. A parent has a higher number than its child, so that one pass from the root down gives all of it.
+// Where a nesting that is too deep is held.
+const TOO_DEEP: u8 = MAX_NESTING + 1;
+
+// Each term's nesting, held there where it is too deep. A parent has a higher number than its child, so that one pass from the root down gives all of it.
 pub fn nestings(parents: &[u16; TERM_PLACES], n: u16) -> [u8; TERM_PLACES]
     requires { ⌜ ParentList (now parents) n ⌝ }
     ensures { λ r. ⌜ Nested (now (parents .entry)) r n 0 ⌝ }
@@ -21,10 +24,10 @@ pub fn nestings(parents: &[u16; TERM_PLACES], n: u16) -> [u8; TERM_PLACES]
         t -= 1;
         let p = parents[t] as usize;
         let d = deep[p];
-        if d < 33 {
+        if d < TOO_DEEP {
             deep[t] = d + 1;
         } else {
-            deep[t] = 33;
+            deep[t] = TOO_DEEP;
         }
     }
     deep

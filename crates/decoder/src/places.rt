@@ -7,14 +7,14 @@ ghost use lib.ListN.{length};
 ghost use Rattle.program.specs.Layout.{second, terms};
 ghost use Rattle.program.specs.Screening.{lowest};
 ghost use Rattle.program.specs.Decoding.{formatAt, isSign, signedBody, placedOk};
-ghost use Rattle.tables.specs.Internal.{foundOf};
+ghost use Rattle.program.specs.Search.{foundOf};
 ghost use Rattle.decoder.specs.Internal.{Tables, TableTerm, Linked, ChildrenBelow, LinkedAll, Links, LinkedTables, LinkedTerm};
 use accessors::table_term;
 use program::limits::TERM_PLACES;
 use program::records::Counts;
-use tables::search::Found;
-use tables::terms::Shape;
-use tables::terms::shape_at;
+use program::search::Found;
+use termrecords::Shape;
+use termrecords::shape_at;
 
 // Notes t as the parent of x. A parent has a higher number than its child, so that 0 stands for none, and 65535 for more than one.
 fn link(parents: &mut [u16], x: u16, t: u16)

@@ -6,7 +6,7 @@ use Prim.Native.Nat.{ℕ}
 use lib.ListN.{replicate}
 use Rattle.privileges.specs.Sets.{has, meet, union, insert, remove, subset}
 use Rattle.program.specs.Limits.{maxCalls, maxDepth}
-use Rattle.program.specs.Screening.{tell, screen}
+use Rattle.program.specs.Screening.{refuseAt, screen}
 use Rattle.program.specs.Decoding.{decoding}
 use Rattle.typing.specs.Subtyping.{subtypeIn, subtype, wider}
 use Rattle.typing.specs.Rules.{removeAuthorised}
@@ -15,7 +15,7 @@ use Rattle.typing.specs.Verdicts.{accepted, verdict}
 use Rattle.semantics.specs.Meaning.{evalWith, apply, eval}
 use Rattle.semantics.specs.Access.{addAuthorised}
 use Rattle.semantics.specs.Runs.{Buffers, sizes, course, ended, stopped, ground-num, ran}
-use Rattle.soundness.specs.Cases.{Case, deciding, due, request, counted, both, observed, observedBy, largest, told}
+use Rattle.soundness.specs.Cases.{Case, deciding, due, request, counted, both, observed, observedBy, largest, as-due}
 use Rattle.erasure.specs.Kept.{keptBelow, gather}
 use Rattle.erasure.specs.Lean.{heads, head, keptType, newTypes, newType, keptTerm, innerIn, inner, newTerms, newTerm, leanSheet, untested, erasable}
 use Rattle.erasure.specs.Erasure.{Answer, refused, lean, After, erasure}
@@ -132,37 +132,37 @@ pub data Erasing : Type 0 where
 abbrev pub dueOf : Erasing → After
 dueOf (erasing s b a after) = record { answer = a; buffer = after }
 
-unfoldable pub toldOf : Erasing → After
-toldOf (erasing s b a after) = erasure s b
+unfoldable pub erasureOf : Erasing → After
+erasureOf (erasing s b a after) = erasure s b
 
 -- a buffer of so many bytes, none of them zero
-abbrev lent : ℕ → List ℕ
-lent n = replicate n 9
+abbrev filled : ℕ → List ℕ
+filled n = replicate n 9
 
 unfoldable pub erasures : List Erasing
 unfolding printed printedLean nested nestedLean tested guards
 erasures =
     -- "The answer tells the new sheet's length, and bytes of the lent buffer after it are untouched."
-    erasing (printed 1 2 []) (lent 64) (lean 62) (printedLean ++ lent 2)
-    ∷ erasing (printed 1 2 []) (lent 62) (lean 62) printedLean
-    ∷ erasing nested (lent 157) (lean 156) (nestedLean ++ lent 1)
+    erasing (printed 1 2 []) (filled 64) (lean 62) (printedLean ++ filled 2)
+    ∷ erasing (printed 1 2 []) (filled 62) (lean 62) printedLean
+    ∷ erasing nested (filled 157) (lean 156) (nestedLean ++ filled 1)
     -- the lean sheet of a lean sheet is the sheet itself
-    ∷ erasing nestedLean (lent 156) (lean 156) nestedLean
+    ∷ erasing nestedLean (filled 156) (lean 156) nestedLean
     -- "a buffer shorter than the new sheet 33"
-    ∷ erasing (printed 1 2 []) (lent 61) (refused 33 0) (lent 61)
+    ∷ erasing (printed 1 2 []) (filled 61) (refused 33 0) (filled 61)
     ∷ erasing (printed 1 2 []) [] (refused 33 0) []
     -- "a test or version 2 is 32", before 33
-    ∷ erasing tested (lent 100) (refused 32 0) (lent 100)
+    ∷ erasing tested (filled 100) (refused 32 0) (filled 100)
     ∷ erasing tested [] (refused 32 0) []
-    ∷ erasing (printed 2 2 guards) (lent 100) (refused 32 0) (lent 100)
+    ∷ erasing (printed 2 2 guards) (filled 100) (refused 32 0) (filled 100)
     -- "The judge's refusals come first"
-    ∷ erasing (printed 1 0 []) (lent 100) (refused 11 4) (lent 100)
+    ∷ erasing (printed 1 0 []) (filled 100) (refused 11 4) (filled 100)
     ∷ erasing (printed 2 0 guards) [] (refused 11 4) []
     ∷ erasing [] [] (refused 1 0) [] ∷ []
 
-pub erased-cases : map toldOf erasures ≡ map dueOf erasures
-unfolding erasures toldOf erasure leanSheet heads head keptType newTypes newType keptTerm innerIn inner newTerms newTerm untested erasable keptBelow
-    gather verdict decoding screen tell infer subtype subtypeIn wider removeAuthorised has meet union insert remove subset
+pub erased-cases : map erasureOf erasures ≡ map dueOf erasures
+unfolding erasures erasureOf erasure leanSheet heads head keptType newTypes newType keptTerm innerIn inner newTerms newTerm untested erasable keptBelow
+    gather verdict decoding screen refuseAt infer subtype subtypeIn wider removeAuthorised has meet union insert remove subset
 erased-cases = refl
 
 -- ---- both sheets, judged and run: "accepted with type unchanged and no needs"; "a stop tells the old term's new number"
@@ -184,10 +184,10 @@ bothSheets =
     ++ both nestedLean (request [] maxCalls 1) (ran (stopped 19 6) (counted 1 1 0)) []
 
 computed : map (observedBy largest) bothSheets ≡ map due bothSheets
-unfolding bothSheets observedBy verdict decoding screen tell infer subtype subtypeIn wider removeAuthorised course eval apply evalWith addAuthorised
+unfolding bothSheets observedBy verdict decoding screen refuseAt infer subtype subtypeIn wider removeAuthorised course eval apply evalWith addAuthorised
     has meet union insert remove subset
 computed = refl
 
 -- with buffers of the largest lengths, whatever they hold
 pub both-sheets : (b : Buffers) → sizes b ≡ largest → map (observed b) bothSheets ≡ map due bothSheets
-both-sheets = told bothSheets computed
+both-sheets = as-due bothSheets computed

@@ -92,12 +92,12 @@ never-longer s n τ N e = lean-shorter s (well-formed s (acceptance s n τ N e .
 -- A refusal leaves the buffer as it was. Otherwise the sheet was accepted, of version 1 and without tests; its lean sheet stands in the buffer, as long as
 -- is told, and the bytes after it are untouched.
 pub record Wrote (s buffer after : List ℕ) (n : ℕ) : Type 0 where
-  pub terms-told : ℕ
+  pub old-terms : ℕ
   pub type : ℕ
   pub needs : ℕ
-  pub old-accepted : verdict s ≡ accepted terms-told type needs
+  pub old-accepted : verdict s ≡ accepted old-terms type needs
   pub old-erasable : erasable s ≡ true
-  pub length-told : n ≡ length (leanSheet s)
+  pub length-is : n ≡ length (leanSheet s)
   pub fits : n ≤ length buffer
   pub written-is : take n after ≡ leanSheet s
   pub rest-untouched : drop n after ≡ drop n buffer
@@ -105,70 +105,70 @@ pub record Wrote (s buffer after : List ℕ) (n : ℕ) : Type 0 where
 
 -- the cause of each refusal: the judge's, then 32, then 33
 pub data Refused (s buffer : List ℕ) : (cause place : ℕ) → Type 0 where
-  by-judge : {c p : ℕ} → verdict s ≡ rejected c p → Refused s buffer c p
+  by-checker : {c p : ℕ} → verdict s ≡ rejected c p → Refused s buffer c p
   not-erasable : (n τ N : ℕ) → verdict s ≡ accepted n τ N → erasable s ≡ false → Refused s buffer 32 0
   no-room : (n τ N : ℕ) → verdict s ≡ accepted n τ N → erasable s ≡ true → length buffer < length (leanSheet s) → Refused s buffer 33 0
 
-abbrev Told : (s buffer : List ℕ) → Answer → (after : List ℕ) → Type 0
-Told s b (refused c p) after = Refused s b c p × (after ≡ b)
-Told s b (lean n) after = Wrote s b after n
+abbrev AnswerMeans : (s buffer : List ℕ) → Answer → (after : List ℕ) → Type 0
+AnswerMeans s b (refused c p) after = Refused s b c p × (after ≡ b)
+AnswerMeans s b (lean n) after = Wrote s b after n
 
 module _ (s b : List ℕ) where
   abbrev room : Bool
   room = leb (length (leanSheet s)) (length b)
 
-  told-room : (n τ N : ℕ) → verdict s ≡ accepted n τ N → erasable s ≡ true → (k : Bool) → room ≡ k
-      → Told s b (ifRoom k (leanSheet s) b .answer) (ifRoom k (leanSheet s) b .buffer)
-  told-room n τ N e h true g =
+  room-means : (n τ N : ℕ) → verdict s ≡ accepted n τ N → erasable s ≡ true → (k : Bool) → room ≡ k
+      → AnswerMeans s b (ifRoom k (leanSheet s) b .answer) (ifRoom k (leanSheet s) b .buffer)
+  room-means n τ N e h true g =
       let l : length (leanSheet s) ≤ length b = leb-true (length (leanSheet s)) (length b) g in
       record {
-        terms-told = n;
+        old-terms = n;
         type = τ;
         needs = N;
         old-accepted = e;
         old-erasable = h;
-        length-told = refl;
+        length-is = refl;
         fits = l;
         written-is = take-append-seam (leanSheet s) _;
         rest-untouched = drop-append-seam (leanSheet s) _;
         same-length = length-append (leanSheet s) _ ∙ omega (arith, length-drop (length (leanSheet s)) b);
       }
-  told-room n τ N e h false g = (no-room n τ N e h (leb-false (length (leanSheet s)) (length b) g), refl)
+  room-means n τ N e h false g = (no-room n τ N e h (leb-false (length (leanSheet s)) (length b) g), refl)
 
-  told-erasable : (n τ N : ℕ) → verdict s ≡ accepted n τ N → (k : Bool) → erasable s ≡ k
-      → Told s b (ifErasable k room (leanSheet s) b .answer) (ifErasable k room (leanSheet s) b .buffer)
-  told-erasable n τ N e true h = told-room n τ N e h room refl
-  told-erasable n τ N e false h = (not-erasable n τ N e h, refl)
+  erasable-means : (n τ N : ℕ) → verdict s ≡ accepted n τ N → (k : Bool) → erasable s ≡ k
+      → AnswerMeans s b (ifErasable k room (leanSheet s) b .answer) (ifErasable k room (leanSheet s) b .buffer)
+  erasable-means n τ N e true h = room-means n τ N e h room refl
+  erasable-means n τ N e false h = (not-erasable n τ N e h, refl)
 
-  told-verdict : (v : Verdict) → verdict s ≡ v → Told s b (erased v s b .answer) (erased v s b .buffer)
-  told-verdict (accepted n τ N) e = told-erasable n τ N e (erasable s) refl
-  told-verdict (rejected c p) e = (by-judge e, refl)
+  verdict-means : (v : Verdict) → verdict s ≡ v → AnswerMeans s b (erased v s b .answer) (erased v s b .buffer)
+  verdict-means (accepted n τ N) e = erasable-means n τ N e (erasable s) refl
+  verdict-means (rejected c p) e = (by-checker e, refl)
 
-  told : Told s b (erasure s b .answer) (erasure s b .buffer)
+  answer-means : AnswerMeans s b (erasure s b .answer) (erasure s b .buffer)
   unfolding erasure
-  told = told-verdict (verdict s) refl
+  answer-means = verdict-means (verdict s) refl
 
-  abbrev toldAs : (a : Answer) → erasure s b .answer ≡ a → Told s b a (erasure s b .buffer)
-  toldAs a e = subst (λ (x : Answer). Told s b x (erasure s b .buffer)) e told
+  abbrev answerMeansAs : (a : Answer) → erasure s b .answer ≡ a → AnswerMeans s b a (erasure s b .buffer)
+  answerMeansAs a e = subst (λ (x : Answer). AnswerMeans s b x (erasure s b .buffer)) e answer-means
 
   -- "The judge's refusals come first, then a test or version 2 is 32 and a buffer shorter than the new sheet 33, and the buffer is untouched by any of them."
   pub refused-exactly : (c p : ℕ) → (erasure s b .answer ≡ refused c p) ↔ Refused s b c p
   unfolding erasure
-  refused-exactly c p = (λ e. toldAs (refused c p) e .0, back)
+  refused-exactly c p = (λ e. answerMeansAs (refused c p) e .0, back)
     where
       back : {c p : ℕ} → Refused s b c p → erasure s b .answer ≡ refused c p
-      back (by-judge e) = λ i. erased (e i) s b .answer
+      back (by-checker e) = λ i. erased (e i) s b .answer
       back (not-erasable n τ N e h) = (λ i. erased (e i) s b .answer) ∙ λ i. ifErasable (h i) room (leanSheet s) b .answer
       back (no-room n τ N e h l) =
           (λ i. erased (e i) s b .answer) ∙ (λ i. ifErasable (h i) room (leanSheet s) b .answer)
           ∙ λ i. ifRoom (lt-leb (length (leanSheet s)) (length b) l i) (leanSheet s) b .answer
 
   pub refused-untouched : (c p : ℕ) → erasure s b .answer ≡ refused c p → erasure s b .buffer ≡ b
-  refused-untouched c p e = toldAs (refused c p) e .1
+  refused-untouched c p e = answerMeansAs (refused c p) e .1
 
   -- "The answer tells the new sheet's length, and bytes of the lent buffer after it are untouched."
   pub wrote : (n : ℕ) → erasure s b .answer ≡ lean n → Wrote s b (erasure s b .buffer) n
-  wrote n e = toldAs (lean n) e
+  wrote n e = answerMeansAs (lean n) e
 
 -- So the sheet that stands in the buffer has all that Theorem 1 says.
 pub written-sheet : (s b : List ℕ) (n : ℕ) → (e : erasure s b .answer ≡ lean n)
@@ -176,7 +176,7 @@ pub written-sheet : (s b : List ℕ) (n : ℕ) → (e : erasure s b .answer ≡ 
 written-sheet s b n e =
     let r = wrote s b n e in
     subst (λ (new : List ℕ). LeanOf s new (r .type) (r .needs)) (sym (r .written-is))
-    (lean-sheet s (r .terms-told) (r .type) (r .needs) (r .old-accepted) (r .old-erasable))
+    (lean-sheet s (r .old-terms) (r .type) (r .needs) (r .old-accepted) (r .old-erasable))
 
 -- ---- Theorem 3: the new numbers
 -- "Type records that become equal are merged into the first of them, and types and terms keep their old order." `typeBytes s t` is what the record of t

@@ -13,9 +13,9 @@ use lib.ListN.{length, getD, set}
 use lib.Seq.{getD-set-other}
 use borrow.Author.Tests.{eq-eqb, ne-eqb, le-leb, lt-leb, lt-ltb, le-ltb}
 use Rattle.stores.specs.Words.{pick, booleanWord, intervalWord, functionWord, stopWord, sortOf, payloadOf, envOf, isStop}
-use Rattle.machine.specs.Table.{wordKind, wordSmall, wordFirst, wordSecond, wordThird, wordGuard}
+use Rattle.termtable.specs.Table.{wordKind, wordSmall, wordFirst, wordSecond, wordThird, wordGuard}
 use Rattle.stores.specs.Cells.{lookOf, Bound}
-use Rattle.stores.specs.Access.{enableAccess, enableFrames, enabledNow, restoreFrames}
+use Rattle.access.specs.Access.{enableAccess, enableFrames, enabledNow, restoreFrames}
 use Rattle.machine.specs.Steps.{callsLeft, cellsMade, postsMade, modeOf, saturatedMade, operateSaturates, wrapped, countSaturated, operateCounters, Operated, noteCounters, Guard, guardDecides, postCause, postCounters, Appended}
 use Rattle.machine.specs.Store.{Store, Done, storeOf, doneOf, withFrames, andThen, Runs, Applier, Shape, childless, call, if, enable, binary, post, shapeOf, leafOf, hasRoom, ownCell, callS, branchS, ifS, restored, enableS, operateDone, binaryS, postDone, postS, byShape, begin, step, below, applyAt, evalAt}
 use Rattle.machine.specs.Lower.{evaluatesFirst, evaluatesSecond, evaluatesThird, readsPrivilege, readsGuard, Lower}

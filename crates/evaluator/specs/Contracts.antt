@@ -8,7 +8,7 @@ use lib.ListN.{length, getD}
 use denote.Ref.{RefT}
 use Rattle.program.specs.Limits.{maxTerms}
 use Rattle.stores.specs.Words.{pick}
-use Rattle.machine.specs.Table.{wordKind, wordSecond}
+use Rattle.termtable.specs.Table.{wordKind, wordSecond}
 use Rattle.machine.specs.Lower.{Lower}
 use Rattle.machine.specs.Steps.{callsLeft}
 use Rattle.machine.specs.Enter.{Enterable}

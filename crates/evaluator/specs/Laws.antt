@@ -19,7 +19,7 @@ use Rattle.program.specs.Laws.Guards.{channel-below, guard-low}
 use Rattle.program.specs.Laws.Records.{term-is, term-none, guard-is}
 use Rattle.program.specs.Laws.Trees.{below, parts}
 use Rattle.stores.specs.Words.{pick}
-use Rattle.machine.specs.Table.{wordKind, wordGuard, Plain, Holds, Decoded}
+use Rattle.termtable.specs.Table.{wordKind, wordGuard, Plain, Holds, Decoded}
 use Rattle.machine.specs.Steps.{Guard}
 use Rattle.machine.specs.Store.{shapeOf}
 use Rattle.machine.specs.Lower.{evaluatesFirst, evaluatesSecond, evaluatesThird, readsPrivilege, readsGuard, Lower}

@@ -8,18 +8,17 @@ use machine::enter::enter;
 use machine::steps::append;
 use machine::steps::choose;
 use machine::steps::operate;
-use machine::table::first_of;
-use machine::table::kind_of;
-use machine::table::second_of;
-use machine::table::small_of;
-use machine::table::third_of;
-use machine::table::word_at;
 use program::limits::TERM_PLACES;
-use stores::access;
 use stores::cells::bind;
 use stores::cells::look;
 use stores::cells::next_cell;
 use stores::words;
+use termtable::first_of;
+use termtable::kind_of;
+use termtable::second_of;
+use termtable::small_of;
+use termtable::third_of;
+use termtable::word_at;
 
 // Evaluates term t.
 pub fn eval(

@@ -10,49 +10,50 @@ use borrow.Author.Tests.{lt-leb, le-leb}
 use Rattle.privileges.specs.Sets.{has}
 use Rattle.program.specs.Limits.{maxNesting}
 use Rattle.program.specs.Layout.{terms, root, authority, typesOf}
-use Rattle.program.specs.Screening.{Screening, clear, found}
+use Rattle.program.specs.Screening.{Screening, clear, found, unlessFound}
 use Rattle.program.specs.Decoding.{decoding}
 use Rattle.program.specs.Answers.{decodingCause, decodingPlace}
 use Rattle.program.specs.declared.answer.Refusal.{Refusal}
 use Rattle.program.specs.declared.records.Counts.{Counts}
 use Rattle.typing.specs.Checking.{Judgement, typed, fault}
-use Rattle.typing.specs.Verdicts.{Verdict, accepted, rejected, concluded, ifReadable, judgement, verdict}
+use Rattle.typing.specs.Verdicts.{Verdict, accepted, rejected, concluded, judgement, verdict}
 use Rattle.typing.specs.Answers.{faultCause, faultPlace, verdictModel}
 use Rattle.typing.specs.declared.answer.Fault.{Fault}
 use Rattle.typing.specs.declared.answer.Verdict.{Verdict as VerdictAnswer}
 use Rattle.typing.specs.declared.answer.Verdict.the-variants as answer
 use Rattle.subtyping.specs.Internal.{Sheet}
 use Rattle.typing.specs.Places.{placedNumber, rootOf}
-use Rattle.explain.specs.Explaining.{needing, needs, chainOf, Explained as ExplainedOf, explained, not-needed, refused, tracedIn, explainedBy, explanation}
-use Rattle.explain.specs.Answers.{answerModel, chainTerms, chainLength, Told}
-use Rattle.explain.specs.Internal.{RootNeeds, Traceable, unchained}
-use Rattle.explain.specs.declared.answer.Explanation.{Explanation}
-use Rattle.explain.specs.declared.answer.Explanation.the-variants.{NotNeeded, Unreadable, Refused, NoPrivilege}
-use Rattle.explain.specs.declared.answer.Explained.{Explained}
+use Rattle.chains.specs.Explaining.{needing, needs, chainOf, Explained as ExplainedOf, explained, not-needed, refused, explainedIn, explainedBy, explanation}
+use Rattle.chains.specs.Answers.{answerModel, chainTerms, chainLength, ExplainedAs}
+use Rattle.following.specs.Internal.{RootNeeds, Followable, unchained}
+use Rattle.chains.specs.declared.answer.Explanation.{Explanation}
+use Rattle.chains.specs.declared.answer.Explanation.the-variants.{NotNeeded, Unreadable, Refused, NoPrivilege}
+use Rattle.chains.specs.declared.answer.Explained.{Explained}
 
 -- ---- an answer with no chain
-told-unchained : {r : Explained} (a : Explanation) (e : ExplainedOf) → r ≡ unchained a → answerModel a (replicate maxNesting 0) ≡ e → chainTerms e ≡ []
-    → chainLength a ≡ 0 → Told r e
-told-unchained a e q h k l = rw q (record { answer-is = h; length-is = l ∙ sym (ap length k); terms-are = rw k })
+unchained-as : {r : Explained} (a : Explanation) (e : ExplainedOf) → r ≡ unchained a → answerModel a (replicate maxNesting 0) ≡ e → chainTerms e ≡ []
+    → chainLength a ≡ 0 → ExplainedAs r e
+unchained-as a e q h k l = rw q (record { answer-is = h; length-is = l ∙ sym (ap length k); terms-are = rw k })
 
 -- ---- the verdict on the sheet
-told-by : (s : List ℕ) (p : ℕ) {r : Explained} (v : Verdict) → v ≡ verdict s → Told r (explainedBy s p v) → Told r (explanation s p)
+by-verdict : (s : List ℕ) (p : ℕ) {r : Explained} (v : Verdict) → v ≡ verdict s → ExplainedAs r (explainedBy s p v) → ExplainedAs r (explanation s p)
 unfolding explanation
-told-by s p {r} v e w = subst (λ (v : Verdict). Told r (explainedBy s p v)) e w
+by-verdict s p {r} v e w = subst (λ (v : Verdict). ExplainedAs r (explainedBy s p v)) e w
 
 module _ (s : List ℕ) (p : ℕ) {r : Explained} where
-  pub unreadable-told : {f : Refusal} → r ≡ unchained (Unreadable f) → rejected (decodingCause f) (decodingPlace f) ≡ verdict s → Told r (explanation s p)
-  unreadable-told {f} q e = told-by s p (rejected (decodingCause f) (decodingPlace f)) e (told-unchained (Unreadable f) _ q refl refl refl)
+  pub unreadable-explained : {f : Refusal} → r ≡ unchained (Unreadable f) → rejected (decodingCause f) (decodingPlace f) ≡ verdict s
+      → ExplainedAs r (explanation s p)
+  unreadable-explained {f} q e = by-verdict s p (rejected (decodingCause f) (decodingPlace f)) e (unchained-as (Unreadable f) _ q refl refl refl)
 
   module _ {v : VerdictAnswer} (w : verdictModel v ≡ verdict s) where
-    pub refused-unreadable : {f : Refusal} → v ≡ answer.Unreadable f → r ≡ unchained (Unreadable f) → Told r (explanation s p)
-    refused-unreadable e q = unreadable-told q (ap verdictModel (sym e) ∙ w)
+    pub refused-unreadable : {f : Refusal} → v ≡ answer.Unreadable f → r ≡ unchained (Unreadable f) → ExplainedAs r (explanation s p)
+    refused-unreadable e q = unreadable-explained q (ap verdictModel (sym e) ∙ w)
 
-    pub refused-fault : {f : Fault} → v ≡ answer.Refused f → r ≡ unchained (Refused f) → Told r (explanation s p)
-    refused-fault {f} e q = told-by s p (rejected (faultCause f) (faultPlace f)) (ap verdictModel (sym e) ∙ w) (told-unchained (Refused f) _ q refl refl refl)
+    pub refused-fault : {f : Fault} → v ≡ answer.Refused f → r ≡ unchained (Refused f) → ExplainedAs r (explanation s p)
+    refused-fault {f} e q = by-verdict s p (rejected (faultCause f) (faultPlace f)) (ap verdictModel (sym e) ∙ w) (unchained-as (Refused f) _ q refl refl refl)
 
-    pub accepted-told : {n τ N : ℕ} → v ≡ answer.Accepted n τ N → Told r (tracedIn s p N (leb p 31)) → Told r (explanation s p)
-    accepted-told {n} {τ} {N} e t = told-by s p (accepted n τ N) (ap verdictModel (sym e) ∙ w) t
+    pub accepted-explained : {n τ N : ℕ} → v ≡ answer.Accepted n τ N → ExplainedAs r (explainedIn s p N (leb p 31)) → ExplainedAs r (explanation s p)
+    accepted-explained {n} {τ} {N} e t = by-verdict s p (accepted n τ N) (ap verdictModel (sym e) ∙ w) t
 
 -- the root's needs are those of the verdict
 conclusion-needs : (p n root m τ N : ℕ) (j : Judgement) → accepted m τ N ≡ concluded n root j → needing p j ≡ has p N
@@ -67,7 +68,7 @@ verdict-needs : (s : List ℕ) (p n τ N : ℕ) → accepted n τ N ≡ verdict 
 unfolding verdict needs
 verdict-needs s p n τ N e = go (decoding s) e
   where
-    go : (d : Screening) → accepted n τ N ≡ ifReadable d (λ _. concluded (terms s) (root s) (judgement s)) → needing p (judgement s) ≡ has p N
+    go : (d : Screening) → accepted n τ N ≡ unlessFound rejected d (λ _. concluded (terms s) (root s) (judgement s)) → needing p (judgement s) ≡ has p N
     go clear e = conclusion-needs p (terms s) (root s) n τ N (judgement s) e
     go (found c at) e = let z : _≡_ {A = ℕ} 0 1 = cc in absurd (omega arith)
 
@@ -77,15 +78,15 @@ accepted-needs {s} S {n = n} {τ = τ} {N = N} w e = record { sheet = S; needs-a
 
 -- ---- an accepted sheet with its needs
 module _ (s : List ℕ) (p N : ℕ) {r : Explained} where
-  pub too-high : 31 < p → r ≡ unchained NoPrivilege → Told r (tracedIn s p N (leb p 31))
-  too-high h q = rw (lt-leb p 31 h) (told-unchained NoPrivilege (refused 30 0) q refl refl refl)
+  pub too-high : 31 < p → r ≡ unchained NoPrivilege → ExplainedAs r (explainedIn s p N (leb p 31))
+  too-high h q = rw (lt-leb p 31 h) (unchained-as NoPrivilege (refused 30 0) q refl refl refl)
 
   module _ (h : p ≤ 31) {z : Bool} (e : z ≡ has p N) where
-    pub needed-not : z ≡ false → r ≡ unchained NotNeeded → Told r (tracedIn s p N (leb p 31))
-    needed-not f q = rw (le-leb p 31 h, sym e ∙ f) (told-unchained NotNeeded not-needed q refl refl refl)
+    pub needed-not : z ≡ false → r ≡ unchained NotNeeded → ExplainedAs r (explainedIn s p N (leb p 31))
+    needed-not f q = rw (le-leb p 31 h, sym e ∙ f) (unchained-as NotNeeded not-needed q refl refl refl)
 
-    pub needed : z ≡ true → Told r (explained (map placedNumber (chainOf s p))) → Told r (tracedIn s p N (leb p 31))
+    pub needed : z ≡ true → ExplainedAs r (explained (map placedNumber (chainOf s p))) → ExplainedAs r (explainedIn s p N (leb p 31))
     needed f t = rw (le-leb p 31 h, sym e ∙ f) t
 
-pub needs-traceable : {s : List ℕ} {c : Counts} {N : ℕ} → RootNeeds s c N → {p : ℕ} → p ≤ 31 → {z : Bool} → z ≡ has p N → z ≡ true → Traceable s c p
-needs-traceable w {p} h e f = record { sheet = w .sheet; privilege = omega arith; needing = w .needs-are p ∙ sym e ∙ f }
+pub needs-followable : {s : List ℕ} {c : Counts} {N : ℕ} → RootNeeds s c N → {p : ℕ} → p ≤ 31 → {z : Bool} → z ≡ has p N → z ≡ true → Followable s c p
+needs-followable w {p} h e f = record { sheet = w .sheet; privilege = omega arith; needing = w .needs-are p ∙ sym e ∙ f }

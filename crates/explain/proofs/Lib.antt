@@ -1,4 +1,1 @@
-pub mod CauseLaws
-pub mod NextLaws
-pub mod TraceLaws
 pub mod EntryLaws

@@ -1,24 +1,21 @@
 // Why a sheet needs a privilege: the chain of terms from the root to the cause.
-pub mod answer;
-mod causes;
-mod chain;
-
-use crate::answer::Explained;
-use crate::answer::Explanation;
-use crate::chain::trace;
+use chains::answer::Explained;
+use chains::answer::Explanation;
+use following::chain::follow;
 use program::answer::Decoded;
+use program::limits::NESTING_PLACES;
 use program::records::Counts;
 use typing::answer::Verdict;
 ghost use mathlib.Core.Path.{_≡_};
 ghost use lib.Dec.{leb};
 ghost use Rattle.checker.specs.Internal.{ReadableSheet};
-ghost use Rattle.explain.specs.Explaining.{tracedIn, explanation};
-ghost use Rattle.explain.specs.Answers.{Told};
-ghost use Rattle.explain.specs.Internal.{unchained, RootNeeds};
+ghost use Rattle.chains.specs.Explaining.{explainedIn, explanation};
+ghost use Rattle.chains.specs.Answers.{ExplainedAs};
+ghost use Rattle.following.specs.Internal.{unchained, RootNeeds};
 
 // Why the sheet needs a privilege, on any bytes and any number: the type checker's refusals, then 30, then that it is not needed or the chain.
 pub fn explain(sheet: &[u8], privilege: u32) -> Explained
-    ensures { λ r. ⌜ Told r (explanation (now (sheet .entry)) privilege) ⌝ }
+    ensures { λ r. ⌜ ExplainedAs r (explanation (now (sheet .entry)) privilege) ⌝ }
 {
     let d = decoder::decode(sheet);
     match d {
@@ -30,7 +27,7 @@ pub fn explain(sheet: &[u8], privilege: u32) -> Explained
 // The same of a readable sheet with its counts.
 fn explain_readable(s: &[u8], c: Counts, privilege: u32) -> Explained
     requires { ⌜ ReadableSheet (now s) c ⌝ }
-    ensures { λ r. ⌜ Told r (explanation (now (s .entry)) privilege) ⌝ }
+    ensures { λ r. ⌜ ExplainedAs r (explanation (now (s .entry)) privilege) ⌝ }
 {
     let v = checker::typecheck_readable(s, c);
     match v {
@@ -47,14 +44,14 @@ fn explain_readable(s: &[u8], c: Counts, privilege: u32) -> Explained
 // Why an accepted sheet with these needs has the privilege among them.
 fn explain_needs(s: &[u8], c: Counts, needs: u32, privilege: u32) -> Explained
     requires { ⌜ RootNeeds (now s) c needs ⌝ }
-    ensures { λ r. ⌜ Told r (tracedIn (now (s .entry)) privilege needs (leb privilege 31)) ⌝ }
+    ensures { λ r. ⌜ ExplainedAs r (explainedIn (now (s .entry)) privilege needs (leb privilege 31)) ⌝ }
 {
     if 31 < privilege {
         return without_chain(Explanation::NoPrivilege);
     }
     let p = privilege as u8;
     if privileges::contains(p, needs) {
-        return trace(s, c, p);
+        return follow(s, c, p);
     }
     without_chain(Explanation::NotNeeded)
 }
@@ -64,6 +61,6 @@ fn without_chain(answer: Explanation) -> Explained
 {
     Explained {
         answer: answer,
-        terms: [0; 32],
+        terms: [0; NESTING_PLACES],
     }
 }

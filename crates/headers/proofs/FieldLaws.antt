@@ -120,7 +120,7 @@ more-channels true h = refl
 more-channels false h = absurd (h refl)
 
 abbrev endFor : List ℕ → (guards : Bool) → (at : ℕ) → List Condition
-endFor s b at = cond b (field s at 5 (holds 16 1 1)) [] ++ endAt s (cond b (at + 3 + maxChannels) at)
+endFor s b at = cond b (field s at 5 (holds maxChannels 1 1)) [] ++ endAt s (cond b (at + 3 + maxChannels) at)
 
 module _ (s : List ℕ) {at n : ℕ} (place : at ≡ guardField s) (k : n ≡ channels s) where
   pub plain-end : n ≡ 1 → (r : End) → EndIs (endAt s at) r → EndIs (endConditions s) r
@@ -132,10 +132,10 @@ module _ (s : List ℕ) {at n : ℕ} (place : at ≡ guardField s) (k : n ≡ ch
     guarded : hasGuards s ≡ true
     guarded = more-channels (hasGuards s) (λ e. more (k ∙ e))
 
-    pub fault-5 : {c p : ℕ} → First c p (field s at 5 (holds 16 1 1)) → First c p (endConditions s)
+    pub fault-5 : {c p : ℕ} → First c p (field s at 5 (holds maxChannels 1 1)) → First c p (endConditions s)
     fault-5 {c} {p} f = subst (First c p) (λ i. endFor s (sym guarded i) (place i)) (first-left (endAt s (at + 3 + maxChannels)) f)
 
-    pub guards-end : None (field s at 5 (holds 16 1 1)) → (r : End) → EndIs (endAt s (at + 3 + maxChannels)) r → EndIs (endConditions s) r
+    pub guards-end : None (field s at 5 (holds maxChannels 1 1)) → (r : End) → EndIs (endAt s (at + 3 + maxChannels)) r → EndIs (endConditions s) r
     guards-end n₅ r h =
         subst (λ (cs : List Condition). EndIs cs r) (λ i. endFor s (sym guarded i) (place i)) (end-after (endAt s (at + 3 + maxChannels)) r n₅ h)
 

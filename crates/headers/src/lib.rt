@@ -6,6 +6,7 @@ ghost use Rattle.headers.specs.Internal.{FieldAt, FieldIs, VersionIs, en
 use accessors::be16;
 use program::answer::Refusal;
 use program::limits::CHANNEL_PLACES;
+use program::limits::GUARD_BYTES;
 use program::limits::MAX_CHANNELS;
 use program::limits::MAX_PRINCIPALS;
 use program::limits::MAX_TERMS;
@@ -101,7 +102,7 @@ fn read_end(s: &[u8], at: usize, channels: u8) -> End
     if channels == 1 {
         return ends(s, at);
     }
-    match read_field(s, at, 5, 16, 1, 1) {
+    match read_field(s, at, 5, GUARD_BYTES, 1, 1) {
         Field::Records(_) => ends(s, at + 3 + CHANNEL_PLACES),
         Field::Fault(f) => End::Fault(f),
     }

@@ -10,7 +10,7 @@ use Rattle.privileges.specs.Booleans.{and-left, and-right}
 use Rattle.program.specs.Limits.{maxStart, maxCells, maxPosts, maxCalls, maxDepth}
 use Rattle.program.specs.Layout.{principals}
 use Rattle.program.specs.Records.{CountsOf}
-use Rattle.program.specs.Screening.{Condition, Screening, found, tell, screen, unless}
+use Rattle.program.specs.Screening.{Condition, Screening, found, refuseAt, screen, unless}
 use Rattle.program.specs.Decoding.{decodingConditions, decoding, Readable}
 use Rattle.program.specs.Answers.{decodingCause, decodingPlace, decodedModel, Counted}
 use Rattle.program.specs.Laws.Screening.{screen-clear, screen-found}
@@ -52,19 +52,19 @@ module _ (s start : List ℕ) (cells posts : ℕ) (frames : Bool) (calls depth :
     answered-by = screen-clear (decodingConditions s) _ r ∙ (λ i. screen (callers (start-is i) (sym of-buffers i) (sym of-limits i)))
 
     pub start-refused : a ≡ false → outcome ≡ found 14 0
-    unfolding screen tell
+    unfolding screen refuseAt
     start-refused e = answered-by ∙ (λ i. screen (callers (e i) b d))
 
     pub buffers-refused : a ≡ true → b ≡ false → outcome ≡ found 15 0
-    unfolding screen tell
+    unfolding screen refuseAt
     buffers-refused e f = answered-by ∙ (λ i. screen (callers (e i) (f i) d))
 
     pub limits-refused : a ≡ true → b ≡ true → d ≡ false → outcome ≡ found 16 0
-    unfolding screen tell
+    unfolding screen refuseAt
     limits-refused e f g = answered-by ∙ (λ i. screen (callers (e i) (f i) (g i)))
 
     pub admitted : a ≡ true → b ≡ true → d ≡ true → Cleared s start cells posts frames calls depth c
-    unfolding screen tell
+    unfolding screen refuseAt
     admitted e f g =
         let start-right : startRight (principals s) start ≡ true = start-is ∙ e in
         let buffers-right : (leb cells maxCells && leb posts maxPosts && frames) ≡ true = sym of-buffers ∙ f in

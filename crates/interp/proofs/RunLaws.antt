@@ -25,7 +25,7 @@ use Rattle.traces.specs.Traces.{Event, recorded}
 use Rattle.stores.specs.declared.state.Out.{Out}
 use Rattle.stores.specs.Words.{outOf}
 use Rattle.stores.specs.Cells.{zerosLike}
-use Rattle.stores.specs.Access.{ModeIs}
+use Rattle.access.specs.Access.{ModeIs}
 use Rattle.machine.specs.Steps.{callsLeft, cellsMade, postsMade, saturatedMade, entriesMade}
 use Rattle.machine.specs.Store.{Done, storeOf, doneOf}
 use Rattle.refinement.specs.Claims.{outcomeOf, countsOf, laidOut, Refined}
@@ -39,7 +39,7 @@ use Rattle.interp.specs.declared.answer.RecordedRun.{RecordedRun}
 use Rattle.interp.specs.declared.answer.Tally.{Tally}
 use Rattle.interp.specs.declared.answer.Outcome.{Outcome}
 use Rattle.interp.specs.declared.answer.Admission.{Admission}
-use Rattle.interp.specs.declared.answer.Admission.the-variants.{Admitted, Refused as TurnedBack}
+use Rattle.interp.specs.declared.answer.Admission.the-variants.{Admitted, Refused as Rejected}
 use Rattle.interp.proofs.StartLaws.{laid-length}
 
 -- ---- a run that is turned back
@@ -87,8 +87,8 @@ module _ (s : List ℕ) (q : Request) (cells posts frames store noted : List ℕ
       let is = run-course s q b _ (course-clear s q b e) in
       let few = counts-few s q b (outcome (root s) x) (counts q z (left x)) (ap (λ (a : After). a .answer) is) in
       let all : listed ≡ decisions s q z = ap decisionsMade (sym (traced-clear s q z e)) in
-      let told = tallied-after (root s) q cells posts frames store x (λ r w. outcomeOf r (outOf w)) (few .saturated-most) (v .tallied) R l in
-      let same = (λ i. record { answer = v .answer-is i; buffers = buffersOf cells′ posts′ last }) ∙ told ∙ sym is in
+      let same-after = tallied-after (root s) q cells posts frames store x (λ r w. outcomeOf r (outOf w)) (few .saturated-most) (v .tallied) R l in
+      let same = (λ i. record { answer = v .answer-is i; buffers = buffersOf cells′ posts′ last }) ∙ same-after ∙ sym is in
       λ i. record {
         after = same i;
         entries = (v .entries-are ∙ v .tallied .entries-are ∙ R .same-entries ∙ ap (λ (es : List Event). length (recorded (length noted) es)) all) i;
@@ -193,13 +193,13 @@ module _ (s start : List ℕ) (e : Bool) (cells posts noted : List ℕ) (calls d
 
 -- ---- each runner turned back
 module _ (s start : List ℕ) (e : Bool) (cells posts noted : List ℕ) (calls depth : ℕ) where
-  pub eager-refused : {a : Admission} {f : Refusal} {r : RecordedRun} → a ≡ TurnedBack f → Admits s start (length cells) (length posts) true calls depth a
+  pub eager-refused : {a : Admission} {f : Refusal} {r : RecordedRun} → a ≡ Rejected f → Admits s start (length cells) (length posts) true calls depth a
       → r ≡ rejectedRun f → afterRecording r cells posts [] noted ≡ recording s (requestOf eager e start calls depth) (buffersOf cells posts []) noted
   eager-refused {f = f} p h t =
       refused-after s (requestOf eager e start calls depth) cells posts [] noted f t
       (subst (Admits s start (length cells) (length posts) true calls depth) p h)
 
-  pub lazy-refused : (frames : List ℕ) {a : Admission} {f : Refusal} {r : RecordedRun} → a ≡ TurnedBack f
+  pub lazy-refused : (frames : List ℕ) {a : Admission} {f : Refusal} {r : RecordedRun} → a ≡ Rejected f
       → Admits s start (length cells) (length posts) (eqb (length frames) frameNumbers) calls depth a → r ≡ rejectedRun f
       → afterRecording r cells posts frames noted ≡ recording s (requestOf lazy e start calls depth) (buffersOf cells posts frames) noted
   lazy-refused frames {f = f} p h t =

@@ -15,8 +15,8 @@ use Rattle.program.specs.declared.records.Counts.{Counts}
 use Rattle.semantics.specs.Access.{privs}
 use Rattle.semantics.specs.Runs.{stack, known, ran, Buffers}
 use Rattle.stores.specs.Words.{outOf}
-use Rattle.stores.specs.Access.{pairOf}
-use Rattle.machine.specs.Table.{Decoded}
+use Rattle.access.specs.Access.{pairOf}
+use Rattle.termtable.specs.Table.{Decoded}
 use Rattle.stores.specs.Cells.{zerosLike}
 use Rattle.machine.specs.Steps.{entriesMade}
 use Rattle.machine.specs.Store.{Done, storeOf, evalAt}

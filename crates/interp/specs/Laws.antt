@@ -9,7 +9,7 @@ use lib.ListN.{length, getD, replicate, length-replicate}
 use borrow.Author.Tests.{ltb-true}
 use Rattle.privileges.specs.Booleans.{and-left, and-right}
 use Rattle.privileges.specs.Sets.{meet, union}
-use Rattle.program.specs.Limits.{maxSaturated}
+use Rattle.program.specs.Limits.{maxTerms, maxSaturated}
 use Rattle.program.specs.Layout.{principals, authority, root}
 use Rattle.program.specs.Records.{CountsOf, authorityRecord}
 use Rattle.program.specs.Laws.Readable.{WellFormed}
@@ -19,9 +19,9 @@ use Rattle.traces.specs.Traces.{Event}
 use Rattle.semantics.specs.Domains.{Domain}
 use Rattle.semantics.specs.Values.{Budget, budget, ResultOf}
 use Rattle.semantics.specs.Access.{Frame, privs}
-use Rattle.semantics.specs.Runs.{Request, Buffers, Sizes, sizes, stack, known, started, Counts as Told, OutcomeOf, ran, left, counts, AfterOf, answerOf, clearedFrames, buffersAfter}
-use Rattle.stores.specs.Access.{pairOf}
-use Rattle.machine.specs.Table.{Empty}
+use Rattle.semantics.specs.Runs.{Request, Buffers, Sizes, sizes, stack, known, started, Counts as RunCounts, OutcomeOf, ran, left, counts, AfterOf, answerOf, clearedFrames, buffersAfter}
+use Rattle.access.specs.Access.{pairOf}
+use Rattle.termtable.specs.Table.{Empty}
 use Rattle.machine.specs.Steps.{wrapped}
 use Rattle.machine.specs.Store.{Done}
 use Rattle.refinement.specs.Claims.{wrappedCounts, RefinedBy}
@@ -35,8 +35,8 @@ zero-at zero t = refl
 zero-at (suc n) zero = refl
 zero-at (suc n) (suc t) = zero-at n t
 
-pub empty-table : (l : List ℕ) → l ≡ replicate 1024 0 → Empty l
-empty-table l e = record { long = ap length e ∙ length-replicate {A = ℕ} 1024 0; zero-at = λ t. ap (λ (x : List ℕ). getD x t 0) e ∙ zero-at 1024 t }
+pub empty-table : (l : List ℕ) → l ≡ replicate maxTerms 0 → Empty l
+empty-table l e = record { long = ap length e ∙ length-replicate {A = ℕ} maxTerms 0; zero-at = λ t. ap (λ (x : List ℕ). getD x t 0) e ∙ zero-at 1024 t }
 
 -- ---- what an eager run holds at its start
 pub same-privs : (s : List ℕ) → WellFormed s → (fs : List Frame) → known (principals s) fs ≡ true → privs (authorityRecord s) fs ≡ privs (authority s) fs
@@ -63,7 +63,7 @@ tallied-at {s} k terms mode calls depth {acc} b noted {t} {b′} {noted′} e v 
 
 -- ---- a run that starts: `store` is what the frame store holds when evaluation begins
 -- the counter of saturated results has room for every count that is told
-unwrapped : (k : Told) → k .saturated ≤ maxSaturated → wrappedCounts k ≡ k
+unwrapped : (k : RunCounts) → k .saturated ≤ maxSaturated → wrappedCounts k ≡ k
 unwrapped k f =
     let same : wrapped (k .saturated) ≡ k .saturated = omega (arith, f) in
     λ i. record { calls = k .calls; cells = k .cells; posts = k .posts; saturated = same i }
@@ -79,14 +79,14 @@ module _ {D : Domain} (root₀ : ℕ) (q : Request) (cells posts frames store : 
     buffers = buffersAfter (q .runner) (buffersOf cells posts frames) (started x);
   }
 
-  pub tallied-after : (tells : (root word : ℕ) → OutcomeOf D) → counts q (sizes (buffersOf cells posts frames)) (left x) .saturated ≤ maxSaturated
-      → {noted noted′ : List ℕ} {told : List Event} {d : Done} {t : Tally} {cells′ posts′ frames′ last : List ℕ}
+  pub tallied-after : (decodes : (root word : ℕ) → OutcomeOf D) → counts q (sizes (buffersOf cells posts frames)) (left x) .saturated ≤ maxSaturated
+      → {noted noted′ : List ℕ} {events : List Event} {d : Done} {t : Tally} {cells′ posts′ frames′ last : List ℕ}
       → Tallied (q .calls) d t (buffersOf cells′ posts′ frames′) noted′
-      → RefinedBy tells root₀ q (buffersOf cells posts store) noted d x told → last ≡ clearedFrames (q .runner) frames
-      → record { answer = ran (tells root₀ (t .word)) (countsModel (t .made)); buffers = buffersOf cells′ posts′ last } ≡ over
-  tallied-after tells f v R l = λ i. record {
+      → RefinedBy decodes root₀ q (buffersOf cells posts store) noted d x events → last ≡ clearedFrames (q .runner) frames
+      → record { answer = ran (decodes root₀ (t .word)) (countsModel (t .made)); buffers = buffersOf cells′ posts′ last } ≡ over
+  tallied-after decodes f v R l = λ i. record {
     answer = ran
-        ((ap (tells root₀) (v .word-is) ∙ R .same-outcome) i)
+        ((ap (decodes root₀) (v .word-is) ∙ R .same-outcome) i)
         ((v .made-is ∙ R .same-counts ∙ ap wrappedCounts (same-counts-made (left x)) ∙ unwrapped _ f) i);
     buffers = buffersOf
         ((v .cells-are ∙ ap (λ (z : Sizes). replicate (z .cells) 0) (R .same-sizes)) i)

@@ -7,7 +7,7 @@ ghost use lib.ListN.{length};
 ghost use Rattle.semantics.specs.Runs.{eager as eagerRunner, lazy as lazyRunner, run};
 ghost use Rattle.semantics.specs.Recording.{recording};
 ghost use Rattle.program.specs.Limits.{frameNumbers};
-ghost use Rattle.machine.specs.Table.{FormedSheet};
+ghost use Rattle.termtable.specs.Table.{FormedSheet};
 ghost use Rattle.refinement.specs.Claims.{outcomeOf};
 ghost use Rattle.interp.specs.Answers.{outcomeModel, requestOf, buffersOf, after, afterRecording};
 ghost use Rattle.interp.specs.Internal.{Cleared, rejectedRun, Evaluated};
@@ -17,6 +17,8 @@ pub mod answer;
 pub mod evaluation;
 pub mod start;
 
+use access::clear_frames;
+use access::mode_of;
 use admission::admit;
 use answer::Admission;
 use answer::Outcome;
@@ -24,17 +26,15 @@ use answer::RecordedRun;
 use answer::Refusal;
 use answer::Run;
 use evaluation::evaluate_words;
-use machine::table::decode_terms;
 use program::limits::FRAME_NUMBERS;
 use program::limits::TERM_PLACES;
 use program::records::Counts;
 use start::lay_frames;
 use start::start_access;
-use stores::access::clear_frames;
-use stores::access::mode_of;
 use stores::state::Out;
 use stores::state::Stop;
 use stores::words::out_of;
+use termtable::decode_terms;
 
 // A root that gives a function is stuck.
 fn outcome_of(root: u16, out: Out) -> Outcome
@@ -50,7 +50,7 @@ fn outcome_of(root: u16, out: Out) -> Outcome
     }
 }
 
-fn turned_back(f: Refusal) -> RecordedRun
+fn rejected_run(f: Refusal) -> RecordedRun
     ensures { λ r. ⌜ r ≡ rejectedRun f ⌝ }
 {
     RecordedRun {
@@ -188,7 +188,7 @@ pub fn record_eager(
 {
     let a = admit(sheet, start, cells.len(), posts.len(), true, calls, depth);
     match a {
-        Admission::Refused(f) => turned_back(f),
+        Admission::Refused(f) => rejected_run(f),
         Admission::Admitted(c) => eager(
             sheet,
             c,
@@ -229,7 +229,7 @@ pub fn record_lazy(
         depth,
     );
     match a {
-        Admission::Refused(f) => turned_back(f),
+        Admission::Refused(f) => rejected_run(f),
         Admission::Admitted(c) => lazy(
             sheet,
             c,

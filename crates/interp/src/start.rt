@@ -7,8 +7,8 @@ ghost use Rattle.semantics.specs.Access.{privs};
 ghost use Rattle.semantics.specs.Runs.{stack, known};
 ghost use Rattle.refinement.specs.Claims.{laidOut};
 ghost use Rattle.interp.specs.Internal.{Whole, Layable, startRight, StartAccess};
+use access::pair;
 use program::limits::MAX_START;
-use stores::access::pair;
 
 // Whether every frame's principal is one of so many.
 fn principals_known(start: &[u32], count: u8) -> bool

@@ -7,7 +7,7 @@ use Prim.Native.Nat.{ℕ}
 use lib.ListN.{length}
 use Rattle.privileges.specs.Sets.{has, meet, union, insert}
 use Rattle.program.specs.Limits.{maxCalls, maxDepth}
-use Rattle.program.specs.Screening.{tell, screen}
+use Rattle.program.specs.Screening.{refuseAt, screen}
 use Rattle.semantics.specs.Meaning.{evalWith, apply, eval}
 use Rattle.semantics.specs.Access.{addAuthorised}
 use Rattle.semantics.specs.Runs.{eager, Request, Buffers, ground-bool, ground-num, OutcomeOf, ended, stopped, refused, ran, AfterOf}
@@ -67,18 +67,18 @@ pub record Case : Type 0 where
   pub after : AfterOf intervals
 
 -- two cells, two places for posts
-abbrev pub lent : Buffers
-lent = record { cells = 9 ∷ 9 ∷ 9 ∷ 9 ∷ 9 ∷ 9 ∷ 9 ∷ 9 ∷ 9 ∷ 9 ∷ 9 ∷ 9 ∷ 9 ∷ 9 ∷ 9 ∷ 9 ∷ []; posts = 8 ∷ 8 ∷ []; frames = 7 ∷ [] }
+abbrev pub filled : Buffers
+filled = record { cells = 9 ∷ 9 ∷ 9 ∷ 9 ∷ 9 ∷ 9 ∷ 9 ∷ 9 ∷ 9 ∷ 9 ∷ 9 ∷ 9 ∷ 9 ∷ 9 ∷ 9 ∷ 9 ∷ []; posts = 8 ∷ 8 ∷ []; frames = 7 ∷ [] }
 
-abbrev asked : (enforce : Bool) (calls : ℕ) → Request
-asked enforce calls = record { runner = eager; enforce = enforce; start = []; calls = calls; depth = maxDepth }
+abbrev requestFor : (enforce : Bool) (calls : ℕ) → Request
+requestFor enforce calls = record { runner = eager; enforce = enforce; start = []; calls = calls; depth = maxDepth }
 
 -- an end or a stop, with its calls, cells and posts, and the list of posts afterwards
 abbrev runs : (sheet pairs : List ℕ) (enforce : Bool) → OutcomeOf intervals → (calls cells posts : ℕ) (list : List ℕ) → Case
 runs s ps enforce o c d p l = record {
   sheet = s;
   pairs = ps;
-  request = asked enforce maxCalls;
+  request = requestFor enforce maxCalls;
   after = record {
     answer = ran o (record { calls = c; cells = d; posts = p; saturated = 0 });
     buffers = record { cells = 0 ∷ 0 ∷ 0 ∷ 0 ∷ 0 ∷ 0 ∷ 0 ∷ 0 ∷ 0 ∷ 0 ∷ 0 ∷ 0 ∷ 0 ∷ 0 ∷ 0 ∷ 0 ∷ []; posts = l; frames = 7 ∷ [] };
@@ -87,7 +87,7 @@ runs s ps enforce o c d p l = record {
 
 -- a refusal at 0, "with every buffer untouched"
 abbrev refuses : (sheet pairs : List ℕ) (calls cause : ℕ) → Case
-refuses s ps calls cause = record { sheet = s; pairs = ps; request = asked true calls; after = record { answer = refused cause 0; buffers = lent } }
+refuses s ps calls cause = record { sheet = s; pairs = ps; request = requestFor true calls; after = record { answer = refused cause 0; buffers = filled } }
 
 unfoldable pub cases : List Case
 unfolding posted compared branching called second-version
@@ -121,9 +121,9 @@ cases =
     ∷ refuses compared [] 4097 16
     ∷ refuses [] [] 4097 1 ∷ []
 
-unfoldable pub told : Case → AfterOf intervals
-told c = rangeRun (c .sheet) (c .pairs) (c .request) lent
+unfoldable pub observed : Case → AfterOf intervals
+observed c = rangeRun (c .sheet) (c .pairs) (c .request) filled
 
-pub computed : map told cases ≡ map (λ c. c .after) cases
-unfolding cases told rangeRun rangeCourse screen tell eval apply evalWith addAuthorised has meet union insert
+pub computed : map observed cases ≡ map (λ c. c .after) cases
+unfolding cases observed rangeRun rangeCourse screen refuseAt eval apply evalWith addAuthorised has meet union insert
 computed = refl

@@ -7,7 +7,7 @@ use Prim.Native.Nat.{ℕ}
 use lib.ListN.{length, getD}
 use Rattle.privileges.specs.Sets.{has, meet, union, insert}
 use Rattle.program.specs.Limits.{maxCalls, maxDepth}
-use Rattle.program.specs.Screening.{tell, screen}
+use Rattle.program.specs.Screening.{refuseAt, screen}
 use Rattle.semantics.specs.Meaning.{evalWith, apply, eval}
 use Rattle.semantics.specs.Access.{addAuthorised}
 use Rattle.semantics.specs.Runs.{eager, Request, Buffers, ground-num, ended, OutcomeOf, Outcome, refused, ran, AfterOf, After, course, run}
@@ -62,7 +62,7 @@ guarded n =
     (5 ∷ 0 ∷ 16 ∷ 255 ∷ 255 ∷ 255 ∷ 255 ∷ 255 ∷ 255 ∷ 255 ∷ 255 ∷ 255 ∷ 255 ∷ 255 ∷ 255 ∷ 255 ∷ 255 ∷ 255 ∷ 255 ∷ [])
 
 -- ---- the table
-pub record Told : Type 0 where
+pub record Observed : Type 0 where
   pub bytes : List ℕ
   pub over-ranges : AfterOf intervals
   pub plainly : After
@@ -72,17 +72,17 @@ pub record Case : Type 0 where
   pub sheet : List ℕ
   pub pairs : List ℕ
   pub numbers : List ℕ
-  pub told : Told
+  pub due : Observed
 
 -- one cell, two places for posts
-abbrev lent : Buffers
-lent = record { cells = 9 ∷ 9 ∷ 9 ∷ 9 ∷ 9 ∷ 9 ∷ 9 ∷ 9 ∷ []; posts = 8 ∷ 8 ∷ []; frames = 7 ∷ [] }
+abbrev filled : Buffers
+filled = record { cells = 9 ∷ 9 ∷ 9 ∷ 9 ∷ 9 ∷ 9 ∷ 9 ∷ 9 ∷ []; posts = 8 ∷ 8 ∷ []; frames = 7 ∷ [] }
 
 abbrev left : (posts : List ℕ) → Buffers
 left ps = record { cells = 0 ∷ 0 ∷ 0 ∷ 0 ∷ 0 ∷ 0 ∷ 0 ∷ 0 ∷ []; posts = ps; frames = 7 ∷ [] }
 
-abbrev asked : Request
-asked = record { runner = eager; enforce = true; start = []; calls = maxCalls; depth = maxDepth }
+abbrev plainRequest : Request
+plainRequest = record { runner = eager; enforce = true; start = []; calls = maxCalls; depth = maxDepth }
 
 abbrev ranges : OutcomeOf intervals → (calls cells posts : ℕ) (list : List ℕ) → AfterOf intervals
 ranges o c d p l = record { answer = ran o (record { calls = c; cells = d; posts = p; saturated = 0 }); buffers = left l }
@@ -91,7 +91,7 @@ abbrev plainly : Outcome → (calls cells posts : ℕ) (list : List ℕ) → Aft
 plainly o c d p l = record { answer = ran o (record { calls = c; cells = d; posts = p; saturated = 0 }); buffers = left l }
 
 abbrev entry : (sheet pairs numbers bytes : List ℕ) → AfterOf intervals → After → Case
-entry s ps ns bytes over plain = record { sheet = s; pairs = ps; numbers = ns; told = record { bytes = bytes; over-ranges = over; plainly = plain } }
+entry s ps ns bytes over plain = record { sheet = s; pairs = ps; numbers = ns; due = record { bytes = bytes; over-ranges = over; plainly = plain } }
 
 unfoldable pub cases : List Case
 unfolding summed called guarded
@@ -104,17 +104,17 @@ cases =
     (called (1 ∷ 0 ∷ []) (255 ∷ 255 ∷ [])) (ranges (ended (ground-num (interval 64700 65335))) 1 1 0 (8 ∷ 8 ∷ []))
     (plainly (ended (ground-num 65279)) 1 1 0 (8 ∷ 8 ∷ []))
     -- version 2 has no run over ranges, but numbers that may be others
-    ∷ entry (guarded (0 ∷ 7 ∷ [])) (500 ∷ 600 ∷ []) (513 ∷ []) (guarded (2 ∷ 1 ∷ [])) (record { answer = refused 35 0; buffers = lent })
+    ∷ entry (guarded (0 ∷ 7 ∷ [])) (500 ∷ 600 ∷ []) (513 ∷ []) (guarded (2 ∷ 1 ∷ [])) (record { answer = refused 35 0; buffers = filled })
     (plainly (ended (ground-num 513)) 0 0 1 (197121 ∷ 8 ∷ []))
     -- bytes that are no sheet
-    ∷ entry (1 ∷ 0 ∷ []) [] (513 ∷ []) (1 ∷ 0 ∷ []) (record { answer = refused 1 0; buffers = lent }) (record { answer = refused 1 0; buffers = lent })
+    ∷ entry (1 ∷ 0 ∷ []) [] (513 ∷ []) (1 ∷ 0 ∷ []) (record { answer = refused 1 0; buffers = filled }) (record { answer = refused 1 0; buffers = filled })
     ∷ []
 
-unfoldable pub tell-case : Case → Told
-tell-case c =
+unfoldable pub observe : Case → Observed
+observe c =
     let new = withNumbers (λ t. getD (c .numbers) t 0) (c .sheet) in
-    record { bytes = new; over-ranges = rangeRun (c .sheet) (c .pairs) asked lent; plainly = run new asked lent }
+    record { bytes = new; over-ranges = rangeRun (c .sheet) (c .pairs) plainRequest filled; plainly = run new plainRequest filled }
 
-pub computed : map tell-case cases ≡ map (λ c. c .told) cases
-unfolding cases tell-case withNumbers withNumbersBelow rangeRun rangeCourse run course screen tell eval apply evalWith addAuthorised has meet union insert
+pub computed : map observe cases ≡ map (λ c. c .due) cases
+unfolding cases observe withNumbers withNumbersBelow rangeRun rangeCourse run course screen refuseAt eval apply evalWith addAuthorised has meet union insert
 computed = refl

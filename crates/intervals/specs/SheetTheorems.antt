@@ -24,7 +24,7 @@ use Rattle.intervals.specs.Theorems.{contains}
 use Rattle.intervals.specs.Laws.Bytes.{alike, same-length, apart-kept, bytes-kept}
 use Rattle.intervals.specs.Laws.Reading.{same-conditions}
 use Rattle.intervals.specs.Laws.Replacing.{ReplacedResult}
-use Rattle.intervals.specs.Laws.Chosen.{number-first, same-run-conditions, start-known, evaluation-replaced, told-alike}
+use Rattle.intervals.specs.Laws.Chosen.{number-first, same-run-conditions, start-known, evaluation-replaced, after-alike}
 
 module _ (ρ : (term : ℕ) → ℕ) (s : List ℕ) where
   -- ---- Its bytes
@@ -73,7 +73,7 @@ module _ (ρ : (term : ℕ) → ℕ) (s : List ℕ) where
 
       go : (z : Screening) → screen (runConditions s q (sizes b)) ≡ z
           → afterCourse (withNumbers ρ s) q b (settled z (λ _. y)) ≡ afterCourse s q b (settled z (λ _. x))
-      go clear e = told-alike ρ s q b (like e)
+      go clear e = after-alike ρ s q b (like e)
       go (found c p) e = refl
 
 -- ---- A run over ranges contains the plain runs

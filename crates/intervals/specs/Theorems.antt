@@ -23,7 +23,7 @@ use Rattle.semantics.specs.Access.{lazyControl, eagerControl}
 use Rattle.semantics.specs.Runs.{Runner, eager, lazy, Request, Buffers, Sizes, sizes, runConditions, evaluationOver, rejected, started, settled, OutcomeOf, Outcome, stopped, Counts, AnswerOf, refused, ran, outcome, left, counts, inOrder, AfterOf, afterCourse, course, run}
 use Rattle.semantics.specs.Laws.Starting.{clear-well, evaluation-spends, after-sizes, clear-few, countsIn}
 use Rattle.semantics.specs.Claims.{IfAt, Few}
-use Rattle.semantics.specs.Laws.Stops.{evaluation-stop, stop-told}
+use Rattle.semantics.specs.Laws.Stops.{evaluation-stop, stop-cases}
 use Rattle.semantics.specs.Laws.Saturation.{saturatedIn}
 use Rattle.soundness.specs.Laws.Runs.{posts-listed}
 use Rattle.intervals.specs.Intervals.{Interval, sumOf, differenceOf, lessOf, intervals}
@@ -149,7 +149,7 @@ module _ (s ps : List ℕ) (q : Request) (b : Buffers) where
       let clearly = ran-clear (stopped c t) k conditions refl e in
       let same : ran _ _ ≡ ran (stopped c t) k = sym (answered (run-clear clearly)) ∙ e in
       let stop = evaluation-stop s (clear-well s q b (plain-clear clearly)) (ranged s ps) (plain (q .enforce)) q (sizes b) (q .runner) c t cc in
-      ⊎-elim (λ h. inl h) (λ u. inr (u .0, u .1)) (stop-told s c t stop)
+      ⊎-elim (λ h. inl h) (λ u. inr (u .0, u .1)) (stop-cases s c t stop)
 
 -- ---- What a run over ranges leaves and counts
 module _ (s ps : List ℕ) (q : Request) (b : Buffers) where
@@ -256,7 +256,7 @@ module _ (s ps : List ℕ) (ρ : (at n : ℕ) → ℕ) (words : Words ps) (c : C
       let clearly : screen (runConditions s q (sizes b)) ≡ clear = none-clear (n .0) in
       let x = evaluationOver (ranged s ps) (plain (q .enforce)) (q .runner) s q (sizes b) in
       let y = evaluationOver (chosen ρ) (plain (q .enforce)) (q .runner) s q (sizes b) in
-      let told : ran (outcome (root s) x) (counts q (sizes b) (left x)) ≡ ran (h .result) (h .made) =
+      let same-answer : ran (outcome (root s) x) (counts q (sizes b) (left x)) ≡ ran (h .result) (h .made) =
       sym (answered s ps q b (run-clear s ps q b e)) ∙ h .ran-so in
       let chosen-run : chosenRun ρ s q d ≡ afterCourse s q d (started y) =
       (λ i. afterCourse s q d (chosenCourse ρ s q (sym z i))) ∙ (λ i. afterCourse s q d (settled (clearly i) (λ _. y))) in

@@ -5,12 +5,12 @@ use mathlib.Core.Path.{_≡_, refl}
 use Prim.Native.Nat.{ℕ}
 use Rattle.privileges.specs.Sets.{has, meet, union, insert}
 use Rattle.program.specs.Limits.{maxCalls, maxDepth}
-use Rattle.program.specs.Screening.{tell, screen}
+use Rattle.program.specs.Screening.{refuseAt, screen}
 use Rattle.semantics.specs.Names.{names}
 use Rattle.semantics.specs.Meaning.{evalWith, apply, eval}
 use Rattle.semantics.specs.Access.{addAuthorised}
 use Rattle.semantics.specs.Runs.{Answer, Buffers, sizes, course, ended, stopped, ground-num, ran}
-use Rattle.soundness.specs.Cases.{Case, due, request, counted, both, observed, observedBy, largest, told}
+use Rattle.soundness.specs.Cases.{Case, due, request, counted, both, observed, observedBy, largest, as-due}
 use Rattle.irrelevance.specs.Naming.{Naming, refused, unnamed, named, naming}
 
 -- ---- the sheets: A(0) = {1, 2}, and sign 0 ((enable 1 for 0) + (test p then (post 7 on channel 3) else 0)), with the guards of channels 3 and 9. The kind
@@ -40,37 +40,37 @@ unfolding sheet
 without = sheet 8 2 255 1
 
 -- ---- what is told
-pub data Asking : Type 0 where
-  asking : (sheet : List ℕ) (p : ℕ) → Naming → Asking
+pub data Query : Type 0 where
+  query : (sheet : List ℕ) (p : ℕ) → Naming → Query
 
-abbrev pub dueOf : Asking → Naming
-dueOf (asking s p a) = a
+abbrev pub dueOf : Query → Naming
+dueOf (query s p a) = a
 
-unfoldable pub tellOf : Asking → Naming
-tellOf (asking s p a) = naming s p
+unfoldable pub answerOf : Query → Naming
+answerOf (query s p a) = naming s p
 
-unfoldable pub askings : List Asking
+unfoldable pub queries : List Query
 unfolding sheet without
-askings =
-    asking without 1 unnamed
-    ∷ asking without 0 unnamed
-    ∷ asking without 31 unnamed
+queries =
+    query without 1 unnamed
+    ∷ query without 0 unnamed
+    ∷ query without 31 unnamed
     -- by the test
-    ∷ asking without 2 (named 5)
-    ∷ asking (sheet 8 1 255 255) 1 (named 5)
+    ∷ query without 2 (named 5)
+    ∷ query (sheet 8 1 255 255) 1 (named 5)
     -- by a check
-    ∷ asking (sheet 7 2 255 255) 1 (named 1)
+    ∷ query (sheet 7 2 255 255) 1 (named 1)
     -- by the guard, and by both: the lowest is told
-    ∷ asking (sheet 8 2 1 255) 1 (named 3)
-    ∷ asking (sheet 8 1 1 255) 1 (named 3)
+    ∷ query (sheet 8 2 1 255) 1 (named 3)
+    ∷ query (sheet 8 1 1 255) 1 (named 3)
     -- "a privilege above 31 is 30" (W7), after the sheet's own refusals
-    ∷ asking without 32 (refused 30 0)
-    ∷ asking (sheet 8 2 32 255) 32 (refused 31 3)
-    ∷ asking [] 32 (refused 1 0) ∷ []
+    ∷ query without 32 (refused 30 0)
+    ∷ query (sheet 8 2 32 255) 32 (refused 31 3)
+    ∷ query [] 32 (refused 1 0) ∷ []
 
-pub told-cases : map tellOf askings ≡ map dueOf askings
-unfolding askings tellOf naming names screen tell
-told-cases = refl
+pub query-cases : map answerOf queries ≡ map dueOf queries
+unfolding queries answerOf naming names screen refuseAt
+query-cases = refl
 
 -- ---- runs from two starts
 -- frames of principal 0: nothing, {1}, {2}, {1, 2}
@@ -114,9 +114,9 @@ runs =
     ++ from (sheet 8 2 1 255) bothOfThem posted (196615 ∷ [])
 
 computed : map (observedBy largest) runs ≡ map due runs
-unfolding runs observedBy screen tell course eval apply evalWith addAuthorised has meet union insert
+unfolding runs observedBy screen refuseAt course eval apply evalWith addAuthorised has meet union insert
 computed = refl
 
 -- with buffers of the largest lengths, whatever they hold
 pub run-cases : (b : Buffers) → sizes b ≡ largest → map (observed b) runs ≡ map due runs
-run-cases = told runs computed
+run-cases = as-due runs computed

@@ -5,7 +5,7 @@ use mathlib.Core.Option.{Option, none, some}
 use Prim.Native.Nat.{ℕ}
 use lib.Dec.{leb}
 use Rattle.program.specs.Layout.{terms}
-use Rattle.program.specs.Screening.{Condition, Screening, clear, found, unless, lowest, screen}
+use Rattle.program.specs.Screening.{Condition, unlessFound, unless, lowest, screen}
 use Rattle.program.specs.Decoding.{decodingConditions}
 use Rattle.semantics.specs.Names.{names}
 
@@ -26,9 +26,5 @@ namingOf (some t) = named t
 abbrev pub namingConditions : List ℕ → (p : ℕ) → List Condition
 namingConditions s p = decodingConditions s ++ unless 30 (leb p 31) ∷ []
 
-abbrev pub unlessFound : Screening → (Unit {0} → Naming) → Naming
-unlessFound clear k = k tt
-unlessFound (found c at) k = refused c at
-
 unfoldable pub naming : List ℕ → (p : ℕ) → Naming
-naming s p = unlessFound (screen (namingConditions s p)) λ _. namingOf (firstNaming s p)
+naming s p = unlessFound refused (screen (namingConditions s p)) λ _. namingOf (firstNaming s p)

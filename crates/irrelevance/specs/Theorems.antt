@@ -15,7 +15,7 @@ use Rattle.soundness.specs.Claims.{SameRun}
 use Rattle.soundness.specs.Laws.Runs.{same-whole, clear-readable}
 use Rattle.irrelevance.specs.Naming.{refused, unnamed, named, namingOf, namingConditions, naming}
 use Rattle.irrelevance.specs.Claims.{Unnamed, LowestNaming, Answerable, DifferAtMost, withdrawn, TwoStarts}
-use Rattle.irrelevance.specs.Laws.Naming.{none-unnamed, unnamed-none, some-lowest, lowest-first, answer-told, told-answer, found-refused, refused-found}
+use Rattle.irrelevance.specs.Laws.Naming.{none-unnamed, unnamed-none, some-lowest, lowest-first, answerable-naming, naming-answerable, found-refused, refused-found}
 use Rattle.irrelevance.specs.Laws.Runs.{withdrawn-grants, same-result}
 
 -- ---- A privilege that plays no part
@@ -38,15 +38,15 @@ module _ (s : List ℕ) (p : ℕ) where
   -- No exactly if the sheet is readable, p is at most 31, and no term names it: then the theorem above holds of the sheet and p.
   pub unnamed-exactly : (naming s p ≡ unnamed) ↔ (Answerable s p × Unnamed s p)
   unnamed-exactly = (
-    λ e. let a = told-answer s p none e in (a .0, none-unnamed s p (a .1)),
-    λ h. answer-told s p (h .0) ∙ ap namingOf (unnamed-none s p (h .1)),
+    λ e. let a = naming-answerable s p none e in (a .0, none-unnamed s p (a .1)),
+    λ h. answerable-naming s p (h .0) ∙ ap namingOf (unnamed-none s p (h .1)),
   )
 
   -- yes, with the lowest term that names it
   pub named-exactly : (t : ℕ) → (naming s p ≡ named t) ↔ (Answerable s p × LowestNaming s p t)
   named-exactly t = (
-    λ e. let a = told-answer s p (some t) e in (a .0, some-lowest s p t (a .1)),
-    λ h. answer-told s p (h .0) ∙ ap namingOf (lowest-first s p t (h .1)),
+    λ e. let a = naming-answerable s p (some t) e in (a .0, some-lowest s p t (a .1)),
+    λ h. answerable-naming s p (h .0) ∙ ap namingOf (lowest-first s p t (h .1)),
   )
 
   -- and a refusal exactly if one of 1 to 8, 31 or 30 is found: the first, in this order

@@ -1,2 +1,2 @@
 pub mod FindLaws
-pub mod JudgeLaws
+pub mod JudgementLaws

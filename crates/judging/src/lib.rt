@@ -6,6 +6,7 @@ use checker::infer::infer;
 use places::Place;
 use places::present;
 use program::answer::Decoded;
+use program::limits::NESTING_PLACES;
 use program::records::Counts;
 use rules::bindings::Bindings;
 use subterms::answer::Judged;
@@ -21,23 +22,23 @@ ghost use Rattle.judging.specs.Internal.{judgedIn, judgedAt};
 
 // The type and needs of the term with a number and the principal that it stands under, on any bytes; or its first fault; no such term; or the reader's
 // refusal.
-pub fn judge(sheet: &[u8], term: u32) -> Judged
+pub fn judgement(sheet: &[u8], term: u32) -> Judged
     ensures { λ r. ⌜ judgedModel r ≡ judging (now (sheet .entry)) term ⌝ }
 {
     let d = decoder::decode(sheet);
     match d {
         Decoded::Refused(f) => Judged::Unreadable(f),
-        Decoded::Readable(c) => judge_readable(sheet, c, term),
+        Decoded::Readable(c) => judgement_readable(sheet, c, term),
     }
 }
 
 // The same of a readable sheet with its counts. The root is a sign, so that the principal named here is never looked at.
-fn judge_readable(s: &[u8], c: Counts, term: u32) -> Judged
+fn judgement_readable(s: &[u8], c: Counts, term: u32) -> Judged
     requires { ⌜ Sheet (now s) c ⌝ }
     ensures { λ r. ⌜ judgedModel r ≡ judgedIn (now (s .entry)) term ⌝ }
 {
     let none = Bindings {
-        types: [0; 32],
+        types: [0; NESTING_PLACES],
         len: 0,
     };
     let root = present(c.terms - 1, none, 0);
@@ -46,11 +47,11 @@ fn judge_readable(s: &[u8], c: Counts, term: u32) -> Judged
         return Judged::NoTerm;
     }
     let at = found.place;
-    judge_at(s, c, at)
+    judgement_at(s, c, at)
 }
 
 // What the rules say of the term at a place.
-fn judge_at(s: &[u8], c: Counts, at: Place) -> Judged
+fn judgement_at(s: &[u8], c: Counts, at: Place) -> Judged
     requires { ⌜ ReadyPlace (now s) c at ⌝ }
     ensures { λ r. ⌜ judgedModel r ≡ judgedAt (now (s .entry)) at ⌝ }
 {

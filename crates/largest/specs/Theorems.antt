@@ -7,14 +7,14 @@ use Prim.Native.Nat.{ℕ, _≤_}
 use native.Mathlib.Omega.{arith}
 use lib.ListN.{length, drop, length-append, length-reverse}
 use Rattle.program.specs.Layout.{root}
-use Rattle.program.specs.Screening.{Screening, clear, found, tell, screen, unless}
+use Rattle.program.specs.Screening.{Screening, clear, found, refuseAt, screen, unless, unlessFound}
 use Rattle.program.specs.Decoding.{decodingConditions, decoding, Readable}
 use Rattle.program.specs.Laws.Screening.{screen-clear, screen-found}
 use Rattle.semantics.specs.Values.{Budget, budget}
 use Rattle.semantics.specs.Runs.{Request, Buffers, Sizes, sizes, startOk, buffersOk, limitsOk, runConditions, Course, rejected, started, course, Outcome, Counts, Answer, refused, ran, left, counts, answerOf, inOrder, buffersAfter, After, run}
 use Rattle.semantics.specs.Claims.{Few}
 use Rattle.semantics.specs.Theorems.{course-found, run-course, refused-untouched, lengths-kept, counts-few}
-use Rattle.largest.specs.Largest.{lentConditions, unlessFound, lentRun}
+use Rattle.largest.specs.Largest.{largestConditions, refusedWith, largestRun}
 
 -- ---- "a buffer asked for as the largest and lent in another length is 15"
 refused≢ran : {c p : ℕ} {o : Outcome} {k : Counts} → refused c p ≡ ran o k → ⊥
@@ -42,83 +42,84 @@ module _ (s : List ℕ) (q : Request) (b : Buffers) where
   abbrev refusedRun : (cause place : ℕ) → After
   refusedRun c p = record { answer = refused c p; buffers = b }
 
-  lent-by : (right : Bool) {x : Screening} → screen (lentConditions right s q) ≡ x → lentRun right s q b ≡ unlessFound x b (λ _. run s q b)
-  unfolding lentRun
-  lent-by right e = λ i. unlessFound (e i) b (λ _. run s q b)
+  largest-by : (right : Bool) {x : Screening} → screen (largestConditions right s q) ≡ x
+      → largestRun right s q b ≡ unlessFound (refusedWith b) x (λ _. run s q b)
+  unfolding largestRun
+  largest-by right e = λ i. unlessFound (refusedWith b) (e i) (λ _. run s q b)
 
   run-by : (c p : ℕ) → screen (runConditions s q (sizes b)) ≡ found c p → run s q b ≡ refusedRun c p
   run-by c p e = run-course s q b _ (course-found s q b c p e)
 
   -- what is left to ask once a sheet has been read
-  abbrev lentAsks : (start right : Bool) → Screening
-  lentAsks a r = screen (unless 14 a ∷ unless 15 r ∷ [])
+  abbrev largestScreening : (start right : Bool) → Screening
+  largestScreening a r = screen (unless 14 a ∷ unless 15 r ∷ [])
 
-  lent-asks : Readable s → (right : Bool) {a : Bool} → startOk s q ≡ a → screen (lentConditions right s q) ≡ lentAsks a right
+  largest-screened : Readable s → (right : Bool) {a : Bool} → startOk s q ≡ a → screen (largestConditions right s q) ≡ largestScreening a right
   unfolding decoding
-  lent-asks r right e = screen-clear (decodingConditions s) (unless 14 (startOk s q) ∷ unless 15 right ∷ []) r ∙ (λ i. lentAsks (e i) right)
+  largest-screened r right e = screen-clear (decodingConditions s) (unless 14 (startOk s q) ∷ unless 15 right ∷ []) r ∙ (λ i. largestScreening (e i) right)
 
-  abbrev runAsks : (start : Bool) → Screening
-  runAsks a = screen (unless 14 a ∷ unless 15 (buffersOk (q .runner) (sizes b)) ∷ unless 16 (limitsOk q) ∷ [])
+  abbrev runScreening : (start : Bool) → Screening
+  runScreening a = screen (unless 14 a ∷ unless 15 (buffersOk (q .runner) (sizes b)) ∷ unless 16 (limitsOk q) ∷ [])
 
-  run-asks : Readable s → {a : Bool} → startOk s q ≡ a → screen (runConditions s q (sizes b)) ≡ runAsks a
+  run-screened : Readable s → {a : Bool} → startOk s q ≡ a → screen (runConditions s q (sizes b)) ≡ runScreening a
   unfolding decoding
-  run-asks r e =
+  run-screened r e =
       screen-clear (decodingConditions s) (unless 14 (startOk s q) ∷ unless 15 (buffersOk (q .runner) (sizes b)) ∷ unless 16 (limitsOk q) ∷ []) r
-      ∙ (λ i. runAsks (e i))
+      ∙ (λ i. runScreening (e i))
 
-  readable-runs : Readable s → (a : Bool) → startOk s q ≡ a → lentRun true s q b ≡ run s q b
-  unfolding screen tell
-  readable-runs r true e = lent-by true (lent-asks r true e)
-  readable-runs r false e = lent-by true (lent-asks r true e) ∙ sym (run-by 14 0 (run-asks r e))
+  readable-runs : Readable s → (a : Bool) → startOk s q ≡ a → largestRun true s q b ≡ run s q b
+  unfolding screen refuseAt
+  readable-runs r true e = largest-by true (largest-screened r true e)
+  readable-runs r false e = largest-by true (largest-screened r true e) ∙ sym (run-by 14 0 (run-screened r e))
 
   -- 1 to 8 and 31 come first,
-  pub unreadable-first : (right : Bool) (c p : ℕ) → decoding s ≡ found c p → lentRun right s q b ≡ refusedRun c p
+  pub unreadable-first : (right : Bool) (c p : ℕ) → decoding s ≡ found c p → largestRun right s q b ≡ refusedRun c p
   unfolding decoding
-  unreadable-first right c p e = lent-by right (screen-found (decodingConditions s) _ c p e)
+  unreadable-first right c p e = largest-by right (screen-found (decodingConditions s) _ c p e)
 
   -- then 14, and then another length is 15, whatever the allowance.
-  pub other-length : Readable s → startOk s q ≡ true → lentRun false s q b ≡ refusedRun 15 0
-  unfolding screen tell
-  other-length r e = lent-by false (lent-asks r false e)
+  pub other-length : Readable s → startOk s q ≡ true → largestRun false s q b ≡ refusedRun 15 0
+  unfolding screen refuseAt
+  other-length r e = largest-by false (largest-screened r false e)
 
   -- With the lengths asked for it is the run that anyone may ask for.
-  pub same-run : lentRun true s q b ≡ run s q b
+  pub same-run : largestRun true s q b ≡ run s q b
   unfolding decoding
   same-run = go (decoding s) refl
     where
-      go : (x : Screening) → decoding s ≡ x → lentRun true s q b ≡ run s q b
+      go : (x : Screening) → decoding s ≡ x → largestRun true s q b ≡ run s q b
       go clear e = readable-runs e (startOk s q) refl
       go (found c p) e = unreadable-first true c p e ∙ sym (run-by c p (screen-found (decodingConditions s) _ c p e))
 
   -- The counts and the buffers are therefore as in any run.
-  pub lent-few : (right : Bool) (o : Outcome) (k : Counts) → lentRun right s q b .answer ≡ ran o k → Few k
-  unfolding lentRun
-  lent-few right o k = go (screen (lentConditions right s q))
+  pub largest-few : (right : Bool) (o : Outcome) (k : Counts) → largestRun right s q b .answer ≡ ran o k → Few k
+  unfolding largestRun
+  largest-few right o k = go (screen (largestConditions right s q))
     where
-      go : (x : Screening) → unlessFound x b (λ _. run s q b) .answer ≡ ran o k → Few k
+      go : (x : Screening) → unlessFound (refusedWith b) x (λ _. run s q b) .answer ≡ ran o k → Few k
       go clear e = counts-few s q b o k e
       go (found c p) e = absurd (refused≢ran e)
 
-  pub lent-posts : (right : Bool) (o : Outcome) (k : Counts) → lentRun right s q b .answer ≡ ran o k → k .posts ≤ length (b .posts)
-  unfolding lentRun
-  lent-posts right o k = go (screen (lentConditions right s q))
+  pub largest-posts : (right : Bool) (o : Outcome) (k : Counts) → largestRun right s q b .answer ≡ ran o k → k .posts ≤ length (b .posts)
+  unfolding largestRun
+  largest-posts right o k = go (screen (largestConditions right s q))
     where
-      go : (x : Screening) → unlessFound x b (λ _. run s q b) .answer ≡ ran o k → k .posts ≤ length (b .posts)
+      go : (x : Screening) → unlessFound (refusedWith b) x (λ _. run s q b) .answer ≡ ran o k → k .posts ≤ length (b .posts)
       go clear e = run-posts o k e
       go (found c p) e = absurd (refused≢ran e)
 
-  pub lent-untouched : (right : Bool) (c p : ℕ) → lentRun right s q b .answer ≡ refused c p → lentRun right s q b .buffers ≡ b
-  unfolding lentRun
-  lent-untouched right c p = go (screen (lentConditions right s q))
+  pub largest-untouched : (right : Bool) (c p : ℕ) → largestRun right s q b .answer ≡ refused c p → largestRun right s q b .buffers ≡ b
+  unfolding largestRun
+  largest-untouched right c p = go (screen (largestConditions right s q))
     where
-      go : (x : Screening) → unlessFound x b (λ _. run s q b) .answer ≡ refused c p → unlessFound x b (λ _. run s q b) .buffers ≡ b
+      go : (x : Screening) → unlessFound (refusedWith b) x (λ _. run s q b) .answer ≡ refused c p → unlessFound (refusedWith b) x (λ _. run s q b) .buffers ≡ b
       go clear e = refused-untouched s q b c p e
       go (found d r) e = refl
 
-  pub lent-lengths : (right : Bool) → sizes (lentRun right s q b .buffers) ≡ sizes b
-  unfolding lentRun
-  lent-lengths right = go (screen (lentConditions right s q))
+  pub largest-lengths : (right : Bool) → sizes (largestRun right s q b .buffers) ≡ sizes b
+  unfolding largestRun
+  largest-lengths right = go (screen (largestConditions right s q))
     where
-      go : (x : Screening) → sizes (unlessFound x b (λ _. run s q b) .buffers) ≡ sizes b
+      go : (x : Screening) → sizes (unlessFound (refusedWith b) x (λ _. run s q b) .buffers) ≡ sizes b
       go clear = lengths-kept s q b
       go (found c p) = refl

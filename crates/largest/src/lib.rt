@@ -2,16 +2,22 @@
 ghost use mathlib.Core.List.{[]};
 ghost use mathlib.Core.Path.{_≡_};
 ghost use Rattle.interp.specs.Answers.{buffersOf, after};
-ghost use Rattle.largest.specs.Largest.{request, lentRun};
+ghost use Rattle.largest.specs.Largest.{request, largestRun};
 use interp::answer::Refusal;
 use interp::answer::Run;
 use program::answer::Decoded;
 use program::limits::MAX_DEPTH;
 
 // Runs the sheet eagerly, checks in force, on an empty stack, with 100 open calls. The caller says whether the buffers have the lengths asked for.
-pub fn run_lent(sheet: &[u8], calls: u32, right: bool, cells: &mut [u8], posts: &mut [u32]) -> Run
+pub fn run_largest(
+    sheet: &[u8],
+    calls: u32,
+    right: bool,
+    cells: &mut [u8],
+    posts: &mut [u32],
+) -> Run
     ensures { λ r. ⌜ after r (now (cells .exit)) (now (posts .exit)) []
-        ≡ lentRun right (now (sheet .entry)) (request calls) (buffersOf (now (cells .entry)) (now (posts .entry)) []) ⌝ }
+        ≡ largestRun right (now (sheet .entry)) (request calls) (buffersOf (now (cells .entry)) (now (posts .entry)) []) ⌝ }
 {
     if right {
         return interp::run_eager(sheet, &[], calls, MAX_DEPTH, true, cells, posts);

@@ -20,9 +20,10 @@ use Rattle.erasure.specs.Lean.{leanSheet, erasable}
 use Rattle.erasure.specs.Erasure.{After, ifRoom, ifErasable, erased, erasure}
 use Rattle.erasure.specs.declared.answer.Erased.the-variants.{Lean, Unreadable, Refused, NotErasable, NoRoom}
 use Rattle.lean.specs.Answers.{after}
-use Rattle.lean.specs.Internal.{TypesNumbered, TermsNumbered, SheetReady}
-use Rattle.lean.specs.declared.types.TypeNumbers.{TypeNumbers}
-use Rattle.lean.specs.declared.terms.TermNumbers.{TermNumbers}
+use Rattle.renumbering.specs.Internal.{TypesNumbered, TermsNumbered}
+use Rattle.leanwriting.specs.Internal.{SheetReady}
+use Rattle.renumbering.specs.declared.types.TypeNumbers.{TypeNumbers}
+use Rattle.renumbering.specs.declared.terms.TermNumbers.{TermNumbers}
 
 -- ---- the verdict
 module _ (s b : List ℕ) where
@@ -30,19 +31,19 @@ module _ (s b : List ℕ) where
   unfolding erasure
   by-verdict v e h = h ∙ λ i. erased (e i) s b
 
-  pub unreadable-told : (f : Refusal) → rejected (decodingCause f) (decodingPlace f) ≡ verdict s → after (Unreadable f) b ≡ erasure s b
-  unreadable-told f e = by-verdict (rejected (decodingCause f) (decodingPlace f)) e refl
+  pub unreadable-erasure : (f : Refusal) → rejected (decodingCause f) (decodingPlace f) ≡ verdict s → after (Unreadable f) b ≡ erasure s b
+  unreadable-erasure f e = by-verdict (rejected (decodingCause f) (decodingPlace f)) e refl
 
   module _ {v : VerdictAnswer} (w : verdictModel v ≡ verdict s) where
     pub refused-unreadable : {f : Refusal} → v ≡ answer.Unreadable f → after (Unreadable f) b ≡ erasure s b
-    refused-unreadable {f} e = unreadable-told f (ap verdictModel (sym e) ∙ w)
+    refused-unreadable {f} e = unreadable-erasure f (ap verdictModel (sym e) ∙ w)
 
     pub refused-fault : {f : Fault} → v ≡ answer.Refused f → after (Refused f) b ≡ erasure s b
     refused-fault {f} e = by-verdict (rejected (faultCause f) (faultPlace f)) (ap verdictModel (sym e) ∙ w) refl
 
-    pub accepted-told : {a : After} {n τ N : ℕ} → v ≡ answer.Accepted n τ N
+    pub accepted-erasure : {a : After} {n τ N : ℕ} → v ≡ answer.Accepted n τ N
         → a ≡ ifErasable (erasable s) (leb (length (leanSheet s)) (length b)) (leanSheet s) b → a ≡ erasure s b
-    accepted-told {n = n} {τ = τ} {N = N} e h = by-verdict (accepted n τ N) (ap verdictModel (sym e) ∙ w) h
+    accepted-erasure {n = n} {τ = τ} {N = N} e h = by-verdict (accepted n τ N) (ap verdictModel (sym e) ∙ w) h
 
 -- ---- 32, 33 and the sheet
 module _ (s b : List ℕ) where

@@ -7,21 +7,15 @@ ghost use Rattle.checker.specs.Internal.{ReadableSheet};
 ghost use Rattle.erasure.specs.Lean.{erasable as erasableOf, leanSheet};
 ghost use Rattle.erasure.specs.Erasure.{ifErasable, erasure};
 ghost use Rattle.lean.specs.Answers.{after};
-
-mod records;
-mod terms;
-mod types;
-mod write;
-
 use accessors::be16;
 use erasure::answer::Erased;
+use leanwriting::write::put_sheet;
 use program::answer::Decoded;
 use program::records::Counts;
-use terms::number_terms;
-use terms::untested;
-use types::number_types;
+use renumbering::terms::number_terms;
+use renumbering::terms::untested;
+use renumbering::types::number_types;
 use typing::answer::Verdict;
-use write::put_sheet;
 
 // The lean sheet of any bytes, written to the front of the buffer, and its length: the type checker's refusals, then 32, then 33. Each of them
 // leaves the buffer as it was.

@@ -1,1 +1,1 @@
-pub mod LentLaws
+pub mod LendingLaws

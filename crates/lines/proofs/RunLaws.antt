@@ -9,20 +9,20 @@ use lib.Seq.{take-all}
 use Rattle.program.specs.Limits.{maxCells}
 use Rattle.interp.specs.Answers.{buffersOf, after}
 use Rattle.interp.specs.declared.answer.Run.{Run}
-use Rattle.largest.specs.Largest.{request, lentRun}
+use Rattle.largest.specs.Largest.{request, largestRun}
 use Rattle.queues.specs.Queues.{Job, partOf}
 use Rattle.lines.specs.Serving.{behind, jobRun}
 use Rattle.lines.proofs.ListLaws.{take-least, drop-least}
 
 -- ---- the run of a job: a part of the store, and the list of posts from the place on
 module _ (job : Job) (place : ℕ) (store cells posts : List ℕ) (at : ℕ) (lower : at ≡ min place (length posts)) where
-  abbrev lent-on : List ℕ
-  lent-on = take (length posts - at) (drop at posts)
+  abbrev rest-posts : List ℕ
+  rest-posts = take (length posts - at) (drop at posts)
 
   pub part-is : take (job .offset + job .length - job .offset) (drop (job .offset) store) ≡ partOf job store
   part-is = let e : job .offset + job .length - job .offset ≡ job .length = omega arith in ap (λ (n : ℕ). take n (drop (job .offset) store)) e
 
-  pub rest-is : lent-on ≡ drop place posts
+  pub rest-is : rest-posts ≡ drop place posts
   rest-is = take-all (length posts - at) (drop at posts) (omega (arith, length-drop at posts)) ∙ ap (λ (n : ℕ). drop n posts) lower ∙ drop-least place posts
 
   pub back-is : (ys : List ℕ) → take at posts ++ (ys ++ drop (length posts - at) (drop at posts)) ≡ take place posts ++ ys
@@ -31,10 +31,10 @@ module _ (job : Job) (place : ℕ) (store cells posts : List ℕ) (at : ℕ) (lo
       ∙ (λ i. take-least place posts i ++ append-nil ys i)
 
   pub job-run : (r : Run) (cells′ ys : List ℕ)
-      → after r cells′ ys [] ≡ lentRun (eqb (length cells) maxCells) (take (job .offset + job .length - job .offset) (drop (job .offset) store))
-      (request (job .calls)) (buffersOf cells lent-on [])
+      → after r cells′ ys [] ≡ largestRun (eqb (length cells) maxCells) (take (job .offset + job .length - job .offset) (drop (job .offset) store))
+      (request (job .calls)) (buffersOf cells rest-posts [])
       → after r cells′ (take at posts ++ (ys ++ drop (length posts - at) (drop at posts))) [] ≡ jobRun job place store (buffersOf cells posts [])
   job-run r cells′ ys e =
       (λ i. after r cells′ (back-is ys i) [])
       ∙ ap (behind place (buffersOf cells posts []))
-      (e ∙ (λ i. lentRun (eqb (length cells) maxCells) (part-is i) (request (job .calls)) (buffersOf cells (rest-is i) [])))
+      (e ∙ (λ i. largestRun (eqb (length cells) maxCells) (part-is i) (request (job .calls)) (buffersOf cells (rest-is i) [])))

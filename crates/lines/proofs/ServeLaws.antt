@@ -16,11 +16,11 @@ use Rattle.interp.specs.declared.answer.Run.{Run}
 use Rattle.interp.specs.declared.answer.Run.the-variants.{Refused, Ran}
 use Rattle.largest.specs.Largest.{request, isLargest}
 use Rattle.queues.specs.Queues.{maxLines, Job, State, inside, Turn, nobody, serves, turnAt, turnOf, partOf, dequeued}
-use Rattle.lines.specs.Serving.{restFrom, jobRun, jobAfter, postCount, idle, told, servedAs, serveTurn, serveOf}
+use Rattle.lines.specs.Serving.{restFrom, jobRun, jobAfter, postCount, idle, answered, servedAs, serveTurn, serveOf}
 use Rattle.queues.specs.Answers.{noQueue, jobModel, queueModel, linesModel}
 use Rattle.queues.specs.Internal.{hasJob, Next}
 use Rattle.lines.specs.Internal.{Movable}
-use Rattle.largest.specs.Theorems.{lent-posts}
+use Rattle.largest.specs.Theorems.{largest-posts}
 use Rattle.queues.specs.declared.state.Lines.{Lines}
 use Rattle.queues.specs.declared.queue.Taken.{Taken}
 use Rattle.queues.specs.Laws.{queue-is}
@@ -69,16 +69,16 @@ module _ (q : Lines) (l : ℕ) (next : Next q l) (store cells posts : List ℕ) 
       by-inside e = ap (λ (t : Turn). serveTurn t S store B) turn-is ∙ ap (λ (y : Bool). servedAs S l R (jobAfter y J (q .place) store B)) (sym e)
 
       pub outside-served : (x : Bool) → x ≡ inside J store → x ≡ false → {s : State} → s ≡ dequeued S l R (q .place)
-          → record { answer = told (refused 28 0); line = l; state = s; buffers = B } ≡ serveOf S store B
+          → record { answer = answered (refused 28 0); line = l; state = s; buffers = B } ≡ serveOf S store B
       outside-served x e f g =
-          (λ i. record { answer = told (refused 28 0); line = l; state = (g ∙ ap (dequeued S l R) (sym (add-zero (q .place)))) i; buffers = B })
+          (λ i. record { answer = answered (refused 28 0); line = l; state = (g ∙ ap (dequeued S l R) (sym (add-zero (q .place)))) i; buffers = B })
           ∙ sym (by-inside (sym f ∙ e))
 
       pub run-served : (x : Bool) → x ≡ inside J store → x ≡ true → (r : Run) {cells′ posts′ : List ℕ} {s : State}
           → after r cells′ posts′ [] ≡ jobRun J (q .place) store B → s ≡ dequeued S l R (q .place + postCount (runModel r))
-          → record { answer = told (runModel r); line = l; state = s; buffers = buffersOf cells′ posts′ [] } ≡ serveOf S store B
+          → record { answer = answered (runModel r); line = l; state = s; buffers = buffersOf cells′ posts′ [] } ≡ serveOf S store B
       run-served x e f r {cells′ = cells′} {posts′ = posts′} h g =
-          (λ i. record { answer = told (runModel r); line = l; state = g i; buffers = buffersOf cells′ posts′ [] }) ∙ ap (servedAs S l R) h
+          (λ i. record { answer = answered (runModel r); line = l; state = g i; buffers = buffersOf cells′ posts′ [] }) ∙ ap (servedAs S l R) h
           ∙ sym (by-inside (sym f ∙ e))
 
       -- No run makes more posts than are left behind the place, so that the next place is at most the list's end, or stays.
@@ -92,5 +92,5 @@ module _ (q : Lines) (l : ℕ) (next : Next q l) (store cells posts : List ℕ) 
               omega (
                 arith,
                 length-drop (q .place) posts,
-                lent-posts (partOf J store) (request (J .calls)) (restFrom (q .place) B) (isLargest maxCells cells) (outcomeModel o) (countsModel m) (sym e),
+                largest-posts (partOf J store) (request (J .calls)) (restFrom (q .place) B) (isLargest maxCells cells) (outcomeModel o) (countsModel m) (sym e),
               )

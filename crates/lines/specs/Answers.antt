@@ -5,16 +5,16 @@ use Rattle.semantics.specs.Runs.{refused}
 use Rattle.interp.specs.Answers.{runModel, buffersOf}
 use Rattle.queues.specs.Answers.{linesModel}
 use Rattle.lines.specs.Serving as serving
-use Rattle.lines.specs.Serving.{Told, idle, told}
+use Rattle.lines.specs.Serving.{ServeAnswer, idle, answered}
 use Rattle.lines.specs.declared.answer.Answer.{Answer}
 use Rattle.lines.specs.declared.answer.Answer.the-variants.{Idle, Outside, Run}
 use Rattle.lines.specs.declared.answer.Served.{Served}
 
 -- "the answer says so"; "first by 28"; or what the run tells
-abbrev pub answerModel : Answer → Told
+abbrev pub answerModel : Answer → ServeAnswer
 answerModel Idle = idle
-answerModel Outside = told (refused 28 0)
-answerModel (Run r) = told (runModel r)
+answerModel Outside = answered (refused 28 0)
+answerModel (Run r) = answered (runModel r)
 
 -- with what the buffers then hold
 abbrev pub servedModel : Served → (cells posts : List ℕ) → serving.Served

@@ -5,7 +5,7 @@ use Prim.Native.Nat.{ℕ, _+_}
 use lib.ListN.{take, drop}
 use Rattle.program.specs.Limits.{maxCells}
 use Rattle.semantics.specs.Runs.{Buffers, Answer, refused, ran, After}
-use Rattle.largest.specs.Largest.{request, isLargest, lentRun}
+use Rattle.largest.specs.Largest.{request, isLargest, largestRun}
 use Rattle.queues.specs.Queues.{Job, State, inside, partOf, Turn, nobody, serves, turnOf, dequeued}
 
 -- "sees only what is left of it, which is nothing if the list lent is shorter than that place"
@@ -21,7 +21,7 @@ behind at b a = record {
 
 -- "one whole eager run each with …, 100 open calls and the largest cell store"; "15 is tested on what is left"
 abbrev pub jobRun : Job → (place : ℕ) (store : List ℕ) → Buffers → After
-jobRun j at store b = behind at b (lentRun (isLargest maxCells (b .cells)) (partOf j store) (request (j .calls)) (restFrom at b))
+jobRun j at store b = behind at b (largestRun (isLargest maxCells (b .cells)) (partOf j store) (request (j .calls)) (restFrom at b))
 
 -- "A job refused when served, first by 28 if the store is shorter then"
 abbrev pub jobAfter : (inside : Bool) → Job → (place : ℕ) (store : List ℕ) → Buffers → After
@@ -34,18 +34,18 @@ postCount (refused c p) = 0
 postCount (ran o k) = k .posts
 
 -- what a serve answers, of which line (0 if of none), and what it leaves
-pub data Told : Type 0 where
-  idle : Told
-  told : Answer → Told
+pub data ServeAnswer : Type 0 where
+  idle : ServeAnswer
+  answered : Answer → ServeAnswer
 
 pub record Served : Type 0 where
-  pub answer : Told
+  pub answer : ServeAnswer
   pub line : ℕ
   pub state : State
   pub buffers : Buffers
 
 abbrev pub servedAs : State → (line : ℕ) (rest : List Job) → After → Served
-servedAs s l js a = record { answer = told (a .answer); line = l; state = dequeued s l js (s .place + postCount (a .answer)); buffers = a .buffers }
+servedAs s l js a = record { answer = answered (a .answer); line = l; state = dequeued s l js (s .place + postCount (a .answer)); buffers = a .buffers }
 
 -- "with no job nothing changes and the answer says so"
 abbrev pub serveTurn : Turn → State → (store : List ℕ) → Buffers → Served

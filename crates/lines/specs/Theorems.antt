@@ -16,7 +16,7 @@ use lib.ListN.{length, getD, set, take, drop, length-append, length-map, length-
 use lib.Seq.{getD-set-same, getD-set-other, take-at, drop-at, drop-drop}
 use borrow.Author.Tests.{eq-eqb, ne-eqb, ltb-true, leb-false, le-leb, lt-leb}
 use Rattle.program.specs.Layout.{root}
-use Rattle.program.specs.Screening.{Screening, clear, found, tell, screen, unless}
+use Rattle.program.specs.Screening.{Screening, clear, found, refuseAt, screen, unless, unlessFound}
 use Rattle.program.specs.Decoding.{decodingConditions, decoding, Readable}
 use Rattle.program.specs.Laws.Screening.{found≢clear, found-first, first-found, clear-none, none-cons, screen-clear, unless-none}
 use Rattle.program.specs.Limits.{maxCells, maxPosts}
@@ -25,16 +25,16 @@ use Rattle.semantics.specs.Runs.{Request, Buffers, Sizes, sizes, startOk, buffe
 use Rattle.semantics.specs.Claims.{Few}
 use Rattle.semantics.specs.Laws.Starting.{countsIn}
 use Rattle.semantics.specs.Theorems.{refused-exactly}
-use Rattle.largest.specs.Largest.{request, isLargest, lentConditions, unlessFound, lentRun}
+use Rattle.largest.specs.Largest.{request, isLargest, largestConditions, refusedWith, largestRun}
 use Rattle.lines.specs.Sessions.{Operation, add, serve, stepped, session, servesIn, only, accepted, addedBy, inTurn, servedBy, addedIn, servedIn, Sound}
-use Rattle.largest.specs.Theorems.{same-run, lent-few, lent-untouched, lent-lengths}
+use Rattle.largest.specs.Theorems.{same-run, largest-few, largest-untouched, largest-lengths}
 use Rattle.queues.specs.Queues.{maxLines, maxJobs, Job, State, start, queueAt, addConditions, enqueued, addedTo, addOf, inside, Turn, nobody, serves, turnAt, nextLine, turnFrom, turnOf, partOf, dequeued}
 use Rattle.queues.specs.Answers.{noQueue, jobModel, queueModel, linesModel}
 use Rattle.queues.specs.Laws.{queue-is}
 use Rattle.queues.specs.declared.state.Queue.{Queue}
 use Rattle.queues.specs.declared.state.Lines.{Lines}
 use Rattle.queues.specs.Theorems.{FirstWaiting, served-first, nobody-waiting}
-use Rattle.lines.specs.Serving.{restFrom, behind, jobRun, jobAfter, postCount, idle, told, Served, servedAs, serveTurn, serveOf}
+use Rattle.lines.specs.Serving.{restFrom, behind, jobRun, jobAfter, postCount, idle, answered, Served, servedAs, serveTurn, serveOf}
 
 -- ---- states that the entries make
 none-waits : (l : ℕ) → queueAt start l ≡ []
@@ -189,8 +189,8 @@ from-the-start l os = sym (ap (λ (xs : List Job). xs ++ addedIn l os start) (no
 
 -- ---- "A job with j jobs before it in its own queue has its turn within 4 × (j + 1) runs"
 -- how many lines have their turn before this one
-abbrev away : (turn line : ℕ) → ℕ
-away t l = (l + maxLines - t) % maxLines
+abbrev distance : (turn line : ℕ) → ℕ
+distance t l = (l + maxLines - t) % maxLines
 
 -- While a line has a job, somebody is served: it, or another line after whose turn it is nearer.
 record Nearer (s : State) (n t l : ℕ) : Type 0 where
@@ -198,15 +198,15 @@ record Nearer (s : State) (n t l : ℕ) : Type 0 where
   job : Job
   rest : List Job
   turn-is : turnFrom n s t ≡ serves line job rest
-  near : (line ≡ l) ⊎ (away (nextLine line) l < away t l)
+  near : (line ≡ l) ⊎ (distance (nextLine line) l < distance t l)
 
-passes-by : (t l : ℕ) → t < maxLines → l < maxLines → (t ≡ l → ⊥) → away (nextLine t) l < away t l
+passes-by : (t l : ℕ) → t < maxLines → l < maxLines → (t ≡ l → ⊥) → distance (nextLine t) l < distance t l
 passes-by t l h g ne = omega arith
 
-another : (k t l : ℕ) → l < maxLines → away (nextLine k) l < away t l → k ≡ l → ⊥
+another : (k t l : ℕ) → l < maxLines → distance (nextLine k) l < distance t l → k ≡ l → ⊥
 another k t l h g e = omega arith
 
-nearer : (n : ℕ) (s : State) (t l : ℕ) (j : Job) (js : List Job) → queueAt s l ≡ j ∷ js → t < maxLines → l < maxLines → away t l < n → Nearer s n t l
+nearer : (n : ℕ) (s : State) (t l : ℕ) (j : Job) (js : List Job) → queueAt s l ≡ j ∷ js → t < maxLines → l < maxLines → distance t l < n → Nearer s n t l
 unfolding turnFrom
 nearer zero s t l j js e h g a = absurd (omega arith)
 nearer (suc n) s t l j js e h g a = go (queueAt s t) refl (ℕ-discrete t l) (nearer n s (nextLine t) l j js e (omega arith) g)
@@ -214,7 +214,7 @@ nearer (suc n) s t l j js e h g a = go (queueAt s t) refl (ℕ-discrete t l) (ne
     further : (w : List Job) → queueAt s t ≡ w → turnFrom (suc n) s t ≡ turnAt t w (λ _. turnFrom n s (nextLine t))
     further w f = λ i. turnAt t (f i) (λ _. turnFrom n s (nextLine t))
 
-    go : (w : List Job) → queueAt s t ≡ w → Dec (t ≡ l) → (away (nextLine t) l < n → Nearer s n (nextLine t) l) → Nearer s (suc n) t l
+    go : (w : List Job) → queueAt s t ≡ w → Dec (t ≡ l) → (distance (nextLine t) l < n → Nearer s n (nextLine t) l) → Nearer s (suc n) t l
     go (x ∷ xs) f (yes y) rest = record { line = t; job = x; rest = xs; turn-is = further (x ∷ xs) f; near = inl y }
     go (x ∷ xs) f (no ne) rest = record { line = t; job = x; rest = xs; turn-is = further (x ∷ xs) f; near = inr (passes-by t l h g ne) }
     go [] f (yes y) rest =
@@ -246,11 +246,11 @@ add-turn k j store s = go (screen (addConditions s k j store))
 
 module _ (l : ℕ) (below : l < maxLines) where
   abbrev Reached : List Operation → State → ℕ → Type 0
-  Reached os s n = n < length (queueAt s l) → away (s .turn) l + 4 * n < servesIn os → n < length (servedIn l os s)
+  Reached os s n = n < length (queueAt s l) → distance (s .turn) l + 4 * n < servesIn os → n < length (servedIn l os s)
 
   -- its own turn: one job less is before it
   own-turn : (os : List Operation) (s s′ : State) (n : ℕ) (j : Job) → queueAt s l ≡ j ∷ queueAt s′ l → ((m : ℕ) → Reached os s′ m) → n < length (queueAt s l)
-      → away (s .turn) l + 4 * n < suc (servesIn os) → n < suc (length (servedIn l os s′))
+      → distance (s .turn) l + 4 * n < suc (servesIn os) → n < suc (length (servedIn l os s′))
   own-turn os s s′ zero j e next h g = omega arith
   own-turn os s s′ (suc n) j e next h g = omega (arith, next n (omega (arith, ap length e)) (omega arith))
 
@@ -278,7 +278,7 @@ module _ (l : ℕ) (below : l < maxLines) where
       counted : {front : List Job} → inTurn l (turnOf s) ≡ front → length (servedIn l (serve store b ∷ os) s) ≡ length (front ++ servedIn l os s′)
       counted e = ap (λ (xs : List Job). length (xs ++ servedIn l os s′)) e
 
-      go : (r .line ≡ l) ⊎ (away (nextLine (r .line)) l < away (s .turn) l) → n < length (servedIn l (serve store b ∷ os) s)
+      go : (r .line ≡ l) ⊎ (distance (nextLine (r .line)) l < distance (s .turn) l) → n < length (servedIn l (serve store b ∷ os) s)
       go (inl y) =
           let own = ap (inTurn l) (r .turn-is) ∙ is-only (r .job) y in
           omega (arith, counted own, own-turn os s s′ n (r .job) (split own) (next s′ (step-sound (serve store b) s h)) w g)
@@ -331,11 +331,11 @@ nobody-there (suc n) s t h e =
     (λ i. turnAt t (e t h i) (λ _. turnFrom n s (nextLine t))) ∙ nobody-there n s (nextLine t) (omega arith) e
 
 module _ (s : State) (sound : Sound s) (store : List ℕ) (b : Buffers) where
-  pub served-in-turn : (a : Answer) → serveOf s store b .answer ≡ told a → ServedInTurn s (serveOf s store b)
+  pub served-in-turn : (a : Answer) → serveOf s store b .answer ≡ answered a → ServedInTurn s (serveOf s store b)
   unfolding serveOf
   served-in-turn a = go (turnOf s) refl
     where
-      go : (t : Turn) → turnOf s ≡ t → serveTurn t s store b .answer ≡ told a → ServedInTurn s (serveTurn t s store b)
+      go : (t : Turn) → turnOf s ≡ t → serveTurn t s store b .answer ≡ answered a → ServedInTurn s (serveTurn t s store b)
       go nobody f e = absurd (let y : _≡_ {A = ℕ} 0 1 = cc in omega arith)
       go (serves l j js) f e =
           let v = served-first s (sound .turn-below) l j js f in
@@ -389,7 +389,7 @@ module _ (s : State) (store : List ℕ) (b : Buffers) where
       → jobRun j (s .place) store b ≡ record { answer = refused c p; buffers = b }
   run-left j c p e = whole-again (s .place) b c p _ λ i. record {
     answer = e i;
-    buffers = lent-untouched (partOf j store) (request (j .calls)) (restFrom (s .place) b) (isLargest maxCells (b .cells)) c p e i;
+    buffers = largest-untouched (partOf j store) (request (j .calls)) (restFrom (s .place) b) (isLargest maxCells (b .cells)) c p e i;
   }
 
   job-left : (inside : Bool) (j : Job) (c p : ℕ) → jobAfter inside j (s .place) store b .answer ≡ refused c p
@@ -397,11 +397,11 @@ module _ (s : State) (store : List ℕ) (b : Buffers) where
   job-left true j c p e = ap (λ (a : After). a .buffers) (run-left j c p e)
   job-left false j c p e = refl
 
-  pub refused-leaves : (c p : ℕ) → serveOf s store b .answer ≡ told (refused c p) → Left s b (serveOf s store b)
+  pub refused-leaves : (c p : ℕ) → serveOf s store b .answer ≡ answered (refused c p) → Left s b (serveOf s store b)
   unfolding serveOf
   refused-leaves c p = go (turnOf s)
     where
-      go : (t : Turn) → serveTurn t s store b .answer ≡ told (refused c p) → Left s b (serveTurn t s store b)
+      go : (t : Turn) → serveTurn t s store b .answer ≡ answered (refused c p) → Left s b (serveTurn t s store b)
       go nobody e = absurd (let y : _≡_ {A = ℕ} 0 1 = cc in omega arith)
       go (serves l j js) e =
           let f : jobAfter (inside j store) j (s .place) store b .answer ≡ refused c p = cc in
@@ -409,14 +409,14 @@ module _ (s : State) (store : List ℕ) (b : Buffers) where
 
   -- The counts that are told are those of a run.
   job-few : (inside : Bool) (j : Job) (o : Outcome) (k : Counts) → jobAfter inside j (s .place) store b .answer ≡ ran o k → Few k
-  job-few true j o k e = lent-few (partOf j store) (request (j .calls)) (restFrom (s .place) b) (isLargest maxCells (b .cells)) o k e
+  job-few true j o k e = largest-few (partOf j store) (request (j .calls)) (restFrom (s .place) b) (isLargest maxCells (b .cells)) o k e
   job-few false j o k e = absurd (let y : _≡_ {A = ℕ} 0 1 = cc in omega arith)
 
-  pub served-few : (o : Outcome) (k : Counts) → serveOf s store b .answer ≡ told (ran o k) → Few k
+  pub served-few : (o : Outcome) (k : Counts) → serveOf s store b .answer ≡ answered (ran o k) → Few k
   unfolding serveOf
   served-few o k = go (turnOf s)
     where
-      go : (t : Turn) → serveTurn t s store b .answer ≡ told (ran o k) → Few k
+      go : (t : Turn) → serveTurn t s store b .answer ≡ answered (ran o k) → Few k
       go nobody e = absurd (let y : _≡_ {A = ℕ} 0 1 = cc in omega arith)
       go (serves l j js) e = job-few (inside j store) j o k (let f : jobAfter (inside j store) j (s .place) store b .answer ≡ ran o k = cc in f)
 
@@ -446,7 +446,7 @@ module _ (s : State) (store : List ℕ) (b : Buffers) where
     where
       by-inside : (inside : Bool) (l : ℕ) (j : Job) (js : List Job) → Kept (servedAs s l js (jobAfter inside j (s .place) store b))
       by-inside true l j js =
-          run-kept l js _ (lent-lengths (partOf j store) (request (j .calls)) (restFrom (s .place) b) (isLargest maxCells (b .cells)))
+          run-kept l js _ (largest-lengths (partOf j store) (request (j .calls)) (restFrom (s .place) b) (isLargest maxCells (b .cells)))
       by-inside false l j js = record { lengths = refl; before = refl }
 
       go : (t : Turn) → Kept (serveTurn t s store b)
@@ -455,11 +455,11 @@ module _ (s : State) (store : List ℕ) (b : Buffers) where
 
 -- ---- the job whose turn it is
 -- once the sheet and the start stack are past, 15 is told exactly when the list is too long
-fifteen-asked : (x y : Bool) → (screen (unless 14 true ∷ unless 15 (true && x && true) ∷ unless 16 y ∷ []) ≡ found 15 0) ↔ (x ≡ false)
-unfolding screen tell
-fifteen-asked true true = (λ e. absurd (found≢clear (sym e)), λ e. absurd (true≢false e))
-fifteen-asked true false = (λ e. absurd (let z : _≡_ {A = ℕ} 16 15 = cc in omega arith), λ e. absurd (true≢false e))
-fifteen-asked false y = (λ e. refl, λ e. refl)
+fifteen-screened : (x y : Bool) → (screen (unless 14 true ∷ unless 15 (true && x && true) ∷ unless 16 y ∷ []) ≡ found 15 0) ↔ (x ≡ false)
+unfolding screen refuseAt
+fifteen-screened true true = (λ e. absurd (found≢clear (sym e)), λ e. absurd (true≢false e))
+fifteen-screened true false = (λ e. absurd (let z : _≡_ {A = ℕ} 16 15 = cc in omega arith), λ e. absurd (true≢false e))
+fifteen-screened false y = (λ e. refl, λ e. refl)
 
 -- what a run that starts leaves in the list lent to it: its posts, as many as it tells, and then what stood there
 record Listed (made : List ℕ) (k : Counts) (before after : List ℕ) : Type 0 where
@@ -481,13 +481,13 @@ module _ (sheet : List ℕ) (q : Request) (b : Buffers) where
       go (rejected c p) e = absurd (let y : _≡_ {A = ℕ} 0 1 = cc in omega arith)
       go (started x) e = by-budget (left x) (ap (λ (a : Answer). countsIn k a .posts) e)
 
-  lent-listed : (right : Bool) (o : Outcome) (k : Counts) → lentRun right sheet q b .answer ≡ ran o k
-      → Listed (postsMade (course sheet q (sizes b))) k (b .posts) (lentRun right sheet q b .buffers .posts)
-  unfolding lentRun
-  lent-listed right o k = go (screen (lentConditions right sheet q))
+  largest-listed : (right : Bool) (o : Outcome) (k : Counts) → largestRun right sheet q b .answer ≡ ran o k
+      → Listed (postsMade (course sheet q (sizes b))) k (b .posts) (largestRun right sheet q b .buffers .posts)
+  unfolding largestRun
+  largest-listed right o k = go (screen (largestConditions right sheet q))
     where
-      go : (x : Screening) → unlessFound x b (λ _. run sheet q b) .answer ≡ ran o k
-          → Listed (postsMade (course sheet q (sizes b))) k (b .posts) (unlessFound x b (λ _. run sheet q b) .buffers .posts)
+      go : (x : Screening) → unlessFound (refusedWith b) x (λ _. run sheet q b) .answer ≡ ran o k
+          → Listed (postsMade (course sheet q (sizes b))) k (b .posts) (unlessFound (refusedWith b) x (λ _. run sheet q b) .buffers .posts)
       go clear e = run-listed o k e
       go (found c p) e = absurd (let y : _≡_ {A = ℕ} 0 1 = cc in omega arith)
 
@@ -518,48 +518,48 @@ module _ (s : State) (store : List ℕ) (b : Buffers) (l : ℕ) (j : Job) (rest 
   by-inside e = (λ i. serveTurn (turn i) s store b) ∙ (λ i. servedAs s l rest (jobAfter (e i) j (s .place) store b))
 
   -- "A job refused when served, first by 28 if the store is shorter then, uses up its turn and its number is told"
-  pub outside-told : inside j store ≡ false
-      → serveOf s store b ≡ record { answer = told (refused 28 0); line = l; state = dequeued s l rest (s .place); buffers = b }
-  outside-told e =
-      by-inside e ∙ (λ i. record { answer = told (refused 28 0); line = l; state = dequeued s l rest (add-zero (s .place) i); buffers = b })
+  pub outside-answered : inside j store ≡ false
+      → serveOf s store b ≡ record { answer = answered (refused 28 0); line = l; state = dequeued s l rest (s .place); buffers = b }
+  outside-answered e =
+      by-inside e ∙ (λ i. record { answer = answered (refused 28 0); line = l; state = dequeued s l rest (add-zero (s .place) i); buffers = b })
 
   -- "15 is tested on what is left": of a readable sheet in the store, with the largest cell store lent, whatever its allowance
   module _ (within : inside j store ≡ true) (readable : Readable (partOf j store)) (largest : length (b .cells) ≡ maxCells) where
-    is-run : serveOf s store b .answer ≡ told (run P Q R .answer)
+    is-run : serveOf s store b .answer ≡ answered (run P Q R .answer)
     is-run =
-        ap (λ (r : Served). r .answer) (by-inside within) ∙ (λ i. told (lentRun (eq-eqb (length (b .cells)) maxCells largest i) P Q R .answer))
-        ∙ ap (λ (a : After). told (a .answer)) (same-run P Q R)
+        ap (λ (r : Served). r .answer) (by-inside within) ∙ (λ i. answered (largestRun (eq-eqb (length (b .cells)) maxCells largest i) P Q R .answer))
+        ∙ ap (λ (a : After). answered (a .answer)) (same-run P Q R)
 
-    asked : screen (runConditions P Q (sizes R))
+    screened : screen (runConditions P Q (sizes R))
         ≡ screen (unless 14 true ∷ unless 15 (true && leb (length (R .posts)) maxPosts && true) ∷ unless 16 (limitsOk Q) ∷ [])
     unfolding decoding
-    asked =
+    screened =
         screen-clear (decodingConditions P) (unless 14 (startOk P Q) ∷ unless 15 (buffersOk (Q .runner) (sizes R)) ∷ unless 16 (limitsOk Q) ∷ []) readable
         ∙ (λ i. screen (unless 14 true ∷ unless 15 (le-leb (length (b .cells)) maxCells (omega arith) i && leb (length (R .posts)) maxPosts && true)
         ∷ unless 16 (limitsOk Q) ∷ []))
 
-    pub fifteen-on-the-rest : (serveOf s store b .answer ≡ told (refused 15 0)) ↔ (maxPosts < length (restFrom (s .place) b .posts))
+    pub fifteen-on-the-rest : (serveOf s store b .answer ≡ answered (refused 15 0)) ↔ (maxPosts < length (restFrom (s .place) b .posts))
     fifteen-on-the-rest = (
       λ e.
-          let f : told (run P Q R .answer) ≡ told (refused 15 0) = sym is-run ∙ e in
-          leb-false (length (R .posts)) maxPosts (exactly .0 (sym asked ∙ first-found (refused-exactly P Q R 15 0 .0 (cc)))),
+          let f : answered (run P Q R .answer) ≡ answered (refused 15 0) = sym is-run ∙ e in
+          leb-false (length (R .posts)) maxPosts (exactly .0 (sym screened ∙ first-found (refused-exactly P Q R 15 0 .0 (cc)))),
       λ h.
-          let f = asked ∙ exactly .1 (lt-leb (length (R .posts)) maxPosts h) in
-          is-run ∙ ap told (refused-exactly P Q R 15 0 .1 (found-first (runConditions P Q (sizes R)) 15 0 f)),
+          let f = screened ∙ exactly .1 (lt-leb (length (R .posts)) maxPosts h) in
+          is-run ∙ ap answered (refused-exactly P Q R 15 0 .1 (found-first (runConditions P Q (sizes R)) 15 0 f)),
     )
       where
         exactly : (screen (unless 14 true ∷ unless 15 (true && leb (length (R .posts)) maxPosts && true) ∷ unless 16 (limitsOk Q) ∷ []) ≡ found 15 0)
             ↔ (leb (length (R .posts)) maxPosts ≡ false)
-        exactly = fifteen-asked (leb (length (R .posts)) maxPosts) (limitsOk Q)
+        exactly = fifteen-screened (leb (length (R .posts)) maxPosts) (limitsOk Q)
 
   abbrev A : After
-  A = lentRun (isLargest maxCells (b .cells)) P Q R
+  A = largestRun (isLargest maxCells (b .cells)) P Q R
 
   by-run : (o : Outcome) (k : Counts) → A .answer ≡ ran o k → Followed s store b j k (servedAs s l rest (behind (s .place) b A))
   by-run o k e =
       let made = jobPosts j (s .place) store b in
-      let L = lent-listed P Q R (isLargest maxCells (b .cells)) o k e in
-      let as-long : length (A .buffers .posts) ≡ length (R .posts) = ap (λ (z : Sizes). z .posts) (lent-lengths P Q R (isLargest maxCells (b .cells))) in
+      let L = largest-listed P Q R (isLargest maxCells (b .cells)) o k e in
+      let as-long : length (A .buffers .posts) ≡ length (R .posts) = ap (λ (z : Sizes). z .posts) (largest-lengths P Q R (isLargest maxCells (b .cells))) in
       let at : drop (s .place) (take (s .place) (b .posts) ++ A .buffers .posts) ≡ made ++ drop (k .posts) (R .posts) =
       drop-front (s .place) (b .posts) (A .buffers .posts) as-long ∙ L .list-is in
       let on : s .place + postCount (A .answer) ≡ s .place + k .posts = ap (λ (x : Answer). s .place + postCount x) e in
@@ -573,10 +573,10 @@ module _ (s : State) (store : List ℕ) (b : Buffers) (l : ℕ) (j : Job) (rest 
             ∙ sym (ap (λ (n : ℕ). drop n (b .posts)) on);
       }
 
-  pub posts-follow : (o : Outcome) (k : Counts) → serveOf s store b .answer ≡ told (ran o k) → Followed s store b j k (serveOf s store b)
+  pub posts-follow : (o : Outcome) (k : Counts) → serveOf s store b .answer ≡ answered (ran o k) → Followed s store b j k (serveOf s store b)
   posts-follow o k e = go (inside j store) refl
     where
-      answer-is : {x : Bool} → inside j store ≡ x → told (jobAfter x j (s .place) store b .answer) ≡ told (ran o k)
+      answer-is : {x : Bool} → inside j store ≡ x → answered (jobAfter x j (s .place) store b .answer) ≡ answered (ran o k)
       answer-is f = sym (ap (λ (r : Served). r .answer) (by-inside f)) ∙ e
 
       go : (x : Bool) → inside j store ≡ x → Followed s store b j k (serveOf s store b)

@@ -15,7 +15,7 @@ pub mod answer;
 use answer::Answer;
 use answer::Served;
 use interp::answer::Run;
-use largest::run_lent;
+use largest::run_largest;
 use program::limits::MAX_CELLS;
 use queues::inside;
 use queues::next_line;
@@ -42,7 +42,7 @@ fn run_job(job: Job, place: usize, store: &[u8], cells: &mut [u8], posts: &mut [
     let to = from + job.length;
     let at = lower(place, posts.len());
     let right = cells.len() == MAX_CELLS;
-    run_lent(&store[from..to], job.calls, right, cells, &mut posts[at..])
+    run_largest(&store[from..to], job.calls, right, cells, &mut posts[at..])
 }
 
 // The place moves by the posts that a run made. One that was refused made none.

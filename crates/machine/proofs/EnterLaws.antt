@@ -13,9 +13,9 @@ use Rattle.machine.specs.declared.enter.Entered.{Entered}
 use Rattle.privileges.specs.Booleans.{and-left, and-right}
 use Rattle.traces.specs.Traces.{Event}
 use Rattle.stores.specs.Words.{pick, functionWord, stopWord, isStop}
-use Rattle.machine.specs.Table.{wordKind, wordSmall, wordFirst, wordSecond, wordThird, wordAuthority}
+use Rattle.termtable.specs.Table.{wordKind, wordSmall, wordFirst, wordSecond, wordThird, wordAuthority}
 use Rattle.stores.specs.Cells.{nextCell, Bound}
-use Rattle.stores.specs.Access.{enforced, grantedOf, allowedOf, signAccess, signFrames}
+use Rattle.access.specs.Access.{enforced, grantedOf, allowedOf, signAccess, signFrames}
 use Rattle.machine.specs.Steps.{callsLeft, cellsMade, modeOf, decisionOf, noteCounters, noteBytes, Noted}
 use Rattle.machine.specs.Store.{Done, storeOf, Runs, Applier, Shape, letrec, check, sign, test, shapeOf, hasRoom, letrecS, checkS, testS, signS, byShape}
 use Rattle.machine.specs.Lower.{Lower, readsPrivilege}

@@ -1,4 +1,3 @@
 pub mod EnterLaws
 pub mod NoteLaws
 pub mod StepLaws
-pub mod TableLaws

@@ -10,8 +10,8 @@ use lib.ListN.{length, getD, set}
 use borrow.Author.Tests.{eq-eqb, ne-eqb, le-leb, lt-leb, lt-ltb, le-ltb, ltb-true}
 use Rattle.program.specs.Limits.{noGuard}
 use Rattle.stores.specs.Words.{pick, booleanWord, numberWord, intervalWord, undecidedWord, stopWord, sortOf, payloadOf, envOf}
-use Rattle.stores.specs.Access.{enforced, intervalMode, grantedOf, allowedOf}
-use Rattle.machine.specs.Table.{wordSmall, wordGuard}
+use Rattle.access.specs.Access.{enforced, intervalMode, grantedOf, allowedOf}
+use Rattle.termtable.specs.Table.{wordSmall, wordGuard}
 use Rattle.machine.specs.Steps.{postsMade, modeOf, resultOf, lessOf, intervalResult, numbersResult, operateOf, saturatesOf, operateSaturates, countSaturated, operateCounters, Operated, decisionOf, noteCounters, noteBytes, Noted, Guard, guardPassed, numberDecides, Guarded, causeOf, entryOf, listedAs, postCause, postWord, postCounters, postList, Appended}
 use Rattle.machine.proofs.NoteLaws.{note-others}
 

@@ -6,7 +6,7 @@ use mathlib.Core.Path.{_≡_}
 use Prim.Native.Nat.{ℕ, _<_}
 use Rattle.machine.specs.declared.enter.Entered.{Entered}
 use Rattle.stores.specs.Words.{pick, isStop}
-use Rattle.machine.specs.Table.{wordKind, wordSmall}
+use Rattle.termtable.specs.Table.{wordKind, wordSmall}
 use Rattle.machine.specs.Steps.{callsLeft}
 use Rattle.machine.specs.Store.{Store, Done, storeOf, doneOf, Runs, Applier, shapeOf, byShape}
 use Rattle.machine.specs.Lower.{readsPrivilege, Lower}

@@ -2,7 +2,7 @@
 use mathlib.Core.Bool.{Bool, true, false}
 use mathlib.Core.Path.{_≡_}
 use Prim.Native.Nat.{ℕ, _<_}
-use Rattle.machine.specs.Table.{wordSmall, wordFirst, wordSecond, wordThird, wordGuard}
+use Rattle.termtable.specs.Table.{wordSmall, wordFirst, wordSecond, wordThird, wordGuard}
 use Rattle.machine.specs.Steps.{Guard}
 use Rattle.machine.specs.Store.{Shape, childless, letrec, call, if, check, enable, sign, test, binary, post}
 

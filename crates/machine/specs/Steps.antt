@@ -9,8 +9,8 @@ use lib.ListN.{length, getD, set, take, drop}
 use Rattle.program.specs.Limits.{noGuard}
 use Rattle.traces.specs.Traces.{Event, eventBytes}
 use Rattle.stores.specs.Words.{pick, booleanWord, numberWord, intervalWord, undecidedWord, stopWord, sortOf, payloadOf, envOf}
-use Rattle.stores.specs.Access.{enforced, intervalMode, grantedOf, allowedOf}
-use Rattle.machine.specs.Table.{wordSmall, wordGuard}
+use Rattle.access.specs.Access.{enforced, intervalMode, grantedOf, allowedOf}
+use Rattle.termtable.specs.Table.{wordSmall, wordGuard}
 
 abbrev pub callsLeft : (counters : List ℕ) → ℕ
 callsLeft n = getD n 0 0

@@ -6,9 +6,9 @@ use Prim.Native.Nat.{ℕ, zero, suc, _+_, _-_, _/_}
 use lib.Dec.{leb, ltb, eqb}
 use lib.ListN.{length, getD, set}
 use Rattle.stores.specs.Words.{pick, booleanWord, intervalWord, functionWord, stopWord, sortOf, payloadOf, envOf, isStop}
-use Rattle.machine.specs.Table.{wordKind, wordSmall, wordFirst, wordSecond, wordThird, wordAuthority, wordGuard}
+use Rattle.termtable.specs.Table.{wordKind, wordSmall, wordFirst, wordSecond, wordThird, wordAuthority, wordGuard}
 use Rattle.stores.specs.Cells.{lookOf, cellSet, nextCell}
-use Rattle.stores.specs.Access.{enforced, grantedOf, allowedOf, signAccess, signFrames, enableAccess, enableFrames, enabledNow, restoreFrames}
+use Rattle.access.specs.Access.{enforced, grantedOf, allowedOf, signAccess, signFrames, enableAccess, enableFrames, enabledNow, restoreFrames}
 use Rattle.machine.specs.Steps.{callsLeft, cellsMade, modeOf, operateOf, operateCounters, decisionOf, noteCounters, noteBytes, guardDecides, postCause, postWord, postCounters, postList}
 
 -- ---- the state of a run between two steps: its counters, the lent stores and the bytes of its record

@@ -3,18 +3,18 @@ ghost use mathlib.Core.Path.{_≡_};
 ghost use Rattle.machine.specs.Enter.{EntersWord, going, halting, Enters};
 use crate::notes::note;
 use crate::steps::choose;
-use crate::table::authority_of;
-use crate::table::first_of;
-use crate::table::kind_of;
-use crate::table::second_of;
-use crate::table::small_of;
-use crate::table::third_of;
-use stores::access::enforces;
-use stores::access::granted;
-use stores::access::sign;
+use access::enforces;
+use access::granted;
+use access::sign;
 use stores::cells::bind;
 use stores::cells::next_cell;
 use stores::words;
+use termtable::authority_of;
+use termtable::first_of;
+use termtable::kind_of;
+use termtable::second_of;
+use termtable::small_of;
+use termtable::third_of;
 
 // The child to evaluate, with its environment and access; or a stop, where 0 is none.
 pub struct Entered {

@@ -5,16 +5,16 @@ ghost use Prim.Native.Nat.{_+_, _-_, min};
 ghost use Rattle.stores.specs.Words.{pick, numberWord, payloadOf, envOf};
 ghost use Rattle.stores.specs.Returns.{Returned};
 ghost use Rattle.machine.specs.Steps.{countSaturated, lessOf, intervalResult, Operated, Guard, Guarded, causeOf, entryOf, listedAs, Appended};
-ghost use Rattle.machine.specs.Table.{wordGuard};
+ghost use Rattle.termtable.specs.Table.{wordGuard};
 use crate::notes::note;
-use crate::table::guard_of;
-use crate::table::small_of;
+use access::enforces;
+use access::granted;
+use access::intervals;
 use program::limits::NO_GUARD;
 use std::num::wrapping_add_usize;
-use stores::access::enforces;
-use stores::access::granted;
-use stores::access::intervals;
 use stores::words;
+use termtable::guard_of;
+use termtable::small_of;
 
 // One of two numbers.
 pub fn choose(yes: bool, a: u16, b: u16) -> u16

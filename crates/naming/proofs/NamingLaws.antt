@@ -11,7 +11,7 @@ use Rattle.program.specs.Limits.{maxChannels}
 use Rattle.program.specs.Layout.{terms, termAt, kindByte, guardOf, guardIn}
 use Rattle.program.specs.Formats.{Kind, Boolean, Number, Variable, Function, Letrec, Call, If, Check, Enable, Sign, Test, Sum, Difference, Less, Post, kindOf, format}
 use Rattle.program.specs.Terms.{Term, node, tree, contains}
-use Rattle.program.specs.Screening.{unless, lowest, tell, screen}
+use Rattle.program.specs.Screening.{unless, lowest, refuseAt, screen, unlessFound}
 use Rattle.program.specs.Decoding.{decodingConditions, decoding}
 use Rattle.program.specs.Records.{termAtByte, termRecord, guardRecord}
 use Rattle.program.specs.Answers.{decodingCause, decodingPlace, decodedModel}
@@ -27,8 +27,8 @@ use Rattle.program.specs.declared.answer.Decoded.the-variants.{Readable, Refuse
 use Rattle.program.specs.declared.records.Counts.{Counts}
 use Rattle.program.specs.declared.records.TermRecord.{TermRecord}
 use Rattle.semantics.specs.Names.{namedBy, names}
-use Rattle.irrelevance.specs.Naming.{Naming, refused, unnamed, named, namingOf, firstNaming, unlessFound, naming}
-use Rattle.naming.specs.Internal.{Asked, AskedTerm}
+use Rattle.irrelevance.specs.Naming.{Naming, refused, unnamed, named, namingOf, firstNaming, naming}
+use Rattle.naming.specs.Internal.{NamingSheet, NamingTerm}
 
 -- ---- a term of a kind that names none
 names-none : (G : ℕ → Option ℕ) (k : Kind) → (numbered k ≡ 7 → ⊥) → (numbered k ≡ 10 → ⊥) → (numbered k ≡ 14 → ⊥) → (p t x a b c : ℕ) (f : ℕ → Term)
@@ -50,20 +50,20 @@ names-none G Less n7 n10 n14 p t x a b c f = refl
 names-none G Post n7 n10 n14 p t x a b c f = absurd (n14 refl)
 
 -- ---- a term whose record is read
-module _ {s : List ℕ} {c : Counts} {p t : ℕ} (R : AskedTerm s c p t) {x : TermRecord} (h : x ≡ termRecord s c t) where
+module _ {s : List ℕ} {c : Counts} {p t : ℕ} (R : NamingTerm s c p t) {x : TermRecord} (h : x ≡ termRecord s c t) where
   -- the node of its record
   abbrev of : (k : ℕ) → Term
   of k = node (guardOf s) (kindOf k) t (x .small) (x .first) (x .second) (x .third) (tree s)
 
   record-is : x ≡ termAtByte s (termAt s t)
-  record-is = h ∙ term-is s (R .asked .sheet .well-formed) c (R .asked .sheet .counts) t (R .inside)
+  record-is = h ∙ term-is s (R .of-sheet .sheet .well-formed) c (R .of-sheet .sheet .counts) t (R .inside)
 
   names-is : (k : ℕ) → x .kind ≡ k → contains p (namedBy (of k)) ≡ names s p t
   unfolding names
   names-is k e =
       ap (λ (n : ℕ). contains p (namedBy (of n))) (sym e)
       ∙ (λ i. let r = record-is i in contains p (namedBy (node (guardOf s) (kindOf (r .kind)) t (r .small) (r .first) (r .second) (r .third) (tree s))))
-      ∙ ap (λ (z : Term). contains p (namedBy z)) (sym (tree-node s (R .asked .sheet .well-formed) t (R .inside)))
+      ∙ ap (λ (z : Term). contains p (namedBy z)) (sym (tree-node s (R .of-sheet .sheet .well-formed) t (R .inside)))
 
   pub check-names : x .kind ≡ 7 → eqb (x .small) p ≡ names s p t
   check-names e = names-is 7 e
@@ -78,17 +78,17 @@ module _ {s : List ℕ} {c : Counts} {p t : ℕ} (R : AskedTerm s c p t) {x : Te
   channel-in : x .kind ≡ 14 → x .small < maxChannels
   channel-in e =
       subst (λ (r : TermRecord). r .small < maxChannels) (sym record-is)
-      (channel-below s (R .asked .sheet .well-formed) t (R .inside) (ap (λ (k : ℕ). format (kindOf k) .small) (sym kind-is ∙ e)))
+      (channel-below s (R .of-sheet .sheet .well-formed) t (R .inside) (ap (λ (k : ℕ). format (kindOf k) .small) (sym kind-is ∙ e)))
 
   pub post-names : x .kind ≡ 14 → {g : ℕ} → g ≡ guardRecord s c (x .small) → eqb g p ≡ names s p t
   post-names e {g} q =
-      guard-contains p g (R .asked .privilege)
-      ∙ ap (λ (g : ℕ). contains p (guardIn g)) (q ∙ guard-is s (R .asked .sheet .well-formed) c (R .asked .sheet .counts) (x .small) (channel-in e))
+      guard-contains p g (R .of-sheet .privilege)
+      ∙ ap (λ (g : ℕ). contains p (guardIn g)) (q ∙ guard-is s (R .of-sheet .sheet .well-formed) c (R .of-sheet .sheet .counts) (x .small) (channel-in e))
       ∙ names-is 14 e
 
   pub no-names : (x .kind ≡ 7 → ⊥) → (x .kind ≡ 10 → ⊥) → (x .kind ≡ 14 → ⊥) → false ≡ names s p t
   no-names n7 n10 n14 =
-      let low : x .kind ≤ 14 = omega (arith, kind-is, parts s (R .asked .sheet .well-formed) t (R .inside) .kind-ok) in
+      let low : x .kind ≤ 14 = omega (arith, kind-is, parts s (R .of-sheet .sheet .well-formed) t (R .inside) .kind-ok) in
       let same : x .kind ≡ numbered (kindOf (x .kind)) = sym (kind-number (x .kind) low) in
       names-none (guardOf s) (kindOf (x .kind)) (λ e. n7 (same ∙ e)) (λ e. n10 (same ∙ e)) (λ e. n14 (same ∙ e)) p t (x .small) (x .first) (x .second)
       (x .third) (tree s)
@@ -97,33 +97,34 @@ module _ {s : List ℕ} {c : Counts} {p t : ℕ} (R : AskedTerm s c p t) {x : Te
 -- ---- 30
 module _ (s : List ℕ) (p : ℕ) where
   abbrev readableAnswer : Bool → Naming
-  readableAnswer low = unlessFound (screen (unless 30 low ∷ [])) (λ _. namingOf (firstNaming s p))
+  readableAnswer low = unlessFound refused (screen (unless 30 low ∷ [])) (λ _. namingOf (firstNaming s p))
 
   pub too-high : 31 < p → refused 30 0 ≡ readableAnswer (leb p 31)
-  unfolding screen tell
+  unfolding screen refuseAt
   too-high h = λ i. readableAnswer (sym (lt-leb p 31 h) i)
 
   pub not-above : p ≤ 31 → {a : Naming} → a ≡ namingOf (firstNaming s p) → a ≡ readableAnswer (leb p 31)
-  unfolding screen tell
+  unfolding screen refuseAt
   not-above h e = e ∙ λ i. readableAnswer (sym (le-leb p 31 h) i)
 
   -- ---- the decoder's answer
   module _ {d : Decoded} (m : decodedModel d ≡ decoding s) where
-    pub unreadable-told : {f : Refusal} → d ≡ Refused f → refused (decodingCause f) (decodingPlace f) ≡ naming s p
+    pub unreadable-naming : {f : Refusal} → d ≡ Refused f → refused (decodingCause f) (decodingPlace f) ≡ naming s p
     unfolding naming decoding
-    unreadable-told {f} e = λ i.
-        unlessFound
+    unreadable-naming {f} e = λ i.
+        unlessFound refused
         (sym (screen-found (decodingConditions s) (unless 30 (leb p 31) ∷ []) (decodingCause f) (decodingPlace f) (sym m ∙ ap decodedModel e)) i)
         (λ _. namingOf (firstNaming s p))
 
-    pub readable-told : {c : Counts} → d ≡ Readable c → {a : Naming} → a ≡ readableAnswer (leb p 31) → a ≡ naming s p
+    pub readable-naming : {c : Counts} → d ≡ Readable c → {a : Naming} → a ≡ readableAnswer (leb p 31) → a ≡ naming s p
     unfolding naming decoding
-    readable-told e h = h ∙ λ i.
-        unlessFound (sym (screen-clear (decodingConditions s) (unless 30 (leb p 31) ∷ []) (sym m ∙ ap decodedModel e)) i) (λ _. namingOf (firstNaming s p))
+    readable-naming e h = h ∙ λ i.
+        unlessFound refused (sym (screen-clear (decodingConditions s) (unless 30 (leb p 31) ∷ []) (sym m ∙ ap decodedModel e)) i) (λ _. namingOf
+        (firstNaming s p))
 
 -- ---- the search
-pub asked-term : {s : List ℕ} {c : Counts} {p t n : ℕ} → Asked s c p → n ≡ terms s → t < n → AskedTerm s c p t
-asked-term A e h = record { asked = A; inside = omega (arith, e, h) }
+pub naming-term : {s : List ℕ} {c : Counts} {p t n : ℕ} → NamingSheet s c p → n ≡ terms s → t < n → NamingTerm s c p t
+naming-term A e h = record { of-sheet = A; inside = omega (arith, e, h) }
 
 module _ (s : List ℕ) (p : ℕ) where
   abbrev other : ℕ → Bool

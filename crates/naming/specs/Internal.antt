@@ -6,11 +6,11 @@ use Rattle.program.specs.declared.records.Counts.{Counts}
 use Rattle.subtyping.specs.Internal.{Sheet}
 
 -- a readable sheet with its counts, and a privilege
-pub record Asked (s : List ℕ) (c : Counts) (p : ℕ) : Type 0 where
+pub record NamingSheet (s : List ℕ) (c : Counts) (p : ℕ) : Type 0 where
   pub sheet : Sheet s c
   pub privilege : p < 32
 
 -- and a term
-pub record AskedTerm (s : List ℕ) (c : Counts) (p t : ℕ) : Type 0 where
-  pub asked : Asked s c p
+pub record NamingTerm (s : List ℕ) (c : Counts) (p t : ℕ) : Type 0 where
+  pub of-sheet : NamingSheet s c p
   pub inside : t < terms s

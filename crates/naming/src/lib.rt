@@ -2,12 +2,12 @@
 ghost use mathlib.Core.List.{[], _∷_};
 ghost use mathlib.Core.Path.{_≡_};
 ghost use lib.Dec.{leb};
-ghost use Rattle.program.specs.Screening.{screen, unless};
+ghost use Rattle.program.specs.Screening.{screen, unlessFound, unless};
 ghost use Rattle.subtyping.specs.Internal.{Sheet};
 ghost use Rattle.semantics.specs.Names.{names as namesOf};
-ghost use Rattle.irrelevance.specs.Naming.{firstNaming, namingOf, unlessFound, naming};
+ghost use Rattle.irrelevance.specs.Naming.{refused, firstNaming, namingOf, naming};
 ghost use Rattle.irrelevance.specs.Answers.{namedModel};
-ghost use Rattle.naming.specs.Internal.{Asked, AskedTerm};
+ghost use Rattle.naming.specs.Internal.{NamingSheet, NamingTerm};
 use accessors::guard;
 use accessors::term;
 use irrelevance::answer::Named;
@@ -28,7 +28,8 @@ pub fn names(sheet: &[u8], privilege: u32) -> Named
 // The same of a readable sheet with its counts.
 fn names_readable(s: &[u8], c: Counts, privilege: u32) -> Named
     requires { ⌜ Sheet (now s) c ⌝ }
-    ensures { λ r. ⌜ namedModel r ≡ unlessFound (screen (unless 30 (leb privilege 31) ∷ [])) (λ _. namingOf (firstNaming (now (s .entry)) privilege)) ⌝ }
+    ensures { λ r. ⌜ namedModel r ≡ unlessFound refused (screen (unless 30 (leb privilege 31) ∷ [])) (λ _. namingOf (firstNaming (now
+        (s .entry)) privilege)) ⌝ }
 {
     if 31 < privilege {
         return Named::NoPrivilege;
@@ -38,7 +39,7 @@ fn names_readable(s: &[u8], c: Counts, privilege: u32) -> Named
 
 // The lowest term that names p.
 fn first_naming(s: &[u8], c: Counts, p: u8) -> Named
-    requires { ⌜ Asked (now s) c p ⌝ }
+    requires { ⌜ NamingSheet (now s) c p ⌝ }
     ensures { λ r. ⌜ namedModel r ≡ namingOf (firstNaming (now (s .entry)) p) ⌝ }
 {
     let n = c.terms;
@@ -54,7 +55,7 @@ fn first_naming(s: &[u8], c: Counts, p: u8) -> Named
 
 // Whether term t names p. An enable does not: it asks nothing.
 fn term_names(s: &[u8], c: Counts, t: u16, p: u8) -> bool
-    requires { ⌜ AskedTerm (now s) c p t ⌝ }
+    requires { ⌜ NamingTerm (now s) c p t ⌝ }
     ensures { λ r. ⌜ r ≡ namesOf (now (s .entry)) p t ⌝ }
 {
     let x = term(s, c, t);

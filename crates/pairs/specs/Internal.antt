@@ -10,7 +10,7 @@ use Rattle.program.specs.Laws.Readable.{WellFormed}
 use Rattle.program.specs.declared.records.Counts.{Counts}
 use Rattle.intervals.specs.Intervals.{Interval}
 use Rattle.intervals.specs.Pairs.{isNumber, numbersBelow, pairOf}
-use Rattle.machine.specs.Table.{wordKind, wordFirst, wordSecond, Decoded}
+use Rattle.termtable.specs.Table.{wordKind, wordFirst, wordSecond, Decoded}
 
 -- a readable sheet with its counts, and a term
 pub record TermOf (s : List ℕ) (c : Counts) (t : ℕ) : Type 0 where

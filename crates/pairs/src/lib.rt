@@ -4,7 +4,7 @@ ghost use Prim.Native.Nat.{_*_, _≤_};
 ghost use lib.ListN.{length};
 ghost use Rattle.program.specs.Layout.{terms as termsOf};
 ghost use Rattle.intervals.specs.Pairs.{isNumber, numbersBelow, ordered as orderedPairs, pairsOk};
-ghost use Rattle.machine.specs.Table.{FormedSheet};
+ghost use Rattle.termtable.specs.Table.{FormedSheet};
 ghost use Rattle.pairs.specs.Internal.{TermOf, Layable, Laid};
 use program::limits::TERM_PLACES;
 use program::records::Counts;

@@ -8,7 +8,7 @@ use lib.ListN.{length, take, drop}
 use denote.Enum.Declared.{tagOf}
 use Rattle.program.specs.Layout.{authority, typesOf}
 use Rattle.program.specs.Terms.{tree, program}
-use Rattle.program.specs.Screening.{Screening}
+use Rattle.program.specs.Screening.{Screening, unlessFound}
 use Rattle.program.specs.Decoding.{decoding}
 use Rattle.program.specs.Answers.{decodedModel}
 use Rattle.program.specs.declared.answer.Refusal.{Refusal}
@@ -23,7 +23,7 @@ use Rattle.rules.specs.Inference.{lastFirst}
 use Rattle.rules.specs.declared.bindings.Bindings.{Bindings}
 use Rattle.checker.proofs.VerdictLaws.{root-ready}
 use Rattle.places.specs.Internal.{present, childAt}
-use Rattle.subterms.specs.Smallest.{subterms, Refused, smallestOf, Piece, pieceFrom, ifReadable, pieceOf, recordLength, recordOf}
+use Rattle.subterms.specs.Smallest.{subterms, Refused, smallestOf, Piece, unreadable, pieceFrom, pieceOf, recordLength, recordOf}
 use Rattle.subterms.specs.Laws.Subterms.{subtermsIn}
 use Rattle.subterms.specs.Theorems.{record-inside, place-most, length-most}
 use Rattle.subterms.specs.declared.answer.Piece.the-variants.{Smallest, NoPiece, Unreadable}
@@ -45,11 +45,12 @@ module _ (s : List ℕ) {d : Decoded} (p : decodedModel d ≡ decoding s) where
   unreadable-located {f} e q =
       subst (LocatedAs s (pieceOf s)) (sym q)
       (subst (λ (a : Piece). LocatedAs s a (record { piece = Unreadable f; at = 0; len = 0 }))
-      (ap (λ (x : Screening). ifReadable x λ _. pieceIn s) (sym (ap decodedModel e) ∙ p)) (record { piece-is = refl; at-is = refl; len-is = refl }))
+      (ap (λ (x : Screening). unlessFound unreadable x λ _. pieceIn s) (sym (ap decodedModel e) ∙ p)) (record { piece-is = refl; at-is = refl; len-is = refl }))
 
   pub readable-located : {c : Counts} → d ≡ Readable c → {r : Located} → LocatedAs s (pieceIn s) r → LocatedAs s (pieceOf s) r
   unfolding pieceOf
-  readable-located e {r} h = subst (λ (a : Piece). LocatedAs s a r) (ap (λ (x : Screening). ifReadable x λ _. pieceIn s) (sym (ap decodedModel e) ∙ p)) h
+  readable-located e {r} h =
+      subst (λ (a : Piece). LocatedAs s a r) (ap (λ (x : Screening). unlessFound unreadable x λ _. pieceIn s) (sym (ap decodedModel e) ∙ p)) h
 
 -- ---- a readable sheet
 nothing-is : (x : Candidate) → tagOf the-type x ≡ 0 → candidateModel x ≡ none

@@ -1,6 +1,7 @@
 // The smallest faulty piece of a sheet: the smallest term that is refused where it stands, and the record of that term.
 use places::present;
 use program::answer::Decoded;
+use program::limits::NESTING_PLACES;
 use program::records::Counts;
 use rules::bindings::Bindings;
 use smallest::candidates::Candidate;
@@ -67,7 +68,7 @@ fn locate_readable(s: &[u8], c: Counts) -> Located
     ensures { λ r. ⌜ LocatedAs (now (s .entry)) (pieceIn (now (s .entry))) r ⌝ }
 {
     let none = Bindings {
-        types: [0; 32],
+        types: [0; NESTING_PLACES],
         len: 0,
     };
     let mut known: Known = [0; KNOWN_WORDS];

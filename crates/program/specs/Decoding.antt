@@ -135,7 +135,7 @@ guardOk s c = leb (guardByte s c) 31 || eqb (guardByte s c) noGuard
 
 -- 02, W8: "The tag, length and cutting refusals cover tag 5", which version 2 alone has
 abbrev pub guardConditions : List ℕ → List Condition
-guardConditions s = cond (hasGuards s) (field s (guardField s) 5 (holds 16 1 1)) []
+guardConditions s = cond (hasGuards s) (field s (guardField s) 5 (holds maxChannels 1 1)) []
 
 -- "version (3)" follows the first field; "then bytes after the end (2)"
 abbrev pub fieldConditions : List ℕ → List Condition

@@ -9,3 +9,4 @@ pub mod Decoding
 pub mod Records
 pub mod Answers
 pub mod Laws
+pub mod Search

@@ -38,7 +38,7 @@ abbrev pub maxStartFrames : ℕ
 maxStartFrames = 16
 
 abbrev pub maxStart : ℕ
-maxStart = 32
+maxStart = 2 * maxStartFrames
 
 -- the buffers of a run: bytes of the cell store, entries of the list of posts, numbers of a lazy run's frame store
 abbrev pub maxCells : ℕ

@@ -14,14 +14,19 @@ pub data Screening : Type 0 where
   clear : Screening
   found : (cause place : ℕ) → Screening
 
-unfoldable pub tell : (cause : ℕ) → Option ℕ → (Unit {0} → Screening) → Screening
-tell cause none later = later tt
-tell cause (some place) later = found cause place
+unfoldable pub refuseAt : (cause : ℕ) → Option ℕ → (Unit {0} → Screening) → Screening
+refuseAt cause none later = later tt
+refuseAt cause (some place) later = found cause place
 
 unfoldable pub screen : List Condition → Screening
-unfolding tell
+unfolding refuseAt
 screen [] = clear
-screen (c ∷ cs) = tell (c .cause) (c .found tt) λ _. screen cs
+screen (c ∷ cs) = refuseAt (c .cause) (c .found tt) λ _. screen cs
+
+-- what follows where nothing is found, or else a refusal
+abbrev pub unlessFound : {A : Type 0} → (refuse : (cause place : ℕ) → A) → Screening → (Unit {0} → A) → A
+unlessFound refuse clear later = later tt
+unlessFound refuse (found c p) later = refuse c p
 
 -- The same as propositions, for theorems: the cause and place are those of the first condition that is found; or none is found.
 pub data First (cause place : ℕ) : List Condition → Type 0 where

@@ -2,3 +2,4 @@
 pub mod answer;
 pub mod limits;
 pub mod records;
+pub mod search;

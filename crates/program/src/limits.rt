@@ -10,17 +10,22 @@ pub const MAX_CHANNELS: u8 = 16;
 // The guard byte of a channel without a guard.
 pub const NO_GUARD: u8 = 255;
 
-// Arrays with a place for each type, for each term and for each channel.
+// Bytes of the guards: one for each channel.
+pub const GUARD_BYTES: u16 = MAX_CHANNELS as u16;
+
+// Arrays with a place for each type, for each term, for each channel, and for each term or binding that a term stands in.
 pub const TYPE_PLACES: usize = MAX_TYPES as usize;
 
 pub const TERM_PLACES: usize = MAX_TERMS as usize;
 
 pub const CHANNEL_PLACES: usize = MAX_CHANNELS as usize;
 
+pub const NESTING_PLACES: usize = MAX_NESTING as usize;
+
 // Bytes of the longest sheet: the first field, the heads of the four others, their records, and the guards.
 pub const MAX_SHEET: usize = 5
     + 4 * 3
-    + 4 * 32
+    + 4 * (MAX_PRINCIPALS as usize)
     + 10 * TYPE_PLACES
     + 8 * TERM_PLACES
     + CHANNEL_PLACES;
@@ -29,8 +34,10 @@ pub const MAX_TYPE_DEPTH: u8 = 12;
 
 pub const MAX_NESTING: u8 = 32;
 
-// Numbers of a start stack of 16 frames.
-pub const MAX_START: usize = 32;
+// Frames of a start stack, and their numbers.
+pub const MAX_START_FRAMES: usize = 16;
+
+pub const MAX_START: usize = 2 * MAX_START_FRAMES;
 
 // Bytes of the cell store, entries of the list of posts, numbers of a lazy run's frame store.
 pub const MAX_CELLS: usize = 65536;

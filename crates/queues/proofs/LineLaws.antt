@@ -7,7 +7,7 @@ use native.Mathlib.Omega.{arith}
 use lib.Dec.{ltb, leb}
 use lib.ListN.{length, getD, set}
 use borrow.Author.Tests.{lt-ltb, le-ltb, le-leb, lt-leb, leb-true, leb-false, not-true, not-false}
-use Rattle.program.specs.Screening.{clear, found, tell, screen, unless}
+use Rattle.program.specs.Screening.{clear, found, refuseAt, screen, unless}
 use Rattle.queues.specs.Queues.{maxLines, maxJobs, Job, State, start, queueAt, inside, Added, addedTo, addOf, nobody, turnAt, nextLine, turnFrom, turnOf, dequeued}
 use Rattle.queues.specs.Answers.{noQueue, queueModel, linesModel}
 use Rattle.queues.specs.Internal.{hasJob, SizeIs, Next}
@@ -117,20 +117,20 @@ module _ (q : Lines) (l : ℕ) (j : Job) (store : List ℕ) where
   by-tests e f g = λ i. tested (e i) (f i) (g i)
 
   pub past-lines : maxLines ≤ l → record { answer = found 27 0; state = linesModel q } ≡ addOf (linesModel q) l j store
-  unfolding screen tell
+  unfolding screen refuseAt
   past-lines h = sym (by-tests (le-ltb l maxLines h) refl refl)
 
   module _ (below : l < maxLines) (x : Bool) (within : x ≡ inside j store) (n : ℕ) (size : SizeIs (getD (q .queues) l noQueue) n) where
     size-of : length (queueAt (linesModel q) l) ≡ n
     size-of = ap length (queue-is q l) ∙ sym (size .size-is)
 
-    pub told-outside : not x ≡ true → record { answer = found 28 0; state = linesModel q } ≡ addOf (linesModel q) l j store
-    unfolding screen tell
-    told-outside e = sym (by-tests (lt-ltb l maxLines below) (sym within ∙ not-true x e) refl)
+    pub outside-answered : not x ≡ true → record { answer = found 28 0; state = linesModel q } ≡ addOf (linesModel q) l j store
+    unfolding screen refuseAt
+    outside-answered e = sym (by-tests (lt-ltb l maxLines below) (sym within ∙ not-true x e) refl)
 
-    pub told-full : (not x || leb maxJobs n) ≡ true → not x ≡ false → record { answer = found 29 0; state = linesModel q } ≡ addOf (linesModel q) l j store
-    unfolding screen tell
-    told-full e f =
+    pub full-answered : (not x || leb maxJobs n) ≡ true → not x ≡ false → record { answer = found 29 0; state = linesModel q } ≡ addOf (linesModel q) l j store
+    unfolding screen refuseAt
+    full-answered e f =
         let full : leb maxJobs n ≡ true = ap (λ (y : Bool). y || leb maxJobs n) (sym f) ∙ e in
         sym (by-tests (lt-ltb l maxLines below) (sym within ∙ not-false x f)
         (le-ltb (length (queueAt (linesModel q) l)) maxJobs (omega (arith, size-of, leb-true maxJobs n full))))
@@ -145,7 +145,7 @@ module _ (q : Lines) (l : ℕ) (j : Job) (store : List ℕ) where
     pub has-added : (not x || leb maxJobs n) ≡ false → (more : Queue) → queueModel more ≡ queueModel (getD (q .queues) l noQueue) ++ (j ∷ [])
         → record { answer = clear; state = linesModel (record { queues = set (q .queues) l more; turn = q .turn; place = q .place }) }
         ≡ addOf (linesModel q) l j store
-    unfolding screen tell
+    unfolding screen refuseAt
     has-added e more f =
         let behind : queueModel more ≡ queueAt (linesModel q) l ++ (j ∷ []) = f ∙ ap (λ (js : List Job). js ++ (j ∷ [])) (sym (queue-is q l)) in
         let queues-are : map queueModel (set (q .queues) l more) ≡ set (map queueModel (q .queues)) l (queueAt (linesModel q) l ++ (j ∷ [])) =

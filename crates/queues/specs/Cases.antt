@@ -2,7 +2,7 @@
 use mathlib.Core.List.{List, [], _∷_}
 use mathlib.Core.Path.{_≡_, refl}
 use Prim.Native.Nat.{ℕ}
-use Rattle.program.specs.Screening.{clear, found, tell, screen}
+use Rattle.program.specs.Screening.{clear, found, refuseAt, screen}
 use Rattle.queues.specs.Queues.{Job, State, start, addOf}
 use Rattle.queues.specs.Answers.{jobOf}
 
@@ -39,16 +39,16 @@ abbrev pub waiting : State
 waiting = record { queues = [] ∷ (whole ∷ whole ∷ []) ∷ [] ∷ (empty ∷ []) ∷ []; turn = 0; place = 0 }
 
 pub adds : addOf (addOf (addOf start 1 whole store .state) 3 empty store .state) 1 whole store ≡ record { answer = clear; state = waiting }
-unfolding addOf screen tell
+unfolding addOf screen refuseAt
 adds = refl
 
 -- "tested in that order"
 pub no-line : addOf waiting 4 beyond store .answer ≡ found 27 0
-unfolding addOf screen tell
+unfolding addOf screen refuseAt
 no-line = refl
 
 pub outside : addOf waiting 0 beyond store .answer ≡ found 28 0
-unfolding addOf screen tell
+unfolding addOf screen refuseAt
 outside = refl
 
 -- "tested in that order": a part outside the store for a line whose queue is full is 28
@@ -60,5 +60,5 @@ full = record {
 }
 
 pub outside-first : (addOf full 0 beyond store .answer ≡ found 28 0) × (addOf full 0 whole store .answer ≡ found 29 0)
-unfolding addOf screen tell
+unfolding addOf screen refuseAt
 outside-first = (refl, refl)

@@ -20,8 +20,8 @@ module _ (s : State) (l : ℕ) (j : Job) (store : List ℕ) where
   pub add-refused-exactly : (c p : ℕ) → (addOf s l j store .answer ≡ found c p) ↔ First c p (addConditions s l j store)
   unfolding addOf
   add-refused-exactly c p =
-      let told = answer-is (screen (addConditions s l j store)) in
-      (λ e. found-first (addConditions s l j store) c p (sym told ∙ e), λ f. told ∙ first-found f)
+      let answered = answer-is (screen (addConditions s l j store)) in
+      (λ e. found-first (addConditions s l j store) c p (sym answered ∙ e), λ f. answered ∙ first-found f)
 
   -- "and the queues don't change", nor the turn nor the place
   pub add-refused-leaves : (c p : ℕ) → addOf s l j store .answer ≡ found c p → addOf s l j store .state ≡ s
@@ -96,6 +96,6 @@ module _ (s : State) where
 
     pub nobody-waiting : turnOf s ≡ nobody → (l : ℕ) → l < maxLines → queueAt s l ≡ []
     nobody-waiting e l h =
-        let away = (l + maxLines - s .turn) % maxLines in
-        let z : l ≡ (s .turn + away) % maxLines = omega arith in
-        ap (queueAt s) z ∙ empty-from maxLines (s .turn) below e away (omega arith)
+        let distance = (l + maxLines - s .turn) % maxLines in
+        let z : l ≡ (s .turn + distance) % maxLines = omega arith in
+        ap (queueAt s) z ∙ empty-from maxLines (s .turn) below e distance (omega arith)

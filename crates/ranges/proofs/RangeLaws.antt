@@ -19,7 +19,7 @@ use Rattle.intervals.specs.Runs.{rangeConditions, rangeRun}
 use Rattle.intervals.specs.Theorems.{run-clear, run-found, few-clear}
 use Rattle.stores.specs.declared.state.Out.{Out}
 use Rattle.stores.specs.Words.{pick, payloadOf, envOf, outOf}
-use Rattle.stores.specs.Access.{ModeIs}
+use Rattle.access.specs.Access.{ModeIs}
 use Rattle.refinement.specs.Claims.{decidedBy, rangeOutcomeIn, rangeOutcomeBy, rangeOutcomeOf, IntervalTable}
 use Rattle.refinement.specs.Theorems.{interval-refined}
 use Rattle.interp.specs.Answers.{refusalCause, refusalPlace, countsModel, requestOf, buffersOf}
@@ -27,7 +27,7 @@ use Rattle.interp.specs.Internal.{Cleared, Admits, StartAccess, rootDone, Talli
 use Rattle.interp.specs.Laws.{access-may, access-is, tallied-at, tallied-after}
 use Rattle.interp.specs.declared.answer.Refusal.{Refusal}
 use Rattle.interp.specs.declared.answer.Admission.{Admission}
-use Rattle.interp.specs.declared.answer.Admission.the-variants.{Admitted, Refused as TurnedBack}
+use Rattle.interp.specs.declared.answer.Admission.the-variants.{Admitted, Refused as Rejected}
 use Rattle.interp.specs.declared.answer.Tally.{Tally}
 use Rattle.ranges.specs.Answers.{outcomeModel, afterRange}
 use Rattle.ranges.specs.declared.answer.Outcome.{Outcome}
@@ -45,25 +45,25 @@ pub is-no : (n : ℕ) → n ≤ 0 → some false ≡ decidedBy n
 is-no n l = ap decidedBy {x = 0} {y = n} (omega arith)
 
 -- ---- what a word tells, by what it stands for
-pub told-by : (root₀ w : ℕ) {x y : Out} → x ≡ outOf w → x ≡ y → rangeOutcomeIn root₀ (payloadOf w) (envOf w) y ≡ rangeOutcomeOf root₀ w
+pub outcome-by : (root₀ w : ℕ) {x y : Out} → x ≡ outOf w → x ≡ y → rangeOutcomeIn root₀ (payloadOf w) (envOf w) y ≡ rangeOutcomeOf root₀ w
 unfolding rangeOutcomeBy
-told-by root₀ w p e = ap (rangeOutcomeIn root₀ (payloadOf w) (envOf w)) (sym e ∙ p)
+outcome-by root₀ w p e = ap (rangeOutcomeIn root₀ (payloadOf w) (envOf w)) (sym e ∙ p)
 
 module _ (s ps start : List ℕ) (e : Bool) (cells posts : List ℕ) (calls depth : ℕ) where
-  abbrev asked : Request
-  asked = requestOf eager e start calls depth
+  abbrev request : Request
+  request = requestOf eager e start calls depth
 
   -- ---- a run that is turned back
-  turned-back : (f : Refusal) → screen (runConditions s asked (sizes (buffersOf cells posts []))) ≡ found (refusalCause f) (refusalPlace f)
-      → afterRange (Refused (Run f)) cells posts ≡ rangeRun s ps asked (buffersOf cells posts [])
-  turned-back f h =
+  rejected-run : (f : Refusal) → screen (runConditions s request (sizes (buffersOf cells posts []))) ≡ found (refusalCause f) (refusalPlace f)
+      → afterRange (Refused (Run f)) cells posts ≡ rangeRun s ps request (buffersOf cells posts [])
+  rejected-run f h =
       let b = buffersOf cells posts [] in
-      sym (run-found s ps asked b (refusalCause f) (refusalPlace f)
-      (screen-found (runConditions s asked (sizes b)) (unless 35 (pairsOk s ps) ∷ []) (refusalCause f) (refusalPlace f) h))
+      sym (run-found s ps request b (refusalCause f) (refusalPlace f)
+      (screen-found (runConditions s request (sizes b)) (unless 35 (pairsOk s ps) ∷ []) (refusalCause f) (refusalPlace f) h))
 
-  pub run-refused : {a : Admission} {f : Refusal} → a ≡ TurnedBack f → Admits s start (length cells) (length posts) true calls depth a
-      → afterRange (Refused (Run f)) cells posts ≡ rangeRun s ps asked (buffersOf cells posts [])
-  run-refused {f = f} p h = turned-back f (subst (Admits s start (length cells) (length posts) true calls depth) p h)
+  pub run-refused : {a : Admission} {f : Refusal} → a ≡ Rejected f → Admits s start (length cells) (length posts) true calls depth a
+      → afterRange (Refused (Run f)) cells posts ≡ rangeRun s ps request (buffersOf cells posts [])
+  run-refused {f = f} p h = rejected-run f (subst (Admits s start (length cells) (length posts) true calls depth) p h)
 
   module _ {c : Counts} where
     pub is-admitted : {a : Admission} → a ≡ Admitted c → Admits s start (length cells) (length posts) true calls depth a
@@ -72,11 +72,12 @@ module _ (s ps start : List ℕ) (e : Bool) (cells posts : List ℕ) (calls dept
 
     module _ (K : Cleared s start (length cells) (length posts) true calls depth c) where
       -- by 35
-      pub pairs-refused : pairsOk s ps ≡ false → afterRange (Refused Pairs) cells posts ≡ rangeRun s ps asked (buffersOf cells posts [])
+      pub pairs-refused : pairsOk s ps ≡ false → afterRange (Refused Pairs) cells posts ≡ rangeRun s ps request (buffersOf cells posts [])
       pairs-refused n =
           let b = buffersOf cells posts [] in
-          sym (run-found s ps asked b 35 0
-          (screen-clear (runConditions s asked (sizes b)) (unless 35 (pairsOk s ps) ∷ []) (K .none-found) ∙ first-found (first-here refl (found-unless 35 n))))
+          sym (run-found s ps request b 35 0
+          (screen-clear (runConditions s request (sizes b)) (unless 35 (pairsOk s ps) ∷ []) (K .none-found)
+          ∙ first-found (first-here refl (found-unless 35 n))))
 
       -- ---- a run that starts, with the pairs in the words of its terms
       pub ranges-after : pairsOk s ps ≡ true → (store noted : List ℕ) {terms : List ℕ} {mode acc : ℕ} {t : Tally} (o : Outcome)
@@ -84,19 +85,19 @@ module _ (s ps start : List ℕ) (e : Bool) (cells posts : List ℕ) (calls dept
           → IntervalTable s c ps terms → StartAccess s start acc → ModeIs false e true mode
           → Tallied calls (rootDone terms (c .terms - 1) mode acc calls depth (buffersOf cells posts store) noted) t (buffersOf cells′ posts′ frames′) noted′
           → outcomeModel o ≡ rangeOutcomeOf (c .terms - 1) (t .word)
-          → afterRange (Ran o (t .made)) cells′ posts′ ≡ rangeRun s ps asked (buffersOf cells posts [])
-      ranges-after ok store noted {terms} {mode} {t = t} o {cells′ = cells′} {posts′ = posts′} table a is v told =
+          → afterRange (Ran o (t .made)) cells′ posts′ ≡ rangeRun s ps request (buffersOf cells posts [])
+      ranges-after ok store noted {terms} {mode} {t = t} o {cells′ = cells′} {posts′ = posts′} table a is v outcome-is =
           let b = buffersOf cells posts [] in
           let w = K .well-formed in
-          let x = evaluationOver (ranged s ps) (plain e) eager s asked (sizes b) in
-          let clear-of : screen (rangeConditions s ps asked (sizes b)) ≡ clear =
-          screen-clear (runConditions s asked (sizes b)) (unless 35 (pairsOk s ps) ∷ []) (K .none-found)
+          let x = evaluationOver (ranged s ps) (plain e) eager s request (sizes b) in
+          let clear-of : screen (rangeConditions s ps request (sizes b)) ≡ clear =
+          screen-clear (runConditions s request (sizes b)) (unless 35 (pairsOk s ps) ∷ []) (K .none-found)
           ∙ none-clear (none-next (none-unless 35 ok) none-end) in
-          let at-root = told ∙ ap (λ (n : ℕ). rangeOutcomeOf (n - 1) (t .word)) (K .counts-are .terms-are) in
+          let at-root = outcome-is ∙ ap (λ (n : ℕ). rangeOutcomeOf (n - 1) (t .word)) (K .counts-are .terms-are) in
           let refined =
-          interval-refined s w c (K .counts-are) ps terms table asked (buffersOf cells posts store) noted (K .depth-most) (K .cells-most) mode
+          interval-refined s w c (K .counts-are) ps terms table request (buffersOf cells posts store) noted (K .depth-most) (K .cells-most) mode
           (is .enforce-is) (is .interval-is) (a .may) (privs (authority s) (stack start)) (is .lazy-is) (a .may-small) (access-may w a) in
           (λ i. record { answer = ran (at-root i) (countsModel (t .made)); buffers = buffersOf cells′ posts′ [] })
-          ∙ tallied-after (root s) asked cells posts [] store x rangeOutcomeOf (few-clear s ps asked b clear-of .saturated-most)
+          ∙ tallied-after (root s) request cells posts [] store x rangeOutcomeOf (few-clear s ps request b clear-of .saturated-most)
           (tallied-at (K .counts-are) terms mode calls depth (buffersOf cells posts store) noted (access-is w a (K .all-known)) v) refined refl
-          ∙ sym (run-clear s ps asked b clear-of)
+          ∙ sym (run-clear s ps request b clear-of)

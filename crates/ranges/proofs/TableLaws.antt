@@ -14,7 +14,7 @@ use Rattle.program.specs.Records.{CountsOf}
 use Rattle.program.specs.Laws.Readable.{WellFormed}
 use Rattle.program.specs.declared.records.Counts.{Counts}
 use Rattle.intervals.specs.Pairs.{isNumber, numbersBelow, pairsOk}
-use Rattle.machine.specs.Table.{wordKind, Decoded}
+use Rattle.termtable.specs.Table.{wordKind, Decoded}
 use Rattle.machine.specs.Store.{shapeOf}
 use Rattle.machine.specs.Lower.{Lower}
 use Rattle.evaluator.specs.Contracts.{Table}

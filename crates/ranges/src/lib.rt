@@ -13,6 +13,7 @@ ghost use Rattle.ranges.specs.Internal.{PairedRun};
 
 pub mod answer;
 
+use access::interval_mode;
 use answer::Outcome;
 use answer::RangeRun;
 use answer::Refusal;
@@ -22,17 +23,16 @@ use interp::admission::admit;
 use interp::answer::Admission;
 use interp::evaluation::evaluate_words;
 use interp::start::start_access;
-use machine::table::decode_terms;
 use pairs::lay_pairs;
 use pairs::pairs_ok;
 use program::limits::TERM_PLACES;
 use program::records::Counts;
-use stores::access::interval_mode;
 use stores::state::Out;
 use stores::state::Stop;
 use stores::words::env;
 use stores::words::out_of;
 use stores::words::payload;
+use termtable::decode_terms;
 
 // What a boolean's payload says.
 fn truth_of(payload: u16) -> Truth

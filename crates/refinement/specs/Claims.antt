@@ -20,7 +20,7 @@ use Rattle.stores.specs.declared.state.Value.the-variants.{Bool as VBool, Num, 
 use Rattle.stores.specs.declared.state.Out.{Out}
 use Rattle.stores.specs.declared.state.Out.the-variants.{Val, Stop as Stopped}
 use Rattle.stores.specs.Words.{pick, sortOf, payloadOf, envOf, outBy, outOf}
-use Rattle.machine.specs.Table.{wordKind, wordFirst, wordSecond, Holds}
+use Rattle.termtable.specs.Table.{wordKind, wordFirst, wordSecond, Holds}
 use Rattle.machine.specs.Steps.{callsLeft, cellsMade, postsMade, saturatedMade, entriesMade, wrapped}
 use Rattle.machine.specs.Store.{Store, Done, storeOf}
 use Rattle.stores.specs.Stops.{stopCause, stopPlace}
@@ -76,11 +76,11 @@ laidOut A (f ∷ fs) = laidOut A fs ++ (A (f .principal) ∷ f .enabled ∷ [])
 abbrev pub startOf : (mode : ℕ) → Request → Buffers → (noted : List ℕ) → Store
 startOf mode q b t = storeOf (q .calls ∷ 0 ∷ 0 ∷ mode ∷ 0 ∷ 0 ∷ []) (b .cells) (b .posts) (b .frames) t
 
--- evaluating the root of a sheet gives and leaves what the meaning's result says, and of the decisions what the record takes; `tells` reads the word that it
+-- evaluating the root of a sheet gives and leaves what the meaning's result says, and of the decisions what the record takes; `decodes` reads the word that it
 -- gives
-pub record RefinedBy {D : Domain} (tells : (root word : ℕ) → OutcomeOf D) (root : ℕ) (q : Request) (b : Buffers) (noted : List ℕ) (d : Done)
+pub record RefinedBy {D : Domain} (decodes : (root word : ℕ) → OutcomeOf D) (root : ℕ) (q : Request) (b : Buffers) (noted : List ℕ) (d : Done)
     (x : ResultOf D) (decided : List Event) : Type 0 where
-  pub same-outcome : tells root (d .out) ≡ outcome root x
+  pub same-outcome : decodes root (d .out) ≡ outcome root x
   pub same-counts : countsOf (q .calls) (d .store .n) ≡ wrappedCounts (counts q (sizes b) (left x))
   pub same-posts : d .store .posts ≡ inOrder (left x) ++ drop (length (inOrder (left x))) (b .posts)
   pub same-sizes : sizesOf (d .store) ≡ sizes b

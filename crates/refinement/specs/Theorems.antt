@@ -19,12 +19,12 @@ use Rattle.semantics.specs.Access.{Frame, lazyControl, rights, eagerControl}
 use Rattle.semantics.specs.Runs.{Request, Buffers, sizes, initial, left}
 use Rattle.semantics.specs.Recording.{decidedIn}
 use Rattle.intervals.specs.Pairs.{ranged}
-use Rattle.machine.specs.Table.{Decoded}
-use Rattle.stores.specs.Access.{pairOf, enforced, lazyMode, intervalMode}
+use Rattle.termtable.specs.Table.{Decoded}
+use Rattle.access.specs.Access.{pairOf, enforced, lazyMode, intervalMode}
 use Rattle.machine.specs.Store.{evalAt}
 use Rattle.refinement.specs.Claims.{IntervalTable, rangeOutcomeOf, laidOut, startOf, RefinedBy, Refined}
-use Rattle.refinement.specs.Laws.Exact.{exactCoding, exact-telling, exact-tabled}
-use Rattle.refinement.specs.Laws.Ranges.{rangeCoding, range-telling, range-tabled}
+use Rattle.refinement.specs.Laws.Exact.{exactCoding, exact-decoding, exact-tabled}
+use Rattle.refinement.specs.Laws.Ranges.{rangeCoding, range-decoding, range-tabled}
 use Rattle.refinement.specs.Laws.Controls.{Frames, LazyMode, lazy-models}
 use Rattle.refinement.specs.Laws.Trees.{fixedOf}
 use Rattle.refinement.specs.Laws.Runs.{laid-frames, refined, refined-eagerly}
@@ -40,7 +40,7 @@ module _ (s : List ℕ) (w : WellFormed s) (c : Counts) (h : CountsOf s c) (term
       (eval standard (eagerControl (authority s)) (plain (q .enforce)) (q .depth) (program s) (rights 0 P) empty (initial q (sizes b)))
       (decidedIn (left (eval standard (eagerControl (authority s)) (traced (q .enforce)) (q .depth) (program s) (rights 0 P) empty (initial q (sizes b)))))
   eager-refined may P style i e =
-      refined-eagerly standard (exactCoding mode numbers) (exact-telling mode numbers) s w c h terms (exact-tabled mode numbers s w c h terms table) q b t
+      refined-eagerly standard (exactCoding mode numbers) (exact-decoding mode numbers) s w c h terms (exact-tabled mode numbers s w c h terms table) q b t
       few most may P checks style i e
 
   -- A lazy run, on any stack of at most 16 frames that lies in a frame store of 6,496 numbers. The store never overflows.
@@ -50,7 +50,7 @@ module _ (s : List ℕ) (w : WellFormed s) (c : Counts) (h : CountsOf s c) (term
       (eval standard (lazyControl (authority s)) (plain (q .enforce)) (q .depth) (program s) fs empty (initial q (sizes b)))
       (decidedIn (left (eval standard (lazyControl (authority s)) (traced (q .enforce)) (q .depth) (program s) fs empty (initial q (sizes b)))))
   lazy-refined style fs rest l e long =
-      refined standard (exactCoding mode numbers) (exact-telling mode numbers) s w c h terms (exact-tabled mode numbers s w c h terms table) q b t few most
+      refined standard (exactCoding mode numbers) (exact-decoding mode numbers) s w c h terms (exact-tabled mode numbers s w c h terms table) q b t few most
       (lazyControl (authority s)) (LazyMode (authority s))
       (lazy-models (fixedOf standard (exactCoding mode numbers) s terms (b .posts) t) style (q .enforce) checks) (length fs * 2) (length fs) fs l
       record { used = omega arith; long = long; frames = subst (λ f. Frames (authority s) f (length fs) fs) (sym e) (laid-frames (authority s) fs rest) }
@@ -67,5 +67,5 @@ module _ (s : List ℕ) (w : WellFormed s) (c : Counts) (h : CountsOf s c) (pair
       (eval over (eagerControl (authority s)) (plain (q .enforce)) (q .depth) (program s) (rights 0 P) empty (initial q (sizes b)))
       (decidedIn (left (eval over (eagerControl (authority s)) (traced (q .enforce)) (q .depth) (program s) (rights 0 P) empty (initial q (sizes b)))))
   interval-refined may P style i e =
-      refined-eagerly over (rangeCoding mode ranges) (range-telling mode ranges) s w c h terms (range-tabled mode ranges table) q b t few most may P checks
+      refined-eagerly over (rangeCoding mode ranges) (range-decoding mode ranges) s w c h terms (range-tabled mode ranges table) q b t few most may P checks
       style i e

@@ -22,8 +22,8 @@ use Rattle.stores.specs.Stops.{stopCause, stopPlace}
 use Rattle.stores.specs.declared.state.Stop.{Stop}
 use Rattle.numbers.specs.Codes.{CodeIs}
 use Rattle.numbers.specs.declared.Code.{Code}
-use Rattle.largest.specs.Largest.{request, lentRun}
-use Rattle.largest.specs.Theorems.{lent-few}
+use Rattle.largest.specs.Largest.{request, largestRun}
+use Rattle.largest.specs.Theorems.{largest-few}
 use Rattle.blocks.specs.Block.{allowance, RunRegisters, registersOf, without, afterRun, isKept, Register, kept, fixed}
 use Rattle.blocks.specs.Laws.{at-inside}
 use Rattle.blocks.specs.Internal.{keptOf}
@@ -32,10 +32,10 @@ use Rattle.registers.specs.Internal.{endRegisters, FewCalls}
 
 -- its calls
 pub few-calls : (s : List ℕ) (calls : ℕ) (cells posts : List ℕ) (right : Bool) (x : Run) (cells′ posts′ : List ℕ)
-    → after x cells′ posts′ [] ≡ lentRun right s (request calls) (buffersOf cells posts []) → FewCalls x
+    → after x cells′ posts′ [] ≡ largestRun right s (request calls) (buffersOf cells posts []) → FewCalls x
 few-calls s calls cells posts right (Refused f) cells′ posts′ e = tt
 few-calls s calls cells posts right (Ran o m) cells′ posts′ e =
-    lent-few s (request calls) (buffersOf cells posts []) right (outcomeModel o) (countsModel m) (sym (ap (λ (a : After). a .answer) e)) .calls-most
+    largest-few s (request calls) (buffersOf cells posts []) right (outcomeModel o) (countsModel m) (sym (ap (λ (a : After). a .answer) e)) .calls-most
 
 -- ---- what its answer puts into the registers
 module _ (m : Made) where
@@ -74,11 +74,11 @@ module _ (block s cells posts : List ℕ) (v : ℕ) where
   not-run ne = sym (ap (λ (x : Bool). commanded x block s B) (ne-eqb v 1 ne))
 
   pub has-run : v ≡ 1 → (x : Run) {calls : ℕ} {cells′ posts′ : List ℕ} {t : RunRegisters} {block′ : List ℕ} → calls ≡ allowance block
-      → after x cells′ posts′ [] ≡ lentRun (areLargest B) s (request calls) B → t ≡ registersOf (runModel x) → block′ ≡ afterRun block t
+      → after x cells′ posts′ [] ≡ largestRun (areLargest B) s (request calls) B → t ≡ registersOf (runModel x) → block′ ≡ afterRun block t
       → done block′ (buffersOf cells′ posts′ []) ≡ commanded (eqb v 1) block s B
   has-run e x {cells′ = cells′} {posts′ = posts′} f g h k =
       (λ i. done ((k ∙ ap (afterRun block) h) i) (buffersOf cells′ posts′ []))
-      ∙ ap (ranOn block) (g ∙ ap (λ (n : ℕ). lentRun (areLargest B) s (request n) B) f)
+      ∙ ap (ranOn block) (g ∙ ap (λ (n : ℕ). largestRun (areLargest B) s (request n) B) f)
       ∙ sym (ap (λ (x : Bool). commanded x block s B) (eq-eqb v 1 e))
 
   module _ (a : ℕ) where

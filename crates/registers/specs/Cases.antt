@@ -5,12 +5,12 @@ use mathlib.Core.Path.{_≡_, refl}
 use Prim.Native.Nat.{ℕ}
 use Rattle.privileges.specs.Sets.{has, meet, union, insert, remove}
 use Rattle.program.specs.Limits.{maxCells, maxPosts}
-use Rattle.program.specs.Screening.{tell, screen}
+use Rattle.program.specs.Screening.{refuseAt, screen}
 use Rattle.semantics.specs.Meaning.{evalWith, apply, eval}
 use Rattle.semantics.specs.Access.{addAuthorised}
 use Rattle.semantics.specs.Runs.{Buffers, zeros, course, run}
 use Rattle.interp.specs.Answers.{buffersOf}
-use Rattle.largest.specs.Largest.{lentRun}
+use Rattle.largest.specs.Largest.{largestRun}
 use Rattle.blocks.specs.Block.{newBlock, without, withFlag, raised}
 use Rattle.registers.specs.Writes.{writeOf}
 
@@ -41,7 +41,7 @@ unfolding meet
 waits = refl
 
 pub runs : writeOf masked 0 1 sheet largest .block ≡ ended
-unfolding lentRun run course screen tell eval apply evalWith addAuthorised has meet union insert remove without withFlag
+unfolding largestRun run course screen refuseAt eval apply evalWith addAuthorised has meet union insert remove without withFlag
 runs = refl
 
 pub interrupts : raised ended ≡ true
@@ -56,5 +56,5 @@ falls = refl
 -- a list of 255 posts: refused, status bit 2, by 15
 pub short-list : writeOf masked 0 1 sheet (buffersOf (zeros maxCells) (zeros 255) []) .block
     ≡ 0 ∷ 4 ∷ 15 ∷ 1 ∷ 0 ∷ 0 ∷ 0 ∷ 0 ∷ 0 ∷ 0 ∷ 0 ∷ 0 ∷ 0 ∷ 0 ∷ 0 ∷ 0 ∷ []
-unfolding lentRun screen tell meet union without withFlag
+unfolding largestRun screen refuseAt meet union without withFlag
 short-list = refl

@@ -14,7 +14,7 @@ use Rattle.privileges.specs.Booleans.{and-left, and-right}
 use Rattle.program.specs.Bytes.{byte}
 use Rattle.semantics.specs.Runs.{Buffers, areLargest, refused}
 use Rattle.largest.specs.Largest.{request}
-use Rattle.largest.specs.Theorems.{lent-untouched}
+use Rattle.largest.specs.Theorems.{largest-untouched}
 use Rattle.blocks.specs.Block.{newBlock, allowance, RunRegisters, registersOf, without, afterRun, access-refused, isKept, Register, command, status, kept, fixed, absent, registerAt}
 use Rattle.blocks.specs.Laws.{at-kept, at-fixed, at-absent}
 use Rattle.blocks.specs.Theorems.{run-keeps}
@@ -147,7 +147,7 @@ module _ (block : List ℕ) (a v : ℕ) (s : List ℕ) (b : Buffers) where
       ∙ beside-untouched (eqb a 1) (leb a 15) (isKept a)
 
 pub refusal-untouched : (block s : List ℕ) (b : Buffers) (c p : ℕ) → blockRun block s b .answer ≡ refused c p → writeOf block 0 1 s b .buffers ≡ b
-refusal-untouched block s b c p e = lent-untouched s (request (allowance block)) b (areLargest b) c p e
+refusal-untouched block s b c p e = largest-untouched s (request (allowance block)) b (areLargest b) c p e
 
 -- ---- a block keeps its 16 bytes
 command-length : (x : Bool) (block s : List ℕ) (b : Buffers) → length block ≡ 16 → length (commanded x block s b .block) ≡ 16

@@ -45,7 +45,7 @@ fn command(b: Block, value: u8, sheet: &[u8], cells: &mut [u8], posts: &mut [u32
     }
     let calls = pair(b.bytes[4], b.bytes[5]);
     let right = (cells.len() == MAX_CELLS) & (posts.len() == MAX_POSTS);
-    let r = largest::run_lent(sheet, calls, right, cells, posts);
+    let r = largest::run_largest(sheet, calls, right, cells, posts);
     Written {
         access: Access::Done,
         block: after_run(b, of_run(r)),

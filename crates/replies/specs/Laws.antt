@@ -76,11 +76,11 @@ module _ (size least : ℕ) (list answer : List ℕ) where
 
 -- ---- the list is too short
 module _ (answer : List ℕ) (h : length answer < 8) where
-  pub away : (r : replies.Reply) → left 3 answer ≡ replied answer r
-  away r = λ i. cond (sym (lt-ltb (length answer) 8 h) i) (notDone answer) (written r answer)
+  pub short-answer : (r : replies.Reply) → left 3 answer ≡ replied answer r
+  short-answer r = λ i. cond (sym (lt-ltb (length answer) 8 h) i) (notDone answer) (written r answer)
 
-  pub run-away : (b : Buffers) (a : After) → leftAll 3 answer b ≡ called answer b a
-  run-away b a = λ i. cond (sym (lt-ltb (length answer) 8 h) i) (leftAll 3 answer b)
+  pub short-run : (b : Buffers) (a : After) → leftAll 3 answer b ≡ called answer b a
+  short-run b a = λ i. cond (sym (lt-ltb (length answer) 8 h) i) (leftAll 3 answer b)
       (record { reply = written (runReply (a .answer)) answer; buffers = a .buffers })
 
 -- ---- it holds the reply

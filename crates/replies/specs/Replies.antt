@@ -1,7 +1,7 @@
 -- What the C entries return and write: a status, and eight numbers in the caller's list `answer`, zero where something has no meaning.
 use mathlib.Core.Bool.{Bool, cond, not, _||_}
 use mathlib.Core.List.{List, [], _∷_, _++_}
-use Prim.Native.Nat.{ℕ}
+use Prim.Native.Nat.{ℕ, _+_}
 use lib.Dec.{ltb, eqb}
 use lib.ListN.{length, drop}
 use Rattle.program.specs.Layout.{principals, types, terms}
@@ -50,20 +50,24 @@ runReply (ran o k) = finished o k
 
 -- ---- what a call leaves
 
+-- the numbers of an answer
+abbrev pub answerNumbers : ℕ
+answerNumbers = 8
+
 -- A list shorter than eight: 3; nothing is done, and nothing is written anywhere.
 abbrev pub short : List ℕ → Bool
-short answer = ltb (length answer) 8
+short answer = ltb (length answer) answerNumbers
 
 -- The same where a list of an exact size is lent too, or the answer needs more room.
 abbrev pub unfit : (size least : ℕ) (list answer : List ℕ) → Bool
 unfit size least list answer = not (eqb (length list) size) || ltb (length answer) least
 
 abbrev pub written : Reply → List ℕ → Reply
-written r answer = record { status = r .status; numbers = r .numbers ++ drop 8 answer }
+written r answer = record { status = r .status; numbers = r .numbers ++ drop answerNumbers answer }
 
 -- with a ninth number behind the eight
 abbrev pub writtenNine : Reply → (ninth : ℕ) (answer : List ℕ) → Reply
-writtenNine r n answer = record { status = r .status; numbers = r .numbers ++ (n ∷ drop 9 answer) }
+writtenNine r n answer = record { status = r .status; numbers = r .numbers ++ (n ∷ drop (answerNumbers + 1) answer) }
 
 abbrev pub notDone : List ℕ → Reply
 notDone answer = record { status = 3; numbers = answer }

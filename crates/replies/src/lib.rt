@@ -5,7 +5,7 @@ ghost use lib.ListN.{length};
 ghost use Rattle.typing.specs.Answers.{verdictModel};
 ghost use Rattle.interp.specs.Answers.{runModel, outcomeModel, countsModel};
 ghost use Rattle.semantics.specs.Claims.{Few};
-ghost use Rattle.replies.specs.Replies.{refusal, verdictReply, finished, runReply};
+ghost use Rattle.replies.specs.Replies.{answerNumbers, refusal, verdictReply, finished, runReply};
 ghost use Rattle.replies.specs.Internal.{replyOf, ofDecoded, withCounts, Small, Put};
 use interp::answer::Made;
 use interp::answer::Outcome;
@@ -15,9 +15,14 @@ use numbers::Code;
 use program::answer::Decoded;
 use typing::answer::Verdict;
 
+// The numbers of an answer, and of one with a ninth behind them.
+pub const ANSWER_NUMBERS: usize = 8;
+
+pub const LONG_ANSWER: usize = ANSWER_NUMBERS + 1;
+
 pub struct Reply {
     pub status: u32,
-    pub numbers: [u32; 8],
+    pub numbers: [u32; ANSWER_NUMBERS],
 }
 
 // A refusal, by its number and place.
@@ -110,12 +115,12 @@ pub fn of_run(x: Run) -> Reply
 
 // Writes the eight numbers into the caller's list and gives the status.
 pub fn put(reply: Reply, answer: &mut [u32]) -> u32
-    requires { ⌜ 8 ≤ length (now answer) ⌝ }
+    requires { ⌜ answerNumbers ≤ length (now answer) ⌝ }
     ensures { λ r. ⌜ Put reply (now (answer .entry)) r (now (answer .exit)) ⌝ }
 {
     let numbers = reply.numbers;
     let mut i = 0;
-    while i < 8 {
+    while i < ANSWER_NUMBERS {
         answer[i] = numbers[i];
         i += 1;
     }

@@ -1,3 +1,1 @@
-pub mod DraftLaws
-pub mod LineLaws
 pub mod ReportLaws

@@ -18,14 +18,15 @@ use Rattle.interp.specs.declared.answer.Outcome.{Outcome}
 use Rattle.interp.specs.declared.answer.Made.{Made}
 use Rattle.interp.specs.declared.answer.Run.{Run}
 use Rattle.interp.specs.declared.answer.Run.the-variants.{Refused, Ran}
-use Rattle.report.specs.Text.{line, acceptance, outcomeText, countsText, refusal, request, eagerSizes, answer, ofRun, ofVerdict, printed}
+use Rattle.text.specs.Text.{line, acceptance, outcomeText, countsText, refusal, request, eagerSizes, answer, ofRun, ofVerdict, printed}
 use Rattle.report.specs.Reports.{Fate, written, tooShort, unfit, Report, leaving, delivered, used, reported}
-use Rattle.report.specs.Internal.{held, Holds, LargestBuffers, RunReported, Rendered, Delivered}
+use Rattle.drafts.specs.Internal.{held, Holds}
+use Rattle.report.specs.Internal.{LargestBuffers, RunReported, Rendered, Delivered}
 use Rattle.report.specs.declared.answer.Reported.{Reported}
 use Rattle.report.specs.declared.answer.Reported.the-variants.{Written, TooShort, Unfit}
 use Rattle.numbers.specs.Codes.{CodeIs}
 use Rattle.numbers.specs.declared.Code.{Code}
-use Rattle.report.specs.declared.draft.Draft.{Draft}
+use Rattle.drafts.specs.declared.draft.Draft.{Draft}
 
 abbrev whole : Fate → Buffers → List ℕ → Report
 whole f b t = record { fate = f; buffers = b; text = t }

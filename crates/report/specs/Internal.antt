@@ -1,37 +1,19 @@
 -- What the contracts of the report's own functions say. No reader of the public promise needs this file.
-use mathlib.Core.List.{List, [], _++_}
+use mathlib.Core.List.{List, []}
 use mathlib.Core.Path.{_≡_}
-use Prim.Native.Nat.{ℕ, _+_, _≤_}
+use Prim.Native.Nat.{ℕ, _≤_}
 use lib.Dec.{leb}
-use lib.ListN.{length, take}
+use lib.ListN.{length}
 use Rattle.program.specs.Limits.{maxCells, maxPosts}
 use Rattle.typing.specs.Verdicts.{verdict}
 use Rattle.semantics.specs.Runs.{Buffers, run}
 use Rattle.interp.specs.Answers.{buffersOf}
-use Rattle.report.specs.Text.{acceptance, request, ofRun, printed}
+use Rattle.text.specs.Text.{acceptance, request, ofRun, printed}
+use Rattle.drafts.specs.Internal.{held}
+use Rattle.drafts.specs.declared.draft.Draft.{Draft}
 use Rattle.report.specs.Reports.{leaving, delivered, used}
 use Rattle.report.specs.declared.answer.Reported.{Reported}
-use Rattle.report.specs.declared.draft.Draft.{Draft}
 
--- ---- drafts
-abbrev pub held : Draft → List ℕ
-held d = take (d .len) (d .bytes)
-
--- nothing yet
-pub record Blank (r : Draft) : Type 0 where
-  pub len-is : r .len ≡ 0
-
--- a piece more, of at most so many bytes
-pub record Appended (d : Draft) (piece : List ℕ) (most : ℕ) (r : Draft) : Type 0 where
-  pub held-is : held r ≡ held d ++ piece
-  pub len-most : r .len ≤ d .len + most
-
--- the text alone, of at most so many bytes
-pub record Holds (text : List ℕ) (most : ℕ) (r : Draft) : Type 0 where
-  pub held-is : held r ≡ text
-  pub len-most : r .len ≤ most
-
--- ---- the report's steps
 -- buffers of the largest lengths
 pub record LargestBuffers (cells posts : List ℕ) : Type 0 where
   pub cells-are : length cells ≡ maxCells

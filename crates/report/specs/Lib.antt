@@ -1,5 +1,3 @@
-pub mod Text
 pub mod Reports
-pub mod Theorems
-pub mod Cases
 pub mod Internal
+pub mod Theorems

@@ -7,7 +7,7 @@ use lib.ListN.{length, drop}
 use Rattle.typing.specs.Verdicts.{Verdict, accepted, rejected, verdict}
 use Rattle.semantics.specs.Runs.{Buffers, areLargest, run}
 use Rattle.interp.specs.Answers.{buffersOf}
-use Rattle.report.specs.Text.{request, printed}
+use Rattle.text.specs.Text.{request, printed}
 use Rattle.report.specs.declared.answer.Reported.{Reported}
 use Rattle.report.specs.declared.answer.Reported.the-variants.{Written, TooShort, Unfit}
 

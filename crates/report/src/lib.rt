@@ -1,11 +1,9 @@
 // The print of a sheet: it is judged and, if accepted, run, and both are told in lines of text.
 pub mod answer;
-mod draft;
-mod lines;
 
 use crate::answer::Reported;
-use crate::draft::Draft;
 use checker::typecheck;
+use drafts::draft::Draft;
 use interp::answer::Run;
 use interp::run_eager;
 use numbers::of_fault;
@@ -21,7 +19,8 @@ ghost use mathlib.Core.Path.{_≡_};
 ghost use Prim.Native.Nat.{_≤_};
 ghost use Rattle.interp.specs.Answers.{buffersOf};
 ghost use Rattle.report.specs.Reports.{leaving, reported};
-ghost use Rattle.report.specs.Internal.{held, LargestBuffers, RunReported, Rendered, Delivered};
+ghost use Rattle.drafts.specs.Internal.{held};
+ghost use Rattle.report.specs.Internal.{LargestBuffers, RunReported, Rendered, Delivered};
 
 // Judges the sheet and, if it is accepted, runs it eagerly, checks in force, on an empty stack with the largest allowances, in the lent cell store
 // and list of posts, which must be the largest. The text goes to the front of `text`, if it fits there.
@@ -47,8 +46,8 @@ fn render(sheet: &[u8], cells: &mut [u8], posts: &mut [u32]) -> Draft
 {
     let v = typecheck(sheet);
     match v {
-        Verdict::Unreadable(f) => lines::refusal(of_reader(f)),
-        Verdict::Refused(f) => lines::refusal(of_fault(f)),
+        Verdict::Unreadable(f) => drafts::lines::refusal(of_reader(f)),
+        Verdict::Refused(f) => drafts::lines::refusal(of_fault(f)),
         Verdict::Accepted { terms, ty, needs } => run_accepted(
             sheet,
             cells,
@@ -74,8 +73,8 @@ fn run_accepted(
 {
     let r = run_eager(sheet, &[], MAX_CALLS, MAX_DEPTH, true, cells, posts);
     match r {
-        Run::Refused(f) => lines::refusal(of_refusal(f)),
-        Run::Ran { outcome, made } => lines::accepted(terms, ty, needs, outcome, made),
+        Run::Refused(f) => drafts::lines::refusal(of_refusal(f)),
+        Run::Ran { outcome, made } => drafts::lines::accepted(terms, ty, needs, outcome, made),
     }
 }
 

@@ -20,14 +20,15 @@ use Rattle.program.specs.Laws.Guards.{guard-low}
 use Rattle.typing.specs.Subtyping.{subtype, wider}
 use Rattle.typing.specs.Rules.{bound, postNeeds}
 use Rattle.typing.specs.Checking.{Judgement, typed, fault, _next_, require, variableType, joined}
-use Rattle.subtyping.specs.Internal.{Sheet, foundOf}
+use Rattle.program.specs.Search.{foundOf}
+use Rattle.subtyping.specs.Internal.{Sheet}
 use Rattle.subtyping.specs.Laws.Records.{function-is, TypeParts, type-parts}
 use Rattle.rules.specs.Inference.{inferredModel}
 use Rattle.rules.specs.Steps.{leafBy, leafStep, checkStep, enableStep, signStep, postStep, GuardByte, testStep, ifStep, binaryStep, bodyStep, functionStep, letrecStep, callStep, resultOf}
 use Rattle.typing.specs.declared.answer.Inferred.{Inferred}
 use Rattle.typing.specs.declared.answer.Inferred.the-variants.{Typed, Faulty}
-use Rattle.subtyping.specs.declared.subtypes.Found.{Found}
-use Rattle.subtyping.specs.declared.subtypes.Found.the-variants.{At, Nothing}
+use Rattle.program.specs.declared.search.Found.{Found}
+use Rattle.program.specs.declared.search.Found.the-variants.{At, Nothing}
 
 -- what is not typed is a fault, and ends the judgement
 pub stop : (k : ℕ → ℕ → Judgement) (j : Inferred) → tagOf the-type j ≡ 1 → inferredModel j ≡ (inferredModel j next k)

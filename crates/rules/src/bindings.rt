@@ -1,21 +1,23 @@
 // The types of the bindings around a term, by value. 32 places suffice: a sheet's nesting bounds its bindings (specs/Laws/Room.antt).
-use subtyping::subtypes::Found;
+use program::limits::NESTING_PLACES;
+use program::search::Found;
 ghost use mathlib.Core.Path.{_≡_};
 ghost use Prim.Native.Nat.{_<_, _≤_};
+ghost use Rattle.program.specs.Limits.{maxNesting};
 ghost use Rattle.typing.specs.Rules.{bound};
-ghost use Rattle.subtyping.specs.Internal.{foundOf};
+ghost use Rattle.program.specs.Search.{foundOf};
 ghost use Rattle.rules.specs.Inference.{context};
 ghost use Rattle.rules.specs.Steps.{Pushed};
 
 // The nearest binding is the last of the first `len`.
 pub struct Bindings {
-    pub types: [u16; 32],
+    pub types: [u16; NESTING_PLACES],
     pub len: usize,
 }
 
 // One binding more.
 pub fn push(b: Bindings, ty: u16) -> Bindings
-    requires { ⌜ b .len < 32 ⌝ }
+    requires { ⌜ b .len < maxNesting ⌝ }
     ensures { λ r. ⌜ Pushed b ty r ⌝ }
 {
     let mut r = b;
@@ -27,7 +29,7 @@ pub fn push(b: Bindings, ty: u16) -> Bindings
 
 // The type of binding i, 0 for the nearest.
 pub fn lookup(b: Bindings, i: u16) -> Found
-    requires { ⌜ b .len ≤ 32 ⌝ }
+    requires { ⌜ b .len ≤ maxNesting ⌝ }
     ensures { λ r. ⌜ foundOf r ≡ bound (context b) i ⌝ }
 {
     if b.len <= (i as usize) {

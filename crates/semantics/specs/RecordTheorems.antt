@@ -27,7 +27,7 @@ use Rattle.semantics.specs.Runs.{Request, Buffers, Sizes, sizes, runCond
 use Rattle.semantics.specs.Recording.{tracedCourse, decidedIn, decisionsMade, decisions, Recorded, withEntries, recordedWith, recording}
 use Rattle.semantics.specs.Laws.Tracing.{forget, evaluation-forgets, outcome-forgotten, counts-forgotten, posts-forgotten}
 use Rattle.semantics.specs.Laws.Saturation.{listedIn, evaluation-load}
-use Rattle.semantics.specs.Claims.{Each, Asks, by-check, by-test, by-guard, Decision}
+use Rattle.semantics.specs.Claims.{Each, Queries, by-check, by-test, by-guard, Decision}
 use Rattle.semantics.specs.Laws.Posts.{evaluation-decides}
 use Rattle.semantics.specs.Laws.Refusals.{refused-last, others-go-on}
 use Rattle.semantics.specs.Laws.Starting.{clear-well, clear-calls}
@@ -35,11 +35,11 @@ use Rattle.semantics.specs.Theorems.{Starts, refused-exactly, starts-scr
 
 -- ---- the answer: "Its answer is as without a record"
 module _ (r : ℕ) (q : Request) (b : Buffers) where
-  abbrev told : Course → After
-  told x = record { answer = answerOf r q (sizes b) x; buffers = buffersAfter (q .runner) b x }
+  abbrev afterAt : Course → After
+  afterAt x = record { answer = answerOf r q (sizes b) x; buffers = buffersAfter (q .runner) b x }
 
-  told-forgotten : (x : Result) → told (started x) ≡ told (started (forget x))
-  told-forgotten x = λ i. record {
+  after-forgets : (x : Result) → afterAt (started x) ≡ afterAt (started (forget x))
+  after-forgets x = λ i. record {
     answer = ran (outcome-forgotten r x i) (counts-forgotten q (sizes b) x i);
     buffers = record {
       cells = zeros (length (b .cells));
@@ -58,11 +58,11 @@ unfolding tracedCourse course run
 as-without s q b = go (screen (runConditions s q (sizes b)))
   where
     go : (x : Screening)
-        → told (root s) q b (settled x λ _. evaluationIn (traced (q .enforce)) (q .runner) s q (sizes b))
-        ≡ told (root s) q b (settled x λ _. evaluation (q .runner) s q (sizes b))
+        → afterAt (root s) q b (settled x λ _. evaluationIn (traced (q .enforce)) (q .runner) s q (sizes b))
+        ≡ afterAt (root s) q b (settled x λ _. evaluation (q .runner) s q (sizes b))
     go clear =
-        told-forgotten (root s) q b (evaluationIn (traced (q .enforce)) (q .runner) s q (sizes b))
-        ∙ λ i. told (root s) q b (started (evaluation-forgets (traced (q .enforce)) (q .runner) s q (sizes b) i))
+        after-forgets (root s) q b (evaluationIn (traced (q .enforce)) (q .runner) s q (sizes b))
+        ∙ λ i. afterAt (root s) q b (started (evaluation-forgets (traced (q .enforce)) (q .runner) s q (sizes b) i))
     go (found c p) = refl
 
 -- the course, by what the conditions come to
@@ -143,9 +143,9 @@ module _ (s : List ℕ) (w : WellFormed s) where
 
   -- a term below 1,024 and a privilege below 32
   decision-low : (t p : ℕ) → Decision s t p → (t < maxTerms) × (p < 32)
-  decision-low t p d = (omega (arith, d .a-term, w .terms-most), go (d .asks))
+  decision-low t p d = (omega (arith, d .a-term, w .terms-most), go (d .queries))
     where
-      go : Asks s t p → p < 32
+      go : Queries s t p → p < 32
       go (by-check k e) = subst (λ (x : ℕ). x < 32) e (small-privilege t (d .a-term) Check k refl)
       go (by-test k e) = subst (λ (x : ℕ). x < 32) e (small-privilege t (d .a-term) Test k refl)
       go (by-guard k e) =
@@ -164,8 +164,8 @@ each-taken E (suc n) (x ∷ xs) h = (h .0, each-taken E n xs (h .1))
 
 -- Of a list of bytes:
 module _ (s : List ℕ) (bytes : Bytes s) (q : Request) (b : Buffers) where
-  pub decisions-asked : Each (IsDecision s) (decisions s q (sizes b))
-  decisions-asked = go (screen (runConditions s q (sizes b))) refl
+  pub decisions-queried : Each (IsDecision s) (decisions s q (sizes b))
+  decisions-queried = go (screen (runConditions s q (sizes b))) refl
     where
       go : (x : Screening) → screen (runConditions s q (sizes b)) ≡ x → Each (IsDecision s) (decisions s q (sizes b))
       go clear h =
@@ -174,11 +174,11 @@ module _ (s : List ℕ) (bytes : Bytes s) (q : Request) (b : Buffers) where
       go (found c p) h = subst (λ (c : Course). Each (IsDecision s) (decisionsMade c)) (sym (traced-found s q (sizes b) c p h)) tt
 
   -- Every entry of the record is such a decision, and fits its four bytes.
-  pub entries-asked : (t : List ℕ) → Each (IsDecision s) (recorded (length t) (decisions s q (sizes b)))
-  entries-asked t = each-taken (IsDecision s) (length t / 4) (decisions s q (sizes b)) decisions-asked
+  pub entries-queried : (t : List ℕ) → Each (IsDecision s) (recorded (length t) (decisions s q (sizes b)))
+  entries-queried t = each-taken (IsDecision s) (length t / 4) (decisions s q (sizes b)) decisions-queried
 
   pub entries-fit : Starts s q b → (t : List ℕ) → Storable (recorded (length t) (decisions s q (sizes b)))
-  entries-fit st t = storable s (clear-well s q b (starts-screened s q b st)) (recorded (length t) (decisions s q (sizes b))) (entries-asked t)
+  entries-fit st t = storable s (clear-well s q b (starts-screened s q b st)) (recorded (length t) (decisions s q (sizes b))) (entries-queried t)
 
 -- ---- "and yes or no": a run goes on after a check or guard that is yes, and after a test
 -- a decision that is no is of a test, so that each check and guard is yes

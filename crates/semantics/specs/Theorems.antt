@@ -166,13 +166,13 @@ lengths-kept s q b =
     (evaluation-spends standard (plain (q .enforce)) (q .runner) s q (sizes b))
 
 -- How large the counts are that a run tells (Claims: Few). They are those of the evaluation.
-counts-told : (s : List ℕ) (q : Request) (b : Buffers) (o : Outcome) (k : Counts) → run s q b .answer ≡ ran o k
+answer-counts : (s : List ℕ) (q : Request) (b : Buffers) (o : Outcome) (k : Counts) → run s q b .answer ≡ ran o k
     → counts q (sizes b) (left (evaluation (q .runner) s q (sizes b))) ≡ k
-counts-told s q b o k e = ap (countsIn k) (sym (answer-course s q b _ (course-clear s q b (starts-screened s q b (o, k, e)))) ∙ e)
+answer-counts s q b o k e = ap (countsIn k) (sym (answer-course s q b _ (course-clear s q b (starts-screened s q b (o, k, e)))) ∙ e)
 
 pub counts-few : (s : List ℕ) (q : Request) (b : Buffers) (o : Outcome) (k : Counts) → run s q b .answer ≡ ran o k → Few k
 counts-few s q b o k e =
-    subst Few (counts-told s q b o k e)
+    subst Few (answer-counts s q b o k e)
     (clear-few s q b (starts-screened s q b (o, k, e)) (left (evaluation (q .runner) s q (sizes b)))
     (evaluation-spends standard (plain (q .enforce)) (q .runner) s q (sizes b))
     (omega (arith, evaluation-load s (started-well s q b (o, k, e)) (plain (q .enforce)) (q .runner) q (sizes b))))
@@ -208,6 +208,6 @@ unfolding run
 run-leaves s q b o k e =
     let x = evaluation (q .runner) s q (sizes b) in
     let goes : started x ≡ course s q (sizes b) = sym (course-clear s q b (starts-screened s q b (o, k, e))) in (
-      ap (λ (c : Counts). c .posts) (sym (counts-told s q b o k e)) ∙ posts-counted q (sizes b) (left x) ∙ ap (λ (c : Course). length (postsMade c)) goes,
+      ap (λ (c : Counts). c .posts) (sym (answer-counts s q b o k e)) ∙ posts-counted q (sizes b) (left x) ∙ ap (λ (c : Course). length (postsMade c)) goes,
       subst (λ (c : Course). Leaves (q .runner) (postsMade c) b (buffersAfter (q .runner) b c)) goes (leaves (q .runner) b x),
     )

@@ -1,3 +1,3 @@
 pub mod CandidateLaws
-pub mod JudgeLaws
+pub mod JudgementLaws
 pub mod VisitLaws

@@ -2,7 +2,7 @@
 use crate::candidates::Candidate;
 use crate::candidates::or_own;
 use crate::candidates::smaller;
-use crate::judge::judge;
+use crate::judgement::judgement;
 use places::Child;
 use places::first_child;
 use places::second_child;
@@ -45,7 +45,7 @@ pub fn visit(s: &[u8], c: Counts, known: &mut Known, y: Child) -> Visited
     let i_judged = i.judged;
     let j_judged = j.judged;
     let k_judged = k.judged;
-    let r = judge(s, c, known, at, i_judged, j_judged, k_judged);
+    let r = judgement(s, c, known, at, i_judged, j_judged, k_judged);
     conclude(at.term, r, i, j, k)
 }
 

@@ -6,7 +6,7 @@ use Prim.Native.Nat.{ℕ}
 use Rattle.program.specs.Limits.{maxCalls, maxDepth, maxCells, maxPosts, frameNumbers}
 use Rattle.privileges.specs.Sets.{has, meet, union, insert, remove, subset}
 use Rattle.program.specs.Layout.{authority, root}
-use Rattle.program.specs.Screening.{tell, screen}
+use Rattle.program.specs.Screening.{refuseAt, screen}
 use Rattle.program.specs.Decoding.{decoding}
 use Rattle.typing.specs.Subtyping.{subtypeIn, subtype, wider}
 use Rattle.typing.specs.Rules.{removeAuthorised}
@@ -216,14 +216,14 @@ abbrev pub largest : Sizes
 largest = record { cells = maxCells; posts = maxPosts; frames = frameNumbers }
 
 -- rows that are computed from the lengths alone hold in buffers of the largest lengths, whatever they hold
-pub told : (cs : List Case) → map (observedBy largest) cs ≡ map due cs → (b : Buffers) → sizes b ≡ largest → map (observed b) cs ≡ map due cs
-told cs h b e = observations b cs ∙ ap (λ (z : Sizes). map (observedBy z) cs) e ∙ h
+pub as-due : (cs : List Case) → map (observedBy largest) cs ≡ map due cs → (b : Buffers) → sizes b ≡ largest → map (observed b) cs ≡ map due cs
+as-due cs h b e = observations b cs ∙ ap (λ (z : Sizes). map (observedBy z) cs) e ∙ h
 
 computed : map (observedBy largest) cases ≡ map due cases
-unfolding cases observedBy verdict decoding screen tell infer subtype subtypeIn wider removeAuthorised course eval apply evalWith addAuthorised has
+unfolding cases observedBy verdict decoding screen refuseAt infer subtype subtypeIn wider removeAuthorised course eval apply evalWith addAuthorised has
     meet union insert remove subset
 computed = refl
 
 -- The starred cases hold of the definitions, with buffers of the largest lengths, whatever they hold.
 pub starred : (b : Buffers) → sizes b ≡ largest → map (observed b) cases ≡ map due cases
-starred = told cases computed
+starred = as-due cases computed

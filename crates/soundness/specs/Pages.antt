@@ -7,7 +7,7 @@ use Prim.Native.Nat.{ℕ}
 use lib.ListN.{replicate}
 use Rattle.program.specs.Limits.{maxCalls, maxDepth}
 use Rattle.privileges.specs.Sets.{has, meet, union, insert, remove, subset}
-use Rattle.program.specs.Screening.{tell, screen}
+use Rattle.program.specs.Screening.{refuseAt, screen}
 use Rattle.program.specs.Decoding.{decoding}
 use Rattle.typing.specs.Subtyping.{subtypeIn, subtype, wider}
 use Rattle.typing.specs.Rules.{removeAuthorised}
@@ -16,7 +16,7 @@ use Rattle.typing.specs.Verdicts.{accepted, rejected, verdict}
 use Rattle.semantics.specs.Meaning.{evalWith, apply, eval}
 use Rattle.semantics.specs.Access.{addAuthorised}
 use Rattle.semantics.specs.Runs.{Runner, Request, Buffers, sizes, course, ended, stopped, ground-num, refused, ran}
-use Rattle.soundness.specs.Cases.{Case, deciding, due, request, counted, both, observed, observedBy, largest, told}
+use Rattle.soundness.specs.Cases.{Case, deciding, due, request, counted, both, observed, observedBy, largest, as-due}
 
 -- ---- the sheets: A(0) = {1}, the types of the boolean and the number, and three terms, sign 0 (post …), of a version; what follows the terms is named
 sheet : (version : ℕ) (inner page : List ℕ) (behind : List ℕ) → List ℕ
@@ -111,10 +111,10 @@ pages =
     ∷ deciding (sheet 2 seven (on 0) (inPlace 5 15 0)) (rejected 4 0) ∷ []
 
 computed : map (observedBy largest) pages ≡ map due pages
-unfolding pages observedBy verdict decoding screen tell infer subtype subtypeIn wider removeAuthorised course eval apply evalWith addAuthorised has
+unfolding pages observedBy verdict decoding screen refuseAt infer subtype subtypeIn wider removeAuthorised course eval apply evalWith addAuthorised has
     meet union insert remove subset
 computed = refl
 
 -- The rows hold of the definitions, with buffers of the largest lengths, whatever they hold.
 pub guarded-pages : (b : Buffers) → sizes b ≡ largest → map (observed b) pages ≡ map due pages
-guarded-pages = told pages computed
+guarded-pages = as-due pages computed

@@ -8,7 +8,7 @@ use lib.ListN.{length, replicate}
 use Rattle.program.specs.Limits.{maxCalls, maxDepth}
 use Rattle.privileges.specs.Sets.{has, meet, union, insert}
 use Rattle.program.specs.Layout.{root}
-use Rattle.program.specs.Screening.{tell, screen}
+use Rattle.program.specs.Screening.{refuseAt, screen}
 use Rattle.traces.specs.Traces.{Event, traceBytes, recorded}
 use Rattle.semantics.specs.Meaning.{evalWith, apply, eval}
 use Rattle.semantics.specs.Access.{addAuthorised}
@@ -59,13 +59,13 @@ abbrev pub due : Case → Observed
 due (recording-of s q t a n l) = observing a n l
 
 -- a record of so many bytes, each of them 9
-abbrev lent : ℕ → List ℕ
-lent n = replicate n 9
+abbrev filled : ℕ → List ℕ
+filled n = replicate n 9
 
 abbrev both : List ℕ → (enforce : Bool) (start : List ℕ) (record-length : ℕ) → Answer → (entries : ℕ) (after : List ℕ) → List Case
 both s enforce start k a n l =
-    recording-of s (record { runner = eager; enforce = enforce; start = start; calls = maxCalls; depth = maxDepth }) (lent k) a n l
-    ∷ recording-of s (record { runner = lazy; enforce = enforce; start = start; calls = maxCalls; depth = maxDepth }) (lent k) a n l ∷ []
+    recording-of s (record { runner = eager; enforce = enforce; start = start; calls = maxCalls; depth = maxDepth }) (filled k) a n l
+    ∷ recording-of s (record { runner = lazy; enforce = enforce; start = start; calls = maxCalls; depth = maxDepth }) (filled k) a n l ∷ []
 
 abbrev posted : Answer
 posted = ran (ended (ground-num 7)) (counted 0 0 1)
@@ -112,7 +112,7 @@ observations b [] = refl
 observations b (recording-of s q t a n l ∷ cs) = λ i. observedBy (sizes b) (recording-of s q t a n l) ∷ observations b cs i
 
 computed : map (observedBy largest) cases ≡ map due cases
-unfolding cases observedBy screen tell tracedCourse course eval apply evalWith addAuthorised has meet union insert traceBytes
+unfolding cases observedBy screen refuseAt tracedCourse course eval apply evalWith addAuthorised has meet union insert traceBytes
 computed = refl
 
 -- The rows hold of the definitions, with buffers of the largest lengths, whatever they hold.

@@ -9,7 +9,7 @@ use report::answer::Reported;
 use report::report;
 
 // Writes a text to standard output. A program has no exit status, so a write that fails is told on standard error.
-fn tell(text: &[u8]) {
+fn print(text: &[u8]) {
     if !io::write_all(STDOUT_FILENO, text) {
         io::write_all(
             STDERR_FILENO,
@@ -30,5 +30,5 @@ fn main() {
     let Reported::Written(k) = reported else {
         return;
     };
-    tell(&text[..k]);
+    print(&text[..k]);
 }

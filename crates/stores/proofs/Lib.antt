@@ -1,3 +1,2 @@
-pub mod AccessLaws
 pub mod CellLaws
 pub mod WordLaws

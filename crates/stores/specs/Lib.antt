@@ -1,5 +1,4 @@
 pub mod Words
 pub mod Cells
-pub mod Access
 pub mod Stops
 pub mod Returns

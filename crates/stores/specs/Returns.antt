@@ -3,6 +3,6 @@ use mathlib.Core.List.{List}
 use mathlib.Core.Path.{_≡_}
 use Prim.Native.Nat.{ℕ}
 
-pub record Returned {A : Type 0} (r answer : A) (lent′ lent : List ℕ) : Type 0 where
+pub record Returned {A : Type 0} (r answer : A) (store′ store : List ℕ) : Type 0 where
   pub answer-is : r ≡ answer
-  pub lent-is : lent′ ≡ lent
+  pub store-is : store′ ≡ store

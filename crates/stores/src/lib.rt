@@ -1,5 +1,4 @@
-// What a run holds, as numbers in lent stores: words, cells in lent bytes, a lazy run's frames in lent numbers, and access control over them.
-pub mod access;
+// What a run holds: words, and the cells of lent bytes that keep them.
 pub mod cells;
 pub mod state;
 pub mod words;

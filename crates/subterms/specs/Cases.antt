@@ -4,7 +4,7 @@ use mathlib.Core.List.{List, [], _∷_, map}
 use mathlib.Core.Path.{_≡_, refl}
 use Prim.Native.Nat.{ℕ, _*_}
 use Rattle.privileges.specs.Sets.{has, meet, union, insert, remove, subset}
-use Rattle.program.specs.Screening.{tell, screen}
+use Rattle.program.specs.Screening.{refuseAt, screen}
 use Rattle.program.specs.Decoding.{decoding}
 use Rattle.typing.specs.Subtyping.{subtypeIn, subtype, wider}
 use Rattle.typing.specs.Rules.{removeAuthorised}
@@ -83,36 +83,36 @@ checked = sheet 5 (
 
 -- a row: a sheet, its verdict, its smallest faulty piece, and that one's record
 pub data Case : Type 0 where
-  asking : (sheet : List ℕ) → Verdict → Piece → (bytes : List ℕ) → Case
+  query : (sheet : List ℕ) → Verdict → Piece → (bytes : List ℕ) → Case
 
 pub data Row : Type 0 where
   row : Verdict → Piece → (bytes : List ℕ) → Row
 
 abbrev pub due : Case → Row
-due (asking s v p r) = row v p r
+due (query s v p r) = row v p r
 
 abbrev pub observed : Case → Row
-observed (asking s v p r) = row (verdict s) (pieceOf s) (recordOf s (pieceOf s))
+observed (query s v p r) = row (verdict s) (pieceOf s) (recordOf s (pieceOf s))
 
 unfoldable pub cases : List Case
 cases =
     -- the first fault is that of the if, in which there are four terms; the variable after it is the least to look at
-    asking later (rejected 10 3) (smallest 4 1 9 4) (2 ∷ 0 ∷ 0 ∷ 5 ∷ 0 ∷ 0 ∷ 0 ∷ 0 ∷ [])
+    query later (rejected 10 3) (smallest 4 1 9 4) (2 ∷ 0 ∷ 0 ∷ 5 ∷ 0 ∷ 0 ∷ 0 ∷ 0 ∷ [])
     -- of two variables the one with the lower number, though it stands second
-    ∷ asking tied (rejected 9 1) (smallest 0 1 9 0) (2 ∷ 0 ∷ 0 ∷ 7 ∷ 0 ∷ 0 ∷ 0 ∷ 0 ∷ [])
+    ∷ query tied (rejected 9 1) (smallest 0 1 9 0) (2 ∷ 0 ∷ 0 ∷ 7 ∷ 0 ∷ 0 ∷ 0 ∷ 0 ∷ [])
     -- principal 1 may not enable what the root's principal may
-    ∷ asking (signed 1) (rejected 11 3) (smallest 3 4 11 3) (9 ∷ 1 ∷ 0 ∷ 2 ∷ 0 ∷ 0 ∷ 0 ∷ 0 ∷ [])
-    ∷ asking (signed 0) (accepted 5 1 0) no-piece []
+    ∷ query (signed 1) (rejected 11 3) (smallest 3 4 11 3) (9 ∷ 1 ∷ 0 ∷ 2 ∷ 0 ∷ 0 ∷ 0 ∷ 0 ∷ [])
+    ∷ query (signed 0) (accepted 5 1 0) no-piece []
     -- a call of a number
-    ∷ asking called (rejected 24 3) (smallest 3 3 24 3) (5 ∷ 0 ∷ 0 ∷ 1 ∷ 0 ∷ 2 ∷ 0 ∷ 0 ∷ [])
+    ∷ query called (rejected 24 3) (smallest 3 3 24 3) (5 ∷ 0 ∷ 0 ∷ 1 ∷ 0 ∷ 2 ∷ 0 ∷ 0 ∷ [])
     -- a root of a function type has no piece, unless the function itself is refused
-    ∷ asking returned (rejected 13 3) no-piece []
-    ∷ asking checked (rejected 12 3) (smallest 3 4 12 3) (3 ∷ 0 ∷ 0 ∷ 2 ∷ 0 ∷ 2 ∷ 0 ∷ 0 ∷ [])
+    ∷ query returned (rejected 13 3) no-piece []
+    ∷ query checked (rejected 12 3) (smallest 3 4 12 3) (3 ∷ 0 ∷ 0 ∷ 2 ∷ 0 ∷ 2 ∷ 0 ∷ 0 ∷ [])
     -- a sheet that is not readable
-    ∷ asking [] (rejected 1 0) (unreadable 1 0) [] ∷ []
+    ∷ query [] (rejected 1 0) (unreadable 1 0) [] ∷ []
 
 pub worked : map observed cases ≡ map due cases
-unfolding cases pieceOf smallestOf refusedAt verdict decoding screen tell infer subtype subtypeIn wider removeAuthorised has meet union insert remove subset
+unfolding cases pieceOf smallestOf refusedAt verdict decoding screen refuseAt infer subtype subtypeIn wider removeAuthorised has meet union insert remove subset
 worked = refl
 
 -- a row: a sheet, a term's number, and what is told of it
@@ -147,5 +147,5 @@ termCases =
     ∷ of-term [] 0 (refused 1 0) ∷ []
 
 pub terms-worked : map observedTerm termCases ≡ map dueTerm termCases
-unfolding termCases judging withNumber decoding screen tell infer subtype subtypeIn wider removeAuthorised has meet union insert remove subset
+unfolding termCases judging withNumber decoding screen refuseAt infer subtype subtypeIn wider removeAuthorised has meet union insert remove subset
 terms-worked = refl

@@ -6,7 +6,7 @@ use Prim.Native.Nat.{ℕ}
 use lib.Dec.{eqb}
 use Rattle.program.specs.Layout.{Types, authority, typesOf}
 use Rattle.program.specs.Terms.{program}
-use Rattle.program.specs.Screening.{Screening, clear, found}
+use Rattle.program.specs.Screening.{unlessFound}
 use Rattle.program.specs.Decoding.{decoding}
 use Rattle.typing.specs.Places.{Placed, placed, placedNumber}
 use Rattle.typing.specs.Checking.{Judgement, typed, fault, infer}
@@ -32,9 +32,5 @@ abbrev pub judgedOf : Types → (A : ℕ → ℕ) → Option Placed → JudgedTe
 judgedOf T A none = refused 37 0
 judgedOf T A (some (placed Γ n c)) = judgedAs n (infer T A Γ n c)
 
-abbrev pub ifReadable : Screening → (Unit {0} → JudgedTerm) → JudgedTerm
-ifReadable clear k = k tt
-ifReadable (found cause place) k = refused cause place
-
 unfoldable pub judging : List ℕ → (t : ℕ) → JudgedTerm
-judging s t = ifReadable (decoding s) λ _. judgedOf (typesOf s) (authority s) (withNumber t (subterms (typesOf s) [] 0 (program s)))
+judging s t = unlessFound refused (decoding s) λ _. judgedOf (typesOf s) (authority s) (withNumber t (subterms (typesOf s) [] 0 (program s)))

@@ -11,7 +11,7 @@ use lib.Dec.{ltb}
 use Rattle.privileges.specs.Sets.{_⊆_}
 use Rattle.program.specs.Layout.{terms, root, authority, typesOf}
 use Rattle.program.specs.Terms.{tree, program}
-use Rattle.program.specs.Screening.{Screening, clear, found}
+use Rattle.program.specs.Screening.{Screening, clear, found, unlessFound}
 use Rattle.program.specs.Decoding.{decoding, Readable}
 use Rattle.program.specs.Laws.Readable.{well-formed}
 use Rattle.program.specs.Laws.Types.{lower-types}
@@ -20,13 +20,12 @@ use Rattle.typing.specs.Places.{placed}
 use Rattle.typing.specs.Rules.{current, Derives}
 use Rattle.typing.specs.Checking.{Judgement, typed, fault, infer}
 use Rattle.typing.specs.Faults.{here}
-use Rattle.typing.specs.Verdicts as verdicts
 use Rattle.typing.specs.Verdicts.{Verdict, accepted, rejected, concluded, judgement, verdict}
 use Rattle.typing.specs.Theorems.{acceptance}
 use Rattle.typing.specs.Laws.Checking.{infer-derives, derives-least}
 use Rattle.typing.specs.Laws.Faults.{decoding-readers}
 use Rattle.subterms.specs.Smallest.{subterms}
-use Rattle.subterms.specs.Judging.{withNumber, JudgedTerm, typed-under, refused, judgedAs, judgedOf, ifReadable, judging}
+use Rattle.subterms.specs.Judging.{withNumber, JudgedTerm, typed-under, refused, judgedAs, judgedOf, judging}
 use Rattle.subterms.specs.Claims.{byRules, HasFault, has-fault, Stands}
 use Rattle.subterms.specs.Laws.Judgements.{ruled, within-fault}
 use Rattle.subterms.specs.Laws.Numbers.{number-stands, number-past, within-standard}
@@ -52,13 +51,13 @@ no-rule : (cause : ℕ) → byRules cause ≡ true → cause ≡ 37 → ⊥
 no-rule cause h e = true≢false (sym h ∙ ap byRules e)
 
 module _ (s : List ℕ) (t : ℕ) where
-  readable-told : Readable s → judging s t ≡ judgedOf (typesOf s) (authority s) (withNumber t (subterms (typesOf s) [] 0 (program s)))
+  readable-judging : Readable s → judging s t ≡ judgedOf (typesOf s) (authority s) (withNumber t (subterms (typesOf s) [] 0 (program s)))
   unfolding judging
-  readable-told r = λ i. ifReadable (r i) (λ _. judgedOf (typesOf s) (authority s) (withNumber t (subterms (typesOf s) [] 0 (program s))))
+  readable-judging r = λ i. unlessFound refused (r i) (λ _. judgedOf (typesOf s) (authority s) (withNumber t (subterms (typesOf s) [] 0 (program s))))
 
   -- "in the bindings and under the principal it has in the sheet": wherever term t stands in a readable sheet, it is judged there
   pub judged-there : Readable s → (Γ : List ℕ) (n : ℕ) → Stands s Γ n t → judging s t ≡ judgedAs n (judgementOf s Γ n t)
-  judged-there r Γ n v = readable-told r ∙ ap (judgedOf (typesOf s) (authority s)) (number-stands s (well-formed s r) Γ n t v)
+  judged-there r Γ n v = readable-judging r ∙ ap (judgedOf (typesOf s) (authority s)) (number-stands s (well-formed s r) Γ n t v)
 
   -- every number below the count of terms is that of a term which stands in the sheet, in one place (`every-term-stands`, `stands-once`) and is judged there
   pub every-term-judged : Readable s → t < terms s → (Γ : List ℕ) × (n : ℕ) × Stands s Γ n t × (judging s t ≡ judgedAs n (judgementOf s Γ n t))
@@ -77,15 +76,15 @@ module _ (s : List ℕ) (t : ℕ) where
       go Γ n (fault c at) f h = ap byRules (sym (refused-cause h)) ∙ ruled (typesOf s) (authority s) Γ n (tree s t) f
 
   -- an unreadable sheet gets the reader's refusal
-  pub unreadable-told : {cause place : ℕ} → decoding s ≡ found cause place → judging s t ≡ refused cause place
+  pub unreadable-judging : {cause place : ℕ} → decoding s ≡ found cause place → judging s t ≡ refused cause place
   unfolding judging
-  unreadable-told e = λ i. ifReadable (e i) (λ _. judgedOf (typesOf s) (authority s) (withNumber t (subterms (typesOf s) [] 0 (program s))))
+  unreadable-judging e = λ i. unlessFound refused (e i) (λ _. judgedOf (typesOf s) (authority s) (withNumber t (subterms (typesOf s) [] 0 (program s))))
 
   -- 37 is told exactly for a number past the last term of a readable sheet
   pub no-term-exactly : (judging s t ≡ refused 37 0) ↔ (Readable s × terms s ≤ t)
   no-term-exactly = (
     λ e. screened (decoding s) refl e,
-    λ h. readable-told (h .0) ∙ ap (judgedOf (typesOf s) (authority s)) (number-past s (well-formed s (h .0)) t (h .1)),
+    λ h. readable-judging (h .0) ∙ ap (judgedOf (typesOf s) (authority s)) (number-past s (well-formed s (h .0)) t (h .1)),
   )
     where
       past : Readable s → judging s t ≡ refused 37 0 → Dec (t < terms s) → terms s ≤ t
@@ -95,7 +94,7 @@ module _ (s : List ℕ) (t : ℕ) where
       screened : (d : Screening) → decoding s ≡ d → judging s t ≡ refused 37 0 → Readable s × terms s ≤ t
       screened clear h e = (h, past h e (decLt t (terms s)))
       screened (found cause at) h e =
-          let q = refused-cause (sym (unreadable-told h) ∙ e) in
+          let q = refused-cause (sym (unreadable-judging h) ∙ e) in
           ⊎-elim (λ l. absurd (omega (arith, l, q))) (λ z. absurd (omega (arith, z, q))) (decoding-readers s cause at h)
 
   -- the type told is that of every derivation of the term there, and the needs are the least that one gives
@@ -105,8 +104,8 @@ module _ (s : List ℕ) (t : ℕ) where
     pub same-type : (σ M : ℕ) → Derives current (typesOf s) (authority s) Γ n (tree s t) σ M → σ ≡ τ
     pub least : (σ M : ℕ) → Derives current (typesOf s) (authority s) Γ n (tree s t) σ M → N ⊆ M
 
-  pub least-told : Readable s → t < terms s → {n τ N : ℕ} → judging s t ≡ typed-under n τ N → (Γ : List ℕ) × LeastThere Γ n τ N
-  least-told r l {n} {τ} {N} e =
+  pub least-judged : Readable s → t < terms s → {n τ N : ℕ} → judging s t ≡ typed-under n τ N → (Γ : List ℕ) × LeastThere Γ n τ N
+  least-judged r l {n} {τ} {N} e =
       let p = every-term-judged r l in
       (p .0, go (p .0) (p .1) (p .2) (judgementOf s (p .0) (p .1) t) refl (sym (p .3) ∙ e))
     where
@@ -141,9 +140,9 @@ verdict-from-root s = go (decoding s) refl
     concluded-from (fault cause at) = refl
 
     go : (d : Screening) → decoding s ≡ d
-        → verdicts.ifReadable d (λ _. concluded (terms s) (root s) (judgement s)) ≡ concludedFrom (terms s) (root s) (judging s (root s))
+        → unlessFound rejected d (λ _. concluded (terms s) (root s) (judgement s)) ≡ concludedFrom (terms s) (root s) (judging s (root s))
     go clear e = concluded-from (judgement s) ∙ ap (concludedFrom (terms s) (root s)) (sym (judged-there s (root s) e [] 0 here))
-    go (found cause place) e = ap (concludedFrom (terms s) (root s)) (sym (unreadable-told s (root s) e))
+    go (found cause place) e = ap (concludedFrom (terms s) (root s)) (sym (unreadable-judging s (root s) e))
 
 -- where the type checker accepts the sheet each term has a type where it stands
 pub accepted-typed : (s : List ℕ) {k σ M : ℕ} → verdict s ≡ accepted k σ M → (t : ℕ) → t < terms s
@@ -158,7 +157,7 @@ accepted-typed s {k} {σ} {M} e t l =
 
     refuted : HasFault (typesOf s) (authority s) (placed [] 0 (program s)) → ⊥
     refuted (has-fault {cause} {at} f) =
-        let z : rejected cause at ≡ accepted k σ M = sym (λ i. verdicts.ifReadable (r i) (λ _. concluded (terms s) (root s) (f i))) ∙ e in
+        let z : rejected cause at ≡ accepted k σ M = sym (λ i. unlessFound rejected (r i) (λ _. concluded (terms s) (root s) (f i))) ∙ e in
         let y : _≡_ {A = ℕ} 0 1 = cc in
         omega arith
 

@@ -7,7 +7,7 @@ use lib.Dec.{eqb, ltb}
 use lib.ListN.{take, drop}
 use Rattle.program.specs.Layout.{Types, termAt, authority, typesOf}
 use Rattle.program.specs.Terms.{Term, boolean, number, variable, function, letrec, call, if, check, enable, sign, test, binary, post, program, size}
-use Rattle.program.specs.Screening.{Screening, clear, found}
+use Rattle.program.specs.Screening.{unlessFound}
 use Rattle.program.specs.Decoding.{decoding}
 use Rattle.typing.specs.Places.{Placed, placed, numberOf}
 use Rattle.typing.specs.Checking.{Judgement, typed, fault, infer}
@@ -66,12 +66,8 @@ abbrev pub pieceFrom : Option Refused → Piece
 pieceFrom none = no-piece
 pieceFrom (some x) = smallest (x .term) (x .count) (x .cause) (x .place)
 
-abbrev pub ifReadable : Screening → (Unit {0} → Piece) → Piece
-ifReadable clear k = k tt
-ifReadable (found cause place) k = unreadable cause place
-
 unfoldable pub pieceOf : List ℕ → Piece
-pieceOf s = ifReadable (decoding s) λ _. pieceFrom (smallestOf (typesOf s) (authority s) (subterms (typesOf s) [] 0 (program s)))
+pieceOf s = unlessFound unreadable (decoding s) λ _. pieceFrom (smallestOf (typesOf s) (authority s) (subterms (typesOf s) [] 0 (program s)))
 
 -- "those eight bytes of the caller's own sheet that are its record": where they begin, how many there are, and they themselves; none without a piece
 abbrev pub recordPlace : List ℕ → Piece → ℕ

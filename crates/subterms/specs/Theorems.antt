@@ -11,7 +11,7 @@ use lib.ListN.{length}
 use borrow.Author.Tests.{lt-leb}
 use Rattle.program.specs.Layout.{terms, root, authority, typesOf}
 use Rattle.program.specs.Terms.{tree, program}
-use Rattle.program.specs.Screening.{Screening, clear, found}
+use Rattle.program.specs.Screening.{Screening, clear, found, unlessFound}
 use Rattle.program.specs.Decoding.{decoding, Readable}
 use Rattle.program.specs.Laws.Readable.{well-formed}
 use Rattle.program.specs.Laws.Types.{lower-types}
@@ -19,11 +19,10 @@ use Rattle.program.specs.Laws.Trees.{program-standard}
 use Rattle.typing.specs.Places.{placed}
 use Rattle.typing.specs.Rules.{current, Derives}
 use Rattle.typing.specs.Checking.{Judgement, typed, fault, infer}
-use Rattle.typing.specs.Verdicts as verdicts
 use Rattle.typing.specs.Verdicts.{accepted, rejected, concluded, judgement, verdict}
 use Rattle.typing.specs.Laws.Checking.{infer-complete, infer-derives}
 use Rattle.typing.specs.Laws.Faults.{decoding-readers}
-use Rattle.subterms.specs.Smallest.{subterms, Refused, smallestOf, Piece, smallest, no-piece, unreadable, pieceFrom, ifReadable, pieceOf, recordPlace, recordLength}
+use Rattle.subterms.specs.Smallest.{subterms, Refused, smallestOf, Piece, smallest, no-piece, unreadable, pieceFrom, pieceOf, recordPlace, recordLength}
 use Rattle.subterms.specs.Claims.{byRules, HasFault, has-fault, Stands, Faulty, SmallestPiece}
 use Rattle.subterms.specs.Laws.Judgements.{ruled}
 use Rattle.subterms.specs.Laws.Numbers.{within-standard}
@@ -79,7 +78,7 @@ data Given (s : List ℕ) : Piece → Type 0 where
 module _ (s : List ℕ) (r : Readable s) where
   verdict-is : {j : Judgement} → judgement s ≡ j → verdict s ≡ concluded (terms s) (root s) j
   unfolding verdict
-  verdict-is e = λ i. verdicts.ifReadable (r i) (λ _. concluded (terms s) (root s) (e i))
+  verdict-is e = λ i. unlessFound rejected (r i) (λ _. concluded (terms s) (root s) (e i))
 
   refused-by-rules : HasFault (typesOf s) (authority s) (placed [] 0 (program s)) → RefusedByRules s
   refused-by-rules (has-fault {cause} {at} e) = record {
@@ -108,7 +107,7 @@ root-faulty s h = screened (decoding s) refl (h .verdict-is)
     judged (typed τ N) e f r = rooted (ltb τ 2) τ N e f r
     judged (fault cause at) e f r = (r, has-fault e)
 
-    screened : (d : Screening) → decoding s ≡ d → verdicts.ifReadable d (λ _. concluded (terms s) (root s) (judgement s)) ≡ rejected (h .cause) (h .place)
+    screened : (d : Screening) → decoding s ≡ d → unlessFound rejected d (λ _. concluded (terms s) (root s) (judgement s)) ≡ rejected (h .cause) (h .place)
         → Readable s × HasFault (typesOf s) (authority s) (placed [] 0 (program s))
     screened clear e f = judged (judgement s) refl f e
     screened (found cause place) e f =
@@ -131,13 +130,13 @@ module _ (s : List ℕ) where
           given-smallest (h .0) (h .1) (refused-by-rules s r (root-refused s e (well-formed s r)))
 
       screened : (d : Screening) → decoding s ≡ d
-          → Given s (ifReadable d λ _. pieceFrom (smallestOf (typesOf s) (authority s) (subterms (typesOf s) [] 0 (program s))))
+          → Given s (unlessFound unreadable d λ _. pieceFrom (smallestOf (typesOf s) (authority s) (subterms (typesOf s) [] 0 (program s))))
       screened clear e = listed e (smallestOf (typesOf s) (authority s) (subterms (typesOf s) [] 0 (program s))) refl
       screened (found cause place) e = given-unreadable e
 
   -- The piece that is told is the smallest one, as each sentence says, and its fault is its own: the place that the rules tell there is the term itself.
-  pub smallest-told : (t count cause place : ℕ) → pieceOf s ≡ smallest t count cause place → SmallestPiece s t count cause × (place ≡ t)
-  smallest-told t count cause place e = go (subst (Given s) e given)
+  pub smallest-answered : (t count cause place : ℕ) → pieceOf s ≡ smallest t count cause place → SmallestPiece s t count cause × (place ≡ t)
+  smallest-answered t count cause place e = go (subst (Given s) e given)
     where
       go : {t count cause place : ℕ} → Given s (smallest t count cause place) → SmallestPiece s t count cause × (place ≡ t)
       go (given-smallest h p r) = (h, p)
@@ -154,14 +153,14 @@ module _ (s : List ℕ) where
       back h =
           let q = root-faulty s h in
           let x = some-refused s (q .1) in
-          (x .0 .term, x .0 .count, x .0 .cause, x .0 .place, λ i. ifReadable (q .0 i) (λ _. pieceFrom (x .1 i)))
+          (x .0 .term, x .0 .count, x .0 .cause, x .0 .place, λ i. unlessFound unreadable (q .0 i) (λ _. pieceFrom (x .1 i)))
 
   -- "An unreadable sheet gets the reader's refusal"
   pub unreadable-exactly : (cause place : ℕ) → (pieceOf s ≡ unreadable cause place) ↔ (decoding s ≡ found cause place)
   unfolding pieceOf
   unreadable-exactly cause place = (
     λ e. forth (subst (Given s) e given),
-    λ e. λ i. ifReadable (e i) (λ _. pieceFrom (smallestOf (typesOf s) (authority s) (subterms (typesOf s) [] 0 (program s)))),
+    λ e. λ i. unlessFound unreadable (e i) (λ _. pieceFrom (smallestOf (typesOf s) (authority s) (subterms (typesOf s) [] 0 (program s)))),
   )
     where
       forth : {cause place : ℕ} → Given s (unreadable cause place) → decoding s ≡ found cause place

@@ -3,19 +3,14 @@ use crate::known::Known;
 use crate::known::knows;
 use crate::known::note;
 use program::records::Counts;
+use program::search::Found;
 ghost use mathlib.Core.Bool.{_&&_};
 ghost use mathlib.Core.Path.{_≡_};
 ghost use lib.Dec.{leb, ltb};
 ghost use Rattle.program.specs.Layout.{typesOf};
 ghost use Rattle.typing.specs.Subtyping.{subtype as subtypeOf, wider as widerOf};
-ghost use Rattle.subtyping.specs.Internal.{foundOf};
+ghost use Rattle.program.specs.Search.{foundOf};
 ghost use Rattle.subtyping.specs.Known.{Judging, Answered};
-
-// A type that is looked for: of a binding, or of two branches.
-pub enum Found {
-    At(u16),
-    Nothing,
-}
 
 // Whether t is a function type of a sheet with these counts.
 pub fn is_function(c: Counts, t: u16) -> bool

@@ -16,7 +16,7 @@ use Rattle.privileges.specs.Laws.{⊆-antisym, ⊆-trans, ⊆-insert}
 use Rattle.program.specs.Bytes.{Bytes}
 use Rattle.program.specs.Layout.{version, authority, terms, root, Types, typesOf}
 use Rattle.program.specs.Terms.{Term, post, program}
-use Rattle.program.specs.Screening.{Screening, clear, found}
+use Rattle.program.specs.Screening.{Screening, clear, found, unlessFound}
 use Rattle.program.specs.Decoding.{decoding, Readable}
 use Rattle.program.specs.Laws.Readable.{WellFormed, well-formed}
 use Rattle.program.specs.Laws.Types.{Lower, function-type, lower-types, distinct-types}
@@ -26,7 +26,7 @@ use Rattle.typing.specs.Subtyping.{Subtype, sub-same, Wider, wider-secon
 use Rattle.typing.specs.Rules.{Variant, base, afterW1, afterW4, current, Derives, d-post, d-widen}
 use Rattle.typing.specs.Checking.{Judgement, typed, fault, _next_, require, infer}
 use Rattle.typing.specs.Faults.{Wrong, Ten, Beyond, FaultyPart, TenPart, BeyondPart}
-use Rattle.typing.specs.Verdicts.{accepted, rejected, concluded, ifReadable, judgement, verdict, SheetDerivesBy, SheetDerives}
+use Rattle.typing.specs.Verdicts.{accepted, rejected, concluded, judgement, verdict, SheetDerivesBy, SheetDerives}
 use Rattle.typing.specs.Laws.Subtyping.{sub-trans, sub-antisym, subtype-sound, subtype-complete, wider-above}
 use Rattle.typing.specs.Laws.Checking.{infer-complete, infer-afterW1, infer-derives, typed-least, derives-least}
 use Rattle.typing.specs.Laws.Variants.{guard-needed, relaxed, current-relaxes-base, current-relaxes-afterW4, afterW4-relaxes-current}
@@ -111,7 +111,7 @@ module _ (s : List ℕ) (n τ N : ℕ) where
   unfolding verdict
   inferred e = go (decoding s) refl e
     where
-      go : (d : Screening) → decoding s ≡ d → ifReadable d (λ _. concluded (terms s) (root s) (judgement s)) ≡ accepted n τ N → Inferred s n τ N
+      go : (d : Screening) → decoding s ≡ d → unlessFound rejected d (λ _. concluded (terms s) (root s) (judgement s)) ≡ accepted n τ N → Inferred s n τ N
       go clear h f = concluded-accepted (judgement s) refl h f
       go (found c p) h f = rejected≢accepted f
 
@@ -147,7 +147,7 @@ pub record AcceptedInside (s : List ℕ) (τ N : ℕ) : Type 0 where
 
 readable-verdict : (s : List ℕ) → Readable s → (j : Judgement) → judgement s ≡ j → verdict s ≡ concluded (terms s) (root s) j
 unfolding verdict
-readable-verdict s r j e = λ i. ifReadable (r i) (λ _. concluded (terms s) (root s) (e i))
+readable-verdict s r j e = λ i. unlessFound rejected (r i) (λ _. concluded (terms s) (root s) (e i))
 
 typed-accepted : (s : List ℕ) → Readable s → (τ N : ℕ) → τ < 2 → judgement s ≡ typed τ N → verdict s ≡ accepted (terms s) τ N
 typed-accepted s r τ N l e =
@@ -232,13 +232,13 @@ guarded-post {p = p} (d-widen d s) = let h = guarded-post d in (s .all p (h .0),
 -- ---- what W5's numbers say
 -- A term that is a call of what isn't a function, a call with an argument that doesn't fit, or an if or test with branches of which neither fits the other
 -- is told so: by 24, 25 or 26 in that order, at that term. It is 24 whatever the argument is: "at one call 24 goes before 25".
-pub wrong-told : (T : Types) (A : ℕ → ℕ) (Γ : List ℕ) (n cause at : ℕ) (c : Term) → Wrong T A Γ n cause at c → infer T A Γ n c ≡ fault cause at
-wrong-told T A Γ n cause at c w = wrong-fault T A w
+pub wrong-inferred : (T : Types) (A : ℕ → ℕ) (Γ : List ℕ) (n cause at : ℕ) (c : Term) → Wrong T A Γ n cause at c → infer T A Γ n c ≡ fault cause at
+wrong-inferred T A Γ n cause at c w = wrong-fault T A w
 
 -- "all other type faults stay 10, and the place is still the term"; of an if whatever its branches are: "at one if 10 before 26"; of a function or letrec
 -- whatever its body needs: "10 before 12" (01)
-pub ten-told : (T : Types) (A : ℕ → ℕ) (Γ : List ℕ) (n at : ℕ) (c : Term) → Ten T A Γ n at c → infer T A Γ n c ≡ fault 10 at
-ten-told T A Γ n at c t = ten-fault T A t
+pub ten-inferred : (T : Types) (A : ℕ → ℕ) (Γ : List ℕ) (n at : ℕ) (c : Term) → Ten T A Γ n at c → infer T A Γ n c ≡ fault 10 at
+ten-inferred T A Γ n at c t = ten-fault T A t
 
 -- a refusal that is neither the reader's nor the root's is the rules', of a readable sheet
 record Ruled (s : List ℕ) (cause at : ℕ) : Type 0 where
@@ -257,7 +257,8 @@ rejected-by-rules s cause at e l not-13 not-31 = screened (decoding s) refl e
     judged (typed τ N) h f = rooted (ltb τ 2) τ N f
     judged (fault c p) h f = h ∙ (let z : fault c p ≡ fault cause at = cc in z)
 
-    screened : (d : Screening) → decoding s ≡ d → ifReadable d (λ _. concluded (terms s) (root s) (judgement s)) ≡ rejected cause at → Ruled s cause at
+    screened : (d : Screening) → decoding s ≡ d → unlessFound rejected d (λ _. concluded (terms s) (root s) (judgement s)) ≡ rejected cause at
+        → Ruled s cause at
     screened clear h f = record { readable = h; is = judged (judgement s) refl f }
     screened (found c p) h f =
         let z : c ≡ cause = cc in
@@ -284,8 +285,8 @@ other-type-faults s at e =
 
 -- ---- what 01's other numbers say
 -- "9 variable past the bindings, … 11 needs of a sign, 12 needs of a body": a term that is so, and whose children have types, is told so, at that term
-pub beyond-told : (T : Types) (A : ℕ → ℕ) (Γ : List ℕ) (n cause at : ℕ) (c : Term) → Beyond T A Γ n cause at c → infer T A Γ n c ≡ fault cause at
-beyond-told T A Γ n cause at c b = beyond-fault T A b
+pub beyond-inferred : (T : Types) (A : ℕ → ℕ) (Γ : List ℕ) (n cause at : ℕ) (c : Term) → Beyond T A Γ n cause at c → infer T A Γ n c ≡ fault cause at
+beyond-inferred T A Γ n cause at c b = beyond-fault T A b
 
 -- A sheet is refused by 9, 11 or 12 at a term only if that term is a variable past the bindings, a sign whose child needs what isn't in A of its principal,
 -- or a function or recursive binder whose body needs what isn't in the latent set, in the bindings and under the principal that it has in the sheet, and

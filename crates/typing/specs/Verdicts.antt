@@ -6,7 +6,7 @@ use Prim.Native.Nat.{ℕ}
 use lib.Dec.{ltb}
 use Rattle.program.specs.Layout.{authority, terms, root, typesOf}
 use Rattle.program.specs.Terms.{program}
-use Rattle.program.specs.Screening.{Screening, clear, found}
+use Rattle.program.specs.Screening.{unlessFound}
 use Rattle.program.specs.Decoding.{decoding}
 use Rattle.typing.specs.Rules.{Variant, current, Derives}
 use Rattle.typing.specs.Checking.{Judgement, typed, fault, infer}
@@ -20,16 +20,12 @@ abbrev pub concluded : (terms root : ℕ) → Judgement → Verdict
 concluded n r (typed τ N) = cond (ltb τ 2) (accepted n τ N) (rejected 13 r)
 concluded n r (fault c at) = rejected c at
 
-abbrev pub ifReadable : Screening → (Unit {0} → Verdict) → Verdict
-ifReadable clear k = k tt
-ifReadable (found c p) k = rejected c p
-
 -- The program is judged without bindings. It is a sign, so that the principal named here is never looked at.
 abbrev pub judgement : List ℕ → Judgement
 judgement s = infer (typesOf s) (authority s) [] 0 (program s)
 
 unfoldable pub verdict : List ℕ → Verdict
-verdict s = ifReadable (decoding s) λ _. concluded (terms s) (root s) (judgement s)
+verdict s = unlessFound rejected (decoding s) λ _. concluded (terms s) (root s) (judgement s)
 
 -- a derivation of the sheet: of its program, without bindings; by the rules of a variant, and by those in force
 abbrev pub SheetDerivesBy : Variant → List ℕ → (type needs : ℕ) → Type 0

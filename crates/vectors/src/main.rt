@@ -1,32 +1,32 @@
 // Runs the recorded sheets of its standard input through the functions that the entries for C hand on to, and prints every answer in numbers.
 // reference/record writes that input, and the expected output beside it from an implementation of its own.
-mod buffers;
-mod input;
-mod output;
 
-use buffers::fill_all;
-use buffers::fill_cells;
-use buffers::fill_numbers;
-use buffers::max_cells;
-use buffers::max_frames;
-use buffers::max_pairs;
-use buffers::max_posts;
-use buffers::max_sheet;
-use buffers::max_start;
-use buffers::mix_all;
-use buffers::mix_cells;
-use buffers::mix_numbers;
-use input::Vector;
-use input::least;
-use input::read_pairs;
-use input::read_start;
-use input::read_vector;
-use output::line;
-use output::run_line;
+use replies::ANSWER_NUMBERS;
+use replies::LONG_ANSWER;
+use vector_io::buffers::PAIR_ROOM;
+use vector_io::buffers::fill_all;
+use vector_io::buffers::fill_cells;
+use vector_io::buffers::fill_numbers;
+use vector_io::buffers::max_cells;
+use vector_io::buffers::max_frames;
+use vector_io::buffers::max_pairs;
+use vector_io::buffers::max_posts;
+use vector_io::buffers::max_sheet;
+use vector_io::buffers::max_start;
+use vector_io::buffers::mix_all;
+use vector_io::buffers::mix_cells;
+use vector_io::buffers::mix_numbers;
+use vector_io::input::Vector;
+use vector_io::input::least;
+use vector_io::input::read_pairs;
+use vector_io::input::read_start;
+use vector_io::input::read_vector;
+use vector_io::output::line;
+use vector_io::output::run_line;
 
 // What is told without a run; of a piece also the sum of the bytes that are handed back.
-fn judge(sheet: &[u8], term: u32) {
-    let mut answer = [0u32; 8];
+fn judgements(sheet: &[u8], term: u32) {
+    let mut answer = [0u32; ANSWER_NUMBERS];
     let r = capi_base::decode(sheet, &mut answer);
     line(b"decode", r, &answer);
     let r2 = capi_base::typecheck(sheet, &mut answer);
@@ -51,7 +51,7 @@ fn eager(
 ) {
     fill_cells(cells);
     fill_numbers(posts, 2, 3);
-    let mut answer = [0u32; 8];
+    let mut answer = [0u32; ANSWER_NUMBERS];
     let r = capi_base::eager(
         sheet,
         start,
@@ -79,7 +79,7 @@ fn lazy(
     frames: &mut [u32],
 ) {
     fill_all(cells, posts, frames);
-    let mut answer = [0u32; 8];
+    let mut answer = [0u32; ANSWER_NUMBERS];
     let r = capi_base::lazy(
         sheet,
         start,
@@ -109,7 +109,7 @@ fn record_eager(
     fill_cells(cells);
     fill_numbers(posts, 2, 3);
     let mut noted = [6u8; 42];
-    let mut answer = [0u32; 9];
+    let mut answer = [0u32; LONG_ANSWER];
     let r = capi_record::eager(
         sheet,
         start,
@@ -138,7 +138,7 @@ fn record_lazy(
 ) {
     fill_all(cells, posts, frames);
     let mut noted = [6u8; 42];
-    let mut answer = [0u32; 9];
+    let mut answer = [0u32; LONG_ANSWER];
     let r = capi_record::lazy(
         sheet,
         start,
@@ -169,7 +169,7 @@ fn ranging(
 ) {
     fill_cells(cells);
     fill_numbers(posts, 2, 3);
-    let mut answer = [0u32; 8];
+    let mut answer = [0u32; ANSWER_NUMBERS];
     let r = capi_ranges::ranges(
         sheet,
         pairs,
@@ -312,8 +312,8 @@ fn ranged(
     posts: &mut [u32],
 ) {
     let mut pairs = max_pairs();
-    let lent = least(numbers, 2050);
-    rangings(&mut pairs[..lent], sheet, start, calls, depth, cells, posts);
+    let used = least(numbers, PAIR_ROOM);
+    rangings(&mut pairs[..used], sheet, start, calls, depth, cells, posts);
 }
 
 fn runs(
@@ -340,7 +340,7 @@ fn vector(
 ) {
     read_start(start);
     io::read_full(0, sheet);
-    judge(sheet, v.term);
+    judgements(sheet, v.term);
     runs(v, sheet, start, cells, posts, frames);
 }
 

@@ -1,7 +1,7 @@
--- `decode` returns 3 and leaves a list shorter than eight as it was (away). In any other list `put` leaves the reply of `of_decoded` (given),
+-- `decode` returns 3 and leaves a list shorter than eight as it was (short-answer). In any other list `put` leaves the reply of `of_decoded` (given),
 -- which is the definition's, since `decode` gives the definition's screening and the sheet's counts (decoded-as).
 use Rattle.replies.specs.Replies.{decodeReply}
-use Rattle.replies.specs.Laws.{away, given, decoded-as}
+use Rattle.replies.specs.Laws.{short-answer, given, decoded-as}
 use mathlib.Core.Path.{_∙_}
 use borrow.Author.Needs.{needs}
 use Rattle.capi_base.proofs.decode.Statement.{statement}
@@ -10,7 +10,7 @@ use Rattle.capi_base.proofs.decode.Tie as tie
 returns : tie.Need-returns
 returns c =
     let start = c .before .before .before in
-    away (start .args .answer .now) (c .if1 .taken) (decodeReply (start .args .sheet .now))
+    short-answer (start .args .answer .now) (c .if1 .taken) (decodeReply (start .args .sheet .now))
 
 decode-requires : tie.Need-decode-requires
 decode-requires c κs = search needs

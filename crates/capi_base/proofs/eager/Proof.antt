@@ -1,4 +1,4 @@
--- `eager` returns 3 and leaves a list shorter than eight, and the buffers, as they were (run-away). Else the buffers are as the definition's
+-- `eager` returns 3 and leaves a list shorter than eight, and the buffers, as they were (short-run). Else the buffers are as the definition's
 -- run leaves them, by the contract of `run_eager`, and the list holds the reply to its answer (run-given). What `of_run` requires holds, since a run that
 -- is not refused makes at most 4,096 calls, 8,192 cells and 256 posts (small).
 use mathlib.Core.List.{[]}
@@ -6,7 +6,7 @@ use mathlib.Core.Path.{ap}
 use Rattle.semantics.specs.Runs.{eager, After, run}
 use Rattle.interp.specs.Answers.{requestOf, buffersOf}
 use Rattle.replies.specs.Replies.{enforces}
-use Rattle.replies.specs.Laws.{run-away, run-given, small}
+use Rattle.replies.specs.Laws.{short-run, run-given, small}
 use borrow.Author.Needs.{needs}
 use Rattle.capi_base.proofs.eager.Statement.{statement}
 use Rattle.capi_base.proofs.eager.Tie as tie
@@ -14,7 +14,7 @@ use Rattle.capi_base.proofs.eager.Tie as tie
 returns : tie.Need-returns
 returns c =
     let start = c .before .before .before .before .before .before in
-    run-away (start .args .answer .now) (c .if1 .taken) (buffersOf (start .args .cells .now) (start .args .posts .now) [])
+    short-run (start .args .answer .now) (c .if1 .taken) (buffersOf (start .args .cells .now) (start .args .posts .now) [])
     (run (start .args .sheet .now) (requestOf eager (enforces (start .args .enforce)) (start .args .start .now) (start .args .calls) (start .args .depth))
     (buffersOf (start .args .cells .now) (start .args .posts .now) []))
 

@@ -1,11 +1,11 @@
--- `lazy` returns 3 and leaves a list shorter than eight, and the buffers, as they were (run-away). Else the buffers, with the frame store, are
+-- `lazy` returns 3 and leaves a list shorter than eight, and the buffers, as they were (short-run). Else the buffers, with the frame store, are
 -- as the definition's run leaves them, by the contract of `run_lazy`, and the list holds the reply to its answer (run-given). What `of_run` requires holds,
 -- since a run that is not refused makes at most 4,096 calls, 8,192 cells and 256 posts (small).
 use mathlib.Core.Path.{ap}
 use Rattle.semantics.specs.Runs.{lazy, After, run}
 use Rattle.interp.specs.Answers.{requestOf, buffersOf}
 use Rattle.replies.specs.Replies.{enforces}
-use Rattle.replies.specs.Laws.{run-away, run-given, small}
+use Rattle.replies.specs.Laws.{short-run, run-given, small}
 use borrow.Author.Needs.{needs}
 use Rattle.capi_base.proofs.lazy.Statement.{statement}
 use Rattle.capi_base.proofs.lazy.Tie as tie
@@ -13,7 +13,7 @@ use Rattle.capi_base.proofs.lazy.Tie as tie
 returns : tie.Need-returns
 returns c =
     let start = c .before .before .before .before .before .before .before in
-    run-away (start .args .answer .now) (c .if1 .taken) (buffersOf (start .args .cells .now) (start .args .posts .now) (start .args .frames .now))
+    short-run (start .args .answer .now) (c .if1 .taken) (buffersOf (start .args .cells .now) (start .args .posts .now) (start .args .frames .now))
     (run (start .args .sheet .now) (requestOf lazy (enforces (start .args .enforce)) (start .args .start .now) (start .args .calls) (start .args .depth))
     (buffersOf (start .args .cells .now) (start .args .posts .now) (start .args .frames .now)))
 

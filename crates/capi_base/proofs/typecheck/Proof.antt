@@ -1,7 +1,7 @@
--- `typecheck` returns 3 and leaves a list shorter than eight as it was (away). In any other list `put` leaves the reply of `of_verdict` (given),
+-- `typecheck` returns 3 and leaves a list shorter than eight as it was (short-answer). In any other list `put` leaves the reply of `of_verdict` (given),
 -- which is the definition's, since `typecheck` gives the definition's verdict.
 use Rattle.replies.specs.Replies.{verdictReply, typecheckReply}
-use Rattle.replies.specs.Laws.{away, given}
+use Rattle.replies.specs.Laws.{short-answer, given}
 use mathlib.Core.Path.{_∙_, ap}
 use borrow.Author.Needs.{needs}
 use Rattle.capi_base.proofs.typecheck.Statement.{statement}
@@ -10,7 +10,7 @@ use Rattle.capi_base.proofs.typecheck.Tie as tie
 returns : tie.Need-returns
 returns c =
     let start = c .before .before .before in
-    away (start .args .answer .now) (c .if1 .taken) (typecheckReply (start .args .sheet .now))
+    short-answer (start .args .answer .now) (c .if1 .taken) (typecheckReply (start .args .sheet .now))
 
 typecheck-requires : tie.Need-typecheck-requires
 typecheck-requires c κs = search needs

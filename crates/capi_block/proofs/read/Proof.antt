@@ -2,20 +2,20 @@
 -- (too-short). Else `put` leaves the reply to what `read` and `interrupt` tell of the block that `load` gives, which is the caller's (read-given).
 use borrow.Author.Needs.{needs}
 use Rattle.replies.specs.Laws.{other-size, too-short}
-use Rattle.capi_block.proofs.EntryLaws.{read-away, read-given}
+use Rattle.capi_block.proofs.EntryLaws.{short-read, read-given}
 use Rattle.capi_block.proofs.read.Statement.{statement}
 use Rattle.capi_block.proofs.read.Tie as tie
 
 returns : tie.Need-returns
 returns c =
     let start = c .before .before .before in
-    read-away (start .args .block .now) (start .args .answer .now) (start .args .address)
+    short-read (start .args .block .now) (start .args .answer .now) (start .args .address)
     (other-size 16 8 (start .args .block .now) (start .args .answer .now) (c .if1 .taken))
 
 returns-2 : tie.Need-returns-2
 returns-2 c =
     let start = c .before .before .before .before in
-    read-away (start .args .block .now) (start .args .answer .now) (start .args .address)
+    short-read (start .args .block .now) (start .args .answer .now) (start .args .address)
     (too-short 16 8 (start .args .block .now) (start .args .answer .now) (c .before .if1 .left) (c .if2 .taken))
 
 load-requires : tie.Need-load-requires

@@ -4,20 +4,20 @@ use borrow.Author.Needs.{needs}
 use mathlib.Core.List.{[]}
 use Rattle.interp.specs.Answers.{buffersOf}
 use Rattle.replies.specs.Laws.{other-size, too-short}
-use Rattle.capi_block.proofs.EntryLaws.{write-away, write-given}
+use Rattle.capi_block.proofs.EntryLaws.{short-write, write-given}
 use Rattle.capi_block.proofs.write.Statement.{statement}
 use Rattle.capi_block.proofs.write.Tie as tie
 
 returns : tie.Need-returns
 returns c =
     let start = c .before .before .before .before .before .before in
-    write-away (start .args .block .now) (start .args .answer .now) (start .args .address) (start .args .value) (start .args .sheet .now)
+    short-write (start .args .block .now) (start .args .answer .now) (start .args .address) (start .args .value) (start .args .sheet .now)
     (buffersOf (start .args .cells .now) (start .args .posts .now) []) (other-size 16 8 (start .args .block .now) (start .args .answer .now) (c .if1 .taken))
 
 returns-2 : tie.Need-returns-2
 returns-2 c =
     let start = c .before .before .before .before .before .before .before in
-    write-away (start .args .block .now) (start .args .answer .now) (start .args .address) (start .args .value) (start .args .sheet .now)
+    short-write (start .args .block .now) (start .args .answer .now) (start .args .address) (start .args .value) (start .args .sheet .now)
     (buffersOf (start .args .cells .now) (start .args .posts .now) [])
     (too-short 16 8 (start .args .block .now) (start .args .answer .now) (c .before .if1 .left) (c .if2 .taken))
 

@@ -1,7 +1,7 @@
 -- `compare` returns 3 and leaves the list as it was where a record is longer than 2^32 - 1 bytes (long-unit, long-office) or the list shorter than eight
 -- (few-numbers). Else the number of the answer is one of entries and fits into 32 bits (told), and `put` leaves the reply (given).
 use borrow.Author.Needs.{needs}
-use Rattle.capi_compare.proofs.EntryLaws.{long-unit, long-office, few-numbers, told, given}
+use Rattle.capi_compare.proofs.EntryLaws.{long-unit, long-office, few-numbers, few-entries, given}
 use Rattle.capi_compare.proofs.compare.Statement.{statement}
 use Rattle.capi_compare.proofs.compare.Tie as tie
 
@@ -27,7 +27,8 @@ compare-requires c κs = search needs
 of-comparison-requires : tie.Need-of-comparison-requires
 of-comparison-requires c κs =
     let start = c .before .before .before .before .before .before .before in
-    told (start .args .unit .now) (start .args .office .now) (start .args .answer .now) (c .before .before .before .if1 .left) (c .before .before .if2 .left)
+    few-entries (start .args .unit .now) (start .args .office .now) (start .args .answer .now) (c .before .before .before .if1 .left)
+    (c .before .before .if2 .left)
     (c .compare .result) (c .compare .ensures)
 
 put-requires : tie.Need-put-requires

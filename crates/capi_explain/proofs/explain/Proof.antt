@@ -1,20 +1,20 @@
 -- `explain` returns 3 and leaves everything as it was where the list for the chain is shorter than 32 (few-places) or the other shorter than eight
 -- (few-numbers). Else the list is as `keep` leaves it, and `put` leaves the reply (given).
 use borrow.Author.Needs.{needs}
-use Rattle.capi_explain.proofs.EntryLaws.{away, few-places, few-numbers, listed, given}
+use Rattle.capi_explain.proofs.EntryLaws.{short-answer, few-places, few-numbers, listed, given}
 use Rattle.capi_explain.proofs.explain.Statement.{statement}
 use Rattle.capi_explain.proofs.explain.Tie as tie
 
 returns : tie.Need-returns
 returns c =
     let start = c .before .before .before .before in
-    away (start .args .sheet .now) (start .args .privilege) (start .args .chain .now) (start .args .answer .now)
+    short-answer (start .args .sheet .now) (start .args .privilege) (start .args .chain .now) (start .args .answer .now)
     (few-places (start .args .sheet .now) (start .args .privilege) (start .args .chain .now) (start .args .answer .now) (c .if1 .taken))
 
 returns-2 : tie.Need-returns-2
 returns-2 c =
     let start = c .before .before .before .before .before in
-    away (start .args .sheet .now) (start .args .privilege) (start .args .chain .now) (start .args .answer .now)
+    short-answer (start .args .sheet .now) (start .args .privilege) (start .args .chain .now) (start .args .answer .now)
     (few-numbers (start .args .sheet .now) (start .args .privilege) (start .args .chain .now) (start .args .answer .now) (c .before .if1 .left) (c .if2 .taken))
 
 explain-requires : tie.Need-explain-requires

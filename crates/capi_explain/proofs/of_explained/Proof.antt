@@ -3,7 +3,7 @@ use native.Mathlib.Omega.{arith}
 use borrow.Author.Needs.{needs}
 use mathlib.Core.Path.{refl, subst}
 use Rattle.replies.specs.Laws.{by, refused-as}
-use Rattle.explain.specs.declared.answer.Explanation.{Explanation}
+use Rattle.chains.specs.declared.answer.Explanation.{Explanation}
 use Rattle.capi_explain.specs.Internal.{Listed, replyFor}
 use Rattle.capi_explain.proofs.of_explained.Statement.{statement}
 use Rattle.capi_explain.proofs.of_explained.Tie as tie

@@ -1,14 +1,14 @@
--- `erase` returns 3 and leaves everything as it was where the list for the answer is shorter than eight (away). Else the buffer is as `lean::erase` leaves
--- it, and `put` leaves the reply (given).
+-- `erase` returns 3 and leaves everything as it was where the list for the answer is shorter than eight (short-answer). Else the buffer is as `lean::erase`
+-- leaves it, and `put` leaves the reply (given).
 use borrow.Author.Needs.{needs}
-use Rattle.capi_lean.proofs.EntryLaws.{away, given}
+use Rattle.capi_lean.proofs.EntryLaws.{short-answer, given}
 use Rattle.capi_lean.proofs.erase.Statement.{statement}
 use Rattle.capi_lean.proofs.erase.Tie as tie
 
 returns : tie.Need-returns
 returns c =
     let start = c .before .before .before .before in
-    away (start .args .sheet .now) (start .args .lean .now) (start .args .answer .now) (c .if1 .taken)
+    short-answer (start .args .sheet .now) (start .args .lean .now) (start .args .answer .now) (c .if1 .taken)
 
 erase-requires : tie.Need-erase-requires
 erase-requires c κs = search needs

@@ -4,21 +4,21 @@ use borrow.Author.Needs.{needs}
 use Rattle.queues.specs.Answers.{jobOf}
 use Rattle.replies.specs.Laws.{other-size, too-short}
 use Rattle.capi_lines.specs.States.{stateNumbers}
-use Rattle.capi_lines.proofs.EntryLaws.{add-away, add-given}
+use Rattle.capi_lines.proofs.EntryLaws.{short-add, add-given}
 use Rattle.capi_lines.proofs.add.Statement.{statement}
 use Rattle.capi_lines.proofs.add.Tie as tie
 
 returns : tie.Need-returns
 returns c =
     let start = c .before .before .before .before in
-    add-away (start .args .state .now) (start .args .answer .now) (start .args .store .now) (start .args .line)
+    short-add (start .args .state .now) (start .args .answer .now) (start .args .store .now) (start .args .line)
     (jobOf (start .args .offset) (start .args .length) (start .args .calls))
     (other-size stateNumbers 8 (start .args .state .now) (start .args .answer .now) (c .if1 .taken))
 
 returns-2 : tie.Need-returns-2
 returns-2 c =
     let start = c .before .before .before .before .before in
-    add-away (start .args .state .now) (start .args .answer .now) (start .args .store .now) (start .args .line)
+    short-add (start .args .state .now) (start .args .answer .now) (start .args .store .now) (start .args .line)
     (jobOf (start .args .offset) (start .args .length) (start .args .calls))
     (too-short stateNumbers 8 (start .args .state .now) (start .args .answer .now) (c .before .if1 .left) (c .if2 .taken))
 

@@ -8,20 +8,22 @@ use Rattle.interp.specs.Answers.{buffersOf}
 use Rattle.queues.specs.Answers.{linesModel}
 use Rattle.replies.specs.Laws.{other-size, too-short}
 use Rattle.capi_lines.specs.States.{stateNumbers}
-use Rattle.capi_lines.proofs.EntryLaws.{serve-away, serve-given, small-answer}
+use Rattle.capi_lines.proofs.EntryLaws.{short-serve, serve-given, small-answer}
 use Rattle.capi_lines.proofs.serve.Statement.{statement}
 use Rattle.capi_lines.proofs.serve.Tie as tie
 
 returns : tie.Need-returns
 returns c =
     let start = c .before .before .before .before .before .before in
-    serve-away (start .args .state .now) (start .args .answer .now) (start .args .store .now) (buffersOf (start .args .cells .now) (start .args .posts .now) [])
+    short-serve (start .args .state .now) (start .args .answer .now) (start .args .store .now) (buffersOf (start .args .cells .now)
+    (start .args .posts .now) [])
     (other-size stateNumbers 9 (start .args .state .now) (start .args .answer .now) (c .if1 .taken))
 
 returns-2 : tie.Need-returns-2
 returns-2 c =
     let start = c .before .before .before .before .before .before .before in
-    serve-away (start .args .state .now) (start .args .answer .now) (start .args .store .now) (buffersOf (start .args .cells .now) (start .args .posts .now) [])
+    short-serve (start .args .state .now) (start .args .answer .now) (start .args .store .now) (buffersOf (start .args .cells .now)
+    (start .args .posts .now) [])
     (too-short stateNumbers 9 (start .args .state .now) (start .args .answer .now) (c .before .if1 .left) (c .if2 .taken))
 
 load-requires : tie.Need-load-requires

@@ -1,8 +1,8 @@
--- `names` returns 3 and leaves a list shorter than eight as it was (away). In any other list `put` leaves the reply of `of_named` (given), which is the
+-- `names` returns 3 and leaves a list shorter than eight as it was (short-answer). In any other list `put` leaves the reply of `of_named` (given), which is the
 -- definition's, since `naming::names` tells what the definition tells.
 use mathlib.Core.Path.{_∙_, ap}
 use borrow.Author.Needs.{needs}
-use Rattle.replies.specs.Laws.{away, given}
+use Rattle.replies.specs.Laws.{short-answer, given}
 use Rattle.irrelevance.specs.Naming.{naming}
 use Rattle.capi_names.specs.Entries.{namesReply}
 use Rattle.capi_names.proofs.names.Statement.{statement}
@@ -11,7 +11,7 @@ use Rattle.capi_names.proofs.names.Tie as tie
 returns : tie.Need-returns
 returns c =
     let start = c .before .before .before in
-    away (start .args .answer .now) (c .if1 .taken) (namesReply (naming (start .args .sheet .now) (start .args .privilege)))
+    short-answer (start .args .answer .now) (c .if1 .taken) (namesReply (naming (start .args .sheet .now) (start .args .privilege)))
 
 names-requires : tie.Need-names-requires
 names-requires c κs = search needs

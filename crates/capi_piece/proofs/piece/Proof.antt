@@ -1,7 +1,7 @@
--- `piece` returns 3 and leaves a list shorter than eight as it was (away). In any other list `put` leaves the reply of `of_located` (given), which is the
--- definition's (reply-is), since `piece::locate` tells the sheet's piece and the place of its record, which is near (near).
+-- `piece` returns 3 and leaves a list shorter than eight as it was (short-answer). In any other list `put` leaves the reply of `of_located` (given), which
+-- is the definition's (reply-is), since `piece::locate` tells the sheet's piece and the place of its record, which is near (near).
 use borrow.Author.Needs.{needs}
-use Rattle.replies.specs.Laws.{away, given}
+use Rattle.replies.specs.Laws.{short-answer, given}
 use Rattle.capi_piece.specs.Entries.{pieceReply}
 use Rattle.capi_piece.proofs.EntryLaws.{near, reply-is}
 use Rattle.capi_piece.proofs.piece.Statement.{statement}
@@ -10,7 +10,7 @@ use Rattle.capi_piece.proofs.piece.Tie as tie
 returns : tie.Need-returns
 returns c =
     let start = c .before .before .before in
-    away (start .args .answer .now) (c .if1 .taken) (pieceReply (start .args .sheet .now))
+    short-answer (start .args .answer .now) (c .if1 .taken) (pieceReply (start .args .sheet .now))
 
 locate-requires : tie.Need-locate-requires
 locate-requires c κs = search needs

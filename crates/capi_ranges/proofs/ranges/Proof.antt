@@ -1,4 +1,4 @@
--- 3 where the list is shorter than eight (away). Else the buffers are as the run leaves them, and the list holds the reply to its answer (given).
+-- 3 where the list is shorter than eight (short-answer). Else the buffers are as the run leaves them, and the list holds the reply to its answer (given).
 use borrow.Author.Needs.{needs}
 use mathlib.Core.List.{[]}
 use mathlib.Core.Path.{ap}
@@ -6,14 +6,15 @@ use Rattle.semantics.specs.Runs.{eager, AfterOf}
 use Rattle.intervals.specs.Intervals.{intervals}
 use Rattle.interp.specs.Answers.{requestOf, buffersOf}
 use Rattle.replies.specs.Replies.{enforces}
-use Rattle.capi_ranges.proofs.EntryLaws.{away, tellable, given}
+use Rattle.capi_ranges.proofs.EntryLaws.{short-answer, reply-fits, given}
 use Rattle.capi_ranges.proofs.ranges.Statement.{statement}
 use Rattle.capi_ranges.proofs.ranges.Tie as tie
 
 returns : tie.Need-returns
 returns c =
     let start = c .before .before .before .before .before .before .before in
-    away (start .args .sheet .now) (start .args .pairs .now) (requestOf eager (enforces (start .args .enforce)) (start .args .start .now) (start .args .calls)
+    short-answer (start .args .sheet .now) (start .args .pairs .now) (requestOf eager (enforces (start .args .enforce)) (start .args .start .now)
+    (start .args .calls)
     (start .args .depth)) (buffersOf (start .args .cells .now) (start .args .posts .now) []) (start .args .answer .now) (c .if1 .taken)
 
 run-requires : tie.Need-run-requires
@@ -23,7 +24,7 @@ of-run-requires : tie.Need-of-run-requires
 of-run-requires c κs =
     let at-run = c .before .before .before .before in
     let start = at-run .before .before .before .before .before .before .before .before .before .before in
-    tellable (start .args .sheet .now) (start .args .pairs .now)
+    reply-fits (start .args .sheet .now) (start .args .pairs .now)
     (requestOf eager (enforces (start .args .enforce)) (start .args .start .now) (start .args .calls) (start .args .depth))
     (buffersOf (start .args .cells .now) (start .args .posts .now) []) (at-run .run .result) (ap (λ (a : AfterOf intervals). a .answer) (at-run .run .ensures))
 

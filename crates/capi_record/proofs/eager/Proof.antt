@@ -1,31 +1,32 @@
--- 3 where the list is shorter than nine (away). Else buffers and record are as the run leaves them, and `tell` leaves the nine numbers (told).
+-- 3 where the list is shorter than nine (short-answer). Else buffers and record are as the run leaves them, and `put_nine` leaves the nine numbers (nine-written).
 use borrow.Author.Needs.{needs}
 use mathlib.Core.List.{[]}
 use Rattle.semantics.specs.Runs.{eager}
 use Rattle.interp.specs.Answers.{requestOf, buffersOf}
 use Rattle.replies.specs.Replies.{enforces}
-use Rattle.capi_record.proofs.EntryLaws.{away, tellable, told}
+use Rattle.capi_record.proofs.EntryLaws.{short-answer, reply-fits, nine-written}
 use Rattle.capi_record.proofs.eager.Statement.{statement}
 use Rattle.capi_record.proofs.eager.Tie as tie
 
 returns : tie.Need-returns
 returns c =
     let start = c .before .before .before .before .before .before .before in
-    away (start .args .sheet .now) (requestOf eager (enforces (start .args .enforce)) (start .args .start .now) (start .args .calls) (start .args .depth))
+    short-answer (start .args .sheet .now) (requestOf eager (enforces (start .args .enforce)) (start .args .start .now) (start .args .calls)
+    (start .args .depth))
     (buffersOf (start .args .cells .now) (start .args .posts .now) []) (start .args .noted .now) (start .args .answer .now) (c .if1 .taken)
 
 record-eager-requires : tie.Need-record-eager-requires
 record-eager-requires c κs = search needs
 
-tell-requires : tie.Need-tell-requires
-tell-requires c κs =
+put-nine-requires : tie.Need-put-nine-requires
+put-nine-requires c κs =
     let at-record-eager = c .before .before .before .before .before .before .before in
     let at-if1 = at-record-eager .before .before .before .before in
     let start = at-if1 .before .before .before .before .before .before .before in
-    let asked = requestOf eager (enforces (start .args .enforce)) (start .args .start .now) (start .args .calls) (start .args .depth) in
-    let lent = buffersOf (start .args .cells .now) (start .args .posts .now) [] in
+    let given-request = requestOf eager (enforces (start .args .enforce)) (start .args .start .now) (start .args .calls) (start .args .depth) in
+    let given-buffers = buffersOf (start .args .cells .now) (start .args .posts .now) [] in
     record {
-      tellable = tellable (start .args .sheet .now) asked lent (start .args .noted .now) (at-record-eager .record-eager .result)
+      reply-fits = reply-fits (start .args .sheet .now) given-request given-buffers (start .args .noted .now) (at-record-eager .record-eager .result)
           (at-record-eager .record-eager .ensures);
       room = at-if1 .if1 .left;
     }
@@ -47,9 +48,10 @@ returns-2 c =
     let at-record-eager = c .before .before .before .before .before .before .before .before .before .before in
     let at-if1 = at-record-eager .before .before .before .before in
     let start = at-if1 .before .before .before .before .before .before .before in
-    told (start .args .sheet .now) (requestOf eager (enforces (start .args .enforce)) (start .args .start .now) (start .args .calls) (start .args .depth))
+    nine-written (start .args .sheet .now) (requestOf eager (enforces (start .args .enforce)) (start .args .start .now) (start .args .calls)
+    (start .args .depth))
     (buffersOf (start .args .cells .now) (start .args .posts .now) []) (start .args .noted .now) (at-record-eager .record-eager .result)
-    (at-record-eager .record-eager .ensures) (start .args .answer .now) (at-if1 .if1 .left) (c .before .before .tell .ensures)
+    (at-record-eager .record-eager .ensures) (start .args .answer .now) (at-if1 .if1 .left) (c .before .before .put-nine .ensures)
 
 pub eager-spec : {M : Type 1} → statement M
 eager-spec =
@@ -57,7 +59,7 @@ eager-spec =
     (tie.spec
     returns
     record-eager-requires
-    tell-requires
+    put-nine-requires
     same-length
     same-length-2
     same-length-3

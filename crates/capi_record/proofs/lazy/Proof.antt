@@ -1,31 +1,32 @@
--- 3 where the list is shorter than nine (away). Else buffers and record are as the run leaves them, and `tell` leaves the nine numbers (told).
+-- 3 where the list is shorter than nine (short-answer). Else buffers and record are as the run leaves them, and `put_nine` leaves the nine numbers (nine-written).
 use borrow.Author.Needs.{needs}
 use Rattle.semantics.specs.Runs.{lazy}
 use Rattle.interp.specs.Answers.{requestOf, buffersOf}
 use Rattle.replies.specs.Replies.{enforces}
-use Rattle.capi_record.proofs.EntryLaws.{away, tellable, told}
+use Rattle.capi_record.proofs.EntryLaws.{short-answer, reply-fits, nine-written}
 use Rattle.capi_record.proofs.lazy.Statement.{statement}
 use Rattle.capi_record.proofs.lazy.Tie as tie
 
 returns : tie.Need-returns
 returns c =
     let start = c .before .before .before .before .before .before .before .before in
-    away (start .args .sheet .now) (requestOf lazy (enforces (start .args .enforce)) (start .args .start .now) (start .args .calls) (start .args .depth))
+    short-answer (start .args .sheet .now) (requestOf lazy (enforces (start .args .enforce)) (start .args .start .now) (start .args .calls)
+    (start .args .depth))
     (buffersOf (start .args .cells .now) (start .args .posts .now) (start .args .frames .now)) (start .args .noted .now) (start .args .answer .now)
     (c .if1 .taken)
 
 record-lazy-requires : tie.Need-record-lazy-requires
 record-lazy-requires c κs = search needs
 
-tell-requires : tie.Need-tell-requires
-tell-requires c κs =
+put-nine-requires : tie.Need-put-nine-requires
+put-nine-requires c κs =
     let at-record-lazy = c .before .before .before .before .before .before .before .before .before in
     let at-if1 = at-record-lazy .before .before .before .before .before in
     let start = at-if1 .before .before .before .before .before .before .before .before in
-    let asked = requestOf lazy (enforces (start .args .enforce)) (start .args .start .now) (start .args .calls) (start .args .depth) in
-    let lent = buffersOf (start .args .cells .now) (start .args .posts .now) (start .args .frames .now) in
+    let given-request = requestOf lazy (enforces (start .args .enforce)) (start .args .start .now) (start .args .calls) (start .args .depth) in
+    let given-buffers = buffersOf (start .args .cells .now) (start .args .posts .now) (start .args .frames .now) in
     record {
-      tellable = tellable (start .args .sheet .now) asked lent (start .args .noted .now) (at-record-lazy .record-lazy .result)
+      reply-fits = reply-fits (start .args .sheet .now) given-request given-buffers (start .args .noted .now) (at-record-lazy .record-lazy .result)
           (at-record-lazy .record-lazy .ensures);
       room = at-if1 .if1 .left;
     }
@@ -50,9 +51,10 @@ returns-2 c =
     let at-record-lazy = c .before .before .before .before .before .before .before .before .before .before .before .before in
     let at-if1 = at-record-lazy .before .before .before .before .before in
     let start = at-if1 .before .before .before .before .before .before .before .before in
-    told (start .args .sheet .now) (requestOf lazy (enforces (start .args .enforce)) (start .args .start .now) (start .args .calls) (start .args .depth))
+    nine-written (start .args .sheet .now) (requestOf lazy (enforces (start .args .enforce)) (start .args .start .now) (start .args .calls)
+    (start .args .depth))
     (buffersOf (start .args .cells .now) (start .args .posts .now) (start .args .frames .now)) (start .args .noted .now) (at-record-lazy .record-lazy .result)
-    (at-record-lazy .record-lazy .ensures) (start .args .answer .now) (at-if1 .if1 .left) (c .before .before .tell .ensures)
+    (at-record-lazy .record-lazy .ensures) (start .args .answer .now) (at-if1 .if1 .left) (c .before .before .put-nine .ensures)
 
 pub lazy-spec : {M : Type 1} → statement M
 lazy-spec =
@@ -60,7 +62,7 @@ lazy-spec =
     (tie.spec
     returns
     record-lazy-requires
-    tell-requires
+    put-nine-requires
     same-length
     same-length-2
     same-length-3

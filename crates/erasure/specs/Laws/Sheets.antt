@@ -122,11 +122,11 @@ module _ (s s′ : List ℕ) (ρ ν : ℕ → ℕ) (L : Leaner s s′ ρ ν) whe
           saturated = l .saturated;
         }
 
-    told-like : {f g : Result} → ErasesResult ρ ν f g
+    answer-like : {f g : Result} → ErasesResult ρ ν f g
         → LikeRun ν
         (record { answer = answerOf (root s) x (sizes b) (started f); buffers = buffersAfter (x .runner) b (started f) })
         (record { answer = answerOf (root s′) y (sizes d) (started g); buffers = buffersAfter (y .runner) d (started g) })
-    told-like {f} {g} h = record {
+    answer-like {f} {g} h = record {
       like-answer = λ i. ran (outcomes h i) ((same-counts (left g) ∙ ap (counts x (sizes b)) (lefts h)) i);
       same-posts = posts-listed (root s′) y d (started g) ∙ ap inOrder (lefts h) ∙ sym (posts-listed (root s) x b (started f));
     }
@@ -146,5 +146,5 @@ module _ (s s′ : List ℕ) (ρ ν : ℕ → ℕ) (L : Leaner s s′ ρ ν) whe
         let rx = run-course s x b _ (course-clear s x b (starts-screened s x b sx)) in
         let ry = run-course s′ y d _ (course-clear s′ y d (starts-screened s′ y d sy)) in
         subst₂ (LikeRun ν) (sym rx) (sym ry)
-        (told-like (subst (λ (z : Result). ErasesResult ρ ν z (evaluation (y .runner) s′ y (sizes d))) (sym (as-skipped n τ N e g))
+        (answer-like (subst (λ (z : Result). ErasesResult ρ ν z (evaluation (y .runner) s′ y (sizes d))) (sym (as-skipped n τ N e g))
         (skipped-like (x .runner) (y .runner))))

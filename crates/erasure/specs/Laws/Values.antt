@@ -6,6 +6,7 @@ use Prim.Native.Nat.{ℕ, zero, suc, _+_, _*_, _<_}
 use native.Mathlib.Omega.{arith}
 use lib.ListN.{take}
 use borrow.Author.Tests.{ltb-true}
+use Rattle.program.specs.Limits.{maxTypes, maxTerms}
 use Rattle.program.specs.Bytes.{byte, word16, Bytes}
 use Rattle.program.specs.Layout.{types, typeAt, typeField, terms, termAt, first, second, third, typesOf}
 use Rattle.program.specs.Formats.{Part, unused, flag, anyNumber, privilege, principal, channel, functionType, child, bodyChild}
@@ -54,10 +55,10 @@ bytes-number : (x : ℕ) (l : List ℕ) → x < 65536 → Bytes l → Bytes (byt
 bytes-number x l h b = bytes-cons (omega arith) (bytes-cons (omega arith) b)
 
 module _ (s : List ℕ) (w : WellFormed s) where
-  pub type-small : (t : ℕ) → t < types s → newType s t < 256
+  pub type-small : (t : ℕ) → t < types s → newType s t < maxTypes
   type-small t l = omega (arith, number-in s w t l, new-types-most s w, w .types-most)
 
-  pub term-small : (t : ℕ) → t < terms s → newTerm s t < 1024
+  pub term-small : (t : ℕ) → t < terms s → newTerm s t < maxTerms
   term-small t l = omega (arith, term-in s w t l, new-terms-most s w, w .terms-most)
 
   pub part-small : (t : ℕ) → t < terms s → (p : Part) (x : ℕ) → x < 65536 → partOk s t p x ≡ true → newPart s p x < 65536

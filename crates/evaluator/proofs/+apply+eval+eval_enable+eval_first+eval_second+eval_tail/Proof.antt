@@ -43,15 +43,15 @@ use Rattle.machine.proofs.enter.enter.Reads as enter-reads
 use Rattle.machine.proofs.steps.append.Reads as append-reads
 use Rattle.machine.proofs.steps.choose.Reads as choose-reads
 use Rattle.machine.proofs.steps.operate.Reads as operate-reads
-use Rattle.machine.proofs.table.first_of.Reads as first-of-reads
-use Rattle.machine.proofs.table.kind_of.Reads as kind-of-reads
-use Rattle.machine.proofs.table.second_of.Reads as second-of-reads
-use Rattle.machine.proofs.table.small_of.Reads as small-of-reads
-use Rattle.machine.proofs.table.third_of.Reads as third-of-reads
-use Rattle.machine.proofs.table.word_at.Reads as word-at-reads
-use Rattle.stores.proofs.access.enable.Reads as enable-reads
-use Rattle.stores.proofs.access.enabled_now.Reads as enabled-now-reads
-use Rattle.stores.proofs.access.restore.Reads as restore-reads
+use Rattle.termtable.proofs.first_of.Reads as first-of-reads
+use Rattle.termtable.proofs.kind_of.Reads as kind-of-reads
+use Rattle.termtable.proofs.second_of.Reads as second-of-reads
+use Rattle.termtable.proofs.small_of.Reads as small-of-reads
+use Rattle.termtable.proofs.third_of.Reads as third-of-reads
+use Rattle.termtable.proofs.word_at.Reads as word-at-reads
+use Rattle.access.proofs.enable.Reads as enable-reads
+use Rattle.access.proofs.enabled_now.Reads as enabled-now-reads
+use Rattle.access.proofs.restore.Reads as restore-reads
 use Rattle.stores.proofs.cells.bind.Reads as bind-reads
 use Rattle.stores.proofs.cells.look.Reads as look-reads
 use Rattle.stores.proofs.cells.next_cell.Reads as next-cell-reads
@@ -373,7 +373,7 @@ eval-returns-3 t c =
     let at-kind-of = at-match .before in
     let at-word-at = at-kind-of .before in
     let start = at-word-at .before in
-    ends-same (same-cells _ _ _ _ (c .look .ensures .lent-is)) refl
+    ends-same (same-cells _ _ _ _ (c .look .ensures .store-is)) refl
     (variable-is _ _ _ (node-leaf (start .pre .1) (start .fits .t .fits) (at-word-at .word-at .ensures) (at-kind-of .kind-of .ensures)
     (omega (arith, at-match .match .keys3))) _ (at-kind-of .kind-of .ensures) (at-match .match .keys3) (c .before .first-of2 .ensures)
     (c .look .ensures .answer-is))
@@ -457,8 +457,8 @@ eval-enable-returns t c =
     let start = at-enabled-now .before .before .before in
     record {
       done = enable-is _ _ _ (start .pre .1) _ (at-first-of .first-of .ensures) (at-small-of .small-of .ensures)
-          (at-enabled-now .enabled-now .ensures .answer-is) (at-enabled-now .enabled-now .ensures .lent-is)
-          (at-enable .enable .ensures .answer-is) (at-enable .enable .ensures .lent-is) (at-eval .eval .ensures .done) (c .restore .ensures);
+          (at-enabled-now .enabled-now .ensures .answer-is) (at-enabled-now .enabled-now .ensures .store-is)
+          (at-enable .enable .ensures .answer-is) (at-enable .enable .ensures .store-is) (at-eval .eval .ensures .done) (c .restore .ensures);
       calls = at-eval .eval .ensures .calls;
       names = at-eval .eval .ensures .names;
     }

@@ -1,7 +1,7 @@
 -- A sheet that the reader refuses has that for its verdict, and one that is read has its counts.
 use borrow.Author.Needs.{needs}
 use Rattle.checker.proofs.VerdictLaws.{unreadable-is, readable-counted}
-use Rattle.explain.proofs.EntryLaws.{unreadable-told}
+use Rattle.explain.proofs.EntryLaws.{unreadable-explained}
 use Rattle.explain.proofs.explain.Statement.{statement}
 use Rattle.explain.proofs.explain.Tie as tie
 
@@ -27,7 +27,7 @@ returns : tie.Need-returns
 returns c =
     let at-decode = c .before .before .before .before in
     let start = at-decode .before .before in
-    unreadable-told (start .args .sheet .now) (start .args .privilege) (c .without-chain .ensures)
+    unreadable-explained (start .args .sheet .now) (start .args .privilege) (c .without-chain .ensures)
     (unreadable-is (start .args .sheet .now) (at-decode .decode .ensures .answer-is) (c .before .before .d .given .1))
 
 returns-2 : tie.Need-returns-2

@@ -1,7 +1,7 @@
 -- A privilege above 31 is 30; one that is not among the needs is not needed; of one that is, the root needs it, and the chain is traced.
 use native.Mathlib.Omega.{arith}
 use borrow.Author.Needs.{needs}
-use Rattle.explain.proofs.EntryLaws.{too-high, needed-not, needed, needs-traceable}
+use Rattle.explain.proofs.EntryLaws.{too-high, needed-not, needed, needs-followable}
 use Rattle.explain.proofs.explain_needs.Statement.{statement}
 use Rattle.explain.proofs.explain_needs.Tie as tie
 
@@ -19,16 +19,16 @@ cast-p c = search needs
 contains-requires : tie.Need-contains-requires
 contains-requires c κs = omega arith
 
-trace-requires : tie.Need-trace-requires
-trace-requires c κs =
+follow-requires : tie.Need-follow-requires
+follow-requires c κs =
     let start = c .before .before .before .before in
-    needs-traceable (start .pre) (c .before .before .if1 .left) (c .before .contains .ensures) (c .if2 .taken)
+    needs-followable (start .pre) (c .before .before .if1 .left) (c .before .contains .ensures) (c .if2 .taken)
 
 returns-2 : tie.Need-returns-2
 returns-2 c =
     let start = c .before .before .before .before .before in
     needed (start .args .s .now) (start .args .privilege) _ (c .before .before .before .if1 .left) (c .before .before .contains .ensures)
-    (c .before .if2 .taken) (c .trace .ensures)
+    (c .before .if2 .taken) (c .follow .ensures)
 
 without-chain-requires-2 : tie.Need-without-chain-requires-2
 without-chain-requires-2 c κs = search needs
@@ -47,7 +47,7 @@ explain-needs-spec =
     returns
     cast-p
     contains-requires
-    trace-requires
+    follow-requires
     returns-2
     without-chain-requires-2
     returns-3)

@@ -1,7 +1,7 @@
 -- By the type checker's verdict; the needs that it accepts the sheet with are those of the root.
 use borrow.Author.Needs.{needs}
 use Rattle.checker.proofs.VerdictLaws.{sheet-of}
-use Rattle.explain.proofs.EntryLaws.{refused-unreadable, refused-fault, accepted-told, accepted-needs}
+use Rattle.explain.proofs.EntryLaws.{refused-unreadable, refused-fault, accepted-explained, accepted-needs}
 use Rattle.explain.proofs.explain_readable.Statement.{statement}
 use Rattle.explain.proofs.explain_readable.Tie as tie
 
@@ -46,7 +46,7 @@ returns-3 : tie.Need-returns-3
 returns-3 c =
     let at-typecheck-readable = c .before .before .before .before in
     let start = at-typecheck-readable .before .before in
-    accepted-told (start .args .s .now) (start .args .privilege) (at-typecheck-readable .typecheck-readable .ensures) (c .before .before .v3 .given .1)
+    accepted-explained (start .args .s .now) (start .args .privilege) (at-typecheck-readable .typecheck-readable .ensures) (c .before .before .v3 .given .1)
     (c .explain-needs .ensures)
 
 pub explain-readable-spec : {M : Type 1} → statement M

@@ -12,8 +12,8 @@ admit-requires c κs = search needs
 enum-known-a : tie.Need-enum-known-a
 enum-known-a c = search needs
 
-turned-back-requires : tie.Need-turned-back-requires
-turned-back-requires c κs = search needs
+rejected-run-requires : tie.Need-rejected-run-requires
+rejected-run-requires c κs = search needs
 
 enum-known-a-2 : tie.Need-enum-known-a-2
 enum-known-a-2 c = search needs
@@ -31,7 +31,7 @@ returns c =
     let at-admit = c .before .before .before .before in
     let start = at-admit .before .before .before .before .before .before in
     eager-refused (start .args .sheet .now) (start .args .start .now) (start .args .enforce) (start .args .cells .now) (start .args .posts .now)
-    (start .args .noted .now) (start .args .calls) (start .args .depth) (c .before .before .a .given .1) (at-admit .admit .ensures) (c .turned-back .ensures)
+    (start .args .noted .now) (start .args .calls) (start .args .depth) (c .before .before .a .given .1) (at-admit .admit .ensures) (c .rejected-run .ensures)
 
 same-length : tie.Need-same-length
 same-length c = search needs
@@ -51,7 +51,7 @@ record-eager-spec =
     (tie.spec
     admit-requires
     enum-known-a
-    turned-back-requires
+    rejected-run-requires
     enum-known-a-2
     eager-requires
     returns

@@ -15,8 +15,8 @@ admit-requires c κs = search needs
 enum-known-a : tie.Need-enum-known-a
 enum-known-a c = search needs
 
-turned-back-requires : tie.Need-turned-back-requires
-turned-back-requires c κs = search needs
+rejected-run-requires : tie.Need-rejected-run-requires
+rejected-run-requires c κs = search needs
 
 enum-known-a-2 : tie.Need-enum-known-a-2
 enum-known-a-2 c = search needs
@@ -36,7 +36,7 @@ returns c =
     let start = at-admit .before .before .before .before .before .before .before in
     lazy-refused (start .args .sheet .now) (start .args .start .now) (start .args .enforce) (start .args .cells .now) (start .args .posts .now)
     (start .args .noted .now) (start .args .calls) (start .args .depth) (start .args .frames .now) (c .before .before .a .given .1) (at-admit .admit .ensures)
-    (c .turned-back .ensures)
+    (c .rejected-run .ensures)
 
 same-length : tie.Need-same-length
 same-length c = search needs
@@ -59,7 +59,7 @@ record-lazy-spec =
     (tie.spec
     admit-requires
     enum-known-a
-    turned-back-requires
+    rejected-run-requires
     enum-known-a-2
     lazy-requires
     returns

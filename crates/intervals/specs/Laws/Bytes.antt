@@ -135,13 +135,13 @@ module _ (ρ : ℕ → ℕ) (s : List ℕ) where
 
   -- the number of a term that is none stays too
   other-kept : (t j : ℕ) → j < 8 → isNumber s t ≡ false → byte (withNumbers ρ s) (termAt s t + j) ≡ byte s (termAt s t + j)
-  other-kept t j h n = apart-kept (termAt s t + j) away
+  other-kept t j h n = apart-kept (termAt s t + j) apart
     where
       distinct : (u : ℕ) → isNumber s u ≡ true → t ≡ u → ⊥
       distinct u e q = true≢false (sym e ∙ ap (isNumber s) (sym q) ∙ n)
 
-      away : (u : ℕ) → u < terms s → isNumber s u ≡ true → (termAt s t + j ≡ termAt s u + 2 → ⊥) × (termAt s t + j ≡ termAt s u + 2 + 1 → ⊥)
-      away u l e = let d = distinct u e in (λ q. omega (arith, d, q), λ q. omega (arith, d, q))
+      apart : (u : ℕ) → u < terms s → isNumber s u ≡ true → (termAt s t + j ≡ termAt s u + 2 → ⊥) × (termAt s t + j ≡ termAt s u + 2 + 1 → ⊥)
+      apart u l e = let d = distinct u e in (λ q. omega (arith, d, q), λ q. omega (arith, d, q))
 
   pub same-length : length (withNumbers ρ s) ≡ length s
   unfolding withNumbers

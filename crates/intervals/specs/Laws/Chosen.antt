@@ -123,13 +123,13 @@ module _ (ρ : ℕ → ℕ) (s : List ℕ) where
       (lazy-start (principals s) (authority s) (authority new) same-rights (stack (q .start)) k) (initial q z)
 
   -- results that differ in bodies of closures alone are told alike
-  pub told-alike : (q : Request) (b : Buffers) {x y : Result} → ReplacedResult ρ (principals s) x y
+  pub after-alike : (q : Request) (b : Buffers) {x y : Result} → ReplacedResult ρ (principals s) x y
       → afterCourse new q b (started y) ≡ afterCourse s q b (started x)
-  told-alike q b (r-ends v-bool) = refl
-  told-alike q b (r-ends v-num) = refl
-  told-alike q b (r-ends {v} {u = u} (v-closure c e)) = λ i.
+  after-alike q b (r-ends v-bool) = refl
+  after-alike q b (r-ends v-num) = refl
+  after-alike q b (r-ends {v} {u = u} (v-closure c e)) = λ i.
       record {
         answer = ran (stopped 18 (same-root s new (alike ρ s) i)) (counts q (sizes b) u);
         buffers = buffersAfter (q .runner) b (started (ends v u));
       }
-  told-alike q b r-stops = refl
+  after-alike q b r-stops = refl

@@ -114,9 +114,9 @@ module _ (s s′ : List ℕ) (a : Alike s s′) where
   front-field : (o′ o tag : ℕ) (ok : ℕ → Bool) → o′ ≡ o → o + 2 < termField s + 3 → field s′ o′ tag ok ≡ field s o tag ok
   front-field o′ o tag ok e h = field-alike o′ o tag ok e (a .front o (omega arith)) (word-front (o + 1) (omega arith))
 
-  guard-field : field s′ (guardField s′) 5 (holds 16 1 1) ≡ field s (guardField s) 5 (holds 16 1 1)
+  guard-field : field s′ (guardField s′) 5 (holds maxChannels 1 1) ≡ field s (guardField s) 5 (holds maxChannels 1 1)
   guard-field =
-      field-alike (guardField s′) (guardField s) 5 (holds 16 1 1) same-guardField (a .behind (guardField s) (omega arith))
+      field-alike (guardField s′) (guardField s) 5 (holds maxChannels 1 1) same-guardField (a .behind (guardField s) (omega arith))
       (λ i. a .behind (guardField s + 1) (omega arith) i * 256 + a .behind (guardField s + 1 + 1) (omega arith) i)
 
   same-fields : fieldConditions s′ ≡ fieldConditions s

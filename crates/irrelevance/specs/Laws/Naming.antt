@@ -7,23 +7,23 @@ use Prim.Native.Nat.{ℕ}
 use native.Mathlib.Omega.{arith}
 use borrow.Author.Tests.{leb-true, le-leb, not-true, not-false}
 use Rattle.program.specs.Layout.{terms}
-use Rattle.program.specs.Screening.{Screening, clear, found, none-end, none-next, screen}
+use Rattle.program.specs.Screening.{Screening, clear, found, none-end, none-next, screen, unlessFound}
 use Rattle.program.specs.Decoding.{decodingConditions, decoding}
 use Rattle.program.specs.Laws.Screening.{clear-none, none-clear, none-append, append-none, none-cons, unless-none, none-unless, lowest-none, lowest-some, lowest-at}
 use Rattle.semantics.specs.Names.{names}
-use Rattle.irrelevance.specs.Naming.{refused, firstNaming, namingOf, namingConditions, unlessFound, naming}
+use Rattle.irrelevance.specs.Naming.{refused, firstNaming, namingOf, namingConditions, naming}
 use Rattle.irrelevance.specs.Claims.{Unnamed, LowestNaming, Answerable}
 
 -- ---- the constructors apart
-refused≢told : {c q : ℕ} {A : Type 0} (o : Option ℕ) → refused c q ≡ namingOf o → A
-refused≢told none e = absurd (let z : _≡_ {A = ℕ} 0 1 = cc in omega (arith, z))
-refused≢told (some t) e = absurd (let z : _≡_ {A = ℕ} 0 1 = cc in omega (arith, z))
+refused≢naming : {c q : ℕ} {A : Type 0} (o : Option ℕ) → refused c q ≡ namingOf o → A
+refused≢naming none e = absurd (let z : _≡_ {A = ℕ} 0 1 = cc in omega (arith, z))
+refused≢naming (some t) e = absurd (let z : _≡_ {A = ℕ} 0 1 = cc in omega (arith, z))
 
-told-injective : (o o′ : Option ℕ) → namingOf o ≡ namingOf o′ → o ≡ o′
-told-injective none none e = refl
-told-injective none (some t) e = absurd (let z : _≡_ {A = ℕ} 0 1 = cc in omega (arith, z))
-told-injective (some t) none e = absurd (let z : _≡_ {A = ℕ} 0 1 = cc in omega (arith, z))
-told-injective (some t) (some u) e = let z : t ≡ u = cc in ap some z
+naming-injective : (o o′ : Option ℕ) → namingOf o ≡ namingOf o′ → o ≡ o′
+naming-injective none none e = refl
+naming-injective none (some t) e = absurd (let z : _≡_ {A = ℕ} 0 1 = cc in omega (arith, z))
+naming-injective (some t) none e = absurd (let z : _≡_ {A = ℕ} 0 1 = cc in omega (arith, z))
+naming-injective (some t) (some u) e = let z : t ≡ u = cc in ap some z
 
 module _ (s : List ℕ) (p : ℕ) where
   -- ---- the first term that names p
@@ -68,27 +68,27 @@ module _ (s : List ℕ) (p : ℕ) where
       none-clear (append-none (clear-none (decodingConditions s) (a .readable)) (none-next (none-unless 30 (le-leb p 31 (a .privilege))) none-end))
 
   -- ---- the answer
-  pub answer-told : Answerable s p → naming s p ≡ namingOf (firstNaming s p)
+  pub answerable-naming : Answerable s p → naming s p ≡ namingOf (firstNaming s p)
   unfolding naming
-  answer-told a = λ i. unlessFound (answerable-clear a i) (λ _. namingOf (firstNaming s p))
+  answerable-naming a = λ i. unlessFound refused (answerable-clear a i) (λ _. namingOf (firstNaming s p))
 
-  pub told-answer : (o : Option ℕ) → naming s p ≡ namingOf o → Answerable s p × (firstNaming s p ≡ o)
+  pub naming-answerable : (o : Option ℕ) → naming s p ≡ namingOf o → Answerable s p × (firstNaming s p ≡ o)
   unfolding naming
-  told-answer o e = go (screen (namingConditions s p)) refl e
+  naming-answerable o e = go (screen (namingConditions s p)) refl e
     where
-      go : (z : Screening) → screen (namingConditions s p) ≡ z → unlessFound z (λ _. namingOf (firstNaming s p)) ≡ namingOf o
+      go : (z : Screening) → screen (namingConditions s p) ≡ z → unlessFound refused z (λ _. namingOf (firstNaming s p)) ≡ namingOf o
           → Answerable s p × (firstNaming s p ≡ o)
-      go clear h e = (clear-answerable h, told-injective (firstNaming s p) o e)
-      go (found c q) h e = refused≢told o e
+      go clear h e = (clear-answerable h, naming-injective (firstNaming s p) o e)
+      go (found c q) h e = refused≢naming o e
 
   pub found-refused : (c q : ℕ) → screen (namingConditions s p) ≡ found c q → naming s p ≡ refused c q
   unfolding naming
-  found-refused c q e = λ i. unlessFound (e i) (λ _. namingOf (firstNaming s p))
+  found-refused c q e = λ i. unlessFound refused (e i) (λ _. namingOf (firstNaming s p))
 
   pub refused-found : (c q : ℕ) → naming s p ≡ refused c q → screen (namingConditions s p) ≡ found c q
   unfolding naming
   refused-found c q e = go (screen (namingConditions s p)) e
     where
-      go : (z : Screening) → unlessFound z (λ _. namingOf (firstNaming s p)) ≡ refused c q → z ≡ found c q
-      go clear e = refused≢told (firstNaming s p) (sym e)
+      go : (z : Screening) → unlessFound refused z (λ _. namingOf (firstNaming s p)) ≡ refused c q → z ≡ found c q
+      go clear e = refused≢naming (firstNaming s p) (sym e)
       go (found d r) e = let a : d ≡ c = cc in let b : r ≡ q = cc in λ i. found (a i) (b i)

@@ -1,7 +1,7 @@
 -- The version and the search for tests are the definition's (erasable-is).
 use native.Mathlib.Omega.{arith}
 use borrow.Author.Needs.{needs}
-use Rattle.lean.proofs.TermLaws.{erasable-is}
+use Rattle.renumbering.proofs.TermLaws.{erasable-is}
 use Rattle.lean.proofs.erasable.Statement.{statement}
 use Rattle.lean.proofs.erasable.Tie as tie
 

@@ -1,7 +1,7 @@
 -- A sheet that the reader refuses has that for its verdict, and one that is read has its counts.
 use borrow.Author.Needs.{needs}
 use Rattle.checker.proofs.VerdictLaws.{unreadable-is, readable-counted}
-use Rattle.lean.proofs.EntryLaws.{unreadable-told}
+use Rattle.lean.proofs.EntryLaws.{unreadable-erasure}
 use Rattle.lean.proofs.erase.Statement.{statement}
 use Rattle.lean.proofs.erase.Tie as tie
 
@@ -25,7 +25,7 @@ returns : tie.Need-returns
 returns c =
     let at-d = c .before in
     let start = at-d .before .before .before .before .before in
-    unreadable-told (start .args .sheet .now) (start .args .buffer .now) (at-d .d .given .0 .0)
+    unreadable-erasure (start .args .sheet .now) (start .args .buffer .now) (at-d .d .given .0 .0)
     (unreadable-is (start .args .sheet .now) (c .before .before .before .decode .ensures .answer-is) (at-d .d .given .1))
 
 same-length : tie.Need-same-length

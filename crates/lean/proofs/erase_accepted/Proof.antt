@@ -3,7 +3,7 @@
 use native.Mathlib.Omega.{arith}
 use borrow.Author.Needs.{needs}
 use borrow.Author.Tests.{not-true, not-false}
-use Rattle.lean.proofs.WriteLaws.{size-is, size-small}
+use Rattle.leanwriting.proofs.WriteLaws.{size-is, size-small}
 use Rattle.lean.proofs.EntryLaws.{not-erasable, no-room, all-written, sheet-ready}
 use Rattle.lean.proofs.erase_accepted.Statement.{statement}
 use Rattle.lean.proofs.erase_accepted.Tie as tie

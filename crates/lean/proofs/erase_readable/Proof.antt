@@ -1,7 +1,7 @@
 -- By the type checker's verdict.
 use borrow.Author.Needs.{needs}
 use Rattle.checker.proofs.VerdictLaws.{sheet-of}
-use Rattle.lean.proofs.EntryLaws.{refused-unreadable, refused-fault, accepted-told}
+use Rattle.lean.proofs.EntryLaws.{refused-unreadable, refused-fault, accepted-erasure}
 use Rattle.lean.proofs.erase_readable.Statement.{statement}
 use Rattle.lean.proofs.erase_readable.Tie as tie
 
@@ -40,7 +40,7 @@ returns-3 c =
     let at-enum-told = c .before .before .before .before in
     let at-typecheck-readable = at-enum-told .before .before in
     let start = at-typecheck-readable .before .before .before in
-    accepted-told (start .args .s .now) (start .args .buffer .now) (at-typecheck-readable .typecheck-readable .ensures) (at-enum-told .enum-told .given .1)
+    accepted-erasure (start .args .s .now) (start .args .buffer .now) (at-typecheck-readable .typecheck-readable .ensures) (at-enum-told .enum-told .given .1)
     (c .before .before .erase-accepted .ensures)
 
 pub erase-readable-spec : {M : Type 1} → statement M

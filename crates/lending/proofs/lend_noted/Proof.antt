@@ -2,7 +2,7 @@
 use borrow.Author.Needs.{needs}
 use mathlib.Core.Path.{refl, sym, ap}
 use Rattle.evaluator.specs.Contracts.{Names}
-use Rattle.lending.proofs.LentLaws.{renamed, same-posts}
+use Rattle.lending.proofs.LendingLaws.{renamed, same-posts}
 use Rattle.lending.proofs.lend_noted.Statement.{statement}
 use Rattle.lending.proofs.lend_noted.Tie as tie
 

@@ -3,7 +3,7 @@ use borrow.Author.Needs.{needs}
 use mathlib.Core.Path.{refl, sym, ap}
 use Rattle.evaluator.specs.Contracts.{Names}
 use Rattle.evaluator.proofs.ContractLaws.{same-cells}
-use Rattle.lending.proofs.LentLaws.{renamed}
+use Rattle.lending.proofs.LendingLaws.{renamed}
 use Rattle.lending.proofs.lend_posts.Statement.{statement}
 use Rattle.lending.proofs.lend_posts.Tie as tie
 

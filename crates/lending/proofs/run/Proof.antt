@@ -2,7 +2,7 @@
 use borrow.Author.Needs.{needs}
 use mathlib.Core.Path.{refl, sym, ap}
 use Rattle.evaluator.specs.Contracts.{Names}
-use Rattle.lending.proofs.LentLaws.{renamed, same-noted}
+use Rattle.lending.proofs.LendingLaws.{renamed, same-noted}
 use Rattle.lending.proofs.run.Statement.{statement}
 use Rattle.lending.proofs.run.Tie as tie
 

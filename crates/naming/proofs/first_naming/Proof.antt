@@ -2,7 +2,7 @@
 -- past the last there is none (seek-past). The terms that are left, n - t, fall, since each turn adds 1 to t.
 use native.Mathlib.Omega.{arith}
 use Prim.Native.Nat.{_-_}
-use Rattle.naming.proofs.NamingLaws.{asked-term, NotNamedBelow, seek-start, seek-here, seek-more, seek-past}
+use Rattle.naming.proofs.NamingLaws.{naming-term, NotNamedBelow, seek-start, seek-here, seek-more, seek-past}
 use Rattle.naming.proofs.first_naming.Statement.{statement}
 use Rattle.naming.proofs.first_naming.Tie as tie
 
@@ -21,7 +21,7 @@ term-names-requires : tie.Need-term-names-requires Inv-loop μ-loop
 term-names-requires c κs =
     let at-loop = c .before in
     let start = at-loop .before .before in
-    asked-term (start .pre) (at-loop .loop .inv .all-are) (c .loop-test .taken)
+    naming-term (start .pre) (at-loop .loop .inv .all-are) (c .loop-test .taken)
 
 returns : tie.Need-returns Inv-loop μ-loop
 returns c =

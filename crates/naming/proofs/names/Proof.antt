@@ -1,8 +1,8 @@
--- A sheet that the decoder refuses is refused so (unreadable-told); one that is read is well-formed and has its counts, and what is told of it is told of the
--- bytes (readable-told).
+-- A sheet that the decoder refuses is refused so (unreadable-naming); one that is read is well-formed and has its counts, and what is told of it is told of the
+-- bytes (readable-naming).
 use borrow.Author.Needs.{needs}
 use Rattle.checker.proofs.VerdictLaws.{readable-sheet}
-use Rattle.naming.proofs.NamingLaws.{unreadable-told, readable-told}
+use Rattle.naming.proofs.NamingLaws.{unreadable-naming, readable-naming}
 use Rattle.naming.proofs.names.Statement.{statement}
 use Rattle.naming.proofs.names.Tie as tie
 
@@ -24,13 +24,13 @@ names-readable-requires c κs =
 returns : tie.Need-returns
 returns c =
     let start = c .before .before .before .before .before in
-    unreadable-told (start .args .sheet .now) (start .args .privilege) (c .before .before .before .decode .ensures .answer-is) (c .before .d .given .1)
+    unreadable-naming (start .args .sheet .now) (start .args .privilege) (c .before .before .before .decode .ensures .answer-is) (c .before .d .given .1)
 
 returns-2 : tie.Need-returns-2
 returns-2 c =
     let at-decode = c .before .before .before .before in
     let start = at-decode .before .before in
-    readable-told (start .args .sheet .now) (start .args .privilege) (at-decode .decode .ensures .answer-is) (c .before .before .d2 .given .1)
+    readable-naming (start .args .sheet .now) (start .args .privilege) (at-decode .decode .ensures .answer-is) (c .before .before .d2 .given .1)
     (c .names-readable .ensures)
 
 pub names-spec : {M : Type 1} → statement M

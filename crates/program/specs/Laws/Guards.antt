@@ -73,7 +73,7 @@ pub without-guards : (s : List ℕ) → version s ≡ 1 → WithoutGuards s
 without-guards s one =
     let h : hasGuards s ≡ false = ap (λ (v : ℕ). eqb v 2) one in
     record {
-      no-field = λ i. cond (h i) (field s (guardField s) 5 (holds 16 1 1)) [];
+      no-field = λ i. cond (h i) (field s (guardField s) 5 (holds maxChannels 1 1)) [];
       terms-last = λ i. cond (h i) (guardAt s maxChannels) (guardField s);
       small-unused = λ t x. (λ i. ltb x (cond (h i) maxChannels 1)) ∙ zero-below-one x;
       no-fault = λ i. lowest (λ c. leb (cond (h i) (byte s (guardAt s c)) noGuard) 31 || eqb (cond (h i) (byte s (guardAt s c)) noGuard) noGuard) 0 maxChannels;

@@ -13,7 +13,7 @@ use borrow.Author.Tests.{eqb-true, le-leb, ne-eqb}
 use Rattle.program.specs.Limits.{maxPrincipals, maxTypes, maxTerms, maxChannels, maxSheet1, maxSheet}
 use Rattle.program.specs.Bytes.{byte, word16}
 use Rattle.program.specs.Layout.{version, hasGuards, typeField, termField, guardField, guardAt}
-use Rattle.program.specs.Screening.{Condition, Screening, clear, found, tell, screen, unless}
+use Rattle.program.specs.Screening.{Condition, Screening, clear, found, refuseAt, screen, unless}
 use Rattle.program.specs.Decoding.{holds, field, tableConditions, decoding, Readable}
 use Rattle.program.specs.Laws.Readable.{Counted, counted, WellFormed, well-formed}
 use Rattle.program.specs.Laws.Guards.{without-guards}
@@ -40,9 +40,9 @@ version-1-length s e one =
 -- ---- what is found alike
 unless-alike : (cause : ℕ) (a b : Bool) (xs ys : List Condition) → a ≡ b → (a ≡ true → screen xs ≡ screen ys)
     → screen (unless cause a ∷ xs) ≡ screen (unless cause b ∷ ys)
-unfolding screen tell
-unless-alike cause true b xs ys e h = h refl ∙ λ i. tell cause (cond (e i) none (some 0)) (λ _. screen ys)
-unless-alike cause false b xs ys e h = λ i. tell cause (cond (e i) none (some 0)) (λ _. screen ys)
+unfolding screen refuseAt
+unless-alike cause true b xs ys e h = h refl ∙ λ i. refuseAt cause (cond (e i) none (some 0)) (λ _. screen ys)
+unless-alike cause false b xs ys e h = λ i. refuseAt cause (cond (e i) none (some 0)) (λ _. screen ys)
 
 -- Two inputs longer than any sheet, of which the first `maxSheet` bytes agree, are refused alike: no field reaches further, and both have bytes after the end.
 module _ (s r : List ℕ) (s-long : maxSheet < length s) (r-long : maxSheet < length r) (same : (i : ℕ) → i < maxSheet → byte s i ≡ byte r i) where
@@ -76,8 +76,8 @@ module _ (s r : List ℕ) (s-long : maxSheet < length s) (r-long : maxSheet < le
       absurd (omega (arith, eqb-true n (length s) h))
 
   guards-alike : (g h : ℕ) (xs ys : List Condition) → g ≡ h → g ≤ maxSheet1 → (b c : Bool) → b ≡ c
-      → screen ((cond b (field s g 5 (holds 16 1 1)) [] ++ unless 2 (eqb (cond b (g + 3 + maxChannels) g) (length s)) ∷ []) ++ xs)
-      ≡ screen ((cond c (field r h 5 (holds 16 1 1)) [] ++ unless 2 (eqb (cond c (h + 3 + maxChannels) h) (length r)) ∷ []) ++ ys)
+      → screen ((cond b (field s g 5 (holds maxChannels 1 1)) [] ++ unless 2 (eqb (cond b (g + 3 + maxChannels) g) (length s)) ∷ []) ++ xs)
+      ≡ screen ((cond c (field r h 5 (holds maxChannels 1 1)) [] ++ unless 2 (eqb (cond c (h + 3 + maxChannels) h) (length r)) ∷ []) ++ ys)
   guards-alike g h xs ys e l true true z =
       field-alike g h 5 16 1 1 _ _ e (omega arith) (λ n c. omega arith) λ _ _. end-alike _ _ xs ys (omega arith) (omega arith)
   guards-alike g h xs ys e l false false z = end-alike _ _ xs ys (omega arith) (omega arith)

@@ -6,7 +6,7 @@ use mathlib.Core.Path.{_≡_, refl, sym, ap, _∙_, subst}
 use Prim.Native.Nat.{ℕ, zero, suc, _+_, _≤_, _<_}
 use native.Mathlib.Decide.{ℕ-discrete}
 use native.Mathlib.Omega.{arith}
-use Rattle.program.specs.Screening.{Condition, Screening, clear, found, tell, screen, First, first-here, first-later, None, none-end, none-next, unless, onward, lowest}
+use Rattle.program.specs.Screening.{Condition, Screening, clear, found, refuseAt, screen, First, first-here, first-later, None, none-end, none-next, unless, onward, lowest}
 
 -- ---- constructors apart
 abbrev IsClear : Screening → Type 0
@@ -25,32 +25,32 @@ some≢none e = subst IsNone (sym e) tt
 
 -- ---- the first that is found is told
 pub found-first : (cs : List Condition) (c p : ℕ) → screen cs ≡ found c p → First c p cs
-unfolding screen tell
+unfolding screen refuseAt
 found-first [] c p e = absurd (found≢clear (sym e))
 found-first (x ∷ xs) c p e = go (x .found tt) refl e (found-first xs c p)
   where
-    go : (o : Option ℕ) → x .found tt ≡ o → tell (x .cause) o (λ _. screen xs) ≡ found c p → (screen xs ≡ found c p → First c p xs) → First c p (x ∷ xs)
+    go : (o : Option ℕ) → x .found tt ≡ o → refuseAt (x .cause) o (λ _. screen xs) ≡ found c p → (screen xs ≡ found c p → First c p xs) → First c p (x ∷ xs)
     go none h f rest = first-later h (rest f)
     go (some q) h f rest = first-here (let g : x .cause ≡ c = cc in g) (h ∙ (let g : some q ≡ some p = cc in g))
 
 pub first-found : {cs : List Condition} {c p : ℕ} → First c p cs → screen cs ≡ found c p
-unfolding screen tell
-first-found {p = p} (first-here {c} {cs} e f) = (λ i. tell (c .cause) (f i) (λ _. screen cs)) ∙ ap (λ (x : ℕ). found x p) e
-first-found (first-later {c} {cs} f r) = (λ i. tell (c .cause) (f i) (λ _. screen cs)) ∙ first-found r
+unfolding screen refuseAt
+first-found {p = p} (first-here {c} {cs} e f) = (λ i. refuseAt (c .cause) (f i) (λ _. screen cs)) ∙ ap (λ (x : ℕ). found x p) e
+first-found (first-later {c} {cs} f r) = (λ i. refuseAt (c .cause) (f i) (λ _. screen cs)) ∙ first-found r
 
 pub clear-none : (cs : List Condition) → screen cs ≡ clear → None cs
-unfolding screen tell
+unfolding screen refuseAt
 clear-none [] e = none-end
 clear-none (x ∷ xs) e = go (x .found tt) refl e (clear-none xs)
   where
-    go : (o : Option ℕ) → x .found tt ≡ o → tell (x .cause) o (λ _. screen xs) ≡ clear → (screen xs ≡ clear → None xs) → None (x ∷ xs)
+    go : (o : Option ℕ) → x .found tt ≡ o → refuseAt (x .cause) o (λ _. screen xs) ≡ clear → (screen xs ≡ clear → None xs) → None (x ∷ xs)
     go none h f rest = none-next h (rest f)
     go (some q) h f rest = absurd (found≢clear f)
 
 pub none-clear : {cs : List Condition} → None cs → screen cs ≡ clear
-unfolding screen tell
+unfolding screen refuseAt
 none-clear none-end = refl
-none-clear (none-next {c} {cs} f r) = (λ i. tell (c .cause) (f i) (λ _. screen cs)) ∙ none-clear r
+none-clear (none-next {c} {cs} f r) = (λ i. refuseAt (c .cause) (f i) (λ _. screen cs)) ∙ none-clear r
 
 -- ---- lists of conditions, one after the other
 pub none-cons : {c : Condition} {cs : List Condition} → None (c ∷ cs) → (c .found tt ≡ none) × None cs
@@ -74,9 +74,9 @@ first-right (none-next f n) r = first-later f (first-right n r)
 
 -- what follows is screened only if what precedes is clear
 pub none-screen : {xs : List Condition} → None xs → (ys : List Condition) → screen (xs ++ ys) ≡ screen ys
-unfolding screen tell
+unfolding screen refuseAt
 none-screen none-end ys = refl
-none-screen (none-next {c} {cs} f n) ys = (λ i. tell (c .cause) (f i) (λ _. screen (cs ++ ys))) ∙ none-screen n ys
+none-screen (none-next {c} {cs} f n) ys = (λ i. refuseAt (c .cause) (f i) (λ _. screen (cs ++ ys))) ∙ none-screen n ys
 
 pub screen-clear : (xs ys : List Condition) → screen xs ≡ clear → screen (xs ++ ys) ≡ screen ys
 screen-clear xs ys e = none-screen (clear-none xs e) ys

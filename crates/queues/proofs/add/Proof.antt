@@ -1,8 +1,8 @@
--- `add` tells 27 of a line that there is not (past-lines), then 28 of a part outside the store (told-outside), then 29 of a full queue (told-full), and
+-- `add` tells 27 of a line that there is not (past-lines), then 28 of a part outside the store (outside-answered), then 29 of a full queue (full-answered), and
 -- leaves the queues. Else the job stands behind the others of its line (has-added), which has room for it (not-full).
 use borrow.Author.Needs.{needs}
 use Rattle.queues.specs.Answers.{jobOf}
-use Rattle.queues.proofs.LineLaws.{past-lines, told-outside, told-full, not-full, has-added}
+use Rattle.queues.proofs.LineLaws.{past-lines, outside-answered, full-answered, not-full, has-added}
 use Rattle.queues.proofs.add.Statement.{statement}
 use Rattle.queues.proofs.add.Tie as tie
 
@@ -30,7 +30,7 @@ returns-2 c =
     let at-inside = at-size .before in
     let at-if1 = at-inside .before .before in
     let start = at-if1 .before .before in
-    told-outside (start .args .t1) (start .args .line) (jobOf (start .args .offset) (start .args .length) (start .args .calls)) (start .args .store .now)
+    outside-answered (start .args .t1) (start .args .line) (jobOf (start .args .offset) (start .args .length) (start .args .calls)) (start .args .store .now)
     (at-if1 .if1 .left) (at-inside .inside .result) (at-inside .inside .ensures) (at-size .size .result) (at-size .size .ensures) (c .if3 .taken)
 
 returns-3 : tie.Need-returns-3
@@ -39,7 +39,7 @@ returns-3 c =
     let at-inside = at-size .before in
     let at-if1 = at-inside .before .before in
     let start = at-if1 .before .before in
-    told-full (start .args .t1) (start .args .line) (jobOf (start .args .offset) (start .args .length) (start .args .calls)) (start .args .store .now)
+    full-answered (start .args .t1) (start .args .line) (jobOf (start .args .offset) (start .args .length) (start .args .calls)) (start .args .store .now)
     (at-if1 .if1 .left) (at-inside .inside .result) (at-inside .inside .ensures) (at-size .size .result) (at-size .size .ensures) (c .before .if2 .taken)
     (c .if3 .left)
 

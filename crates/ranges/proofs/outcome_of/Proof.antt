@@ -1,4 +1,4 @@
--- A stop, a truth value, a range and a function each give the outcome of the definition (told-by); a function is stop 18 at the root.
+-- A stop, a truth value, a range and a function each give the outcome of the definition (outcome-by); a function is stop 18 at the root.
 use borrow.Author.Needs.{needs}
 use mathlib.Core.Path.{ap, _∙_}
 use Rattle.semantics.specs.Runs.{ended, ground-bool, ground-num}
@@ -6,7 +6,7 @@ use Rattle.intervals.specs.Intervals.{interval}
 use Rattle.stores.specs.declared.state.Value.{Value}
 use Rattle.stores.specs.declared.state.Out.the-variants.{Val}
 use Rattle.refinement.specs.Claims.{decidedBy}
-use Rattle.ranges.proofs.RangeLaws.{told-by}
+use Rattle.ranges.proofs.RangeLaws.{outcome-by}
 use Rattle.ranges.proofs.outcome_of.Statement.{statement}
 use Rattle.ranges.proofs.outcome_of.Tie as tie
 
@@ -43,14 +43,14 @@ enum-known-v-3 c = search needs
 returns : tie.Need-returns
 returns c =
     let start = c .before .before .before .before in
-    told-by (start .args .root) (start .args .word) (c .before .before .before .out-of .ensures) (c .before .out .given .1)
+    outcome-by (start .args .root) (start .args .word) (c .before .before .before .out-of .ensures) (c .before .out .given .1)
 
 returns-2 : tie.Need-returns-2
 returns-2 c =
     let at-out2 = c .before .before .before .before .before .before in
     let at-out-of = at-out2 .before .before in
     let start = at-out-of .before in
-    ap (λ x. ended (ground-bool x)) (c .truth-of .ensures ∙ ap decidedBy (c .before .payload .ensures)) ∙ told-by (start .args .root) (start .args .word)
+    ap (λ x. ended (ground-bool x)) (c .truth-of .ensures ∙ ap decidedBy (c .before .payload .ensures)) ∙ outcome-by (start .args .root) (start .args .word)
     (at-out-of .out-of .ensures) (at-out2 .out2 .given .1 ∙ ap (λ (v : Value). Val v) (c .before .before .before .v .given .1))
 
 returns-3 : tie.Need-returns-3
@@ -58,7 +58,7 @@ returns-3 c =
     let at-out2 = c .before .before .before .before .before .before in
     let at-out-of = at-out2 .before .before in
     let start = at-out-of .before in
-    (λ i. ended (ground-num (interval (c .before .payload2 .ensures i) (c .env .ensures i)))) ∙ told-by (start .args .root) (start .args .word)
+    (λ i. ended (ground-num (interval (c .before .payload2 .ensures i) (c .env .ensures i)))) ∙ outcome-by (start .args .root) (start .args .word)
     (at-out-of .out-of .ensures) (at-out2 .out2 .given .1 ∙ ap (λ (v : Value). Val v) (c .before .before .before .v2 .given .1))
 
 returns-4 : tie.Need-returns-4
@@ -66,7 +66,8 @@ returns-4 c =
     let at-out2 = c .before .before .before .before in
     let at-out-of = at-out2 .before .before in
     let start = at-out-of .before in
-    told-by (start .args .root) (start .args .word) (at-out-of .out-of .ensures) (at-out2 .out2 .given .1 ∙ ap (λ (v : Value). Val v) (c .before .v3 .given .1))
+    outcome-by (start .args .root) (start .args .word) (at-out-of .out-of .ensures) (at-out2 .out2 .given .1 ∙ ap (λ (v : Value). Val v)
+    (c .before .v3 .given .1))
 
 pub outcome-of-spec : {M : Type 1} → statement M
 outcome-of-spec =

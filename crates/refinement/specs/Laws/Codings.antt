@@ -7,9 +7,9 @@ use Rattle.semantics.specs.Domains.{Domain}
 use Rattle.semantics.specs.Runs.{ground-bool, ground-num, OutcomeOf, ended, stopped}
 use Rattle.stores.specs.declared.state.Stop.{Stop}
 use Rattle.stores.specs.Words.{pick, booleanWord, sortOf, payloadOf}
-use Rattle.stores.specs.Access.{intervalMode}
+use Rattle.access.specs.Access.{intervalMode}
 use Rattle.stores.specs.Stops.{stopCause, stopPlace}
-use Rattle.machine.specs.Table.{wordSmall}
+use Rattle.termtable.specs.Table.{wordSmall}
 use Rattle.machine.specs.Steps.{numbersResult, saturatesOf, listedAs}
 use Rattle.refinement.specs.Claims.{decidedBy}
 
@@ -44,9 +44,9 @@ pub record Coding (D : Domain) (mode : ℕ) : Type 1 where
   -- posts, where x is the word of the post's term
   pub entry-coded : (x : ℕ) {w : ℕ} {n : D .Number} → Number w n → listedAs mode x w ≡ D .entry (wordSmall x) n
 
--- what the word at the root tells, read by `tells`
-pub record Telling {D : Domain} {mode : ℕ} (K : Coding D mode) (tells : (root word : ℕ) → OutcomeOf D) : Type 0 where
-  pub tells-truth : (r : ℕ) {w : ℕ} {b : D .Truth} → K .Truth w b → tells r w ≡ ended (ground-bool b)
-  pub tells-number : (r : ℕ) {w : ℕ} {n : D .Number} → K .Number w n → tells r w ≡ ended (ground-num n)
-  pub tells-function : (r : ℕ) {w : ℕ} → Word 2 w → tells r w ≡ stopped 18 r
-  pub tells-stop : (r : ℕ) (x : Stop) {w : ℕ} → sortOf w ≡ stopCause x → payloadOf w ≡ stopPlace x → tells r w ≡ stopped (stopCause x) (stopPlace x)
+-- what the word at the root tells, read by `decodes`
+pub record Decoding {D : Domain} {mode : ℕ} (K : Coding D mode) (decodes : (root word : ℕ) → OutcomeOf D) : Type 0 where
+  pub decodes-truth : (r : ℕ) {w : ℕ} {b : D .Truth} → K .Truth w b → decodes r w ≡ ended (ground-bool b)
+  pub decodes-number : (r : ℕ) {w : ℕ} {n : D .Number} → K .Number w n → decodes r w ≡ ended (ground-num n)
+  pub decodes-function : (r : ℕ) {w : ℕ} → Word 2 w → decodes r w ≡ stopped 18 r
+  pub decodes-stop : (r : ℕ) (x : Stop) {w : ℕ} → sortOf w ≡ stopCause x → payloadOf w ≡ stopPlace x → decodes r w ≡ stopped (stopCause x) (stopPlace x)

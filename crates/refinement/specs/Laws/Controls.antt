@@ -13,7 +13,7 @@ use Rattle.program.specs.Limits.{frameNumbers}
 use Rattle.privileges.specs.Sets.{has, meet, insert}
 use Rattle.semantics.specs.Access.{Frame, frame, chk, enableFirst, lazyControl, Rights, rights, addAuthorised, eagerControl}
 use Rattle.stores.specs.Words.{pick}
-use Rattle.stores.specs.Access.{pairOf, lowOf, highOf, enforced, lazyMode, walkGrants, framesGrant, grantedOf, signAccess, signFrames, lastOf, enableAccess, enableFrames, enabledNow, restoreFrames}
+use Rattle.access.specs.Access.{pairOf, lowOf, highOf, enforced, lazyMode, walkGrants, framesGrant, grantedOf, signAccess, signFrames, lastOf, enableAccess, enableFrames, enabledNow, restoreFrames}
 use Rattle.refinement.specs.Laws.Relation.{Fixed, Kept}
 use Rattle.refinement.specs.Laws.Steps.{Models}
 

@@ -18,12 +18,12 @@ use Rattle.stores.specs.declared.state.Stop.{Stop}
 use Rattle.stores.specs.declared.state.Stop.the-variants.{Check, Stuck, OpenCalls, Calls, Cells, Posts, Undecided}
 use Rattle.stores.specs.declared.state.Out.the-variants.{Stop as Stopped}
 use Rattle.stores.specs.Words.{pick, booleanWord, numberWord, intervalWord, payloadOf, envOf, outBy, outOf}
-use Rattle.stores.specs.Access.{intervalMode}
+use Rattle.access.specs.Access.{intervalMode}
 use Rattle.stores.specs.Stops.{stopCause, stopPlace}
-use Rattle.machine.specs.Table.{wordSmall, wordFirst, wordSecond, Decoded}
+use Rattle.termtable.specs.Table.{wordSmall, wordFirst, wordSecond, Decoded}
 use Rattle.machine.specs.Steps.{resultOf, saturatesOf, intervalResult, numbersResult, entryOf, listedAs}
 use Rattle.refinement.specs.Claims.{outcomeOf, decidedBy}
-use Rattle.refinement.specs.Laws.Codings.{Word, kindNumber, numbersSaturate, Coding, Telling}
+use Rattle.refinement.specs.Laws.Codings.{Word, kindNumber, numbersSaturate, Coding, Decoding}
 use Rattle.refinement.specs.Laws.Trees.{Tabled}
 
 pub record ExactNumber (w n : ℕ) : Type 0 where
@@ -117,14 +117,14 @@ module _ (mode : ℕ) (plain : intervalMode mode ≡ false) where
   stop-out (Posts t) e = refl
   stop-out (Undecided t) e = refl
 
-  pub exact-telling : Telling exactCoding (λ r w. outcomeOf r (outOf w))
+  pub exact-decoding : Decoding exactCoding (λ r w. outcomeOf r (outOf w))
   unfolding outBy exactCoding
-  exact-telling = record {
-    tells-truth = λ r {w} {b} h.
+  exact-decoding = record {
+    decodes-truth = λ r {w} {b} h.
         (λ i. outcomeOf r (outBy (h .word .sort-is i) (h .payload-is i) (envOf w))) ∙ (λ i. ended (ground-bool (positive-exact b i)));
-    tells-number = λ r {w} {n} h. λ i. outcomeOf r (outBy (h .word .sort-is i) (h .number-is i) (envOf w));
-    tells-function = λ r {w} h. λ i. outcomeOf r (outBy (h .sort-is i) (payloadOf w) (envOf w));
-    tells-stop = λ r x {w} p q. (λ i. outcomeOf r (outBy (p i) (q i) (envOf w))) ∙ (λ i. outcomeOf r (stop-out x (envOf w) i));
+    decodes-number = λ r {w} {n} h. λ i. outcomeOf r (outBy (h .word .sort-is i) (h .number-is i) (envOf w));
+    decodes-function = λ r {w} h. λ i. outcomeOf r (outBy (h .sort-is i) (payloadOf w) (envOf w));
+    decodes-stop = λ r x {w} p q. (λ i. outcomeOf r (outBy (p i) (q i) (envOf w))) ∙ (λ i. outcomeOf r (stop-out x (envOf w) i));
   }
 
   -- ---- the decoded words: a number term's has the number of its record

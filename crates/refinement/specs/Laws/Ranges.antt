@@ -16,12 +16,12 @@ use Rattle.intervals.specs.Pairs.{pairOf, ranged}
 use Rattle.stores.specs.declared.state.Stop.{Stop}
 use Rattle.stores.specs.declared.state.Stop.the-variants.{Check, Stuck, OpenCalls, Calls, Cells, Posts, Undecided}
 use Rattle.stores.specs.Words.{pick, booleanWord, intervalWord, undecidedWord, payloadOf, envOf, outBy}
-use Rattle.stores.specs.Access.{intervalMode}
+use Rattle.access.specs.Access.{intervalMode}
 use Rattle.stores.specs.Stops.{stopCause, stopPlace}
-use Rattle.machine.specs.Table.{wordSmall, wordFirst, wordSecond}
+use Rattle.termtable.specs.Table.{wordSmall, wordFirst, wordSecond}
 use Rattle.machine.specs.Steps.{resultOf, saturatesOf, lessOf as lessWord, intervalResult, numbersResult, entryOf, listedAs}
 use Rattle.refinement.specs.Claims.{decidedBy, rangeOutcomeBy, rangeOutcomeOf, IntervalTable}
-use Rattle.refinement.specs.Laws.Codings.{Word, kindNumber, numbersSaturate, Coding, Telling}
+use Rattle.refinement.specs.Laws.Codings.{Word, kindNumber, numbersSaturate, Coding, Decoding}
 use Rattle.refinement.specs.Laws.Trees.{Tabled}
 
 pub record RangeNumber (w : ℕ) (n : Interval) : Type 0 where
@@ -105,24 +105,24 @@ module _ (mode : ℕ) (ranges : intervalMode mode ≡ true) where
   }
 
   -- ---- what a word tells
-  stop-told : (r : ℕ) (x : Stop) (e : ℕ) → rangeOutcomeBy r (stopCause x) (stopPlace x) e ≡ stopped (stopCause x) (stopPlace x)
+  stop-cases : (r : ℕ) (x : Stop) (e : ℕ) → rangeOutcomeBy r (stopCause x) (stopPlace x) e ≡ stopped (stopCause x) (stopPlace x)
   unfolding rangeOutcomeBy outBy
-  stop-told r (Check t) e = refl
-  stop-told r (Stuck t) e = refl
-  stop-told r (OpenCalls t) e = refl
-  stop-told r (Calls t) e = refl
-  stop-told r (Cells t) e = refl
-  stop-told r (Posts t) e = refl
-  stop-told r (Undecided t) e = refl
+  stop-cases r (Check t) e = refl
+  stop-cases r (Stuck t) e = refl
+  stop-cases r (OpenCalls t) e = refl
+  stop-cases r (Calls t) e = refl
+  stop-cases r (Cells t) e = refl
+  stop-cases r (Posts t) e = refl
+  stop-cases r (Undecided t) e = refl
 
-  pub range-telling : Telling rangeCoding rangeOutcomeOf
+  pub range-decoding : Decoding rangeCoding rangeOutcomeOf
   unfolding rangeOutcomeBy outBy rangeCoding
-  range-telling = record {
-    tells-truth = λ r {w} h.
+  range-decoding = record {
+    decodes-truth = λ r {w} h.
         (λ i. rangeOutcomeBy r (h .word .sort-is i) (payloadOf w) (envOf w)) ∙ (λ i. ended (ground-bool (h .decided-is i)));
-    tells-number = λ r {w} {n} h. λ i. rangeOutcomeBy r (h .word .sort-is i) (h .lowest-is i) (h .highest-is i);
-    tells-function = λ r {w} h. λ i. rangeOutcomeBy r (h .sort-is i) (payloadOf w) (envOf w);
-    tells-stop = λ r x {w} p q. (λ i. rangeOutcomeBy r (p i) (q i) (envOf w)) ∙ stop-told r x (envOf w);
+    decodes-number = λ r {w} {n} h. λ i. rangeOutcomeBy r (h .word .sort-is i) (h .lowest-is i) (h .highest-is i);
+    decodes-function = λ r {w} h. λ i. rangeOutcomeBy r (h .sort-is i) (payloadOf w) (envOf w);
+    decodes-stop = λ r x {w} p q. (λ i. rangeOutcomeBy r (p i) (q i) (envOf w)) ∙ stop-cases r x (envOf w);
   }
 
   -- ---- the words with the pairs

@@ -18,7 +18,7 @@ use Rattle.semantics.specs.Meaning.{_then_}
 use Rattle.stores.specs.declared.state.Stop.{Stop}
 use Rattle.stores.specs.declared.state.Stop.the-variants.{Check, Stuck, OpenCalls, Calls, Cells, Posts, Undecided}
 use Rattle.stores.specs.Words.{pick, intervalWord, functionWord, stopWord, sortOf, payloadOf, envOf, isStop}
-use Rattle.machine.specs.Table.{wordKind, wordSmall, wordFirst, wordSecond, wordThird, wordAuthority, wordGuard}
+use Rattle.termtable.specs.Table.{wordKind, wordSmall, wordFirst, wordSecond, wordThird, wordAuthority, wordGuard}
 use Rattle.stores.specs.Cells.{behindOf, heldOf}
 use Rattle.machine.specs.Steps.{cellsMade, wrapped}
 use Rattle.machine.specs.Store.{Store as State, Done, doneOf, andThen}

@@ -23,12 +23,12 @@ use Rattle.semantics.specs.Runs.{Request, Buffers, sizes, OutcomeOf, initial, o
 use Rattle.semantics.specs.Recording.{decidedIn, withEntries}
 use Rattle.semantics.specs.Laws.Tracing.{forget, forgets, outcome-forgotten, counts-forgotten, posts-forgotten}
 use Rattle.stores.specs.Words.{stopWord}
-use Rattle.stores.specs.Access.{pairOf, enforced, lazyMode}
+use Rattle.access.specs.Access.{pairOf, enforced, lazyMode}
 use Rattle.machine.specs.Steps.{entriesMade, wrapped}
 use Rattle.machine.specs.Store.{Store as State, Done, doneOf, evalAt}
 use Rattle.stores.specs.Stops.{stopCause, stopPlace}
 use Rattle.refinement.specs.Claims.{countsOf, wrappedCounts, sizesOf, laidOut, startOf, RefinedBy}
-use Rattle.refinement.specs.Laws.Codings.{Coding, Telling}
+use Rattle.refinement.specs.Laws.Codings.{Coding, Decoding}
 use Rattle.refinement.specs.Laws.Relation.{Fixed, Value, written, length-written, Balances, balance, Later, stop-word, Rep, rep-bool, rep-num, rep-fun, rep-rec, env-none, Meets, valued, halted}
 use Rattle.refinement.specs.Laws.Steps.{Models}
 use Rattle.refinement.specs.Laws.Simulation.{eval-does}
@@ -61,15 +61,15 @@ module _ (A : ℕ → ℕ) where
       (laid-frames fs behind))
 
 -- ---- what a word tells
-module _ (z : Fixed) {tells : (root word : ℕ) → OutcomeOf (z .interpretation .domain)} (T : Telling (z .coding) tells) (n : ℕ) where
-  value-outcome : {l : List ℕ} {m w : ℕ} {x : Value z} (o : Budget) → Rep z l m w x → tells n w ≡ outcome n (ends x o)
-  value-outcome o (rep-bool h) = T .tells-truth n h
-  value-outcome o (rep-num h) = T .tells-number n h
-  value-outcome o (rep-fun h b e) = T .tells-function n h
-  value-outcome o (rep-rec h b p q v e) = T .tells-function n h
+module _ (z : Fixed) {decodes : (root word : ℕ) → OutcomeOf (z .interpretation .domain)} (T : Decoding (z .coding) decodes) (n : ℕ) where
+  value-outcome : {l : List ℕ} {m w : ℕ} {x : Value z} (o : Budget) → Rep z l m w x → decodes n w ≡ outcome n (ends x o)
+  value-outcome o (rep-bool h) = T .decodes-truth n h
+  value-outcome o (rep-num h) = T .decodes-number n h
+  value-outcome o (rep-fun h b e) = T .decodes-function n h
+  value-outcome o (rep-rec h b p q v e) = T .decodes-function n h
 
 -- ---- what a state tells of the budget that it stands for
-module _ (I : Interpretation) {mode : ℕ} (K : Coding (I .domain) mode) {tells : (root word : ℕ) → OutcomeOf (I .domain)} (T : Telling K tells)
+module _ (I : Interpretation) {mode : ℕ} (K : Coding (I .domain) mode) {decodes : (root word : ℕ) → OutcomeOf (I .domain)} (T : Decoding K decodes)
     (s table : List ℕ) (q : Request) (b : Buffers) (t : List ℕ) where
   abbrev run : Fixed
   run = fixedOf I K s table (b .posts) t
@@ -94,8 +94,8 @@ module _ (I : Interpretation) {mode : ℕ} (K : Coding (I .domain) mode) {tells 
         noted-agrees = h .noted-is;
       }
 
-  refined-by : (n : ℕ) {w : ℕ} {st : State} (x : ResultOf (I .domain)) → tells n w ≡ outcome n x → Agrees st (left x)
-      → RefinedBy tells n q b t (doneOf w st) (forget x) (decidedIn (left x))
+  refined-by : (n : ℕ) {w : ℕ} {st : State} (x : ResultOf (I .domain)) → decodes n w ≡ outcome n x → Agrees st (left x)
+      → RefinedBy decodes n q b t (doneOf w st) (forget x) (decidedIn (left x))
   refined-by n x e a = record {
     same-outcome = e ∙ outcome-forgotten n x;
     same-counts = a .counts-agree ∙ ap wrappedCounts (counts-forgotten q (sizes b) x);
@@ -106,20 +106,20 @@ module _ (I : Interpretation) {mode : ℕ} (K : Coding (I .domain) mode) {tells 
   }
 
   meets-refined : (n : ℕ) {depth : ℕ} {d : Done} {x : ResultOf (I .domain)} → Meets run depth (startOf mode q b t) d x
-      → RefinedBy tells n q b t d (forget x) (decidedIn (left x))
+      → RefinedBy decodes n q b t d (forget x) (decidedIn (left x))
   meets-refined n (valued {x = x} {o = o} r h l) = refined-by n (ends x o) (value-outcome run T n o r) (agrees h l)
   meets-refined n (halted {o = o} x i h l) =
       let w : ℕ = stopWord (stopCause x) (stopPlace x) in
       let v = stop-word x i in
-      refined-by n {w = w} (stops (stopCause x) (stopPlace x) o) (T .tells-stop n x (v .0) (v .1)) (agrees h l)
+      refined-by n {w = w} (stops (stopCause x) (stopPlace x) o) (T .decodes-stop n x (v .0) (v .1)) (agrees h l)
 
 -- ---- a whole run, in either style
-module _ (I : Interpretation) {mode : ℕ} (K : Coding (I .domain) mode) {tells : (root word : ℕ) → OutcomeOf (I .domain)} (T : Telling K tells)
+module _ (I : Interpretation) {mode : ℕ} (K : Coding (I .domain) mode) {decodes : (root word : ℕ) → OutcomeOf (I .domain)} (T : Decoding K decodes)
     (s : List ℕ) (w : WellFormed s) (c : Counts) (h : CountsOf s c) (table : List ℕ) (tabled : Tabled I K s c table) (q : Request) (b : Buffers)
     (t : List ℕ) (few : q .depth ≤ maxDepth) (most : length (b .cells) ≤ maxCells) where
   pub refined : (X : Control) (R : X .State → (acc depth : ℕ) → List ℕ → Type 0) → Models (fixedOf I K s table (b .posts) t) X (q .enforce) R
       → (acc depth : ℕ) (a : X .State) → depth ≤ maxStartFrames → R a acc depth (b .frames)
-      → RefinedBy tells (root s) q b t (evalAt table (q .depth) (root s) 0 acc (startOf mode q b t))
+      → RefinedBy decodes (root s) q b t (evalAt table (q .depth) (root s) 0 acc (startOf mode q b t))
       (eval I X (plain (q .enforce)) (q .depth) (program s) a empty (initial q (sizes b)))
       (decidedIn (left (eval I X (traced (q .enforce)) (q .depth) (program s) a empty (initial q (sizes b)))))
   unfolding traceBytes
@@ -127,7 +127,7 @@ module _ (I : Interpretation) {mode : ℕ} (K : Coding (I .domain) mode) {tells 
       let none : [] ≡ recorded (length t) [] = sym (take-nil {A = Event} (length t / 4)) in
       let x = eval I X (traced (q .enforce)) (q .depth) (program s) a empty (initial q (sizes b)) in
       let d = evalAt table (q .depth) (root s) 0 acc (startOf mode q b t) in
-      subst (λ y. RefinedBy tells (root s) q b t d y (decidedIn (left x)))
+      subst (λ y. RefinedBy decodes (root s) q b t d y (decidedIn (left x)))
       (forgets I X (traced (q .enforce)) (q .depth) (program s) a empty (initial q (sizes b)))
       (meets-refined I K T s table q b t (root s)
       (eval-does (fixedOf I K s table (b .posts) t) X (q .enforce) R models (q .depth) (program-stands I K s w c h table tabled (b .posts) t)
@@ -144,7 +144,7 @@ module _ (I : Interpretation) {mode : ℕ} (K : Coding (I .domain) mode) {tells 
 
   -- an eager one, that holds any set
   pub refined-eagerly : (may P : ℕ) → enforced mode ≡ q .enforce → lazyMode mode ≡ false → may < 4294967296 → may ≡ authority s 0
-      → RefinedBy tells (root s) q b t (evalAt table (q .depth) (root s) 0 (pairOf may P) (startOf mode q b t))
+      → RefinedBy decodes (root s) q b t (evalAt table (q .depth) (root s) 0 (pairOf may P) (startOf mode q b t))
       (eval I (eagerControl (authority s)) (plain (q .enforce)) (q .depth) (program s) (rights 0 P) empty (initial q (sizes b)))
       (decidedIn (left (eval I (eagerControl (authority s)) (traced (q .enforce)) (q .depth) (program s) (rights 0 P) empty (initial q (sizes b)))))
   refined-eagerly may P checks style i e =

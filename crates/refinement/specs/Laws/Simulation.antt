@@ -14,7 +14,7 @@ use Rattle.semantics.specs.Values.{bool, num, closure, lookup, Budget, ends}
 use Rattle.semantics.specs.Meaning.{Control, traced, Evaluation, Application, found, tooDeep, evalWith, apply, eval}
 use Rattle.stores.specs.declared.state.Stop.the-variants.{Stuck, OpenCalls}
 use Rattle.stores.specs.Words.{pick, booleanWord, intervalWord, functionWord, stopWord, payloadOf}
-use Rattle.machine.specs.Table.{wordKind, wordSmall, wordFirst, wordSecond, wordAuthority}
+use Rattle.termtable.specs.Table.{wordKind, wordSmall, wordFirst, wordSecond, wordAuthority}
 use Rattle.stores.specs.Cells.{lookOf}
 use Rattle.machine.specs.Steps.{cellsMade}
 use Rattle.machine.specs.Store.{Store as State, Done, doneOf, Runs, Applier, Shape, binary, shapeOf, leafOf, binaryS, byShape, begin, step, below, applyAt, evalAt}

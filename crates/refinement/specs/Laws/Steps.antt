@@ -21,8 +21,8 @@ use Rattle.stores.specs.declared.state.Stop.{Stop}
 use Rattle.stores.specs.declared.state.Stop.the-variants.{Check, Stuck, Calls, Cells, Posts, Undecided}
 use Rattle.stores.specs.Words.{pick, functionWord, stopWord, sortOf, payloadOf, envOf}
 use Rattle.stores.specs.Cells.{behindOf, walkOf, heldOf, lookOf, cellSet}
-use Rattle.stores.specs.Access.{enforced, grantedOf, allowedOf, signAccess, signFrames, enableAccess, enableFrames, enabledNow, restoreFrames}
-use Rattle.machine.specs.Table.{wordSmall, wordGuard}
+use Rattle.access.specs.Access.{enforced, grantedOf, allowedOf, signAccess, signFrames, enableAccess, enableFrames, enabledNow, restoreFrames}
+use Rattle.termtable.specs.Table.{wordSmall, wordGuard}
 use Rattle.machine.specs.Steps.{callsLeft, cellsMade, postsMade, modeOf, saturatedMade, entriesMade, numbersResult, operateOf, operateSaturates, wrapped, countSaturated as countIn, operateCounters, decisionOf, overwrite, noteCounters, noteBytes, guardPassed, numberDecides, causeOf, listedAs, postCause, postWord, postCounters, postList}
 use Rattle.machine.specs.Store.{Store as State, Done, storeOf, doneOf, withFrames, withEntry, andThen, Runs, Applier, hasRoom, ownCell, bound, called, letrecS, callS, branchS, ifS, checkS, testS, signS, restored, enableS, operateDone, binaryS, postDone, postS, begin}
 use Rattle.stores.specs.Stops.{stopCause, stopPlace}

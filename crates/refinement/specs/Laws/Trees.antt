@@ -21,7 +21,7 @@ use Rattle.program.specs.Laws.Trees.{parts, Below, below, root-lower}
 use Rattle.program.specs.declared.records.Counts.{Counts}
 use Rattle.semantics.specs.Domains.{Interpretation}
 use Rattle.stores.specs.Words.{intervalWord}
-use Rattle.machine.specs.Table.{wordKind, wordSmall, wordFirst, wordSecond, wordThird, wordAuthority, wordGuard, Plain, Holds}
+use Rattle.termtable.specs.Table.{wordKind, wordSmall, wordFirst, wordSecond, wordThird, wordAuthority, wordGuard, Plain, Holds}
 use Rattle.refinement.specs.Laws.Codings.{Coding}
 use Rattle.refinement.specs.Laws.Relation.{Fixed, wordAt, Stands, on-boolean, on-number, on-variable, on-function, on-letrec, on-call, on-if, on-check, on-enable, on-sign, on-test, on-binary, on-post}
 

@@ -95,12 +95,12 @@ module _ (T : ℕ → Type 0) where
   answered-append at ch n (budget c d (suc r) l) p = answered-end p
 
   -- a check or guard: in force it is listed, and its no is the last; passed over it decides nothing
-  answered-asked : (enforce : Bool) (at : ℕ) (grants : ℕ → Bool) (g : Option ℕ) (y : Budget → Result) → ((w : Budget) → Passed w → Answered (y w))
+  answered-query : (enforce : Bool) (at : ℕ) (grants : ℕ → Bool) (g : Option ℕ) (y : Budget → Result) → ((w : Budget) → Passed w → Answered (y w))
       → (u : Budget) → Passed u → Answered (choose (guardPasses enforce grants g) y (λ w. stops 17 at w) (note (eventIf enforce at grants g) u))
-  answered-asked false at grants none y h u p = h u p
-  answered-asked false at grants (some x) y h u p = h u p
-  answered-asked true at grants none y h u p = h u p
-  answered-asked true at grants (some x) y h (budget c d r l) p = go (grants x)
+  answered-query false at grants none y h u p = h u p
+  answered-query false at grants (some x) y h u p = h u p
+  answered-query true at grants none y h u p = h u p
+  answered-query true at grants (some x) y h (budget c d r l) p = go (grants x)
     where
       go : (b : Bool) → Answered (choose b y (λ w. stops 17 at w) (budget c d r (logDecision (deciding at x b) l)))
       go true = h (budget c d r (logDecision (deciding at x true) l)) (λ e. absurd (true≢false e), p)
@@ -108,7 +108,7 @@ module _ (T : ℕ → Type 0) where
 
   answered-post : (enforce : Bool) (at ch : ℕ) (grants : ℕ → Bool) (g : Option ℕ) (v : Value) (u : Budget) → Passed u
       → Answered (postValue at ch (guardPasses enforce grants g) (eventIf enforce at grants g) v u)
-  answered-post enforce at ch grants g (num n) u p = answered-asked enforce at grants g _ (λ w q. answered-append at ch n w q) u p
+  answered-post enforce at ch grants g (num n) u p = answered-query enforce at grants g _ (λ w q. answered-append at ch n w q) u p
   answered-post enforce at ch grants g (bool b) u p = stuck at u p
   answered-post enforce at ch grants g (closure r ty body env) u p = stuck at u p
 
@@ -164,7 +164,7 @@ module _ (T : ℕ → Type 0) where
           answered-then _ _ (eval-answered c (k .1) st e u h p) (eval-bodies Tests standard X M f a c (k .1) st e u h)
           (λ v w hv q. answered-branch at v _ _ w q (eval-answered y (k .2) st e w h q) (eval-answered n (k .3) st e w h q))
       eval-answered (check at r c) k st e u h p =
-          answered-asked enforce at (X .grants st) (some r) _ (λ w q. eval-answered c (k .1) st e w h q) u p
+          answered-query enforce at (X .grants st) (some r) _ (λ w q. eval-answered c (k .1) st e w h q) u p
       eval-answered (enable at r c) k st e u h p = eval-answered c (k .1) (X .enables r st) e u h p
       eval-answered (sign at n c) k st e u h p = eval-answered c (k .1) (X .signs n st) e u h p
       eval-answered (test at r y n) k st e u h p =

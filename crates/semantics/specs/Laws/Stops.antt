@@ -91,13 +91,13 @@ module _ (s : List ℕ) where
   refusing t (stop-undecided e d h) = absurd (omega (arith, e))
 
   -- by one of 01's causes, or at an if with a condition that the domain leaves undecided
-  pub stop-told : {D : Domain} (c t : ℕ) → Stop D (Recorded s) c t
+  pub stop-cases : {D : Domain} (c t : ℕ) → Stop D (Recorded s) c t
       → ((17 ≤ c) × (c ≤ 22)) ⊎ ((c ≡ 36) × IfAt s t × (b : D .Truth) × (D .decide b ≡ none))
-  stop-told c t (stop-check e h) = inl (omega (arith, e), omega (arith, e))
-  stop-told c t (stop-guard e h) = inl (omega (arith, e), omega (arith, e))
-  stop-told c t (stop-other l h) = inl (omega (arith, l), h)
-  stop-told c t (stop-undecided {b = b} e d h) = inr (e, h, b, d)
+  stop-cases c t (stop-check e h) = inl (omega (arith, e), omega (arith, e))
+  stop-cases c t (stop-guard e h) = inl (omega (arith, e), omega (arith, e))
+  stop-cases c t (stop-other l h) = inl (omega (arith, l), h)
+  stop-cases c t (stop-undecided {b = b} e d h) = inr (e, h, b, d)
 
   -- which numbers and booleans do not
   pub stop-single : (c t : ℕ) → Stop single (Recorded s) c t → (17 ≤ c) × (c ≤ 22)
-  stop-single c t h = ⊎-elim (λ k. k) (λ u. absurd (Option·none-ne-some (u .2) (sym (u .3)))) (stop-told c t h)
+  stop-single c t h = ⊎-elim (λ k. k) (λ u. absurd (Option·none-ne-some (u .2) (sym (u .3)))) (stop-cases c t h)

@@ -42,13 +42,13 @@ array-share-prefix-text c =
     let at-report = c .before .before .before .before .before .before in
     text-written _ _ _ _ _ _ (c .before .reported .given .1) (at-report .report .ensures) .fits
 
-slice-aggregate-tell : tie.Need-slice-aggregate-tell
-slice-aggregate-tell c =
+slice-aggregate-print : tie.Need-slice-aggregate-print
+slice-aggregate-print c =
     let at-report = c .before .before .before .before .before .before .before in
     sym (length-take-le _ _ (text-written _ _ _ _ _ _ (c .before .before .reported .given .1) (at-report .report .ensures) .fits))
 
-tell-requires : tie.Need-tell-requires
-tell-requires c κs = search needs
+print-requires : tie.Need-print-requires
+print-requires c κs = search needs
 
 returns-2 : tie.Need-returns-2
 returns-2 c = search needs
@@ -68,6 +68,6 @@ main-spec =
     enum-known-reported
     returns
     array-share-prefix-text
-    slice-aggregate-tell
-    tell-requires
+    slice-aggregate-print
+    print-requires
     returns-2)

@@ -13,7 +13,7 @@ use borrow.Author.Tests.{eqb-true, eqb-false, eq-eqb, ne-eqb, ltb-true}
 use Rattle.privileges.specs.Booleans.{and-left, and-right, bool-ext}
 use Rattle.privileges.specs.Sets.{_⊆_, subset}
 use Rattle.privileges.specs.Laws.{subset-⊆, ⊆-subset}
-use Rattle.program.specs.Limits.{maxPrincipals, maxTypes, maxTerms}
+use Rattle.program.specs.Limits.{maxPrincipals, maxTypes, maxTerms, maxChannels}
 use Rattle.program.specs.Layout.{Types, version, hasGuards, typeField, termField, guardField, sheetEnd}
 use Rattle.program.specs.Terms.{Term, boolean, number, variable, function, letrec, call, if, check, enable, sign, test, binary, post}
 use Rattle.program.specs.Screening.{Condition, found, unless, First, first-here, first-later}
@@ -29,15 +29,15 @@ use Rattle.typing.specs.Laws.Subtyping.{refuted, fails}
 -- ---- only where a term is so
 
 -- what the rules tell of a term itself
-data Told (T : Types) (A : ℕ → ℕ) (Γ : List ℕ) (n : ℕ) : (cause at : ℕ) → Term → Type 0 where
-  wrong : {cause at : ℕ} {c : Term} → Wrong T A Γ n cause at c → Told T A Γ n cause at c
-  ten : {at : ℕ} {c : Term} → Ten T A Γ n at c → Told T A Γ n 10 at c
-  beyond : {cause at : ℕ} {c : Term} → Beyond T A Γ n cause at c → Told T A Γ n cause at c
+data FaultAt (T : Types) (A : ℕ → ℕ) (Γ : List ℕ) (n : ℕ) : (cause at : ℕ) → Term → Type 0 where
+  wrong : {cause at : ℕ} {c : Term} → Wrong T A Γ n cause at c → FaultAt T A Γ n cause at c
+  ten : {at : ℕ} {c : Term} → Ten T A Γ n at c → FaultAt T A Γ n 10 at c
+  beyond : {cause at : ℕ} {c : Term} → Beyond T A Γ n cause at c → FaultAt T A Γ n cause at c
 
 -- a judgement of a term: typed, or what is told of a part of it
 data Explained (T : Types) (A : ℕ → ℕ) (Γ : List ℕ) (n : ℕ) (c : Term) : Judgement → Type 0 where
   well : {τ N : ℕ} → Explained T A Γ n c (typed τ N)
-  told : {cause at : ℕ} → SomePart T (λ Δ m d. Told T A Δ m cause at d) Γ n c → Explained T A Γ n c (fault cause at)
+  faulted : {cause at : ℕ} → SomePart T (λ Δ m d. FaultAt T A Δ m cause at d) Γ n c → Explained T A Γ n c (fault cause at)
 
 module _ {T : Types} {Is : List ℕ → ℕ → Term → Type 0} {Γ : List ℕ} {n : ℕ} {c : Term} where
   -- what is within a child is within the term, and what follows from what it was is so there
@@ -64,12 +64,12 @@ module _ {T : Types} {A : ℕ → ℕ} {Γ : List ℕ} {n : ℕ} {c : Term} wher
     where
       go : (j : Judgement) → infer T A Γ′ n′ c′ ≡ j → Explained T A Γ′ n′ c′ j → Explained T A Γ n c (j next k)
       go (typed τ N) e well = h τ N e
-      go (fault cause at) e (told f) = told (above up (λ _ _ _ x. x) f)
+      go (fault cause at) e (faulted f) = faulted (above up (λ _ _ _ x. x) f)
 
-  require-explained : (b : Bool) (cause at : ℕ) {j : Judgement} → (b ≡ false → Told T A Γ n cause at c) → (b ≡ true → Explained T A Γ n c j)
+  require-explained : (b : Bool) (cause at : ℕ) {j : Judgement} → (b ≡ false → FaultAt T A Γ n cause at c) → (b ≡ true → Explained T A Γ n c j)
       → Explained T A Γ n c (require b cause at j)
   require-explained true cause at f h = h refl
-  require-explained false cause at f h = told (self (f refl))
+  require-explained false cause at f h = faulted (self (f refl))
 
   ten-explained : (x y at : ℕ) {j : Judgement} → ((x ≡ y → ⊥) → Ten T A Γ n at c) → (x ≡ y → Explained T A Γ n c j)
       → Explained T A Γ n c (require (eqb x y) 10 at j)
@@ -92,8 +92,8 @@ module _ {T : Types} {A : ℕ → ℕ} {Γ : List ℕ} {n : ℕ} {c : Term} wher
     where
       go : (x y : Bool) → eqb τ 1 ≡ x → eqb ρ 1 ≡ y → Explained T A Γ n c (require (x && y) 10 at j)
       go true true p q = t
-      go true false p q = told (self (ten (g (eqb-false ρ 1 q))))
-      go false y p q = told (self (ten (f (eqb-false τ 1 p))))
+      go true false p q = faulted (self (ten (g (eqb-false ρ 1 q))))
+      go false y p q = faulted (self (ten (f (eqb-false τ 1 p))))
 
   -- branches of the types τ and ρ
   branches-explained : Lower T → (at τ ρ N : ℕ) → ((Subtype T τ ρ → ⊥) → (Subtype T ρ τ → ⊥) → Wrong T A Γ n 26 at c)
@@ -104,10 +104,10 @@ module _ {T : Types} {A : ℕ → ℕ} {Γ : List ℕ} {n : ℕ} {c : Term} wher
       go : (x y : Bool) → subtype T τ ρ ≡ x → subtype T ρ τ ≡ y → Explained T A Γ n c (joined at (cond x (some ρ) (cond y (some τ) none)) N)
       go true y e f = well
       go false true e f = well
-      go false false e f = told (self (wrong (h (fails T L τ ρ e) (fails T L ρ τ f))))
+      go false false e f = faulted (self (wrong (h (fails T L τ ρ e) (fails T L ρ τ f))))
 
   variable-explained : (at : ℕ) (o : Option ℕ) → (o ≡ none → Beyond T A Γ n 9 at c) → Explained T A Γ n c (variableType at o)
-  variable-explained at none h = told (self (beyond (h refl)))
+  variable-explained at none h = faulted (self (beyond (h refl)))
   variable-explained at (some τ) h = well
 
 -- a variable has no type exactly if it is past the bindings
@@ -169,33 +169,33 @@ module _ (T : Types) (A : ℕ → ℕ) where
 
     module _ (Γ : List ℕ) (n : ℕ) (c : Term) (cause at : ℕ) (e : infer T A Γ n c ≡ fault cause at) where
       -- a fault is told of a part, and what follows from what is told of it there is so
-      part-told : {Is : List ℕ → ℕ → Term → Type 0} → ((Δ : List ℕ) (m : ℕ) (d : Term) → Told T A Δ m cause at d → Is Δ m d) → SomePart T Is Γ n c
-      part-told so = go so (subst (Explained T A Γ n c) e (explained Γ n c))
+      part-faulted : {Is : List ℕ → ℕ → Term → Type 0} → ((Δ : List ℕ) (m : ℕ) (d : Term) → FaultAt T A Δ m cause at d → Is Δ m d) → SomePart T Is Γ n c
+      part-faulted so = go so (subst (Explained T A Γ n c) e (explained Γ n c))
         where
-          go : {cause at : ℕ} {Is : List ℕ → ℕ → Term → Type 0} → ((Δ : List ℕ) (m : ℕ) (d : Term) → Told T A Δ m cause at d → Is Δ m d)
+          go : {cause at : ℕ} {Is : List ℕ → ℕ → Term → Type 0} → ((Δ : List ℕ) (m : ℕ) (d : Term) → FaultAt T A Δ m cause at d → Is Δ m d)
               → Explained T A Γ n c (fault cause at) → SomePart T Is Γ n c
-          go so (told f) = above (λ _ _ _ w. w) so f
+          go so (faulted f) = above (λ _ _ _ w. w) so f
 
       pub infer-faulty : 24 ≤ cause → FaultyPart T A Γ n c cause at
-      infer-faulty l = part-told λ _ _ _ t. go t l
+      infer-faulty l = part-faulted λ _ _ _ t. go t l
         where
-          go : {Δ : List ℕ} {m cause at : ℕ} {d : Term} → Told T A Δ m cause at d → 24 ≤ cause → Wrong T A Δ m cause at d
+          go : {Δ : List ℕ} {m cause at : ℕ} {d : Term} → FaultAt T A Δ m cause at d → 24 ≤ cause → Wrong T A Δ m cause at d
           go (wrong w) l = w
           go (ten t) l = absurd (omega arith)
           go (beyond b) l = absurd (omega (arith, beyond-cause b .0))
 
       pub infer-ten : cause ≡ 10 → TenPart T A Γ n c at
-      infer-ten q = part-told λ _ _ _ t. go t q
+      infer-ten q = part-faulted λ _ _ _ t. go t q
         where
-          go : {Δ : List ℕ} {m cause at : ℕ} {d : Term} → Told T A Δ m cause at d → cause ≡ 10 → Ten T A Δ m at d
+          go : {Δ : List ℕ} {m cause at : ℕ} {d : Term} → FaultAt T A Δ m cause at d → cause ≡ 10 → Ten T A Δ m at d
           go (wrong w) q = absurd (omega (arith, wrong-cause w))
           go (ten t) q = t
           go (beyond b) q = absurd (beyond-cause b .1 q)
 
       pub infer-beyond : cause < 24 → (cause ≡ 10 → ⊥) → BeyondPart T A Γ n c cause at
-      infer-beyond l not-ten = part-told λ _ _ _ t. go t l not-ten
+      infer-beyond l not-ten = part-faulted λ _ _ _ t. go t l not-ten
         where
-          go : {Δ : List ℕ} {m cause at : ℕ} {d : Term} → Told T A Δ m cause at d → cause < 24 → (cause ≡ 10 → ⊥) → Beyond T A Δ m cause at d
+          go : {Δ : List ℕ} {m cause at : ℕ} {d : Term} → FaultAt T A Δ m cause at d → cause < 24 → (cause ≡ 10 → ⊥) → Beyond T A Δ m cause at d
           go (wrong w) l not-ten = absurd (omega (arith, wrong-cause w))
           go (ten t) l not-ten = absurd (not-ten refl)
           go (beyond b) l not-ten = b
@@ -250,7 +250,7 @@ readers-conditions s = go (hasGuards s)
     go : (b : Bool)
         → all-readers ((field s 0 1 (holds 2 1 1) ++ unless 3 (eqb (version s) 1 || eqb (version s) 2)
         ∷ field s 5 2 (holds 4 1 maxPrincipals) ++ field s (typeField s) 3 (holds 10 2 maxTypes) ++ field s (termField s) 4 (holds 8 1 maxTerms)
-        ++ cond b (field s (guardField s) 5 (holds 16 1 1)) [] ++ unless 2 (eqb (sheetEnd s) (length s)) ∷ []) ++ tableConditions s) ≡ true
+        ++ cond b (field s (guardField s) 5 (holds maxChannels 1 1)) [] ++ unless 2 (eqb (sheetEnd s) (length s)) ∷ []) ++ tableConditions s) ≡ true
     go true = refl
     go false = refl
 

@@ -20,8 +20,8 @@ slice-aggregate-rangings c =
     let at-least = c .before in
     let at-max-pairs = at-least .before in
     let all = at-max-pairs .max-pairs .result in
-    let lent = at-least .least .result in
-    part lent all (omega (arith, at-least .least .ensures, at-max-pairs .max-pairs .ensures))
+    let used = at-least .least .result in
+    part used all (omega (arith, at-least .least .ensures, at-max-pairs .max-pairs .ensures))
 
 rangings-requires : tie.Need-rangings-requires
 rangings-requires c κs = search needs

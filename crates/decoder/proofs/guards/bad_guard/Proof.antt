@@ -9,7 +9,7 @@ use borrow.Author.Tests.{not-true, not-false}
 use Rattle.program.specs.Limits.{maxChannels}
 use Rattle.program.specs.Decoding.{guardOk}
 use Rattle.program.specs.Laws.Search.{lowest-here, lowest-more, lowest-past, lowest-starts}
-use Rattle.tables.specs.Internal.{Passed}
+use Rattle.program.specs.Search.{Passed}
 use Rattle.decoder.proofs.DecodeLaws.{guard-ok}
 use Rattle.decoder.proofs.guards.bad_guard.Statement.{statement}
 use Rattle.decoder.proofs.guards.bad_guard.Tie as tie

@@ -4,7 +4,7 @@ use mathlib.Core.Path.{refl, sym, _∙_}
 use Prim.Native.Nat.{_-_}
 use native.Mathlib.Omega.{arith}
 use borrow.Author.Tests.{le-leb, lt-leb}
-use Rattle.tables.specs.Internal.{Passed}
+use Rattle.program.specs.Search.{Passed}
 use Rattle.decoder.specs.Internal.{shallowEnough}
 use Rattle.program.specs.Laws.Search.{lowest-here, lowest-more, lowest-past, lowest-starts}
 use Rattle.decoder.proofs.nesting.too_deep.Statement.{statement}

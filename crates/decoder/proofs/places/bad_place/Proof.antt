@@ -7,7 +7,7 @@ use native.Mathlib.Omega.{arith}
 use Rattle.program.specs.Layout.{terms}
 use Rattle.program.specs.Screening.{lowest}
 use Rattle.program.specs.Decoding.{placedOk}
-use Rattle.tables.specs.Internal.{Passed}
+use Rattle.program.specs.Search.{Passed}
 use Rattle.program.specs.Laws.Readable.{fields-ok}
 use Rattle.program.specs.Laws.Search.{lowest-here, lowest-more, lowest-past, lowest-starts}
 use Rattle.decoder.proofs.places.bad_place.Statement.{statement}

@@ -91,7 +91,7 @@ returns-3 c =
     let at-if3 = at-first-of .before in
     let at-kind-of = at-if3 .before .before .before in
     enter-sign _ _ _ _ _ _ _ _ (at-kind-of .kind-of .ensures) (at-if3 .if3 .taken) (at-first-of .first-of .ensures) (at-authority-of .authority-of .ensures)
-    (at-sign .sign .ensures .answer-is) (at-sign .sign .ensures .lent-is) (c .goes2 .ensures)
+    (at-sign .sign .ensures .answer-is) (at-sign .sign .ensures .store-is) (c .goes2 .ensures)
 
 enforces-requires : tie.Need-enforces-requires
 enforces-requires c κs = search needs
@@ -149,7 +149,7 @@ returns-5 c =
     let at-small-of = at-granted .before .before in
     let at-kind-of = at-small-of .before .before .before .before .before .before in
     enter-test _ _ _ _ _ _ _ _ (at-kind-of .kind-of .ensures) (at-if5 .if5 .taken) (at-small-of .small-of .ensures) (at-granted .granted .ensures .answer-is)
-    (at-granted .granted .ensures .lent-is) (at-note .note .ensures) (c .before .before .before .first-of3 .ensures) (c .before .before .second-of2 .ensures)
+    (at-granted .granted .ensures .store-is) (at-note .note .ensures) (c .before .before .before .first-of3 .ensures) (c .before .before .second-of2 .ensures)
     (c .before .choose .ensures) (c .goes4 .ensures)
 
 first-of-requires-4 : tie.Need-first-of-requires-4
@@ -178,7 +178,7 @@ returns-6 c =
     let check = only-check _ (at-kind-of .kind-of .ensures) (start .pre .kind) (at-if1 .if1 .left) (at-if3 .if3 .left)
     (c .before .before .before .if5 .left) in enter-allowed _ _ _ _ _ _ _ _ (at-kind-of .kind-of .ensures) check (c .before .first-of4 .ensures)
     (at-enforces .enforces .ensures) (not-skipped _ _ check (at-if4 .if4 .left)) (at-small-of .small-of .ensures) (at-granted .granted .ensures .answer-is)
-    (at-granted .granted .ensures .lent-is) (at-note .note .ensures) (c .before .before .if6 .taken) (c .goes5 .ensures)
+    (at-granted .granted .ensures .store-is) (at-note .note .ensures) (c .before .before .if6 .taken) (c .goes5 .ensures)
 
 stop-requires-2 : tie.Need-stop-requires-2
 stop-requires-2 c κs = search needs
@@ -210,7 +210,7 @@ returns-7 c =
     let check = only-check _ (at-kind-of .kind-of .ensures) (start .pre .kind) (at-if1 .if1 .left) (at-if3 .if3 .left)
     (at-if5 .if5 .left) in enter-refused _ _ _ _ _ _ _ _ (at-kind-of .kind-of .ensures) check (c .before .first-of5 .ensures) (at-enforces .enforces .ensures)
     (not-skipped _ _ check (at-if4 .if4 .left)) (at-small-of .small-of .ensures) (at-granted .granted .ensures .answer-is)
-    (at-granted .granted .ensures .lent-is) (at-note .note .ensures) (c .before .before .before .if6 .left) (c .before .before .stop2 .ensures)
+    (at-granted .granted .ensures .store-is) (at-note .note .ensures) (c .before .before .before .if6 .left) (c .before .before .stop2 .ensures)
     (c .halts2 .ensures)
 
 pub enter-spec : {M : Type 1} → statement M

@@ -46,7 +46,7 @@ returns-3 c =
     let at-if1 = at-enforces .before .before in
     let at-guard-of = at-if1 .before in
     guard-decided _ _ _ _ _ _ (at-guard-of .guard-of .ensures) (at-if1 .if1 .left) (at-enforces .enforces .ensures) (not-false _ (at-if2 .if2 .left))
-    (at-granted .granted .ensures .answer-is) (at-granted .granted .ensures .lent-is) (c .before .before .note .ensures)
+    (at-granted .granted .ensures .answer-is) (at-granted .granted .ensures .store-is) (c .before .before .note .ensures)
 
 pub guard-passes-spec : {M : Type 1} → statement M
 guard-passes-spec =

@@ -91,7 +91,7 @@ returns-5 c =
     sum-over _ _ _ _ _ (sym (at-sort .sort .ensures) ∙ at-if1 .if1 .left) (sym (at-sort2 .sort2 .ensures) ∙ at-if2 .if2 .left)
     (at-intervals .intervals .ensures) (at-if3 .if3 .left) (at-payload .payload .ensures)
     (at-payload2 .payload2 .ensures) (c .before .before .before .if4 .taken) (c .before .before .if5 .left) (omega (arith, at-payload .payload .ensures))
-    (c .saturate .ensures .answer-is) (c .saturate .ensures .lent-is)
+    (c .saturate .ensures .answer-is) (c .saturate .ensures .store-is)
 
 number-requires-2 : tie.Need-number-requires-2
 number-requires-2 c κs = search needs
@@ -128,7 +128,7 @@ returns-7 c =
     difference-under _ _ _ _ _ (sym (at-sort .sort .ensures) ∙ at-if1 .if1 .left) (sym (at-sort2 .sort2 .ensures) ∙ at-if2 .if2 .left)
     (at-intervals .intervals .ensures) (at-if3 .if3 .left) (at-payload .payload .ensures) (at-payload2 .payload2 .ensures)
     (at-if4 .if4 .left) (c .before .before .before .if6 .taken) (c .before .before .if7 .left)
-    (c .saturate2 .ensures .answer-is) (c .saturate2 .ensures .lent-is)
+    (c .saturate2 .ensures .answer-is) (c .saturate2 .ensures .store-is)
 
 boolean-requires : tie.Need-boolean-requires
 boolean-requires c κs = search needs

@@ -20,7 +20,7 @@ number-requires c κs = search needs
 returns : tie.Need-returns
 returns c = record {
   answer-is = c .number .ensures;
-  lent-is = ap (set (c .before .before .before .args .n .now) 4) (c .before .wrapping-add-usize .ensures);
+  store-is = ap (set (c .before .before .before .args .n .now) 4) (c .before .wrapping-add-usize .ensures);
 }
 
 pub saturate-spec : {M : Type 1} → statement M

@@ -11,7 +11,7 @@ use borrow.Fn.PlainCycle.{Measures, is, falls, and}
 use Rattle.smallest.proofs.visit.visit.Reads as visit
 use Rattle.smallest.proofs.visit.visit.Kinds as visit-kinds
 use Rattle.smallest.proofs.visit.+visit.Lts-visit as visit-lts
-use Rattle.smallest.proofs.judge.judge.Reads as judge-reads
+use Rattle.smallest.proofs.judgement.judgement.Reads as judgement-reads
 use Rattle.smallest.proofs.visit.conclude.Reads as conclude-reads
 use Rattle.places.proofs.first_child.Reads as first-child-reads
 use Rattle.places.proofs.second_child.Reads as second-child-reads
@@ -38,8 +38,8 @@ visit-claims t = (
   second-child-reads.Learnt,
   third-child-reads.Asked,
   third-child-reads.Learnt,
-  judge-reads.Asked,
-  judge-reads.Learnt,
+  judgement-reads.Asked,
+  judgement-reads.Learnt,
   conclude-reads.Asked,
   conclude-reads.Learnt,
 )
@@ -90,8 +90,8 @@ visit-visit-requires-3 t c κs =
     let falls = child-falls (start .args .y) (third .third-child .result) (not-false _ (at-if1 .if1 .left)) (third .third-child .ensures) in
     (omega (arith, start .pre .0, falls), record { ready = third .third-child .ensures .ready; known = third .before .visit2 .ensures .known })
 
-visit-judge-requires : (t : ℕ) → visit-lts.Need-judge-requires (visit-claims t) (visit-at t) visit.Post
-visit-judge-requires t c κs =
+visit-judgement-requires : (t : ℕ) → visit-lts.Need-judgement-requires (visit-claims t) (visit-at t) visit.Post
+visit-judgement-requires t c κs =
     let visited3 = c .before in
     let third = visited3 .before .before in
     let visited2 = third .before in
@@ -130,7 +130,7 @@ visit-returns-2 t c =
     let present = not-false _ (at-if1 .if1 .left) in
     there (start .args .s .now) (start .args .y) present
     (found-there (start .pre .1 .ready present) (first .first-child .ensures) (second .second-child .ensures) (third .third-child .ensures)
-    (visited1 .visit .ensures) (visited2 .visit2 .ensures) (visited3 .visit3 .ensures) (judged .judge .ensures) (c .conclude .ensures))
+    (visited1 .visit .ensures) (visited2 .visit2 .ensures) (visited3 .visit3 .ensures) (judged .judgement .ensures) (c .conclude .ensures))
 
 pub +visit-spec : {M : Type 1} → statement M
 +visit-spec = close μ-visit λ t. visit-lts.spec (visit-claims t)
@@ -143,6 +143,6 @@ pub +visit-spec : {M : Type 1} → statement M
     (visit-visit-requires-2 t)
     (visit-third-child-requires t)
     (visit-visit-requires-3 t)
-    (visit-judge-requires t)
+    (visit-judgement-requires t)
     (visit-conclude-requires t)
     (visit-returns-2 t)

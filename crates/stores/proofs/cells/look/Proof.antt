@@ -15,7 +15,7 @@ same-length : tie.Need-same-length
 same-length c = search needs
 
 returns : tie.Need-returns
-returns c = record { answer-is = look-none _ _ _ _ _ (c .before .before .walk .ensures) (c .before .if1 .taken) (c .stop .ensures); lent-is = refl }
+returns c = record { answer-is = look-none _ _ _ _ _ (c .before .before .walk .ensures) (c .before .if1 .taken) (c .stop .ensures); store-is = refl }
 
 held-requires : tie.Need-held-requires
 held-requires c κs = search needs
@@ -26,7 +26,7 @@ same-length-2 c = search needs
 returns-2 : tie.Need-returns-2
 returns-2 c = record {
   answer-is = look-some _ _ _ _ _ (c .before .before .before .walk .ensures) (c .before .before .if1 .left) (c .held .ensures);
-  lent-is = refl;
+  store-is = refl;
 }
 
 pub look-spec : {M : Type 1} → statement M

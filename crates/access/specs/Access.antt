@@ -1,0 +1,76 @@
+-- Access control as one number. An eager run holds a pair: the set that the signing principal may use, and 2^32 times the granted set. A lazy run holds
+-- how many numbers of its frame store are in use, two for each frame: the set that its principal may use, and the enabled set.
+use mathlib.Core.Bool.{Bool, true, false}
+use mathlib.Core.List.{List}
+use mathlib.Core.Path.{_≡_}
+use Prim.Native.Nat.{ℕ, zero, suc, _+_, _*_, _/_, _%_}
+use lib.Dec.{leb, ltb, eqb}
+use lib.ListN.{length, getD, set}
+use Rattle.privileges.specs.Sets.{has, meet, insert}
+use Rattle.stores.specs.Words.{pick}
+
+abbrev pub pairOf : (low high : ℕ) → ℕ
+pairOf low high = low + 4294967296 * high
+
+abbrev pub lowOf : ℕ → ℕ
+lowOf acc = acc % 4294967296
+
+abbrev pub highOf : ℕ → ℕ
+highOf acc = acc / 4294967296
+
+-- a run's mode: 1 if checks are enforced, 2 more if it is lazy, and 4 more if its numbers are intervals
+abbrev pub enforced : (mode : ℕ) → Bool
+enforced mode = eqb (mode % 2) 1
+
+abbrev pub lazyMode : (mode : ℕ) → Bool
+lazyMode mode = eqb (mode / 2) 1
+
+abbrev pub intervalMode : (mode : ℕ) → Bool
+intervalMode mode = ltb 3 mode
+
+pub record ModeIs (lazy enforce interval : Bool) (mode : ℕ) : Type 0 where
+  pub lazy-is : lazyMode mode ≡ lazy
+  pub enforce-is : enforced mode ≡ enforce
+  pub interval-is : intervalMode mode ≡ interval
+
+-- whether the frames in the first numbers grant p, the last of them being the innermost
+unfoldable pub walkGrants : (frames : List ℕ) (used p : ℕ) → Bool
+walkGrants f zero p = false
+walkGrants f (suc zero) p = false
+walkGrants f (suc (suc d)) p = pick (has p (getD f d 0)) (pick (has p (getD f (d + 1) 0)) true (walkGrants f d p)) false
+
+unfoldable pub framesGrant : (frames : List ℕ) (used p : ℕ) → Bool
+framesGrant f used p = pick (leb used (length f)) (walkGrants f used p) false
+
+unfoldable pub grantedOf : (mode acc : ℕ) (frames : List ℕ) (p : ℕ) → Bool
+grantedOf mode acc f p = pick (lazyMode mode) (framesGrant f (lowOf acc) p) (has p (highOf acc))
+
+unfoldable pub allowedOf : (mode acc : ℕ) (frames : List ℕ) (p : ℕ) → Bool
+allowedOf mode acc f p = pick (enforced mode) (grantedOf mode acc f p) true
+
+unfoldable pub signAccess : (mode acc may : ℕ) → ℕ
+signAccess mode acc may = pick (lazyMode mode) (lowOf acc + 2) (pairOf may (meet (highOf acc) may))
+
+unfoldable pub signFrames : (mode acc : ℕ) (frames : List ℕ) (may : ℕ) → List ℕ
+signFrames mode acc f may = pick (lazyMode mode) (set (set f (lowOf acc) may) (lowOf acc + 1) 0) f
+
+-- the last number of so many: with none, an index that is past every store
+unfoldable pub lastOf : ℕ → ℕ
+lastOf zero = 18446744073709551615
+lastOf (suc d) = d
+
+-- where the first frame has its enabled set
+abbrev pub firstEnabled : (acc : ℕ) → ℕ
+firstEnabled acc = lastOf (lowOf acc)
+
+unfoldable pub enableAccess : (mode acc p : ℕ) → ℕ
+enableAccess mode acc p = pick (lazyMode mode) acc (pick (has p (lowOf acc)) (pairOf (lowOf acc) (insert p (highOf acc))) acc)
+
+unfoldable pub enableFrames : (mode acc : ℕ) (frames : List ℕ) (p : ℕ) → List ℕ
+enableFrames mode acc f p = pick (lazyMode mode) (set f (firstEnabled acc) (insert p (getD f (firstEnabled acc) 0))) f
+
+unfoldable pub enabledNow : (mode acc : ℕ) (frames : List ℕ) → ℕ
+enabledNow mode acc f = pick (lazyMode mode) (getD f (firstEnabled acc) 0) 0
+
+unfoldable pub restoreFrames : (mode acc : ℕ) (frames : List ℕ) (old : ℕ) → List ℕ
+restoreFrames mode acc f old = pick (lazyMode mode) (set f (firstEnabled acc) old) f

@@ -1,0 +1,185 @@
+// Access control, as one number. An eager run holds a pair: the set that the signing principal may use, and 2^32 times the granted set. A lazy run
+// holds how many numbers of its frame store are in use, two for each frame: the set that its principal may use, and the enabled set. A run's mode is
+// 1 if checks are enforced, 2 more if it is lazy, and 4 more if its numbers are intervals.
+ghost use mathlib.Core.Bool.{true, false};
+ghost use mathlib.Core.Path.{_≡_};
+ghost use Prim.Native.Nat.{_<_};
+ghost use lib.ListN.{getD, set};
+ghost use Rattle.access.specs.Access.{pairOf, lowOf, highOf, enforced, lazyMode, intervalMode, ModeIs, framesGrant, grantedOf, signAccess, signFrames, firstEnabled, enableAccess, enableFrames, enabledNow, restoreFrames};
+ghost use Rattle.stores.specs.Cells.{zerosLike};
+ghost use Rattle.stores.specs.Returns.{Returned};
+
+fn number_at(f: &[u32], i: usize) -> u32
+    ensures { λ r. ⌜ r ≡ getD (now (f .entry)) i 0 ⌝ }
+{
+    if i < f.len() { f[i] } else { 0 }
+}
+
+fn put_number(f: &mut [u32], i: usize, v: u32)
+    ensures { λ _. ⌜ now (f .exit) ≡ set (now (f .entry)) i v ⌝ }
+{
+    if i < f.len() {
+        f[i] = v;
+    }
+}
+
+pub fn pair(low: u32, high: u32) -> u64
+    ensures { λ r. ⌜ r ≡ pairOf low high ⌝ }
+{
+    (low as u64) + 4294967296 * (high as u64)
+}
+
+fn low(acc: u64) -> u32
+    ensures { λ r. ⌜ r ≡ lowOf acc ⌝ }
+{
+    (acc % 4294967296) as u32
+}
+
+fn high(acc: u64) -> u32
+    ensures { λ r. ⌜ r ≡ highOf acc ⌝ }
+{
+    (acc / 4294967296) as u32
+}
+
+pub fn mode_of(lazy: bool, enforce: bool) -> usize
+    ensures { λ r. ⌜ ModeIs lazy enforce false r ⌝ }
+{
+    if lazy {
+        if enforce {
+            return 3;
+        }
+        return 2;
+    }
+    if enforce {
+        return 1;
+    }
+    0
+}
+
+// The mode of an eager run whose numbers are intervals.
+pub fn interval_mode(enforce: bool) -> usize
+    ensures { λ r. ⌜ ModeIs false enforce true r ⌝ }
+{
+    if enforce {
+        return 5;
+    }
+    4
+}
+
+pub fn intervals(mode: usize) -> bool
+    ensures { λ r. ⌜ r ≡ intervalMode mode ⌝ }
+{
+    3 < mode
+}
+
+pub fn enforces(mode: usize) -> bool
+    ensures { λ r. ⌜ r ≡ enforced mode ⌝ }
+{
+    mode % 2 == 1
+}
+
+fn is_lazy(mode: usize) -> bool
+    ensures { λ r. ⌜ r ≡ lazyMode mode ⌝ }
+{
+    mode / 2 == 1
+}
+
+// Whether the frames in the first `used` numbers grant p, the last of them being the innermost. One test stands for all indexes.
+fn frames_grant(frames: &[u32], used: u32, p: u8) -> bool
+    requires { ⌜ p < 32 ⌝ }
+    ensures { λ r. ⌜ r ≡ framesGrant (now (frames .entry)) used p ⌝ }
+{
+    let mut d = used as usize;
+    if frames.len() < d {
+        return false;
+    }
+    while 1 < d {
+        d -= 2;
+        if !privileges::contains(p, frames[d]) {
+            return false;
+        }
+        if privileges::contains(p, frames[d + 1]) {
+            return true;
+        }
+    }
+    false
+}
+
+// Whether p is granted.
+pub fn granted(frames: &mut [u32], mode: usize, acc: u64, p: u8) -> bool
+    requires { ⌜ p < 32 ⌝ }
+    ensures { λ r. ⌜ Returned r (grantedOf mode acc (now (frames .entry)) p) (now (frames .exit)) (now (frames .entry)) ⌝ }
+{
+    if is_lazy(mode) {
+        return frames_grant(frames, low(acc), p);
+    }
+    privileges::contains(p, high(acc))
+}
+
+// Where the first frame has its enabled set. With no frame it wraps to the largest index, which is past every store: 0 is read there and nothing
+// written.
+fn first_enabled(acc: u64) -> usize
+    ensures { λ r. ⌜ r ≡ firstEnabled acc ⌝ }
+{
+    std::num::wrapping_sub_usize(low(acc) as usize, 1)
+}
+
+// What a sign by a principal that may use `may` makes of the access and of the frames.
+pub fn sign(frames: &mut [u32], mode: usize, acc: u64, may: u32) -> u64
+    ensures { λ r. ⌜ Returned r (signAccess mode acc may) (now (frames .exit)) (signFrames mode acc (now (frames .entry)) may) ⌝ }
+{
+    if is_lazy(mode) {
+        let at = low(acc) as usize;
+        put_number(frames, at, may);
+        put_number(frames, at + 1, 0);
+        return (at + 2) as u64;
+    }
+    pair(may, privileges::meet(high(acc), may))
+}
+
+// What an enable makes of the access and of the frames.
+pub fn enable(frames: &mut [u32], mode: usize, acc: u64, p: u8) -> u64
+    requires { ⌜ p < 32 ⌝ }
+    ensures { λ r. ⌜ Returned r (enableAccess mode acc p) (now (frames .exit)) (enableFrames mode acc (now (frames .entry)) p) ⌝ }
+{
+    if is_lazy(mode) {
+        let at = first_enabled(acc);
+        put_number(frames, at, privileges::insert(p, number_at(frames, at)));
+        return acc;
+    }
+    let may = low(acc);
+    if privileges::contains(p, may) {
+        return pair(may, privileges::insert(p, high(acc)));
+    }
+    acc
+}
+
+// The enabled set of the first frame, to be restored when an enable ends.
+pub fn enabled_now(frames: &mut [u32], mode: usize, acc: u64) -> u32
+    ensures { λ r. ⌜ Returned r (enabledNow mode acc (now (frames .entry))) (now (frames .exit)) (now (frames .entry)) ⌝ }
+{
+    if is_lazy(mode) {
+        return number_at(frames, first_enabled(acc));
+    }
+    0
+}
+
+// Restores the first frame's enabled set.
+pub fn restore(frames: &mut [u32], mode: usize, acc: u64, old: u32)
+    ensures { λ _. ⌜ now (frames .exit) ≡ restoreFrames mode acc (now (frames .entry)) old ⌝ }
+{
+    if is_lazy(mode) {
+        put_number(frames, first_enabled(acc), old);
+    }
+}
+
+// All numbers are zero.
+pub fn clear_frames(a: &mut [u32])
+    ensures { λ _. ⌜ now (a .exit) ≡ zerosLike (now (a .entry)) ⌝ }
+{
+    let mut i = 0;
+    while i < a.len() {
+        a[i] = 0;
+        i += 1;
+    }
+}

@@ -1,0 +1,23 @@
+-- What the contracts of internal functions say, here and in `report`. No reader of the public promise needs this file.
+use mathlib.Core.List.{List, _++_}
+use mathlib.Core.Path.{_≡_}
+use Prim.Native.Nat.{ℕ, _+_, _≤_}
+use lib.ListN.{take}
+use Rattle.drafts.specs.declared.draft.Draft.{Draft}
+
+abbrev pub held : Draft → List ℕ
+held d = take (d .len) (d .bytes)
+
+-- nothing yet
+pub record Blank (r : Draft) : Type 0 where
+  pub len-is : r .len ≡ 0
+
+-- a piece more, of at most so many bytes
+pub record Appended (d : Draft) (piece : List ℕ) (most : ℕ) (r : Draft) : Type 0 where
+  pub held-is : held r ≡ held d ++ piece
+  pub len-most : r .len ≤ d .len + most
+
+-- the text alone, of at most so many bytes
+pub record Holds (text : List ℕ) (most : ℕ) (r : Draft) : Type 0 where
+  pub held-is : held r ≡ text
+  pub len-most : r .len ≤ most

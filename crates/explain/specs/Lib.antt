@@ -1,7 +1,0 @@
-pub mod Explaining
-pub mod Answers
-pub mod Internal
-pub mod Chains
-pub mod Laws
-pub mod Theorems
-pub mod Cases

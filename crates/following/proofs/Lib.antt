@@ -1,0 +1,3 @@
+pub mod CauseLaws
+pub mod NextLaws
+pub mod FollowLaws

@@ -1,0 +1,3 @@
+// The bytes of a lean sheet, from the sheet and the new numbers of its types and terms.
+mod records;
+pub mod write;

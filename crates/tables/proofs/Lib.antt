@@ -1,3 +1,0 @@
-pub mod TermLaws
-pub mod TypeLaws
-pub mod WordLaws
