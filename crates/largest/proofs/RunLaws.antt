@@ -7,7 +7,7 @@ use Rattle.program.specs.Decoding.{decoding}
 use Rattle.program.specs.Answers.{decodedModel}
 use Rattle.program.specs.declared.answer.Refusal.{Refusal}
 use Rattle.program.specs.declared.answer.Decoded.{Decoded}
-use Rattle.program.specs.declared.answer.Decoded.the-variants.{Readable, Refused as Unread}
+use Rattle.program.specs.declared.answer.Decoded.the-variants.{Readable, Refused as NotReadable}
 use Rattle.program.specs.declared.records.Counts.{Counts}
 use Rattle.semantics.specs.Runs.{After, run}
 use Rattle.interp.specs.Answers.{buffersOf, after}
@@ -26,8 +26,8 @@ module _ (s : List ℕ) (calls : ℕ) (cells posts : List ℕ) where
     as-run e h = h ∙ sym (ap largestAfter e ∙ same-run s (request calls) (buffersOf cells posts []))
 
     module _ {d : Decoded} (p : decodedModel d ≡ decoding s) where
-      pub as-unread : {f : Refusal} → d ≡ Unread f → after (Refused (Unreadable f)) cells posts [] ≡ largestAfter right
-      as-unread e = sym (unreadable-first s (request calls) (buffersOf cells posts []) right _ _ (sym p ∙ ap decodedModel e))
+      pub as-unreadable : {f : Refusal} → d ≡ NotReadable f → after (Refused (Unreadable f)) cells posts [] ≡ largestAfter right
+      as-unreadable e = sym (unreadable-first s (request calls) (buffersOf cells posts []) right _ _ (sym p ∙ ap decodedModel e))
 
       pub as-buffers : {c : Counts} → right ≡ false → d ≡ Readable c → after (Refused BadBuffers) cells posts [] ≡ largestAfter right
       as-buffers f e = sym (ap largestAfter f ∙ other-length s (request calls) (buffersOf cells posts []) (sym p ∙ ap decodedModel e) refl)

@@ -5,7 +5,7 @@ use Prim.Native.Nat.{ℕ}
 use lib.ListN.{drop}
 use Rattle.program.specs.Answers.{decodingCause, decodingPlace}
 use Rattle.program.specs.declared.answer.Decoded.{Decoded}
-use Rattle.program.specs.declared.answer.Decoded.the-variants.{Readable, Refused as Unreadable}
+use Rattle.program.specs.declared.answer.Decoded.the-variants.{Readable, Refused as NotReadable}
 use Rattle.semantics.specs.Claims.{Few}
 use Rattle.interp.specs.Answers.{countsModel}
 use Rattle.interp.specs.declared.answer.Made.{Made}
@@ -21,7 +21,7 @@ replyOf r = record { status = r .status; numbers = r .numbers }
 
 abbrev pub ofDecoded : Decoded → replies.Reply
 ofDecoded (Readable c) = record { status = 0; numbers = 0 ∷ 0 ∷ 0 ∷ c .terms ∷ c .principals ∷ c .types ∷ 0 ∷ 0 ∷ [] }
-ofDecoded (Unreadable f) = refusal (decodingCause f) (decodingPlace f)
+ofDecoded (NotReadable f) = refusal (decodingCause f) (decodingPlace f)
 
 -- what is told with the counts of a run
 abbrev pub withCounts : (status cause place sort value : ℕ) → Made → replies.Reply

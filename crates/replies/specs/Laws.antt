@@ -13,7 +13,7 @@ use Rattle.program.specs.Decoding.{decoding}
 use Rattle.program.specs.Answers.{decodedModel, Counted}
 use Rattle.program.specs.Laws.Lists.{copy-more}
 use Rattle.program.specs.declared.answer.Decoded.{Decoded}
-use Rattle.program.specs.declared.answer.Decoded.the-variants.{Readable, Refused as Unreadable}
+use Rattle.program.specs.declared.answer.Decoded.the-variants.{Readable, Refused as NotReadable}
 use Rattle.semantics.specs.Runs.{Request, Buffers, ground-bool, ground-num, ended, stopped, Answer, refused, ran, After, run}
 use Rattle.semantics.specs.Theorems.{counts-few}
 use Rattle.interp.specs.Answers.{runModel, outcomeModel, countsModel}
@@ -122,7 +122,7 @@ module _ (answer : List ℕ) (room : 9 ≤ length answer) (R : replies.Reply) (e
 
 -- ---- the reader's answer
 pub decoded-as : (s : List ℕ) (d : Decoded) → decodedModel d ≡ decoding s → Counted s d → ofDecoded d ≡ decodeReply s
-decoded-as s (Unreadable f) e k = λ i. screened s (e i)
+decoded-as s (NotReadable f) e k = λ i. screened s (e i)
 decoded-as s (Readable c) e k =
     (λ i. record { status = 0; numbers = 0 ∷ 0 ∷ 0 ∷ k .terms-are i ∷ k .principals-are i ∷ k .types-are i ∷ 0 ∷ 0 ∷ [] }) ∙ (λ i. screened s (e i))
 

@@ -40,7 +40,7 @@ fn turns_are_as_promised() {
     if settings::are_whole() {
         assert_eq!(seen.longest, [4, 8, 12, 16, 20, 24, 28, 32]);
         assert!(seen.told.iter().all(|&times| times > 0), "{seen:?}");
-        assert!(seen.untold > 0 && seen.turned_back > 0, "{seen:?}");
+        assert!(seen.untold > 0 && seen.rejected > 0, "{seen:?}");
     }
 }
 
@@ -86,7 +86,7 @@ struct Seen {
     /// Jobs that were refused by 15, 16 or 28 and could not tell it.
     untold: usize,
     /// Jobs that no line took.
-    turned_back: usize,
+    rejected: usize,
 }
 
 /// A job that waits.
@@ -156,7 +156,7 @@ impl<'a> Session<'a> {
         let expected = if takes { DONE } else { REFUSED };
         assert_eq!(returned, expected, "{}", self.again);
         if !takes {
-            seen.turned_back += 1;
+            seen.rejected += 1;
             return;
         }
         let queue = &mut self.waiting[line as usize];

@@ -31,7 +31,7 @@ fn sheet(tree: Tree) -> Vec<u8> {
 }
 
 #[test]
-fn requests_turned_back() {
+fn requests_that_are_rejected() {
     let sheet = computing(number(1));
     let cause = |start: &[u32], calls, open_calls, cells, posts| {
         let request = Request {

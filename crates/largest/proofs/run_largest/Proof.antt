@@ -1,7 +1,7 @@
 -- With the lengths asked for the answer is that of `run_eager`: what is screened first would turn that run back too (as-run). With others nothing is run: a
--- sheet that cannot be read gets its own refusal (as-unread), and a readable one 15 (as-buffers), since an empty stack is never 14.
+-- sheet that cannot be read gets its own refusal (as-unreadable), and a readable one 15 (as-buffers), since an empty stack is never 14.
 use borrow.Author.Needs.{needs}
-use Rattle.largest.proofs.RunLaws.{as-run, as-unread, as-buffers}
+use Rattle.largest.proofs.RunLaws.{as-run, as-unreadable, as-buffers}
 use Rattle.largest.proofs.run_largest.Statement.{statement}
 use Rattle.largest.proofs.run_largest.Tie as tie
 
@@ -37,7 +37,7 @@ enum-known-d-2 c = search needs
 returns-2 : tie.Need-returns-2
 returns-2 c =
     let start = c .before .before .before .before .before .before .before .before in
-    as-unread (start .args .sheet .now) (start .args .calls) (start .args .cells .now) (start .args .posts .now) (start .args .right)
+    as-unreadable (start .args .sheet .now) (start .args .calls) (start .args .cells .now) (start .args .posts .now) (start .args .right)
     (c .before .before .before .decode .ensures .answer-is) (c .before .d .given .1)
 
 returns-3 : tie.Need-returns-3
