@@ -1,5 +1,5 @@
 -- The walk over the frames, frame by frame, and what each step of access control gives in a lazy run and in an eager one. Assumes nothing.
-use mathlib.Core.Bool.{Bool, true, false}
+use mathlib.Core.Bool.{Bool, true, false, cond}
 use mathlib.Core.List.{List}
 use mathlib.Core.Path.{_≡_, refl, sym, _∙_}
 use Prim.Native.Nat.{ℕ, zero, suc, _+_, _-_, _%_, _<_, _≤_}
@@ -7,17 +7,16 @@ use native.Mathlib.Omega.{arith}
 use lib.ListN.{getD, length, set}
 use borrow.Author.Tests.{le-leb, lt-leb}
 use Rattle.privileges.specs.Sets.{has, meet, insert}
-use Rattle.stores.specs.Words.{pick}
 use Rattle.access.specs.Access.{pairOf, lowOf, highOf, lazyMode, walkGrants, framesGrant, grantedOf, signAccess, signFrames, lastOf, firstEnabled, enableAccess, enableFrames, enabledNow, restoreFrames}
 use Rattle.stores.specs.Returns.{Returned}
 
 -- ---- the walk
 module _ (f : List ℕ) (d p : ℕ) (h : 1 < d) where
-  walk-step : walkGrants f d p ≡ pick (has p (getD f (d - 2) 0)) (pick (has p (getD f (d - 2 + 1) 0)) true (walkGrants f (d - 2) p)) false
+  walk-step : walkGrants f d p ≡ cond (has p (getD f (d - 2) 0)) (cond (has p (getD f (d - 2 + 1) 0)) true (walkGrants f (d - 2) p)) false
   unfolding walkGrants
   walk-step = go d h
     where
-      go : (d : ℕ) → 1 < d → walkGrants f d p ≡ pick (has p (getD f (d - 2) 0)) (pick (has p (getD f (d - 2 + 1) 0)) true (walkGrants f (d - 2) p)) false
+      go : (d : ℕ) → 1 < d → walkGrants f d p ≡ cond (has p (getD f (d - 2) 0)) (cond (has p (getD f (d - 2 + 1) 0)) true (walkGrants f (d - 2) p)) false
       go zero h = absurd (omega arith)
       go (suc zero) h = absurd (omega arith)
       go (suc (suc k)) h = let e : suc (suc k) - 2 ≡ k = omega arith in rw e refl

@@ -1,13 +1,12 @@
 -- Access control as one number. An eager run holds a pair: the set that the signing principal may use, and 2^32 times the granted set. A lazy run holds
 -- how many numbers of its frame store are in use, two for each frame: the set that its principal may use, and the enabled set.
-use mathlib.Core.Bool.{Bool, true, false}
+use mathlib.Core.Bool.{Bool, true, false, cond}
 use mathlib.Core.List.{List}
 use mathlib.Core.Path.{_≡_}
 use Prim.Native.Nat.{ℕ, zero, suc, _+_, _*_, _/_, _%_}
 use lib.Dec.{leb, ltb, eqb}
 use lib.ListN.{length, getD, set}
 use Rattle.privileges.specs.Sets.{has, meet, insert}
-use Rattle.stores.specs.Words.{pick}
 
 abbrev pub pairOf : (low high : ℕ) → ℕ
 pairOf low high = low + 4294967296 * high
@@ -37,24 +36,24 @@ pub record ModeIs (lazy enforce interval : Bool) (mode : ℕ) : Type 0 where
 unfoldable pub walkGrants : (frames : List ℕ) (used p : ℕ) → Bool
 walkGrants f zero p = false
 walkGrants f (suc zero) p = false
-walkGrants f (suc (suc d)) p = pick (has p (getD f d 0)) (pick (has p (getD f (d + 1) 0)) true (walkGrants f d p)) false
+walkGrants f (suc (suc d)) p = cond (has p (getD f d 0)) (cond (has p (getD f (d + 1) 0)) true (walkGrants f d p)) false
 
 unfoldable pub framesGrant : (frames : List ℕ) (used p : ℕ) → Bool
-framesGrant f used p = pick (leb used (length f)) (walkGrants f used p) false
+framesGrant f used p = cond (leb used (length f)) (walkGrants f used p) false
 
 unfoldable pub grantedOf : (mode acc : ℕ) (frames : List ℕ) (p : ℕ) → Bool
-grantedOf mode acc f p = pick (lazyMode mode) (framesGrant f (lowOf acc) p) (has p (highOf acc))
+grantedOf mode acc f p = cond (lazyMode mode) (framesGrant f (lowOf acc) p) (has p (highOf acc))
 
 unfoldable pub allowedOf : (mode acc : ℕ) (frames : List ℕ) (p : ℕ) → Bool
-allowedOf mode acc f p = pick (enforced mode) (grantedOf mode acc f p) true
+allowedOf mode acc f p = cond (enforced mode) (grantedOf mode acc f p) true
 
 unfoldable pub signAccess : (mode acc may : ℕ) → ℕ
-signAccess mode acc may = pick (lazyMode mode) (lowOf acc + 2) (pairOf may (meet (highOf acc) may))
+signAccess mode acc may = cond (lazyMode mode) (lowOf acc + 2) (pairOf may (meet (highOf acc) may))
 
 unfoldable pub signFrames : (mode acc : ℕ) (frames : List ℕ) (may : ℕ) → List ℕ
-signFrames mode acc f may = pick (lazyMode mode) (set (set f (lowOf acc) may) (lowOf acc + 1) 0) f
+signFrames mode acc f may = cond (lazyMode mode) (set (set f (lowOf acc) may) (lowOf acc + 1) 0) f
 
--- the last number of so many: with none, an index that is past every store
+-- the last number of so many: with none, 2^64 - 1, an index that is past every store
 unfoldable pub lastOf : ℕ → ℕ
 lastOf zero = 18446744073709551615
 lastOf (suc d) = d
@@ -64,13 +63,13 @@ abbrev pub firstEnabled : (acc : ℕ) → ℕ
 firstEnabled acc = lastOf (lowOf acc)
 
 unfoldable pub enableAccess : (mode acc p : ℕ) → ℕ
-enableAccess mode acc p = pick (lazyMode mode) acc (pick (has p (lowOf acc)) (pairOf (lowOf acc) (insert p (highOf acc))) acc)
+enableAccess mode acc p = cond (lazyMode mode) acc (cond (has p (lowOf acc)) (pairOf (lowOf acc) (insert p (highOf acc))) acc)
 
 unfoldable pub enableFrames : (mode acc : ℕ) (frames : List ℕ) (p : ℕ) → List ℕ
-enableFrames mode acc f p = pick (lazyMode mode) (set f (firstEnabled acc) (insert p (getD f (firstEnabled acc) 0))) f
+enableFrames mode acc f p = cond (lazyMode mode) (set f (firstEnabled acc) (insert p (getD f (firstEnabled acc) 0))) f
 
 unfoldable pub enabledNow : (mode acc : ℕ) (frames : List ℕ) → ℕ
-enabledNow mode acc f = pick (lazyMode mode) (getD f (firstEnabled acc) 0) 0
+enabledNow mode acc f = cond (lazyMode mode) (getD f (firstEnabled acc) 0) 0
 
 unfoldable pub restoreFrames : (mode acc : ℕ) (frames : List ℕ) (old : ℕ) → List ℕ
-restoreFrames mode acc f old = pick (lazyMode mode) (set f (firstEnabled acc) old) f
+restoreFrames mode acc f old = cond (lazyMode mode) (set f (firstEnabled acc) old) f

@@ -1,13 +1,25 @@
--- What the contract of a read without a test says, and what is known of a sheet with right fields. No reader of the public promise needs this file.
+-- What is known of a sheet that is read, in contracts here and in the crates above, and what the contract of a read without a test says. No reader of the
+-- public promise needs this file.
 use mathlib.Core.List.{List}
 use Prim.Native.Nat.{ℕ, _+_, _*_, _<_, _≤_}
 use native.Mathlib.Omega.{arith}
 use lib.ListN.{length}
+use Rattle.program.specs.Laws.Readable.{WellFormed}
 use Rattle.program.specs.Layout.{terms, termAt}
 use Rattle.program.specs.Screening.{None}
-use Rattle.program.specs.Decoding.{fieldConditions}
+use Rattle.program.specs.Decoding.{fieldConditions, Readable}
 use Rattle.program.specs.Records.{CountsOf}
 use Rattle.program.specs.declared.records.Counts.{Counts}
+
+-- a well-formed sheet with its own counts
+pub record FormedSheet (s : List ℕ) (c : Counts) : Type 0 where
+  pub well-formed : WellFormed s
+  pub counts : CountsOf s c
+
+-- a sheet that the decoder reads, with its own counts
+pub record ReadableSheet (s : List ℕ) (c : Counts) : Type 0 where
+  pub readable : Readable s
+  pub counts : CountsOf s c
 
 -- the fields are right, and these are their counts
 pub record Laid (s : List ℕ) (c : Counts) : Type 0 where

@@ -15,7 +15,7 @@ use Rattle.privileges.specs.Sets.{has, meet}
 use Rattle.privileges.specs.Booleans.{and-left, and-right, and-both}
 use Rattle.privileges.specs.Laws.{has-none, has-meet}
 use Rattle.program.specs.Bytes.{byte, word16}
-use Rattle.semantics.specs.Runs.{Ground, ended, stopped, Counts, Answer, refused, ran}
+use Rattle.semantics.specs.Runs.{Ground, ended, stopped, RunCounts, Answer, refused, ran}
 use Rattle.blocks.specs.Block.{RunRegisters, registersOf, withFlag, afterRun, read-byte, read-refused, readOf, raised}
 use Rattle.blocks.specs.Laws.{flag-low, flag-high, SomeBit, NoBit, find-bit, no-bit}
 
@@ -73,11 +73,11 @@ module _ (block : List ℕ) where
   Zero a at = byte (afterRun block (registersOf a)) at ≡ 0
 
   -- an end has no cause and no term
-  pub end-zeros : (g : Ground) (k : Counts) → Zero (ran (ended g) k) 2 × Zero (ran (ended g) k) 10 × Zero (ran (ended g) k) 11
+  pub end-zeros : (g : Ground) (k : RunCounts) → Zero (ran (ended g) k) 2 × Zero (ran (ended g) k) 10 × Zero (ran (ended g) k) 11
   end-zeros g k = (refl, refl, refl)
 
   -- a stop has no value
-  pub stop-zeros : (c t : ℕ) (k : Counts) → Zero (ran (stopped c t) k) 6 × Zero (ran (stopped c t) k) 7
+  pub stop-zeros : (c t : ℕ) (k : RunCounts) → Zero (ran (stopped c t) k) 6 × Zero (ran (stopped c t) k) 7
   stop-zeros c t k = (refl, refl)
 
   -- a refusal has no value, and "no count is told"

@@ -28,7 +28,8 @@ module _ (block answer : List ℕ) where
   pub short-read : (a : ℕ) → unfit blockBytes answerNumbers block answer ≡ true → left 3 answer ≡ blockRead block a answer
   short-read a e = λ i. cond (sym e i) (notDone answer) (written (readReply (readOf block a) (raised block)) answer)
 
-  pub short-write : (a v : ℕ) (s : List ℕ) (b : Buffers) → unfit blockBytes answerNumbers block answer ≡ true → leftBlock 3 answer block b ≡ blockWrite block a v s b answer
+  pub short-write : (a v : ℕ) (s : List ℕ) (b : Buffers) → unfit blockBytes answerNumbers block answer ≡ true
+      → leftBlock 3 answer block b ≡ blockWrite block a v s b answer
   short-write a v s b e = λ i. cond (sym e i) (leftBlock 3 answer block b) (afterWrite answer (writeOf block a v s b))
 
   -- ---- the access is done

@@ -16,23 +16,23 @@ use Rattle.replies.specs.Replies.{left, notDone, replied}
 use Rattle.replies.specs.Internal.{replyOf, Put}
 use Rattle.replies.specs.Laws as replies
 use Rattle.replies.specs.declared.Reply.{Reply}
-use Rattle.capi_compare.specs.Entries.{comparisonReply, long, compareCall}
+use Rattle.capi_compare.specs.Entries.{comparisonReply, long, compareCall, maxRecord}
 use Rattle.capi_compare.specs.Internal.{FewEntries}
 
 module _ (u o answer : List ℕ) where
   -- ---- a record is too long: it has more bytes than the largest number of 32 bits tells
-  pub long-unit : 4294967295 < length u → left 3 answer ≡ compareCall u o answer
-  long-unit h = λ i. cond (sym (lt-ltb 4294967295 (length u) h) i || long o) (notDone answer) (replied answer (comparisonReply (comparison u o)))
+  pub long-unit : maxRecord < length u → left 3 answer ≡ compareCall u o answer
+  long-unit h = λ i. cond (sym (lt-ltb maxRecord (length u) h) i || long o) (notDone answer) (replied answer (comparisonReply (comparison u o)))
 
-  pub long-office : length u ≤ 4294967295 → 4294967295 < length o → left 3 answer ≡ compareCall u o answer
+  pub long-office : length u ≤ maxRecord → maxRecord < length o → left 3 answer ≡ compareCall u o answer
   long-office g h = λ i.
-      cond (sym (le-ltb 4294967295 (length u) g) i || sym (lt-ltb 4294967295 (length o) h) i) (notDone answer)
+      cond (sym (le-ltb maxRecord (length u) g) i || sym (lt-ltb maxRecord (length o) h) i) (notDone answer)
       (replied answer (comparisonReply (comparison u o)))
 
-  module _ (g : length u ≤ 4294967295) (h : length o ≤ 4294967295) where
+  module _ (g : length u ≤ maxRecord) (h : length o ≤ maxRecord) where
     held : replied answer (comparisonReply (comparison u o)) ≡ compareCall u o answer
     held = λ i.
-        cond (sym (le-ltb 4294967295 (length u) g) i || sym (le-ltb 4294967295 (length o) h) i) (notDone answer)
+        cond (sym (le-ltb maxRecord (length u) g) i || sym (le-ltb maxRecord (length o) h) i) (notDone answer)
         (replied answer (comparisonReply (comparison u o)))
 
     pub few-numbers : length answer < 8 → left 3 answer ≡ compareCall u o answer

@@ -1,10 +1,10 @@
 // The unit's record held against the office's, for C. include/sovzedal.h documents each argument.
 ghost use mathlib.Core.Path.{_≡_};
-ghost use Prim.Native.Nat.{_<_};
+ghost use Prim.Native.Nat.{_≤_};
 ghost use Rattle.compare.specs.Answers.{comparisonModel};
 ghost use Rattle.replies.specs.Replies.{left};
 ghost use Rattle.replies.specs.Internal.{replyOf};
-ghost use Rattle.capi_compare.specs.Entries.{comparedReply, comparisonReply, compareCall};
+ghost use Rattle.capi_compare.specs.Entries.{comparedReply, comparisonReply, compareCall, maxRecord};
 ghost use Rattle.capi_compare.specs.Internal.{FewEntries};
 use compare::answer::Comparison;
 use replies::ANSWER_NUMBERS;
@@ -31,7 +31,7 @@ pub fn compare(unit: &[u8], office: &[u8], answer: &mut [u32]) -> u32
 }
 
 fn compared_reply(fits: u32, entries: usize) -> Reply
-    requires { ⌜ entries < 4294967296 ⌝ }
+    requires { ⌜ entries ≤ maxRecord ⌝ }
     ensures { λ r. ⌜ replyOf r ≡ comparedReply fits entries ⌝ }
 {
     Reply {

@@ -9,7 +9,7 @@ use lib.Dec.{leb}
 use lib.ListN.{length, drop, length-map}
 use borrow.Author.Tests.{lt-ltb, le-ltb}
 use Rattle.privileges.specs.Sets.{has}
-use Rattle.program.specs.Limits.{maxNesting}
+use Rattle.program.specs.Limits.{maxNesting, maxPrivilege}
 use Rattle.program.specs.Layout.{Types, authority, typesOf}
 use Rattle.typing.specs.Verdicts.{Verdict, accepted, rejected, verdict}
 use Rattle.replies.specs.Replies.{short}
@@ -54,7 +54,7 @@ explained-short s p = by-verdict (verdict s)
     by-number N false = omega arith
 
     by-verdict : (v : Verdict) → length (chainTerms (explainedBy s p v)) ≤ maxNesting
-    by-verdict (accepted n τ N) = by-number N (leb p 31)
+    by-verdict (accepted n τ N) = by-number N (leb p maxPrivilege)
     by-verdict (rejected c at) = omega arith
 
 pub listed : (s : List ℕ) (p : ℕ) (r : Explained) → ExplainedAs r (explanation s p) → Listed (r .answer)

@@ -18,11 +18,18 @@ use queues::state::Queue;
 
 pub const STATE_NUMBERS: usize = 102;
 
+// The largest allowance of 32 bits.
+const MAX_ALLOWANCE: u32 = 4294967295;
+
 // An allowance of more than 32 bits is read as the largest of them.
 fn allowance(x: u64) -> u32
     ensures { λ r. ⌜ r ≡ least x maxAllowance ⌝ }
 {
-    if x < 4294967295 { x as u32 } else { 4294967295 }
+    if x < (MAX_ALLOWANCE as u64) {
+        x as u32
+    } else {
+        MAX_ALLOWANCE
+    }
 }
 
 fn load_job(state: &[u64], at: usize) -> Job

@@ -23,7 +23,7 @@ use Rattle.replies.specs.Internal.{replyOf, withCounts, Put}
 use Rattle.replies.specs.Laws.{in-place}
 use Rattle.replies.specs.declared.Reply.{Reply}
 use Rattle.capi_ranges.specs.Entries.{truthNumber, rangeFinished, rangeReply, rangeLeft, rangeCall}
-use Rattle.capi_ranges.specs.Internal.{Uncounted, ReplyFits}
+use Rattle.capi_ranges.specs.Internal.{Uncounted, RangeReplyFits}
 
 -- ---- the numbers of an outcome, of which the last is 0
 module _ (m : Made) (h : Uncounted m) where
@@ -48,7 +48,7 @@ module _ (s ps : List ℕ) (q : Request) (b : Buffers) where
   pub short-answer : (answer : List ℕ) → length answer < 8 → leftAll 3 answer b ≡ rangeCall answer b (rangeRun s ps q b)
   short-answer answer h = λ i. cond (sym (lt-ltb (length answer) 8 h) i) (leftAll 3 answer b) (rangeLeft answer (rangeRun s ps q b))
 
-  pub reply-fits : (r : RangeRun) → rangeModel r ≡ rangeRun s ps q b .answer → ReplyFits r
+  pub reply-fits : (r : RangeRun) → rangeModel r ≡ rangeRun s ps q b .answer → RangeReplyFits r
   reply-fits (Refused f) e = tt
   reply-fits (Ran o m) e = record {
     few = range-few s ps q b (outcomeModel o) (countsModel m) (sym e);

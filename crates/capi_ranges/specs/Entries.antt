@@ -3,7 +3,7 @@ use mathlib.Core.Bool.{Bool, true, false, cond}
 use mathlib.Core.List.{List, [], _∷_}
 use mathlib.Core.Option.{Option, none, some}
 use Prim.Native.Nat.{ℕ}
-use Rattle.semantics.specs.Runs.{Buffers, ground-bool, ground-num, OutcomeOf, ended, stopped, Counts, AnswerOf, refused, ran, AfterOf}
+use Rattle.semantics.specs.Runs.{Buffers, ground-bool, ground-num, OutcomeOf, ended, stopped, RunCounts, AnswerOf, refused, ran, AfterOf}
 use Rattle.intervals.specs.Intervals.{rangeEntry, intervals}
 use Rattle.replies.specs.Replies.{Reply, refusal, short, written, notDone, Called}
 
@@ -15,7 +15,7 @@ truthNumber none = 2
 
 -- an end: 0 and a truth value, or 1 and a range, told as it is posted, lowest × 65,536 + highest; a stop: its cause and term; both with calls, cells and posts.
 -- "Held results aren't counted."
-abbrev pub rangeFinished : OutcomeOf intervals → Counts → Reply
+abbrev pub rangeFinished : OutcomeOf intervals → RunCounts → Reply
 rangeFinished (ended (ground-bool t)) k = record { status = 0; numbers = 0 ∷ 0 ∷ 0 ∷ truthNumber t ∷ k .calls ∷ k .cells ∷ k .posts ∷ 0 ∷ [] }
 rangeFinished (ended (ground-num i)) k = record { status = 0; numbers = 0 ∷ 0 ∷ 1 ∷ rangeEntry i ∷ k .calls ∷ k .cells ∷ k .posts ∷ 0 ∷ [] }
 rangeFinished (stopped c t) k = record { status = 1; numbers = c ∷ t ∷ 0 ∷ 0 ∷ k .calls ∷ k .cells ∷ k .posts ∷ 0 ∷ [] }

@@ -11,6 +11,6 @@ pub record Uncounted (m : Made) : Type 0 where
   pub few : Few (countsModel m)
   pub none-saturated : m .saturated ≡ 0
 
-abbrev pub ReplyFits : RangeRun → Type 0
-ReplyFits (Refused f) = Unit {0}
-ReplyFits (Ran o m) = Uncounted m
+abbrev pub RangeReplyFits : RangeRun → Type 0
+RangeReplyFits (Refused f) = Unit {0}
+RangeReplyFits (Ran o m) = Uncounted m

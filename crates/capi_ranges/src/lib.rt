@@ -9,7 +9,7 @@ ghost use Rattle.replies.specs.Replies.{enforces, leftAll};
 ghost use Rattle.replies.specs.Internal.{replyOf};
 ghost use Rattle.ranges.specs.Answers.{truthOf, outcomeModel, rangeRefusalCause, rangeRefusalPlace, rangeModel};
 ghost use Rattle.capi_ranges.specs.Entries.{truthNumber, rangeFinished, rangeReply, rangeCall};
-ghost use Rattle.capi_ranges.specs.Internal.{Uncounted, ReplyFits};
+ghost use Rattle.capi_ranges.specs.Internal.{Uncounted, RangeReplyFits};
 use interp::answer::Made;
 use numbers::Code;
 use ranges::answer::Outcome;
@@ -67,7 +67,7 @@ fn of_refusal(f: Refusal) -> Code
 }
 
 fn of_run(x: RangeRun) -> Reply
-    requires { ⌜ ReplyFits x ⌝ }
+    requires { ⌜ RangeReplyFits x ⌝ }
     ensures { λ r. ⌜ replyOf r ≡ rangeReply (rangeModel x) ⌝ }
 {
     match x {

@@ -14,7 +14,7 @@ use Rattle.interp.specs.declared.answer.RecordedRun.{RecordedRun}
 use Rattle.replies.specs.Replies.{runReply, writtenNine, left}
 use Rattle.replies.specs.Laws.{small}
 use Rattle.capi_record.specs.Entries.{leftRecord, recordLeft, recordCall}
-use Rattle.capi_record.specs.Internal.{ReplyFits}
+use Rattle.capi_record.specs.Internal.{RecordReplyFits}
 
 module _ (s : List ℕ) (q : Request) (b : Buffers) (t : List ℕ) where
   -- nothing is done
@@ -23,11 +23,11 @@ module _ (s : List ℕ) (q : Request) (b : Buffers) (t : List ℕ) where
 
   -- a run, with its record
   module _ (r : RecordedRun) {cells posts frames noted : List ℕ} (e : afterRecording r cells posts frames noted ≡ recording s q b t) where
-    -- a run decides at most 4,195,328 times
+    -- a run decides at most 4,195,328 = (4,096 + 1) * 1,024 times: of each term once outside of calls and once in each call
     few : r .entries < 4294967296
     few = omega (arith, ap (λ (x : Recorded). x .entries) e, record-holds s q b t .as-many, decisions-few s q b)
 
-    pub reply-fits : ReplyFits r
+    pub reply-fits : RecordReplyFits r
     unfolding recording
     reply-fits = record { counts-small = small s q b (r .run) (ap (λ (x : Recorded). x .after .answer) e); entries-small = few }
 

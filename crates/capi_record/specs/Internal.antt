@@ -6,11 +6,11 @@ use Rattle.replies.specs.Internal.{Small}
 use Rattle.interp.specs.declared.answer.RecordedRun.{RecordedRun}
 
 -- the counts and the number of entries fit into 32 bits
-pub record ReplyFits (r : RecordedRun) : Type 0 where
+pub record RecordReplyFits (r : RecordedRun) : Type 0 where
   pub counts-small : Small (r .run)
   pub entries-small : r .entries < 4294967296
 
 -- and there is room for the nine numbers of an answer
-pub record ReplyFitsIn (r : RecordedRun) (answer : List ℕ) : Type 0 where
-  pub reply-fits : ReplyFits r
+pub record RecordReplyFitsIn (r : RecordedRun) (answer : List ℕ) : Type 0 where
+  pub reply-fits : RecordReplyFits r
   pub room : 9 ≤ length answer

@@ -6,7 +6,7 @@ ghost use Rattle.semantics.specs.Recording.{recording};
 ghost use Rattle.interp.specs.Answers.{runModel, requestOf, buffersOf};
 ghost use Rattle.replies.specs.Replies.{runReply, writtenNine, enforces, left};
 ghost use Rattle.capi_record.specs.Entries.{recordCall, leftRecord};
-ghost use Rattle.capi_record.specs.Internal.{ReplyFitsIn};
+ghost use Rattle.capi_record.specs.Internal.{RecordReplyFitsIn};
 use interp::answer::RecordedRun;
 use replies::ANSWER_NUMBERS;
 use replies::LONG_ANSWER;
@@ -15,7 +15,7 @@ use replies::put;
 
 // Writes the nine numbers and gives the status.
 fn put_nine(r: RecordedRun, answer: &mut [u32]) -> u32
-    requires { ⌜ ReplyFitsIn r (now answer) ⌝ }
+    requires { ⌜ RecordReplyFitsIn r (now answer) ⌝ }
     ensures { λ status. ⌜ left status (now (answer .exit)) ≡ writtenNine (runReply (runModel (r .run))) (r .entries) (now (answer .entry)) ⌝ }
 {
     let run = r.run;

@@ -6,7 +6,7 @@ use mathlib.Core.Option.{Option, none, some}
 use Prim.Native.Nat.{ℕ, zero, suc}
 use lib.Dec.{eqb, leb}
 use Rattle.privileges.specs.Sets.{has}
-use Rattle.program.specs.Limits.{maxNesting}
+use Rattle.program.specs.Limits.{maxNesting, maxPrivilege}
 use Rattle.program.specs.Layout.{Types, authority, typesOf}
 use Rattle.program.specs.Terms.{Term, boolean, number, variable, function, letrec, call, if, check, enable, sign, test, binary, post, contains}
 use Rattle.typing.specs.Places.{Placed, placed, placedNumber, childrenIn, rootOf}
@@ -113,7 +113,7 @@ explainedIn s p N true = explainedIf s p (has p N)
 explainedIn s p N false = refused 30 0
 
 abbrev pub explainedBy : List ℕ → (p : ℕ) → Verdict → Explained
-explainedBy s p (accepted n τ N) = explainedIn s p N (leb p 31)
+explainedBy s p (accepted n τ N) = explainedIn s p N (leb p maxPrivilege)
 explainedBy s p (rejected c at) = refused c at
 
 unfoldable pub explanation : List ℕ → (p : ℕ) → Explained

@@ -11,7 +11,7 @@ use lib.Dec.{leb}
 use lib.ListN.{length}
 use borrow.Author.Tests.{leb-true, leb-false, le-leb, lt-leb}
 use Rattle.privileges.specs.Sets.{has}
-use Rattle.program.specs.Limits.{maxNesting}
+use Rattle.program.specs.Limits.{maxNesting, maxPrivilege}
 use Rattle.program.specs.Layout.{version, authority, typesOf}
 use Rattle.program.specs.Terms.{Term, test, post, Plain}
 use Rattle.program.specs.Laws.Readable.{well-formed}
@@ -33,7 +33,7 @@ pub record Answerable (s : List ℕ) (p : ℕ) (needed : Bool) : Type 0 where
   pub type : ℕ
   pub needs : ℕ
   pub acceptance-is : verdict s ≡ accepted count type needs
-  pub privilege : p ≤ 31
+  pub privilege : p ≤ maxPrivilege
   pub among : has p needs ≡ needed
 
 abbrev pub Needed : List ℕ → (p : ℕ) → Type 0
@@ -132,7 +132,7 @@ version-1-cause s p h one Γ n at ch g c l =
 -- "a privilege above 31 is 30"
 pub record NoPrivilege (s : List ℕ) (p cause place : ℕ) : Type 0 where
   pub sheet-accepted : Accepted s
-  pub above : 31 < p
+  pub above : maxPrivilege < p
   pub cause-is : cause ≡ 30
   pub place-is : place ≡ 0
 
@@ -141,29 +141,30 @@ data Given (s : List ℕ) (p : ℕ) : Explained → Type 0 where
   given-chain : Needed s p → Given s p (explained (map placedNumber (chainOf s p)))
   given-not-needed : NotNeeded s p → Given s p not-needed
   given-rejected : {c at : ℕ} → verdict s ≡ rejected c at → Given s p (refused c at)
-  given-no-privilege : Accepted s → 31 < p → Given s p (refused 30 0)
+  given-no-privilege : Accepted s → maxPrivilege < p → Given s p (refused 30 0)
 
 module _ (s : List ℕ) (p : ℕ) where
   given : Given s p (explanation s p)
   unfolding explanation
   given = judged (verdict s) refl
     where
-      needed : (n τ N : ℕ) → verdict s ≡ accepted n τ N → p ≤ 31 → (b : Bool) → has p N ≡ b → Given s p (explainedIf s p b)
+      needed : (n τ N : ℕ) → verdict s ≡ accepted n τ N → p ≤ maxPrivilege → (b : Bool) → has p N ≡ b → Given s p (explainedIf s p b)
       needed n τ N e l true h = given-chain (record { count = n; type = τ; needs = N; acceptance-is = e; privilege = l; among = h })
       needed n τ N e l false h = given-not-needed (record { count = n; type = τ; needs = N; acceptance-is = e; privilege = l; among = h })
 
-      low : (n τ N : ℕ) → verdict s ≡ accepted n τ N → (b : Bool) → leb p 31 ≡ b → Given s p (explainedIn s p N b)
-      low n τ N e true h = needed n τ N e (leb-true p 31 h) (has p N) refl
-      low n τ N e false h = given-no-privilege (n, τ, N, e) (leb-false p 31 h)
+      low : (n τ N : ℕ) → verdict s ≡ accepted n τ N → (b : Bool) → leb p maxPrivilege ≡ b → Given s p (explainedIn s p N b)
+      low n τ N e true h = needed n τ N e (leb-true p maxPrivilege h) (has p N) refl
+      low n τ N e false h = given-no-privilege (n, τ, N, e) (leb-false p maxPrivilege h)
 
       judged : (v : Verdict) → verdict s ≡ v → Given s p (explainedBy s p v)
-      judged (accepted n τ N) e = low n τ N e (leb p 31) refl
+      judged (accepted n τ N) e = low n τ N e (leb p maxPrivilege) refl
       judged (rejected c at) e = given-rejected e
 
   answerable-is : (b : Bool) → Answerable s p b → explanation s p ≡ explainedIf s p b
   unfolding explanation
   answerable-is b h =
-      (λ i. explainedBy s p (h .acceptance-is i)) ∙ (λ i. explainedIn s p (h .needs) (le-leb p 31 (h .privilege) i)) ∙ λ i. explainedIf s p (h .among i)
+      (λ i. explainedBy s p (h .acceptance-is i)) ∙ (λ i. explainedIn s p (h .needs) (le-leb p maxPrivilege (h .privilege) i))
+      ∙ λ i. explainedIf s p (h .among i)
 
   -- a chain is answered exactly if the sheet is accepted and needs the privilege; and then it is the chain's numbers
   pub explained-exactly : (terms : List ℕ) → (explanation s p ≡ explained terms) ↔ (Needed s p × (terms ≡ map placedNumber (chainOf s p)))
@@ -192,7 +193,8 @@ module _ (s : List ℕ) (p : ℕ) where
       back (inl e) = λ i. explainedBy s p (e i)
       back (inr h) =
           let a = h .sheet-accepted in
-          (λ i. explainedBy s p (a .3 i)) ∙ (λ i. explainedIn s p (a .2) (lt-leb p 31 (h .above) i)) ∙ λ i. refused (sym (h .cause-is) i) (sym (h .place-is) i)
+          (λ i. explainedBy s p (a .3 i)) ∙ (λ i. explainedIn s p (a .2) (lt-leb p maxPrivilege (h .above) i))
+          ∙ λ i. refused (sym (h .cause-is) i) (sym (h .place-is) i)
 
 -- The search is never stuck: an accepted sheet that needs the privilege is explained, by the numbers of a chain of which every sentence holds.
 pub needed-explained : (s : List ℕ) (p : ℕ) → Needed s p → (l : List Placed) × (explanation s p ≡ explained (map placedNumber l)) × Chain s p l

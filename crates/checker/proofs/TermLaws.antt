@@ -11,7 +11,7 @@ use borrow.Author.Tests.{leb-true, ltb-true}
 use denote.Enum.Declared.{tagOf}
 use Rattle.typing.proofs.answer.Inferred.{the-type}
 use Rattle.privileges.specs.Sets.{union, subset}
-use Rattle.program.specs.Limits.{maxChannels}
+use Rattle.program.specs.Limits.{maxChannels, maxNesting, maxPrivilege}
 use Rattle.program.specs.Layout.{principals, termAt, channels, guardByte, guardIn, guardOf, authority, typesOf}
 use Rattle.program.specs.Formats.{Kind, Boolean, Number, Variable, Function, Letrec, Call, If, Check, Enable, Sign, Test, Sum, Difference, Less, Post, kindOf, format}
 use Rattle.program.specs.Terms.{node, tree}
@@ -113,7 +113,7 @@ module _ {s : List ℕ} {c : Counts} {l : List ℕ} {t : ℕ} {b : Bindings} {n 
   named e = ap kindOf e
 
   -- ---- children
-  child : (y : ℕ) (d : Bindings) (m : ℕ) → m < principals s → y < t → d .len + roomAt s y ≤ 32 → Child s c t y d m
+  child : (y : ℕ) (d : Bindings) (m : ℕ) → m < principals s → y < t → d .len + roomAt s y ≤ maxNesting → Child s c t y d m
   child y d m p h g = record { lower = h; ready = record { sheet = W .ready .sheet; inside = omega (arith, W .ready .inside); principal = p; fits = g } }
 
   plain : (y : ℕ) → y < t → roomAt s y ≤ roomAt s t → Child s c t y b n
@@ -140,13 +140,13 @@ module _ {s : List ℕ} {c : Counts} {l : List ℕ} {t : ℕ} {b : Bindings} {n 
   post-child e = plain (x .first) (lower-as Post (named e) .first-below refl) (omega (arith, room-as Post (named e)))
 
   pub check-privilege : x .kind ≡ 7 → x .small < 32
-  check-privilege e = omega (arith, leb-true (x .small) 31 (small-as Check (named e)))
+  check-privilege e = omega (arith, leb-true (x .small) maxPrivilege (small-as Check (named e)))
 
   pub enable-privilege : x .kind ≡ 8 → x .small < 32
-  enable-privilege e = omega (arith, leb-true (x .small) 31 (small-as Enable (named e)))
+  enable-privilege e = omega (arith, leb-true (x .small) maxPrivilege (small-as Enable (named e)))
 
   pub test-privilege : x .kind ≡ 10 → x .small < 32
-  test-privilege e = omega (arith, leb-true (x .small) 31 (small-as Test (named e)))
+  test-privilege e = omega (arith, leb-true (x .small) maxPrivilege (small-as Test (named e)))
 
   post-channel : x .kind ≡ 14 → x .small < maxChannels
   post-channel e = omega (arith, ltb-true (x .small) (channels s) (small-as Post (named e)), channels-most s)
@@ -243,7 +243,7 @@ module _ {s : List ℕ} {c : Counts} {l : List ℕ} {t : ℕ} {b : Bindings} {n 
       ))
 
   -- a function's body has one binding more
-  pub function-room : x .kind ≡ 3 → b .len < 32
+  pub function-room : x .kind ≡ 3 → b .len < maxNesting
   unfolding roomAt
   function-room e = omega (arith, room-as Function (named e), W .ready .fits)
 
@@ -261,7 +261,7 @@ module _ {s : List ℕ} {c : Counts} {l : List ℕ} {t : ℕ} {b : Bindings} {n 
   unfolding roomAt
   rest-room e = omega (arith, room-as Letrec (named e), le-max-right (2 + roomAt s (x .second)) (1 + roomAt s (x .third)))
 
-  pub letrec-room : x .kind ≡ 4 → b .len < 31
+  pub letrec-room : x .kind ≡ 4 → b .len + 1 < maxNesting
   letrec-room e = omega (arith, body-room e, W .ready .fits)
 
   pub letrec-body : x .kind ≡ 4 → {ty arg : ℕ} {d g : Bindings} → Pushed b ty d → Pushed d arg g → Child s c t (x .second) g n

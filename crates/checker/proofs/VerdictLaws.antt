@@ -1,5 +1,5 @@
 -- The verdict on a sheet from the reader's answer and the root's judgement. Assumes nothing.
-use mathlib.Core.List.{List, []}
+use mathlib.Core.List.{List}
 use mathlib.Core.Path.{_≡_, refl, sym, ap, _∙_, subst}
 use Prim.Native.Nat.{ℕ, _-_, _<_, _≤_}
 use native.Mathlib.Omega.{arith}
@@ -16,14 +16,13 @@ use Rattle.program.specs.Laws.Readable.{well-formed}
 use Rattle.typing.specs.Checking.{Judgement}
 use Rattle.typing.specs.Verdicts.{Verdict, accepted, rejected, concluded, judgement, verdict}
 use Rattle.typing.specs.Answers.{faultCause, faultPlace}
-use Rattle.subtyping.specs.Internal.{Sheet}
-use Rattle.rules.specs.Inference.{inferredModel, termJudgement, Ready}
+use Rattle.accessors.specs.Internal.{FormedSheet, ReadableSheet}
+use Rattle.rules.specs.Inference.{inferredModel, context, lastFirst, termJudgement, Ready}
 use Rattle.rules.specs.Laws.Room.{root-room}
 use Rattle.typing.specs.declared.answer.Fault.{Fault}
 use Rattle.typing.specs.declared.answer.Inferred.{Inferred}
 use Rattle.typing.specs.declared.answer.Inferred.the-variants.{Typed, Faulty}
 use Rattle.rules.specs.declared.bindings.Bindings.{Bindings}
-use Rattle.checker.specs.Internal.{ReadableSheet}
 
 -- ---- the root's judgement
 pub conclude-fault : (n r : ℕ) {j : Inferred} {f : Fault} → j ≡ Faulty f → rejected (faultCause f) (faultPlace f) ≡ concluded n r (inferredModel j)
@@ -37,10 +36,10 @@ module _ (n r : ℕ) {j : Inferred} {τ N : ℕ} (e : j ≡ Typed τ N) where
   conclude-function h = rw (e, le-ltb τ 2 h) refl
 
 -- ---- a readable sheet
-pub sheet-of : {s : List ℕ} {c : Counts} → ReadableSheet s c → Sheet s c
+pub sheet-of : {s : List ℕ} {c : Counts} → ReadableSheet s c → FormedSheet s c
 sheet-of {s} R = record { well-formed = well-formed s (R .readable); counts = R .counts }
 
-module _ {s : List ℕ} {c : Counts} (S : Sheet s c) where
+module _ {s : List ℕ} {c : Counts} (S : FormedSheet s c) where
   pub some-terms : 1 ≤ c .terms
   some-terms = omega (arith, S .counts .terms-are, S .well-formed .terms-least)
 
@@ -55,10 +54,12 @@ module _ {s : List ℕ} {c : Counts} (S : Sheet s c) where
     fits = rw root-is (omega (arith, e, root-room s (S .well-formed)));
   }
 
-  pub program-is : {j : Judgement} {r : Verdict} → j ≡ termJudgement s [] 0 (c .terms - 1) → r ≡ concluded (c .terms) (c .terms - 1) j
-      → r ≡ concluded (terms s) (root s) (judgement s)
+  pub program-is : (b : Bindings) → b .len ≡ 0 → {j : Judgement} {r : Verdict} → j ≡ termJudgement s (context b) 0 (c .terms - 1)
+      → r ≡ concluded (c .terms) (c .terms - 1) j → r ≡ concluded (terms s) (root s) (judgement s)
   unfolding termJudgement
-  program-is p q = q ∙ (λ i. concluded (S .counts .terms-are i) (root-is i) ((p ∙ ap (termJudgement s [] 0) root-is) i))
+  program-is b e p q =
+      let at-root = p ∙ (λ i. termJudgement s (lastFirst (b .types) (e i)) 0 (root-is i)) in
+      q ∙ (λ i. concluded (S .counts .terms-are i) (root-is i) (at-root i))
 
 pub verdict-is : {s : List ℕ} {c : Counts} → ReadableSheet s c → {r : Verdict} → r ≡ concluded (terms s) (root s) (judgement s) → r ≡ verdict s
 unfolding verdict
@@ -77,5 +78,5 @@ module _ (s : List ℕ) {d : Decoded} (p : decodedModel d ≡ decoding s) where
     pub readable-counted : Counted s d → ReadableSheet s c
     readable-counted k = record { readable = readable; counts = subst (Counted s) e k }
 
-    pub readable-sheet : Counted s d → Sheet s c
+    pub readable-sheet : Counted s d → FormedSheet s c
     readable-sheet k = sheet-of (readable-counted k)

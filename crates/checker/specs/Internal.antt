@@ -3,20 +3,13 @@ use mathlib.Core.List.{List}
 use mathlib.Core.Path.{_≡_}
 use Prim.Native.Nat.{ℕ, _<_, _≤_}
 use Rattle.program.specs.Layout.{typesOf}
-use Rattle.program.specs.Screening.{clear}
-use Rattle.program.specs.Decoding.{decoding}
-use Rattle.program.specs.Records.{termRecord, CountsOf}
+use Rattle.program.specs.Records.{termRecord}
 use Rattle.program.specs.declared.records.Counts.{Counts}
 use Rattle.program.specs.declared.records.TermRecord.{TermRecord}
 use Rattle.typing.specs.declared.answer.Inferred.{Inferred}
 use Rattle.subtyping.specs.Known.{Known, Answered}
 use Rattle.rules.specs.Inference.{inferredModel, termJudgement, Ready}
 use Rattle.rules.specs.declared.bindings.Bindings.{Bindings}
-
--- a sheet that the decoder reads, with its own counts
-pub record ReadableSheet (s : List ℕ) (c : Counts) : Type 0 where
-  pub readable : decoding s ≡ clear
-  pub counts : CountsOf s c
 
 -- a term that can be judged, and what is known of the sheet's types
 pub record ReadyTerm (s : List ℕ) (c : Counts) (l : List ℕ) (t : ℕ) (b : Bindings) (n : ℕ) : Type 0 where

@@ -3,9 +3,8 @@ pub mod infer;
 
 use crate::infer::infer;
 use program::answer::Decoded;
-use program::limits::NESTING_PLACES;
 use program::records::Counts;
-use rules::bindings::Bindings;
+use rules::bindings::none;
 use subtyping::known::KNOWN_WORDS;
 use subtyping::known::Known;
 use typing::answer::Fault;
@@ -15,7 +14,7 @@ ghost use mathlib.Core.Path.{_≡_};
 ghost use Rattle.typing.specs.Verdicts.{concluded, verdict};
 ghost use Rattle.typing.specs.Answers.{verdictModel};
 ghost use Rattle.rules.specs.Inference.{inferredModel};
-ghost use Rattle.checker.specs.Internal.{ReadableSheet};
+ghost use Rattle.accessors.specs.Internal.{ReadableSheet};
 
 // 01's judge, on any bytes: the reader's refusals 1 to 8 and 31, then the rules' 9 to 12 and 24 to 26, then 13.
 pub fn typecheck(sheet: &[u8]) -> Verdict
@@ -35,12 +34,8 @@ pub fn typecheck_readable(s: &[u8], c: Counts) -> Verdict
 {
     let terms = c.terms;
     let root = terms - 1;
-    let none = Bindings {
-        types: [0; NESTING_PLACES],
-        len: 0,
-    };
     let mut known: Known = [0; KNOWN_WORDS];
-    let j = infer(s, c, &mut known, root, none, 0);
+    let j = infer(s, c, &mut known, root, none(), 0);
     conclude(terms, root, j)
 }
 

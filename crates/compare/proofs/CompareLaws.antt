@@ -93,8 +93,10 @@ module _ (s : List ℕ) where
 
 -- ---- placing the entries: those of the unit before byte i are placed before byte j of the office's record
 pub record Placing (u o : List ℕ) (i j : ℕ) : Type 0 where
-  pub fourth : (i % 4 ≡ 0) × (j % 4 ≡ 0)
-  pub within : (i ≤ length u) × (j ≤ length o)
+  pub unit-whole : i % 4 ≡ 0
+  pub office-whole : j % 4 ≡ 0
+  pub unit-within : i ≤ length u
+  pub office-within : j ≤ length o
   pub so-far : i / 4 + placed (trace (drop i u)) (trace (drop j o)) ≡ placedEntries u o
 
 placed-step : (e f : Event) (t x : List Event) (b : Bool) → sameEvent e f ≡ b → placed (e ∷ t) (f ∷ x) ≡ cond b (suc (placed t x)) (placed (e ∷ t) x)
@@ -103,7 +105,7 @@ placed-step e f t x b q = λ k. cond (q k) (suc (placed t x)) (placed (e ∷ t) 
 
 module _ (u o : List ℕ) where
   pub placing-starts : Placing u o 0 0
-  placing-starts = record { fourth = (refl, refl); within = (omega arith, omega arith); so-far = omega arith }
+  placing-starts = record { unit-whole = refl; office-whole = refl; unit-within = omega arith; office-within = omega arith; so-far = omega arith }
 
   pub placing-all : (i j : ℕ) → Placing u o i j → i ≡ length u → i / 4 ≡ placedEntries u o
   unfolding placed trace
@@ -115,20 +117,23 @@ module _ (u o : List ℕ) where
   pub placing-end : (i j : ℕ) → Placing u o i j → length o ≤ j → i / 4 ≡ placedEntries u o
   unfolding trace
   placing-end i j p h =
-      let e : j ≡ length o = omega (arith, p .within .1) in
+      let e : j ≡ length o = omega (arith, p .office-within) in
       let x : placed (trace (drop i u)) (trace (drop j o)) ≡ 0 =
       (λ k. placed (trace (drop i u)) (trace ((ap (λ (n : ℕ). drop n o) e ∙ drop-length o) k))) ∙ placed-none (trace (drop i u)) in
       omega (arith, x, p .so-far)
 
   module _ (f : TwoFormed u o) (i j : ℕ) (p : Placing u o i j) (more : i ≡ length u → ⊥) (inside : j < length o) where
     left : i < length u
-    left = omega (arith, more, p .within .0)
+    left = omega (arith, more, p .unit-within)
 
     pub unit-entry : EntryAt u i
-    unit-entry = record { inside = whole-entry u (f .of-unit) i (p .fourth .0) left; decision = decision-at u (f .of-unit) i (p .fourth .0) left }
+    unit-entry = record { inside = whole-entry u (f .of-unit) i (p .unit-whole) left; decision = decision-at u (f .of-unit) i (p .unit-whole) left }
 
     pub office-entry : EntryAt o j
-    office-entry = record { inside = whole-entry o (f .of-office) j (p .fourth .1) inside; decision = decision-at o (f .of-office) j (p .fourth .1) inside }
+    office-entry = record {
+      inside = whole-entry o (f .of-office) j (p .office-whole) inside;
+      decision = decision-at o (f .of-office) j (p .office-whole) inside;
+    }
 
     step : (b : Bool) → sameEvent (eventAt u i) (eventAt o j) ≡ b → placed (trace (drop i u)) (trace (drop j o))
         ≡ cond b (suc (placed (trace (drop (i + 4) u)) (trace (drop (j + 4) o)))) (placed (eventAt u i ∷ trace (drop (i + 4) u)) (trace (drop (j + 4) o)))
@@ -138,8 +143,10 @@ module _ (u o : List ℕ) where
 
     pub placing-same : {i′ : ℕ} → sameEvent (eventAt u i) (eventAt o j) ≡ true → i′ ≡ i + 4 → Placing u o i′ (j + 4)
     placing-same q e = subst (λ (x : ℕ). Placing u o x (j + 4)) (sym e) (record {
-      fourth = (omega (arith, p .fourth .0), omega (arith, p .fourth .1));
-      within = (unit-entry .inside, office-entry .inside);
+      unit-whole = omega (arith, p .unit-whole);
+      office-whole = omega (arith, p .office-whole);
+      unit-within = unit-entry .inside;
+      office-within = office-entry .inside;
       so-far = omega (arith, step true q, p .so-far);
     })
 
@@ -147,8 +154,10 @@ module _ (u o : List ℕ) where
     placing-other q e =
         let x = step false q ∙ ap (λ (l : List Event). placed l (trace (drop (j + 4) o))) (sym (trace-next u i (unit-entry .inside))) in
         subst (λ (x : ℕ). Placing u o x (j + 4)) (sym e) (record {
-          fourth = (p .fourth .0, omega (arith, p .fourth .1));
-          within = (p .within .0, office-entry .inside);
+          unit-whole = p .unit-whole;
+          office-whole = omega (arith, p .office-whole);
+          unit-within = p .unit-within;
+          office-within = office-entry .inside;
           so-far = omega (arith, x, p .so-far);
         })
 

@@ -10,7 +10,7 @@ use lib.ListN.{getD, length, set}
 use lib.Seq.{getD-set-same, getD-set-other}
 use borrow.Author.Tests.{leb-true, leb-false, le-leb, lt-leb, eqb-true, eqb-false, eq-eqb, ne-eqb}
 use Rattle.privileges.specs.Booleans.{and-left, and-right}
-use Rattle.program.specs.Limits.{maxTerms}
+use Rattle.program.specs.Limits.{maxTerms, maxNesting}
 use Rattle.program.specs.Tests.{orElse}
 use Rattle.program.specs.Layout.{terms, root}
 use Rattle.program.specs.Screening.{onward, lowest}
@@ -40,7 +40,7 @@ nested-root l d n h g = record { each = each′ }
     root-in x zero e = refl
     root-in x (suc k) e = (λ i. orElse (eq-eqb x (n - 1) e i) (λ _. nestedBy l n k (getD l x 0))) ∙ sym (le-leb 1 (suc k) (omega arith))
 
-    each′ : (x : ℕ) → n - 1 ≤ x → x < n → (k : ℕ) → k ≤ 32 → nestedBy l n k x ≡ leb (getD (set d (n - 1) 1) x 0) k
+    each′ : (x : ℕ) → n - 1 ≤ x → x < n → (k : ℕ) → k ≤ maxNesting → nestedBy l n k x ≡ leb (getD (set d (n - 1) 1) x 0) k
     each′ x p q k m =
         let e : x ≡ n - 1 = omega arith in
         let v : getD (set d (n - 1) 1) x 0 ≡ 1 = ap (λ (z : ℕ). getD (set d (n - 1) 1) z 0) e ∙ getD-set-same d (n - 1) 1 0 (omega arith) in
@@ -48,8 +48,8 @@ nested-root l d n h g = record { each = each′ }
 
 -- one term further down; v is one more than its parent's depth, held at 33
 module _ (l d : List ℕ) (n t v : ℕ) (w : Nested l d n t) (r : Rising l n) (long : n ≤ length d) (lo : 0 < t) (hi : t < n)
-    (gain : (k : ℕ) → k ≤ 31 → leb (getD d (getD l (t - 1) 0) 0) k ≡ leb v (suc k)) (some-v : 1 ≤ v) where
-  here : (k : ℕ) → k ≤ 32 → nestedBy l n k (t - 1) ≡ leb v k
+    (gain : (k : ℕ) → k < maxNesting → leb (getD d (getD l (t - 1) 0) 0) k ≡ leb v (suc k)) (some-v : 1 ≤ v) where
+  here : (k : ℕ) → k ≤ maxNesting → nestedBy l n k (t - 1) ≡ leb v k
   here zero m = sym (lt-leb v 0 (omega arith))
   here (suc k) m =
       (λ i. orElse (ne-eqb (t - 1) (n - 1) (λ e. omega arith) i) (λ _. nestedBy l n k (getD l (t - 1) 0)))
@@ -67,11 +67,11 @@ module _ (l d : List ℕ) (n t v : ℕ) (w : Nested l d n t) (r : Rising l n) (l
 pub one-more : (d k : ℕ) → leb d k ≡ leb (d + 1) (suc k)
 one-more d k = leb-iff d k (d + 1) (suc k) (λ h. omega arith) (λ h. omega arith)
 
-pub held : (d k : ℕ) → 33 ≤ d → k ≤ 31 → leb d k ≡ leb 33 (suc k)
-held d k g h = leb-iff d k 33 (suc k) (λ f. omega arith) (λ f. omega arith)
+pub held : (d k : ℕ) → maxNesting < d → k < maxNesting → leb d k ≡ leb (maxNesting + 1) (suc k)
+held d k g h = leb-iff d k (maxNesting + 1) (suc k) (λ f. omega arith) (λ f. omega arith)
 
 -- ---- of a sheet whose places are right
-module _ (s l : List ℕ) (T : TermsOk s) (few : terms s ≤ 1024) (P : PlacesOk s l) where
+module _ (s l : List ℕ) (T : TermsOk s) (few : terms s ≤ maxTerms) (P : PlacesOk s l) where
   one-parent : (x : ℕ) → suc x < terms s → timesBelow s x (terms s) ≡ 1
   one-parent x h =
       let ok = lowest-none (placedOk s) 0 (terms s) (P .none-found) x (omega arith) (omega arith) in
@@ -107,14 +107,14 @@ module _ (s l : List ℕ) (T : TermsOk s) (few : terms s ≤ 1024) (P : PlacesOk
   same-lowest f g i zero h = refl
   same-lowest f g i (suc n) h = λ j. onward (h i (omega arith) j) i (λ _. same-lowest f g (suc i) n (λ x q. h x (omega arith)) j)
 
-  pub deep-is : (d : List ℕ) → Nested l d (terms s) 0 → lowest (shallowEnough d) 0 (terms s) ≡ lowest (nestedIn s 32) 0 (terms s)
-  deep-is d w = same-lowest (shallowEnough d) (nestedIn s 32) 0 (terms s)
-      (λ x h. sym (w .each x (omega arith) (omega arith) 32 (omega arith)) ∙ nested-is 32 x (omega arith))
+  pub deep-is : (d : List ℕ) → Nested l d (terms s) 0 → lowest (shallowEnough d) 0 (terms s) ≡ lowest (nestedIn s maxNesting) 0 (terms s)
+  deep-is d w = same-lowest (shallowEnough d) (nestedIn s maxNesting) 0 (terms s)
+      (λ x h. sym (w .each x (omega arith) (omega arith) maxNesting (omega arith)) ∙ nested-is maxNesting x (omega arith))
 
   -- the same by the number of terms that the code has
   module _ {n : ℕ} (e : n ≡ terms s) where
     pub rising-at : Rising l n
     rising-at = subst (Rising l) (sym e) rising
 
-    pub deep-at : (d : List ℕ) → Nested l d n 0 → lowest (shallowEnough d) 0 n ≡ lowest (nestedIn s 32) 0 (terms s)
+    pub deep-at : (d : List ℕ) → Nested l d n 0 → lowest (shallowEnough d) 0 n ≡ lowest (nestedIn s maxNesting) 0 (terms s)
     deep-at d w = ap (lowest (shallowEnough d) 0) e ∙ deep-is d (subst (λ (m : ℕ). Nested l d m 0) e w)

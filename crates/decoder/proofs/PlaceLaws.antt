@@ -15,7 +15,7 @@ use Rattle.program.specs.Formats.{Part, isChild, Kind, Boolean, Number, Variabl
 use Rattle.program.specs.Decoding.{formatAt, termOk, counts, timesIn, timesBelow, isSign, signedBody, placedOk, parent}
 use Rattle.accessors.specs.Internal.{Laid, TermInside, term-inside}
 use Rattle.termrecords.specs.Internal.{childrenOf, shapeIf, shapeAt}
-use Rattle.decoder.specs.Internal.{TermsOk, TableTerm, linkStep, Linked, linkTimes, one, among, LinkedAll, ChildrenBelow, linkOf, Links}
+use Rattle.decoder.specs.Internal.{TermsOk, TableTerm, linkStep, Linked, linkTimes, one, among, LinkedAll, ChildrenBelow, linkOf, Links, manyParents, TwoBelow}
 use Rattle.program.specs.Records.{termAtByte, termRecord}
 use Rattle.program.specs.Laws.Screening.{lowest-none}
 use Rattle.program.specs.Laws.Readable.{fields-ok}
@@ -44,10 +44,10 @@ linked l x t v h e y g =
     stored l x v h y ∙ ap (λ (z : ℕ). cond (eqb x y) z (getD l y 0)) e ∙ at-y x y (λ z. linkStep (getD l z 0) t) (getD l y 0)
 
 pub linked-first : (l : List ℕ) (x t : ℕ) → x < length l → getD l x 0 ≡ 0 → Linked l (set l x t) x t
-linked-first l x t h e = linked l x t t h (sym (ap (λ (b : Bool). cond b t 65535) (eq-eqb (getD l x 0) 0 e)))
+linked-first l x t h e = linked l x t t h (sym (ap (λ (b : Bool). cond b t manyParents) (eq-eqb (getD l x 0) 0 e)))
 
-pub linked-again : (l : List ℕ) (x t : ℕ) → x < length l → (getD l x 0 ≡ 0 → ⊥) → Linked l (set l x 65535) x t
-linked-again l x t h n = linked l x t 65535 h (sym (ap (λ (b : Bool). cond b t 65535) (ne-eqb (getD l x 0) 0 n)))
+pub linked-again : (l : List ℕ) (x t : ℕ) → x < length l → (getD l x 0 ≡ 0 → ⊥) → Linked l (set l x manyParents) x t
+linked-again l x t h n = linked l x t manyParents h (sym (ap (λ (b : Bool). cond b t manyParents) (ne-eqb (getD l x 0) 0 n)))
 
 -- ---- the children of a shape, one after the other
 step : (b : Bool) (v t : ℕ) → cond b (linkStep v t) v ≡ linkTimes (cond b 1 0) v t
@@ -112,21 +112,28 @@ pub by-shape : (n : ℕ) {x y : Shape} → x ≡ y → ChildrenBelow x n → Chi
 by-shape n e h = subst (λ (z : Shape). ChildrenBelow z n) e h
 
 -- ---- a record's children
+two-below : (t a b n : ℕ) → a < t → b < t → t ≤ n → TwoBelow a b n
+two-below t a b n h g l = record { first = omega arith; second = omega arith }
+
 children-below : (k : Kind) (t a b d n : ℕ) → Below (format k) t a b d → t ≤ n → ChildrenBelow (childrenOf k a b d) n
 children-below Boolean t a b d n w l = tt
 children-below Number t a b d n w l = tt
 children-below Variable t a b d n w l = tt
 children-below Function t a b d n w l = omega (arith, w .second-below refl)
-children-below Letrec t a b d n w l = (omega (arith, w .second-below refl), omega (arith, w .third-below refl))
-children-below Call t a b d n w l = (omega (arith, w .first-below refl), omega (arith, w .second-below refl))
-children-below If t a b d n w l = (omega (arith, w .first-below refl), omega (arith, w .second-below refl), omega (arith, w .third-below refl))
+children-below Letrec t a b d n w l = two-below t b d n (w .second-below refl) (w .third-below refl) l
+children-below Call t a b d n w l = two-below t a b n (w .first-below refl) (w .second-below refl) l
+children-below If t a b d n w l = record {
+  first = omega (arith, w .first-below refl);
+  second = omega (arith, w .second-below refl);
+  third = omega (arith, w .third-below refl);
+}
 children-below Check t a b d n w l = omega (arith, w .first-below refl)
 children-below Enable t a b d n w l = omega (arith, w .first-below refl)
 children-below Sign t a b d n w l = omega (arith, w .first-below refl)
-children-below Test t a b d n w l = (omega (arith, w .first-below refl), omega (arith, w .second-below refl))
-children-below Sum t a b d n w l = (omega (arith, w .first-below refl), omega (arith, w .second-below refl))
-children-below Difference t a b d n w l = (omega (arith, w .first-below refl), omega (arith, w .second-below refl))
-children-below Less t a b d n w l = (omega (arith, w .first-below refl), omega (arith, w .second-below refl))
+children-below Test t a b d n w l = two-below t a b n (w .first-below refl) (w .second-below refl) l
+children-below Sum t a b d n w l = two-below t a b n (w .first-below refl) (w .second-below refl) l
+children-below Difference t a b d n w l = two-below t a b n (w .first-below refl) (w .second-below refl) l
+children-below Less t a b d n w l = two-below t a b n (w .first-below refl) (w .second-below refl) l
 children-below Post t a b d n w l = omega (arith, w .first-below refl)
 
 among-times : (k : Kind) (y a b d : ℕ) → among y (childrenOf k a b d)
@@ -155,11 +162,11 @@ right-shape : (s : List ℕ) (t : ℕ) → termOk s t ≡ true → shapeAt s t �
 unfolding shapeAt
 right-shape s t h = ap (λ (b : Bool). shapeIf b (childrenOf (kindOf (kindByte s t)) (first s t) (second s t) (third s t))) h
 
-module _ (s : List ℕ) (T : TermsOk s) (few : terms s ≤ 1024) (t : ℕ) (h : t < terms s) {x : Shape} (e : x ≡ shapeAt s t) where
-  pub shape-below : ChildrenBelow x 1024
+module _ (s : List ℕ) (T : TermsOk s) (few : terms s ≤ maxTerms) (t : ℕ) (h : t < terms s) {x : Shape} (e : x ≡ shapeAt s t) where
+  pub shape-below : ChildrenBelow x maxTerms
   shape-below =
-      subst (λ (z : Shape). ChildrenBelow z 1024) (sym (e ∙ right-shape s t (terms-ok s T t h)))
-      (children-below (kindOf (kindByte s t)) t (first s t) (second s t) (third s t) 1024 (below-of s t (terms-ok s T t h)) (omega arith))
+      subst (λ (z : Shape). ChildrenBelow z maxTerms) (sym (e ∙ right-shape s t (terms-ok s T t h)))
+      (children-below (kindOf (kindByte s t)) t (first s t) (second s t) (third s t) maxTerms (below-of s t (terms-ok s T t h)) (omega arith))
 
   among-is : (y : ℕ) → among y x ≡ timesIn s y t
   among-is y = ap (among y) (e ∙ right-shape s t (terms-ok s T t h)) ∙ among-times (kindOf (kindByte s t)) y (first s t) (second s t) (third s t)
@@ -218,15 +225,15 @@ pub record Noted (s l : List ℕ) (n t : ℕ) : Type 0 where
   pub room : length l ≡ maxTerms
   pub links : Links s l t
 
-pub links-none : (s : List ℕ) → Links s (replicate 1024 0) 0
-links-none s = record { each = λ x h. getD-replicate 1024 x 0 0 h }
+pub links-none : (s : List ℕ) → Links s (replicate maxTerms 0) 0
+links-none s = record { each = λ x h. getD-replicate maxTerms x 0 0 h }
 
-many : (k t : ℕ) → linkTimes k 65535 t ≡ 65535
+many : (k t : ℕ) → linkTimes k manyParents t ≡ manyParents
 many zero t = refl
 many (suc k) t = many k t
 
-noted : (v t : ℕ) → 0 < v → linkStep v t ≡ 65535
-noted v t h = ap (λ (b : Bool). cond b t 65535) (ne-eqb v 0 (λ e. omega arith))
+noted : (v t : ℕ) → 0 < v → linkStep v t ≡ manyParents
+noted v t h = ap (λ (b : Bool). cond b t manyParents) (ne-eqb v 0 (λ e. omega arith))
 
 abbrev pick : Bool → (p t : ℕ) → ℕ
 pick b p t = elim b [ true ↦ p | false ↦ t ]
@@ -245,7 +252,7 @@ link-more (suc k) (suc (suc m)) p t hp ht =
     let e : suc (suc (suc k + m)) ≡ suc k + suc (suc m) = omega arith in
     many k t ∙ ap (λ (z : ℕ). linkOf z (pick (eqb (suc k) 0) p t)) e
 
-pub links-more : (s : List ℕ) → TermsOk s → terms s ≤ 1024 → (t : ℕ) → t < terms s → {x : Shape} → x ≡ shapeAt s t → (l l′ : List ℕ) → length l ≡ 1024
+pub links-more : (s : List ℕ) → TermsOk s → terms s ≤ maxTerms → (t : ℕ) → t < terms s → {x : Shape} → x ≡ shapeAt s t → (l l′ : List ℕ) → length l ≡ maxTerms
     → Links s l t → LinkedAll l l′ x t → Links s l′ (t + 1)
 links-more s T few t h {x} e l l′ k w v = record {
   each = λ y g.
@@ -257,13 +264,13 @@ links-more s T few t h {x} e l l′ k w v = record {
 }
 
 -- ---- what it says of a term's place
-parents-due : (m p : ℕ) (r : Bool) → (0 < m → 0 < p) → (0 < m → p < 65535)
-    → cond r (eqb (linkOf m p) 0) (not (eqb (linkOf m p) 0) && not (eqb (linkOf m p) 65535)) ≡ eqb m (cond r 0 1)
+parents-due : (m p : ℕ) (r : Bool) → (0 < m → 0 < p) → (0 < m → p < manyParents)
+    → cond r (eqb (linkOf m p) 0) (not (eqb (linkOf m p) 0) && not (eqb (linkOf m p) manyParents)) ≡ eqb m (cond r 0 1)
 parents-due zero p true hp hq = refl
 parents-due zero p false hp hq = refl
 parents-due (suc zero) p true hp hq = ne-eqb p 0 (λ e. omega (arith, hp (omega arith)))
 parents-due (suc zero) p false hp hq =
-    (λ i. not (ne-eqb p 0 (λ e. omega (arith, hp (omega arith))) i) && not (ne-eqb p 65535 (λ e. omega (arith, hq (omega arith))) i))
+    (λ i. not (ne-eqb p 0 (λ e. omega (arith, hp (omega arith))) i) && not (ne-eqb p manyParents (λ e. omega (arith, hq (omega arith))) i))
 parents-due (suc (suc m)) p true hp hq = sym (ne-eqb (suc (suc m)) 0 (λ e. omega arith))
 parents-due (suc (suc m)) p false hp hq = sym (ne-eqb (suc (suc m)) 1 (λ e. omega arith))
 
@@ -334,17 +341,17 @@ root-is t n h = elim (ℕ-discrete (t + 1) n) [
 ]
 
 module _ (s : List ℕ) (c : TableCounts) (L : Laid s c) (T : TermsOk s) (t : ℕ) (h : t < terms s) (l : List ℕ) (w : Links s l (terms s)) where
-  few : terms s ≤ 1024
+  few : terms s ≤ maxTerms
   few = fields-ok s (L .none-found) .terms-high
 
-  pub place-is : {n body sig : Bool} → n ≡ cond (eqb (t + 1) (c .terms)) (eqb (getD l t 0) 0) (not (eqb (getD l t 0) 0) && not (eqb (getD l t 0) 65535))
+  pub place-is : {n body sig : Bool} → n ≡ cond (eqb (t + 1) (c .terms)) (eqb (getD l t 0) 0) (not (eqb (getD l t 0) 0) && not (eqb (getD l t 0) manyParents))
       → body ≡ signedBody s (formatAt s t .second) (second s t) → sig ≡ isSign s t → (n && body && (not (eqb (t + 1) (c .terms)) || sig)) ≡ placedOk s t
   place-is {n} {body} {sig} en eb es =
       let some : 1 ≤ terms s = fields-ok s (L .none-found) .terms-low in
       let r : eqb (t + 1) (c .terms) ≡ eqb t (root s) = ap (eqb (t + 1)) (L .counts-are .terms-are) ∙ root-is t (terms s) some in
       let p : n ≡ eqb (timesBelow s t (terms s)) (cond (eqb t (root s)) 0 1) =
       en ∙ (λ i. cond (r i) (eqb (w .each t (omega (arith, few)) i) 0)
-      (not (eqb (w .each t (omega (arith, few)) i) 0) && not (eqb (w .each t (omega (arith, few)) i) 65535)))
+      (not (eqb (w .each t (omega (arith, few)) i) 0) && not (eqb (w .each t (omega (arith, few)) i) manyParents)))
       ∙ parents-due (timesBelow s t (terms s)) (parent s t (terms s)) (eqb t (root s))
       (λ g. omega (arith, parent-higher s T t (terms s) (omega arith) g .above))
       (λ g. omega (arith, few, parent-higher s T t (terms s) (omega arith) g .inside)) in

@@ -35,9 +35,13 @@ pub record TableTerm (s : List ℕ) (c : Counts) (t : ℕ) : Type 0 where
   pub inside : t < terms s
 
 -- ---- parents
+-- what is noted for a term with more than one parent: the largest number of 16 bits, which no term has
+abbrev pub manyParents : ℕ
+manyParents = 65535
+
 -- one more parent is noted for x, and the other entries are as they were
 abbrev pub linkStep : (old t : ℕ) → ℕ
-linkStep old t = cond (eqb old 0) t 65535
+linkStep old t = cond (eqb old 0) t manyParents
 
 abbrev pub Linked : (old new : List ℕ) (x t : ℕ) → Type 0
 Linked old new x t = (y : ℕ) → y < length old → getD new y 0 ≡ cond (eqb x y) (linkStep (getD old y 0) t) (getD old y 0)
@@ -63,20 +67,30 @@ among y Wrong = 0
 abbrev pub LinkedAll : (old new : List ℕ) → Shape → (t : ℕ) → Type 0
 LinkedAll old new x t = (y : ℕ) → y < length old → getD new y 0 ≡ linkTimes (among y x) (getD old y 0) t
 
+-- the numbers of the children are below n
+pub record TwoBelow (a b n : ℕ) : Type 0 where
+  pub first : a < n
+  pub second : b < n
+
+pub record ThreeBelow (a b d n : ℕ) : Type 0 where
+  pub first : a < n
+  pub second : b < n
+  pub third : d < n
+
 abbrev pub ChildrenBelow : Shape → (n : ℕ) → Type 0
 ChildrenBelow Leaf n = Unit {0}
 ChildrenBelow (One a) n = a < n
-ChildrenBelow (Two a b) n = (a < n) × (b < n)
-ChildrenBelow (Three a b d) n = (a < n) × (b < n) × (d < n)
+ChildrenBelow (Two a b) n = TwoBelow a b n
+ChildrenBelow (Three a b d) n = ThreeBelow a b d n
 ChildrenBelow (FunctionShape b) n = b < n
-ChildrenBelow (LetrecShape b d) n = (b < n) × (d < n)
+ChildrenBelow (LetrecShape b d) n = TwoBelow b d n
 ChildrenBelow Wrong n = Unit {0}
 
 -- what is noted for a term that stands so often as a child, p being its parent
 abbrev pub linkOf : (times p : ℕ) → ℕ
 linkOf zero p = 0
 linkOf (suc zero) p = p
-linkOf (suc (suc n)) p = 65535
+linkOf (suc (suc n)) p = manyParents
 
 -- the list has what the first so many terms note
 pub record Links (s l : List ℕ) (t : ℕ) : Type 0 where

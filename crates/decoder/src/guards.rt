@@ -7,6 +7,7 @@ ghost use Rattle.accessors.specs.Internal.{Laid};
 ghost use Rattle.program.specs.Search.{foundOf};
 use accessors::guard;
 use program::limits::MAX_CHANNELS;
+use program::limits::MAX_PRIVILEGE;
 use program::limits::NO_GUARD;
 use program::records::Counts;
 use program::search::Found;
@@ -19,7 +20,7 @@ pub fn bad_guard(s: &[u8], c: Counts) -> Found
     let mut channel = 0;
     while channel < MAX_CHANNELS {
         let g = guard(s, c, channel);
-        if !((g <= 31) | (g == NO_GUARD)) {
+        if !((g <= MAX_PRIVILEGE) | (g == NO_GUARD)) {
             return Found::At(channel as u16);
         }
         channel += 1;

@@ -8,7 +8,7 @@ ghost use Rattle.program.specs.Layout.{second, terms};
 ghost use Rattle.program.specs.Screening.{lowest};
 ghost use Rattle.program.specs.Decoding.{formatAt, isSign, signedBody, placedOk};
 ghost use Rattle.program.specs.Search.{foundOf};
-ghost use Rattle.decoder.specs.Internal.{Tables, TableTerm, Linked, ChildrenBelow, LinkedAll, Links, LinkedTables, LinkedTerm};
+ghost use Rattle.decoder.specs.Internal.{Tables, TableTerm, Linked, ChildrenBelow, LinkedAll, Links, LinkedTables, LinkedTerm, manyParents};
 use accessors::table_term;
 use program::limits::TERM_PLACES;
 use program::records::Counts;
@@ -16,7 +16,10 @@ use program::search::Found;
 use termrecords::Shape;
 use termrecords::shape_at;
 
-// Notes t as the parent of x. A parent has a higher number than its child, so that 0 stands for none, and 65535 for more than one.
+// Noted for a term with more than one parent: no term has so high a number.
+const MANY_PARENTS: u16 = 65535;
+
+// Notes t as the parent of x. A parent has a higher number than its child, so that 0 stands for none.
 fn link(parents: &mut [u16], x: u16, t: u16)
     requires { ⌜ x < length (now parents) ⌝ }
     ensures { λ _. ⌜ Linked (now (parents .entry)) (now (parents .exit)) x t ⌝ }
@@ -25,7 +28,7 @@ fn link(parents: &mut [u16], x: u16, t: u16)
     if parents[i] == 0 {
         parents[i] = t;
     } else {
-        parents[i] = 65535;
+        parents[i] = MANY_PARENTS;
     }
 }
 
@@ -55,7 +58,7 @@ fn link_all(parents: &mut [u16], x: Shape, t: u16)
     }
 }
 
-// Each term's parent, 0 where there is none and 65535 where there are several.
+// Each term's parent, 0 where there is none and MANY_PARENTS where there are several.
 pub fn parents_of(s: &[u8], c: Counts) -> [u16; TERM_PLACES]
     requires { ⌜ Tables (now s) c ⌝ }
     ensures { λ r. ⌜ Links (now (s .entry)) r (terms (now (s .entry))) ⌝ }
@@ -93,12 +96,12 @@ fn body_signed(s: &[u8], c: Counts, t: u16) -> bool
 
 // Whether the parents noted for a term are those that are due: none for the root, and one for any other.
 fn parents_ok(p: u16, root: bool) -> bool
-    ensures { λ r. ⌜ r ≡ cond root (eqb p 0) (not (eqb p 0) && not (eqb p 65535)) ⌝ }
+    ensures { λ r. ⌜ r ≡ cond root (eqb p 0) (not (eqb p 0) && not (eqb p manyParents)) ⌝ }
 {
     if root {
         p == 0
     } else {
-        (p != 0) & (p != 65535)
+        (p != 0) & (p != MANY_PARENTS)
     }
 }
 

@@ -8,7 +8,7 @@ use lib.ListN.{length, take, getD, set, length-append}
 use lib.Seq.{take-suc, take-all, take-suc-set}
 use Rattle.text.specs.Text.{digit, decimal, hexadecimal}
 use Rattle.text.specs.Theorems.{decimal-most, one-digit, tenth}
-use Rattle.drafts.specs.Internal.{held, Appended, Holds, Blank}
+use Rattle.drafts.specs.Internal.{contents, Appended, Holds, Blank, draftBytes}
 use Rattle.drafts.specs.declared.draft.Draft.{Draft}
 
 -- ---- pieces
@@ -16,23 +16,23 @@ pub put-held : (l : List ℕ) (n b : ℕ) → n < length l → take (n + 1) (set
 put-held l n b h = rw add-one (take-suc-set l n b h)
 
 pub none-more : (d : Draft) → Appended d [] 0 d
-none-more d = record { held-is = sym (append-nil (held d)); len-most = omega arith }
+none-more d = record { contents-are = sym (append-nil (contents d)); len-most = omega arith }
 
 pub chained : (most : ℕ) {d u r : Draft} {a b : List ℕ} {m n : ℕ} → m + n ≤ most → Appended d a m u → Appended u b n r → Appended d (a ++ b) most r
 chained most {d = d} {a = a} {b = b} h p q = record {
-  held-is = q .held-is ∙ ap (λ (xs : List ℕ). xs ++ b) (p .held-is) ∙ append-assoc (held d) a b;
+  contents-are = q .contents-are ∙ ap (λ (xs : List ℕ). xs ++ b) (p .contents-are) ∙ append-assoc (contents d) a b;
   len-most = omega (arith, p .len-most, q .len-most);
 }
 
 pub from-blank : {d r : Draft} {a : List ℕ} {m : ℕ} → Blank d → Appended d a m r → Holds a m r
 from-blank {d = d} {a = a} b p = record {
-  held-is = p .held-is ∙ ap (λ (n : ℕ). take n (d .bytes) ++ a) (b .len-is);
+  contents-are = p .contents-are ∙ ap (λ (n : ℕ). take n (d .bytes) ++ a) (b .len-is);
   len-most = omega (arith, p .len-most, b .len-is);
 }
 
 pub then-held : (most : ℕ) {d r : Draft} {a b : List ℕ} {m n : ℕ} → m + n ≤ most → Holds a m d → Appended d b n r → Holds (a ++ b) most r
 then-held most {b = b} h p q = record {
-  held-is = q .held-is ∙ ap (λ (xs : List ℕ). xs ++ b) (p .held-is);
+  contents-are = q .contents-are ∙ ap (λ (xs : List ℕ). xs ++ b) (p .contents-are);
   len-most = omega (arith, p .len-most, q .len-most);
 }
 
@@ -47,7 +47,7 @@ more {d = d} {r = r} s i h p = subst (λ (xs : List ℕ). Appended d xs (i + 1) 
 
 pub whole : {d r : Draft} (s : List ℕ) (i : ℕ) → WordBegun d s i r → length s ≤ i → Appended d s (length s) r
 whole {d = d} s i w g = record {
-  held-is = w .appended .held-is ∙ ap (λ (xs : List ℕ). held d ++ xs) (take-all i s g);
+  contents-are = w .appended .contents-are ∙ ap (λ (xs : List ℕ). contents d ++ xs) (take-all i s g);
   len-most = omega (arith, w .below, w .appended .len-most);
 }
 
@@ -76,6 +76,7 @@ followed {d = d} {u = u} {r = r} n g h p e q = subst (λ (xs : List ℕ). Append
     (chained _ (omega (arith, length-append (decimal (n / 10)) (digit (n % 10) ∷ []))) p (subst (λ (y : ℕ). Appended u (y ∷ []) 1 r) e q))
 
 -- there is room for the last digit: the array has 224 bytes, and a number takes at most 20
-pub fits-more : {d u : Draft} (n : ℕ) → 10 ≤ n → n < 2 ^ 64 → d .len + 20 ≤ 224 → Appended d (decimal (n / 10)) (length (decimal (n / 10))) u → u .len < 224
+pub fits-more : {d u : Draft} (n : ℕ) → 10 ≤ n → n < 2 ^ 64 → d .len + 20 ≤ draftBytes
+    → Appended d (decimal (n / 10)) (length (decimal (n / 10))) u → u .len < draftBytes
 fits-more n g h room p =
     omega (arith, p .len-most, decimal-most n, ap length (tenth n g h), length-append (decimal (n / 10)) (digit (n % 10) ∷ []))

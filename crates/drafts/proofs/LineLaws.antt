@@ -1,4 +1,4 @@
--- A line's text by the case that is printed.
+-- What the lines of the printed text are, case by case of the answer that is printed, as `drafts` puts them together.
 use mathlib.Core.Bool.{Bool, true, false, cond}
 use mathlib.Core.List.{List, _++_}
 use mathlib.Core.Path.{_≡_, sym, ap, _∙_}
@@ -12,8 +12,8 @@ use Rattle.interp.specs.declared.answer.Value.{Value}
 use Rattle.interp.specs.declared.answer.Value.the-variants.{Bool as VBool, Num}
 use Rattle.interp.specs.declared.answer.Outcome.{Outcome}
 use Rattle.interp.specs.declared.answer.Outcome.the-variants.{End, Stop as Stopped}
-use Rattle.text.specs.Text.{ascii, line, labelled, typeLine, at, outcomeText}
-use Rattle.drafts.specs.Internal.{held, Appended}
+use Rattle.text.specs.Text.{ascii, line, labelled, typeLine, placeText, outcomeText}
+use Rattle.drafts.specs.Internal.{contents, Appended}
 use Rattle.numbers.specs.Codes.{CodeIs}
 use Rattle.numbers.specs.declared.Code.{Code}
 use Rattle.drafts.specs.declared.draft.Draft.{Draft}
@@ -21,7 +21,7 @@ use Rattle.drafts.specs.declared.draft.Draft.{Draft}
 -- the same piece by an equation, in no less room
 pub same-piece : {d r : Draft} {a b : List ℕ} {m : ℕ} (most : ℕ) → m ≤ most → a ≡ b → Appended d a m r → Appended d b most r
 same-piece {d = d} most h e p = record {
-  held-is = p .held-is ∙ ap (λ (xs : List ℕ). held d ++ xs) e;
+  contents-are = p .contents-are ∙ ap (λ (xs : List ℕ). contents d ++ xs) e;
   len-most = omega (arith, p .len-most);
 }
 
@@ -44,8 +44,8 @@ abbrev shown : Outcome → List ℕ
 shown o = outcomeText (outcomeModel o)
 
 pub stop-shown : {d r : Draft} {o : Outcome} {x : Stop} {n : Code} → o ≡ Stopped x → CodeIs (stopCause x) (stopPlace x) n
-    → Appended d (labelled "stop " (n .cause) ++ at (n .place)) 49 r → Appended d (shown o) 49 r
-stop-shown e k p = same-piece 49 (omega arith) ((λ i. labelled "stop " (k .cause-is i) ++ at (k .place-is i)) ∙ sym (ap shown e)) p
+    → Appended d (labelled "stop " (n .cause) ++ placeText (n .place)) 49 r → Appended d (shown o) 49 r
+stop-shown e k p = same-piece 49 (omega arith) ((λ i. labelled "stop " (k .cause-is i) ++ placeText (k .place-is i)) ∙ sym (ap shown e)) p
 
 module _ {o : Outcome} {v : Value} (e : o ≡ End v) where
   ending-is : (w : Value) → v ≡ w → ending w ≡ shown o

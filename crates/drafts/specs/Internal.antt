@@ -5,8 +5,12 @@ use Prim.Native.Nat.{ℕ, _+_, _≤_}
 use lib.ListN.{take}
 use Rattle.drafts.specs.declared.draft.Draft.{Draft}
 
-abbrev pub held : Draft → List ℕ
-held d = take (d .len) (d .bytes)
+-- room for the longest text, which has 209 bytes
+abbrev pub draftBytes : ℕ
+draftBytes = 224
+
+abbrev pub contents : Draft → List ℕ
+contents d = take (d .len) (d .bytes)
 
 -- nothing yet
 pub record Blank (r : Draft) : Type 0 where
@@ -14,10 +18,10 @@ pub record Blank (r : Draft) : Type 0 where
 
 -- a piece more, of at most so many bytes
 pub record Appended (d : Draft) (piece : List ℕ) (most : ℕ) (r : Draft) : Type 0 where
-  pub held-is : held r ≡ held d ++ piece
+  pub contents-are : contents r ≡ contents d ++ piece
   pub len-most : r .len ≤ d .len + most
 
 -- the text alone, of at most so many bytes
 pub record Holds (text : List ℕ) (most : ℕ) (r : Draft) : Type 0 where
-  pub held-is : held r ≡ text
+  pub contents-are : contents r ≡ text
   pub len-most : r .len ≤ most

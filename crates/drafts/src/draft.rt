@@ -1,13 +1,16 @@
-// A text as it grows, by value. 224 bytes hold the longest one: a number takes at most 20.
+// A text as it grows, by value.
 ghost use mathlib.Core.List.{[], _∷_};
 ghost use mathlib.Core.Path.{_≡_};
 ghost use Prim.Native.Nat.{_+_, _<_, _≤_};
 ghost use lib.ListN.{length};
 ghost use Rattle.text.specs.Text.{digit as digitOf, decimal as decimalOf, hexadecimal as hexadecimalOf};
-ghost use Rattle.drafts.specs.Internal.{Blank, Appended};
+ghost use Rattle.drafts.specs.Internal.{Blank, Appended, draftBytes};
+
+// Bytes of a draft: they hold the longest text, of which a number takes at most 20.
+pub const DRAFT_BYTES: usize = 224;
 
 pub struct Draft {
-    pub bytes: [u8; 224],
+    pub bytes: [u8; DRAFT_BYTES],
     pub len: usize,
 }
 
@@ -15,14 +18,14 @@ pub fn blank() -> Draft
     ensures { λ r. ⌜ Blank r ⌝ }
 {
     Draft {
-        bytes: [0; 224],
+        bytes: [0; DRAFT_BYTES],
         len: 0,
     }
 }
 
 // One byte more.
 pub fn put(d: Draft, b: u8) -> Draft
-    requires { ⌜ d .len < 224 ⌝ }
+    requires { ⌜ d .len < draftBytes ⌝ }
     ensures { λ r. ⌜ Appended d (b ∷ []) 1 r ⌝ }
 {
     let mut r = d;
@@ -33,7 +36,7 @@ pub fn put(d: Draft, b: u8) -> Draft
 }
 
 pub fn word(d: Draft, s: &[u8]) -> Draft
-    requires { ⌜ d .len + length (now s) ≤ 224 ⌝ }
+    requires { ⌜ d .len + length (now s) ≤ draftBytes ⌝ }
     ensures { λ r. ⌜ Appended d (now (s .entry)) (length (now (s .entry))) r ⌝ }
 {
     let mut r = d;
@@ -55,7 +58,7 @@ fn digit(n: u8) -> u8
 
 // The last `k` hexadecimal digits.
 pub fn hexadecimal(d: Draft, k: usize, n: u32) -> Draft
-    requires { ⌜ d .len + k ≤ 224 ⌝ }
+    requires { ⌜ d .len + k ≤ draftBytes ⌝ }
     ensures { λ r. ⌜ Appended d (hexadecimalOf k n) k r ⌝ }
 {
     if k == 0 {
@@ -68,7 +71,7 @@ pub fn hexadecimal(d: Draft, k: usize, n: u32) -> Draft
 
 // The last digit, behind those of the tenth if that is not 0.
 pub fn decimal(d: Draft, n: usize) -> Draft
-    requires { ⌜ d .len + 20 ≤ 224 ⌝ }
+    requires { ⌜ d .len + 20 ≤ draftBytes ⌝ }
     ensures { λ r. ⌜ Appended d (decimalOf n) (length (decimalOf n)) r ⌝ }
 {
     let last = digit((n % 10) as u8);

@@ -3,8 +3,8 @@ ghost use mathlib.Core.List.{_++_};
 ghost use Prim.Native.Nat.{_+_, _≤_};
 ghost use lib.ListN.{length};
 ghost use Rattle.interp.specs.Answers.{outcomeModel, countsModel};
-ghost use Rattle.text.specs.Text.{at as placeText, decimal as decimalOf, line, termsLine, needsLine, typeLine, acceptance as acceptanceOf, outcomeText, countsText, refusal as refusalOf};
-ghost use Rattle.drafts.specs.Internal.{Appended, Holds};
+ghost use Rattle.text.specs.Text.{placeText, decimal as decimalOf, line, termsLine, needsLine, typeLine, acceptanceText, outcomeText, countsText, refusalText};
+ghost use Rattle.drafts.specs.Internal.{Appended, Holds, draftBytes};
 use crate::draft::Draft;
 use crate::draft::blank;
 use crate::draft::decimal;
@@ -18,7 +18,7 @@ use numbers::of_stop;
 
 // A number behind its label.
 fn labelled(d: Draft, label: &[u8], n: usize) -> Draft
-    requires { ⌜ d .len + (length (now label) + 20) ≤ 224 ⌝ }
+    requires { ⌜ d .len + (length (now label) + 20) ≤ draftBytes ⌝ }
     ensures { λ r. ⌜ Appended d (now (label .entry) ++ decimalOf n) (length (now (label .entry)) + 20) r ⌝ }
 {
     let front = word(d, label);
@@ -26,7 +26,7 @@ fn labelled(d: Draft, label: &[u8], n: usize) -> Draft
 }
 
 fn terms_line(d: Draft, terms: u16) -> Draft
-    requires { ⌜ d .len + 27 ≤ 224 ⌝ }
+    requires { ⌜ d .len + 27 ≤ draftBytes ⌝ }
     ensures { λ r. ⌜ Appended d (termsLine terms) 27 r ⌝ }
 {
     let front = labelled(d, b"terms ", terms as usize);
@@ -34,7 +34,7 @@ fn terms_line(d: Draft, terms: u16) -> Draft
 }
 
 fn needs_line(d: Draft, needs: u32) -> Draft
-    requires { ⌜ d .len + 15 ≤ 224 ⌝ }
+    requires { ⌜ d .len + 15 ≤ draftBytes ⌝ }
     ensures { λ r. ⌜ Appended d (needsLine needs) 15 r ⌝ }
 {
     let front = word(d, b"needs ");
@@ -43,7 +43,7 @@ fn needs_line(d: Draft, needs: u32) -> Draft
 }
 
 fn type_line(d: Draft, ty: u16) -> Draft
-    requires { ⌜ d .len + 10 ≤ 224 ⌝ }
+    requires { ⌜ d .len + 10 ≤ draftBytes ⌝ }
     ensures { λ r. ⌜ Appended d (typeLine ty) 10 r ⌝ }
 {
     if ty == 0 {
@@ -54,7 +54,7 @@ fn type_line(d: Draft, ty: u16) -> Draft
 
 // What is printed of an accepted sheet before its run.
 fn acceptance(terms: u16, ty: u16, needs: u32) -> Draft
-    ensures { λ r. ⌜ Holds (acceptanceOf terms ty needs) 52 r ⌝ }
+    ensures { λ r. ⌜ Holds (acceptanceText terms ty needs) 52 r ⌝ }
 {
     let first = terms_line(blank(), terms);
     let second = needs_line(first, needs);
@@ -63,7 +63,7 @@ fn acceptance(terms: u16, ty: u16, needs: u32) -> Draft
 
 // A cause behind its label, and the place.
 fn placed(d: Draft, label: &[u8], n: Code) -> Draft
-    requires { ⌜ d .len + (length (now label) + 44) ≤ 224 ⌝ }
+    requires { ⌜ d .len + (length (now label) + 44) ≤ draftBytes ⌝ }
     ensures { λ r. ⌜ Appended d (now (label .entry) ++ decimalOf (n .cause) ++ placeText (n .place)) (length (now (label .entry)) + 44) r ⌝ }
 {
     let front = labelled(d, label, n.cause as usize);
@@ -71,7 +71,7 @@ fn placed(d: Draft, label: &[u8], n: Code) -> Draft
 }
 
 fn outcome(d: Draft, o: Outcome) -> Draft
-    requires { ⌜ d .len + 49 ≤ 224 ⌝ }
+    requires { ⌜ d .len + 49 ≤ draftBytes ⌝ }
     ensures { λ r. ⌜ Appended d (outcomeText (outcomeModel o)) 49 r ⌝ }
 {
     match o {
@@ -89,7 +89,7 @@ fn outcome(d: Draft, o: Outcome) -> Draft
 }
 
 fn counts(d: Draft, m: Made) -> Draft
-    requires { ⌜ d .len + 107 ≤ 224 ⌝ }
+    requires { ⌜ d .len + 107 ≤ draftBytes ⌝ }
     ensures { λ r. ⌜ Appended d (countsText (countsModel m)) 107 r ⌝ }
 {
     let calls = labelled(d, b" calls ", m.calls);
@@ -100,7 +100,7 @@ fn counts(d: Draft, m: Made) -> Draft
 
 // The whole print of an accepted sheet and its run.
 pub fn accepted(terms: u16, ty: u16, needs: u32, o: Outcome, m: Made) -> Draft
-    ensures { λ r. ⌜ Holds (acceptanceOf terms ty needs ++ line (outcomeText (outcomeModel o) ++ countsText (countsModel m))) 209 r ⌝ }
+    ensures { λ r. ⌜ Holds (acceptanceText terms ty needs ++ line (outcomeText (outcomeModel o) ++ countsText (countsModel m))) 209 r ⌝ }
 {
     let accepted = acceptance(terms, ty, needs);
     let ended = outcome(accepted, o);
@@ -110,7 +110,7 @@ pub fn accepted(terms: u16, ty: u16, needs: u32, o: Outcome, m: Made) -> Draft
 
 // The whole print of a refusal.
 pub fn refusal(n: Code) -> Draft
-    ensures { λ r. ⌜ Holds (refusalOf (n .cause) (n .place)) 53 r ⌝ }
+    ensures { λ r. ⌜ Holds (refusalText (n .cause) (n .place)) 53 r ⌝ }
 {
     let refused = placed(blank(), b"refused ", n);
     word(refused, b"\n")

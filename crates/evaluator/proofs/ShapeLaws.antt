@@ -1,5 +1,5 @@
 -- What evaluating a term of each shape is, by the interpreter's clauses, with its children evaluated at their own numbers. Assumes nothing.
-use mathlib.Core.Bool.{Bool, true, false}
+use mathlib.Core.Bool.{Bool, true, false, cond}
 use mathlib.Core.List.{List, [], _∷_}
 use mathlib.Core.Logic.{_⊎_, inl, inr, ⊎-elim}
 use mathlib.Core.Path.{_≡_, refl, sym, ap, ap₂, _∙_, fun-ext, subst}
@@ -12,7 +12,7 @@ use lib.Dec.{ltb, eqb}
 use lib.ListN.{length, getD, set}
 use lib.Seq.{getD-set-other}
 use borrow.Author.Tests.{eq-eqb, ne-eqb, le-leb, lt-leb, lt-ltb, le-ltb}
-use Rattle.stores.specs.Words.{pick, booleanWord, intervalWord, functionWord, stopWord, sortOf, payloadOf, envOf, isStop}
+use Rattle.stores.specs.Words.{booleanWord, intervalWord, functionWord, stopWord, sortOf, payloadOf, envOf, isStop}
 use Rattle.termtable.specs.Table.{wordKind, wordSmall, wordFirst, wordSecond, wordThird, wordGuard}
 use Rattle.stores.specs.Cells.{lookOf, Bound}
 use Rattle.access.specs.Access.{enableAccess, enableFrames, enabledNow, restoreFrames}
@@ -139,11 +139,11 @@ module _ {terms : List ℕ} {t x : ℕ} {h : Shape} (N : Node terms t x h) where
     child {u} e g = ap (below terms (applyAt terms k) t) (sym e) ∙ below-same terms (applyAt terms k) t 65536 u g (omega (arith, N .term-small))
 
 -- ---- one of two terms
-picked : {A : Type 0} (b : Bool) (u v : ℕ) (to : ℕ → A) → pick b (to u) (to v) ≡ to (pick b u v)
+picked : {A : Type 0} (b : Bool) (u v : ℕ) (to : ℕ → A) → cond b (to u) (to v) ≡ to (cond b u v)
 picked true u v to = refl
 picked false u v to = refl
 
-chosen-below : {u v t o : ℕ} (b : Bool) → o ≡ pick b u v → u < t → v < t → o < t
+chosen-below : {u v t o : ℕ} (b : Bool) → o ≡ cond b u v → u < t → v < t → o < t
 chosen-below true e l h = omega (arith, e, l)
 chosen-below false e l h = omega (arith, e, h)
 
@@ -246,7 +246,7 @@ module _ {terms : List ℕ} {t x : ℕ} (P : Pair terms t x) where
     where
       ending : Bool → Done
       ending c = andThen (evalAt terms k u env acc st)
-          (λ a st₁. andThen (evalAt terms k (wordSecond x) env acc st₁) (λ b st₂. pick c (applyAt terms k t a b acc st₂) (operateDone (wordKind x) t a b st₂)))
+          (λ a st₁. andThen (evalAt terms k (wordSecond x) env acc st₁) (λ b st₂. cond c (applyAt terms k t a b acc st₂) (operateDone (wordKind x) t a b st₂)))
 
       applied : wordKind x ≡ 5 → callS (below terms (applyAt terms k) t (wordFirst x)) (below terms (applyAt terms k) t (wordSecond x))
           (applyAt terms k) t env acc st
@@ -307,13 +307,13 @@ module _ {terms : List ℕ} {t x : ℕ} (F : First terms t x) where
     pub guard-of : 13 < o → Guard (wordGuard x)
     guard-of h = guard-right (post-node (F .node) (omega (arith, e, h))) refl
 
-    pub branch-below : {v z w : ℕ} → o ≡ 6 → v ≡ wordSecond x → z ≡ wordThird x → (b : Bool) → w ≡ pick b v z → w < t
+    pub branch-below : {v z w : ℕ} → o ≡ 6 → v ≡ wordSecond x → z ≡ wordThird x → (b : Bool) → w ≡ cond b v z → w < t
     branch-below six q r b p = chosen-below b p (second-below (if-node (sym e ∙ six)) refl q) (third-below (if-node (sym e ∙ six)) refl r)
 
   unfoldable pub firstEnd : (k env acc a : ℕ) → Store → Done
   firstEnd k env acc a st =
-      pick (ltb 13 (wordKind x)) (postDone t x acc a st)
-      (pick (eqb (wordKind x) 6) (branchS t a (evalAt terms k (wordSecond x) env acc st) (evalAt terms k (wordThird x) env acc st) st)
+      cond (ltb 13 (wordKind x)) (postDone t x acc a st)
+      (cond (eqb (wordKind x) 6) (branchS t a (evalAt terms k (wordSecond x) env acc st) (evalAt terms k (wordThird x) env acc st) st)
       (secondAt terms k t x env acc a st))
 
   pub first-is : (k env acc : ℕ) {u : ℕ} → u ≡ wordFirst x → (st : Store)
@@ -326,8 +326,8 @@ module _ {terms : List ℕ} {t x : ℕ} (F : First terms t x) where
     where
       ending : (isPost isIf : Bool) → Done
       ending b c = andThen (evalAt terms k u env acc st)
-          (λ a st₁. pick b (postDone t x acc a st₁)
-          (pick c (branchS t a (evalAt terms k (wordSecond x) env acc st₁) (evalAt terms k (wordThird x) env acc st₁) st₁)
+          (λ a st₁. cond b (postDone t x acc a st₁)
+          (cond c (branchS t a (evalAt terms k (wordSecond x) env acc st₁) (evalAt terms k (wordThird x) env acc st₁) st₁)
           (secondAt terms k t x env acc a st₁)))
 
   module _ (k env acc a : ℕ) (st : Store) {o : ℕ} (e : o ≡ wordKind x) where
@@ -355,7 +355,7 @@ module _ (t w : ℕ) (st : Store) {s n : ℕ} (e : s ≡ sortOf w) (z : s ≡ 0)
   unfolding branchS
   branch-undecided p q two r = simp (eq-eqb (sortOf w) 0 (sym e ∙ z), eq-eqb (payloadOf w) 2 (sym g ∙ two)) (ap (λ (x : ℕ). doneOf x st) (sym r))
 
-  pub branch-to : (terms : List ℕ) (k env acc u v : ℕ) {m o : ℕ} → (n ≡ 2 → ⊥) → m ≡ payloadOf w → o ≡ pick (ltb 0 m) u v
+  pub branch-to : (terms : List ℕ) (k env acc u v : ℕ) {m o : ℕ} → (n ≡ 2 → ⊥) → m ≡ payloadOf w → o ≡ cond (ltb 0 m) u v
       → branchS t w (evalAt terms k u env acc st) (evalAt terms k v env acc st) st ≡ evalAt terms k o env acc st
   unfolding branchS
   branch-to terms k env acc u v {m = m} other f o =
@@ -422,7 +422,7 @@ pub operate-calls : {k t a b r : ℕ} {n n′ : List ℕ} → Operated k t a b n
 unfolding operateCounters
 operate-calls {k} {a = a} {b = b} {n = n} d = omega (arith, ap (λ (m : List ℕ). callsLeft m) (d .counters-are), go (operateSaturates (modeOf n) k a b))
   where
-    go : (over : Bool) → callsLeft (pick over (countSaturated n) n) ≡ callsLeft n
+    go : (over : Bool) → callsLeft (cond over (countSaturated n) n) ≡ callsLeft n
     go true = getD-set-other n 4 0 (wrapped (saturatedMade n + 1)) 0 (λ e. omega (arith, e))
     go false = refl
 
@@ -445,6 +445,6 @@ module _ {t x acc w : ℕ} {n l f o n′ l′ f′ o′ : List ℕ} {r : ℕ} (a
       noted : List ℕ
       noted = noteCounters (guardDecides (modeOf n) x w) n o
 
-      go : (b : Bool) → callsLeft (pick b (set noted 2 (postsMade noted + 1)) noted) ≡ callsLeft noted
+      go : (b : Bool) → callsLeft (cond b (set noted 2 (postsMade noted + 1)) noted) ≡ callsLeft noted
       go true = getD-set-other noted 2 0 (postsMade noted + 1) 0 (λ e. omega (arith, e))
       go false = refl

@@ -1,4 +1,5 @@
 -- The contract of the evaluator's functions, said once: what they ask of the words of the terms, and what they give and leave.
+use mathlib.Core.Bool.{cond}
 use mathlib.Core.List.{List}
 use mathlib.Core.Logic.{_⊎_}
 use mathlib.Core.Path.{_≡_}
@@ -7,7 +8,6 @@ use lib.Dec.{eqb}
 use lib.ListN.{length, getD}
 use denote.Ref.{RefT}
 use Rattle.program.specs.Limits.{maxTerms}
-use Rattle.stores.specs.Words.{pick}
 use Rattle.termtable.specs.Table.{wordKind, wordSecond}
 use Rattle.machine.specs.Lower.{Lower}
 use Rattle.machine.specs.Steps.{callsLeft}
@@ -42,7 +42,7 @@ pub record Pair (terms : List ℕ) (t x : ℕ) : Type 0 where
 
 -- what a call or an operation goes on with after the word a of first: second, and then an application or a result
 unfoldable pub pairEnd : (terms : List ℕ) (depth t x acc a b : ℕ) → Store → Done
-pairEnd terms k t x acc a b st = pick (eqb (wordKind x) 5) (applyAt terms k t a b acc st) (operateDone (wordKind x) t a b st)
+pairEnd terms k t x acc a b st = cond (eqb (wordKind x) 5) (applyAt terms k t a b acc st) (operateDone (wordKind x) t a b st)
 
 abbrev pub secondAt : (terms : List ℕ) (depth t x env acc a : ℕ) → Store → Done
 secondAt terms k t x env acc a st = andThen (evalAt terms k (wordSecond x) env acc st) (λ b st₁. pairEnd terms k t x acc a b st₁)

@@ -9,7 +9,7 @@ use native.Mathlib.Decide.{decLt, ℕ-discrete}
 use native.Mathlib.Omega.{arith}
 use lib.Dec.{leb, eqb}
 use borrow.Author.Tests.{leb-true, ne-eqb}
-use Rattle.program.specs.Limits.{noGuard}
+use Rattle.program.specs.Limits.{noGuard, maxPrivilege}
 use Rattle.program.specs.Layout.{terms, guardByte, kindByte, small}
 use Rattle.program.specs.Formats.{Format, privilege, child, isChild, kindOf, format}
 use Rattle.program.specs.Records.{CountsOf}
@@ -18,7 +18,6 @@ use Rattle.program.specs.Laws.Readable.{WellFormed}
 use Rattle.program.specs.Laws.Guards.{channel-below, guard-low}
 use Rattle.program.specs.Laws.Records.{term-is, term-none, guard-is}
 use Rattle.program.specs.Laws.Trees.{below, parts}
-use Rattle.stores.specs.Words.{pick}
 use Rattle.termtable.specs.Table.{wordKind, wordGuard, Plain, Holds, Decoded}
 use Rattle.machine.specs.Steps.{Guard}
 use Rattle.machine.specs.Store.{shapeOf}
@@ -30,10 +29,10 @@ use Rattle.evaluator.specs.Contracts.{Table}
 -- the kind's format, with a privilege and children in the parts that its shape leaves alone
 used : (kind : ℕ) → Format
 used k = record {
-  small = pick (readsPrivilege (shapeOf k)) (format (kindOf k) .small) privilege;
-  first = pick (evaluatesFirst (shapeOf k)) (format (kindOf k) .first) child;
-  second = pick (evaluatesSecond (shapeOf k)) (format (kindOf k) .second) child;
-  third = pick (evaluatesThird (shapeOf k)) (format (kindOf k) .third) child;
+  small = cond (readsPrivilege (shapeOf k)) (format (kindOf k) .small) privilege;
+  first = cond (evaluatesFirst (shapeOf k)) (format (kindOf k) .first) child;
+  second = cond (evaluatesSecond (shapeOf k)) (format (kindOf k) .second) child;
+  third = cond (evaluatesThird (shapeOf k)) (format (kindOf k) .third) child;
 }
 
 full : (kind : ℕ) → Format
@@ -55,7 +54,7 @@ same = refl
 
 -- a guard is read at kind 14 alone
 guarded : (kind : ℕ) → ℕ
-guarded k = pick (readsGuard (shapeOf k)) k 14
+guarded k = cond (readsGuard (shapeOf k)) k 14
 
 guarded-same : listed guarded 15 ≡ listed (λ k. 14) 15
 unfolding guarded listed shapeOf
@@ -69,7 +68,7 @@ only-posts k h e = let p = same-at guarded (λ k. 14) 15 guarded-same k h in rw 
 never : {A : Type 0} → false ≡ true → A
 never e = absurd (false≢true e)
 
-guard-range : (x : ℕ) → (leb x 31 || eqb x noGuard) ≡ true → Guard x
+guard-range : (x : ℕ) → (leb x maxPrivilege || eqb x noGuard) ≡ true → Guard x
 guard-range x h n = guard-low x h x (λ i. cond (ne-eqb x noGuard n i) none (some x)) .1
 
 module _ {s : List ℕ} (w : WellFormed s) {c : Counts} (k : CountsOf s c) {t x : ℕ} (d : Holds s c t x) where
@@ -102,7 +101,11 @@ module _ {s : List ℕ} (w : WellFormed s) {c : Counts} (k : CountsOf s c) {t x 
           third-lower = λ e.
               let plain : Plain kind = record { no-sign = λ n. never (rw n at e); no-post = λ n. never (rw n at e) } in
               omega (arith, (rw r at (d .third-is)) plain, b .third-below (ap (λ (f : Format). isChild (f .third)) (rw e at u)));
-          privilege = λ e. omega (arith, rw r at (d .small-is), leb-true (small s t) 31 (rw (ap (λ (f : Format). f .small) (rw e at u)) at (p .small-ok)));
+          privilege = λ e. omega (
+            arith,
+            rw r at (d .small-is),
+            leb-true (small s t) maxPrivilege (rw (ap (λ (f : Format). f .small) (rw e at u)) at (p .small-ok)),
+          );
           guard = λ e. post-guard (only-posts kind low e);
         }
 

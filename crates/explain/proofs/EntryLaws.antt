@@ -8,7 +8,7 @@ use lib.Dec.{ltb, leb}
 use lib.ListN.{length, replicate}
 use borrow.Author.Tests.{lt-leb, le-leb}
 use Rattle.privileges.specs.Sets.{has}
-use Rattle.program.specs.Limits.{maxNesting}
+use Rattle.program.specs.Limits.{maxNesting, maxPrivilege}
 use Rattle.program.specs.Layout.{terms, root, authority, typesOf}
 use Rattle.program.specs.Screening.{Screening, clear, found, unlessFound}
 use Rattle.program.specs.Decoding.{decoding}
@@ -21,7 +21,7 @@ use Rattle.typing.specs.Answers.{faultCause, faultPlace, verdictModel}
 use Rattle.typing.specs.declared.answer.Fault.{Fault}
 use Rattle.typing.specs.declared.answer.Verdict.{Verdict as VerdictAnswer}
 use Rattle.typing.specs.declared.answer.Verdict.the-variants as answer
-use Rattle.subtyping.specs.Internal.{Sheet}
+use Rattle.accessors.specs.Internal.{FormedSheet}
 use Rattle.typing.specs.Places.{placedNumber, rootOf}
 use Rattle.chains.specs.Explaining.{needing, needs, chainOf, Explained as ExplainedOf, explained, not-needed, refused, explainedIn, explainedBy, explanation}
 use Rattle.chains.specs.Answers.{answerModel, chainTerms, chainLength, ExplainedAs}
@@ -52,7 +52,7 @@ module _ (s : List ℕ) (p : ℕ) {r : Explained} where
     pub refused-fault : {f : Fault} → v ≡ answer.Refused f → r ≡ unchained (Refused f) → ExplainedAs r (explanation s p)
     refused-fault {f} e q = by-verdict s p (rejected (faultCause f) (faultPlace f)) (ap verdictModel (sym e) ∙ w) (unchained-as (Refused f) _ q refl refl refl)
 
-    pub accepted-explained : {n τ N : ℕ} → v ≡ answer.Accepted n τ N → ExplainedAs r (explainedIn s p N (leb p 31)) → ExplainedAs r (explanation s p)
+    pub accepted-explained : {n τ N : ℕ} → v ≡ answer.Accepted n τ N → ExplainedAs r (explainedIn s p N (leb p maxPrivilege)) → ExplainedAs r (explanation s p)
     accepted-explained {n} {τ} {N} e t = by-verdict s p (accepted n τ N) (ap verdictModel (sym e) ∙ w) t
 
 -- the root's needs are those of the verdict
@@ -72,21 +72,21 @@ verdict-needs s p n τ N e = go (decoding s) e
     go clear e = conclusion-needs p (terms s) (root s) n τ N (judgement s) e
     go (found c at) e = let z : _≡_ {A = ℕ} 0 1 = cc in absurd (omega arith)
 
-pub accepted-needs : {s : List ℕ} {c : Counts} → Sheet s c → {v : VerdictAnswer} {n τ N : ℕ} → verdictModel v ≡ verdict s → v ≡ answer.Accepted n τ N
+pub accepted-needs : {s : List ℕ} {c : Counts} → FormedSheet s c → {v : VerdictAnswer} {n τ N : ℕ} → verdictModel v ≡ verdict s → v ≡ answer.Accepted n τ N
     → RootNeeds s c N
 accepted-needs {s} S {n = n} {τ = τ} {N = N} w e = record { sheet = S; needs-are = λ p. verdict-needs s p n τ N (ap verdictModel (sym e) ∙ w) }
 
 -- ---- an accepted sheet with its needs
 module _ (s : List ℕ) (p N : ℕ) {r : Explained} where
-  pub too-high : 31 < p → r ≡ unchained NoPrivilege → ExplainedAs r (explainedIn s p N (leb p 31))
-  too-high h q = rw (lt-leb p 31 h) (unchained-as NoPrivilege (refused 30 0) q refl refl refl)
+  pub too-high : maxPrivilege < p → r ≡ unchained NoPrivilege → ExplainedAs r (explainedIn s p N (leb p maxPrivilege))
+  too-high h q = rw (lt-leb p maxPrivilege h) (unchained-as NoPrivilege (refused 30 0) q refl refl refl)
 
-  module _ (h : p ≤ 31) {z : Bool} (e : z ≡ has p N) where
-    pub needed-not : z ≡ false → r ≡ unchained NotNeeded → ExplainedAs r (explainedIn s p N (leb p 31))
-    needed-not f q = rw (le-leb p 31 h, sym e ∙ f) (unchained-as NotNeeded not-needed q refl refl refl)
+  module _ (h : p ≤ maxPrivilege) {z : Bool} (e : z ≡ has p N) where
+    pub needed-not : z ≡ false → r ≡ unchained NotNeeded → ExplainedAs r (explainedIn s p N (leb p maxPrivilege))
+    needed-not f q = rw (le-leb p maxPrivilege h, sym e ∙ f) (unchained-as NotNeeded not-needed q refl refl refl)
 
-    pub needed : z ≡ true → ExplainedAs r (explained (map placedNumber (chainOf s p))) → ExplainedAs r (explainedIn s p N (leb p 31))
-    needed f t = rw (le-leb p 31 h, sym e ∙ f) t
+    pub needed : z ≡ true → ExplainedAs r (explained (map placedNumber (chainOf s p))) → ExplainedAs r (explainedIn s p N (leb p maxPrivilege))
+    needed f t = rw (le-leb p maxPrivilege h, sym e ∙ f) t
 
-pub needs-followable : {s : List ℕ} {c : Counts} {N : ℕ} → RootNeeds s c N → {p : ℕ} → p ≤ 31 → {z : Bool} → z ≡ has p N → z ≡ true → Followable s c p
+pub needs-followable : {s : List ℕ} {c : Counts} {N : ℕ} → RootNeeds s c N → {p : ℕ} → p ≤ maxPrivilege → {z : Bool} → z ≡ has p N → z ≡ true → Followable s c p
 needs-followable w {p} h e f = record { sheet = w .sheet; privilege = omega arith; needing = w .needs-are p ∙ sym e ∙ f }

@@ -3,15 +3,17 @@ use chains::answer::Explained;
 use chains::answer::Explanation;
 use following::chain::follow;
 use program::answer::Decoded;
+use program::limits::MAX_PRIVILEGE_NUMBER;
 use program::limits::NESTING_PLACES;
 use program::records::Counts;
 use typing::answer::Verdict;
 ghost use mathlib.Core.Path.{_≡_};
 ghost use lib.Dec.{leb};
-ghost use Rattle.checker.specs.Internal.{ReadableSheet};
+ghost use Rattle.accessors.specs.Internal.{ReadableSheet};
 ghost use Rattle.chains.specs.Explaining.{explainedIn, explanation};
 ghost use Rattle.chains.specs.Answers.{ExplainedAs};
 ghost use Rattle.following.specs.Internal.{unchained, RootNeeds};
+ghost use Rattle.program.specs.Limits.{maxPrivilege};
 
 // Why the sheet needs a privilege, on any bytes and any number: the type checker's refusals, then 30, then that it is not needed or the chain.
 pub fn explain(sheet: &[u8], privilege: u32) -> Explained
@@ -44,9 +46,9 @@ fn explain_readable(s: &[u8], c: Counts, privilege: u32) -> Explained
 // Why an accepted sheet with these needs has the privilege among them.
 fn explain_needs(s: &[u8], c: Counts, needs: u32, privilege: u32) -> Explained
     requires { ⌜ RootNeeds (now s) c needs ⌝ }
-    ensures { λ r. ⌜ ExplainedAs r (explainedIn (now (s .entry)) privilege needs (leb privilege 31)) ⌝ }
+    ensures { λ r. ⌜ ExplainedAs r (explainedIn (now (s .entry)) privilege needs (leb privilege maxPrivilege)) ⌝ }
 {
-    if 31 < privilege {
+    if MAX_PRIVILEGE_NUMBER < privilege {
         return without_chain(Explanation::NoPrivilege);
     }
     let p = privilege as u8;

@@ -18,7 +18,7 @@ use Rattle.typing.specs.Checking.{Judgement, typed, fault}
 use Rattle.typing.specs.declared.answer.Inferred.{Inferred}
 use Rattle.typing.specs.declared.answer.Inferred.the-variants.{Typed, Faulty}
 use Rattle.typing.proofs.answer.Inferred.{the-type}
-use Rattle.subtyping.specs.Internal.{Sheet}
+use Rattle.accessors.specs.Internal.{FormedSheet}
 use Rattle.subtyping.specs.Laws.Records.{type-parts}
 use Rattle.rules.specs.Inference.{inferredModel, context, termJudgement, Ready}
 use Rattle.rules.specs.Steps.{callStep}
@@ -29,7 +29,7 @@ use Rattle.chains.specs.Explaining.{needing, latentOf, needs, isCause}
 use Rattle.places.proofs.PlaceLaws.{_and_, all, among, at-record, most, term-of, tree-is}
 
 -- the latent set of a function type is that of its record
-pub latent-is : {s : List ℕ} {c : Counts} (S : Sheet s c) (p ty : ℕ) → typesOf s .isFun ty ≡ true → {f : TypeRecord} → f ≡ typeRecord s c ty → {r : Bool}
+pub latent-is : {s : List ℕ} {c : Counts} (S : FormedSheet s c) (p ty : ℕ) → typesOf s .isFun ty ≡ true → {f : TypeRecord} → f ≡ typeRecord s c ty → {r : Bool}
     → r ≡ has p (f .latent) → r ≡ has p (typesOf s .latent ty)
 latent-is S p ty h q g = g ∙ ap (has p) (type-parts S ty h q .latent-is)
 

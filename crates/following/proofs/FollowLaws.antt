@@ -9,17 +9,14 @@ use lib.ListN.{length, take, set, replicate, length-append}
 use lib.Seq.{set-append-seam, take-at}
 use Rattle.program.specs.Limits.{maxTypes, maxNesting}
 use Rattle.program.specs.Layout.{authority, typesOf}
-use Rattle.program.specs.Terms.{tree}
 use Rattle.program.specs.declared.records.Counts.{Counts}
 use Rattle.subtyping.proofs.KnownLaws.{known-none}
-use Rattle.rules.specs.Inference.{lastFirst, context}
-use Rattle.rules.specs.declared.bindings.Bindings.{Bindings}
-use Rattle.checker.proofs.VerdictLaws.{root-ready}
-use Rattle.typing.specs.Places.{Placed, placed, placedNumber, rootOf}
+use Rattle.typing.specs.Places.{Placed, placedNumber, rootOf}
 use Rattle.typing.specs.Laws.Places.{tree-number}
 use Rattle.chains.specs.Explaining.{needs, next, onward, chain, chainOf, explained}
 use Rattle.chains.specs.Answers.{ExplainedAs}
-use Rattle.places.specs.Internal.{placedAt}
+use Rattle.places.specs.Internal.{placedAt, AtRoot}
+use Rattle.places.proofs.PlaceLaws.{root-place-ready, root-placed}
 use Rattle.following.specs.Internal.{nextAt, Following, Stepped, Followable}
 use Rattle.chains.specs.declared.answer.Explanation.the-variants.{Chain}
 use Rattle.places.specs.declared.Place.{Place}
@@ -90,21 +87,17 @@ pub record FollowedTo (s : List ℕ) (c : Counts) (p : ℕ) (l terms : List ℕ)
   along : Along s p terms (chain-from s p (placedAt s at)) len
 
 -- at the root
-module _ {s : List ℕ} {c : Counts} {p : ℕ} (w : Followable s c p) (b : Bindings) (e : b .len ≡ 0) where
-  root-stands : placed (context b) 0 (tree s (c .terms - 1)) ≡ rootOf s
-  root-stands = λ i. placed (lastFirst (b .types) (e i)) 0 (tree s (w .sheet .counts .terms-are i - 1))
-
-  pub root-place : {l terms : List ℕ} → l ≡ replicate (maxTypes * 8) 0 → terms ≡ replicate maxNesting 0
-      → FollowedTo s c p l terms (record { term = c .terms - 1; bindings = b; principal = 0 }) 0
-  root-place k z = record {
-    following = record {
-      ready = root-ready (w .sheet) b e;
-      known = known-none (typesOf s) _ k;
-      privilege = w .privilege;
-      needing = ap (needs (typesOf s) (authority s) p) root-stands ∙ w .needing;
-    };
-    along = rw root-stands (along-none s p _ z);
-  }
+pub root-followed : {s : List ℕ} {c : Counts} {p : ℕ} → Followable s c p → {r : Child} → AtRoot c r → {l terms : List ℕ}
+    → l ≡ replicate (maxTypes * 8) 0 → terms ≡ replicate maxNesting 0 → FollowedTo s c p l terms (r .place) 0
+root-followed {s} {c} {p} w at-root k z = record {
+  following = record {
+    ready = root-place-ready (w .sheet) at-root;
+    known = known-none (typesOf s) _ k;
+    privilege = w .privilege;
+    needing = ap (needs (typesOf s) (authority s) p) (root-placed (w .sheet) at-root) ∙ w .needing;
+  };
+  along = rw (root-placed (w .sheet) at-root) (along-none s p _ z);
+}
 
 module _ {s : List ℕ} {c : Counts} {p : ℕ} {l terms : List ℕ} {at : Place} {len : ℕ} (w : FollowedTo s c p l terms at len) where
   -- a place more

@@ -10,7 +10,7 @@ use Rattle.program.specs.Limits.{maxNesting}
 use Rattle.program.specs.Layout.{Types, authority, typesOf}
 use Rattle.program.specs.Records.{termRecord}
 use Rattle.program.specs.declared.records.Counts.{Counts}
-use Rattle.subtyping.specs.Internal.{Sheet}
+use Rattle.accessors.specs.Internal.{FormedSheet}
 use Rattle.subtyping.specs.Known.{Known}
 use Rattle.typing.specs.Places.{Placed, placed, rootOf}
 use Rattle.chains.specs.Explaining.{needs, isCause, testsIt, next}
@@ -22,7 +22,7 @@ use Rattle.places.specs.declared.Child.{Child}
 
 -- a function type of a readable sheet, and a privilege
 pub record FunctionType (s : List ℕ) (c : Counts) (t p : ℕ) : Type 0 where
-  pub sheet : Sheet s c
+  pub sheet : FormedSheet s c
   pub is-function : typesOf s .isFun t ≡ true
   pub privilege : p < 32
 
@@ -86,14 +86,14 @@ pub record Stepped (s : List ℕ) (c : Counts) (p : ℕ) (r : Child) (due : Opti
 
 -- a readable sheet whose root needs p
 pub record Followable (s : List ℕ) (c : Counts) (p : ℕ) : Type 0 where
-  pub sheet : Sheet s c
+  pub sheet : FormedSheet s c
   pub privilege : p < 32
   pub needing : needs (typesOf s) (authority s) p (rootOf s) ≡ true
 
 -- ---- the entry
 -- a readable sheet whose root has these needs
 pub record RootNeeds (s : List ℕ) (c : Counts) (N : ℕ) : Type 0 where
-  pub sheet : Sheet s c
+  pub sheet : FormedSheet s c
   pub needs-are : (p : ℕ) → needs (typesOf s) (authority s) p (rootOf s) ≡ has p N
 
 -- an answer with no chain

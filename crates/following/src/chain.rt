@@ -9,11 +9,11 @@ use places::Child;
 use places::Place;
 use places::absent;
 use places::first_child;
+use places::root;
 use places::second_child;
 use places::third_child;
 use program::limits::NESTING_PLACES;
 use program::records::Counts;
-use rules::bindings::Bindings;
 use subtyping::known::KNOWN_WORDS;
 use subtyping::known::Known;
 use typing::answer::Inferred;
@@ -123,14 +123,8 @@ pub fn follow(s: &[u8], c: Counts, p: u8) -> Explained
 {
     let mut known: Known = [0; KNOWN_WORDS];
     let mut terms = [0u16; NESTING_PLACES];
-    let mut at = Place {
-        term: c.terms - 1,
-        bindings: Bindings {
-            types: [0; NESTING_PLACES],
-            len: 0,
-        },
-        principal: 0,
-    };
+    let top = root(c);
+    let mut at = top.place;
     let mut len: usize = 0;
     while len < NESTING_PLACES {
         terms[len] = at.term;

@@ -8,7 +8,7 @@ use lib.Dec.{leb, eqb}
 use lib.ListN.{length}
 use borrow.Author.Tests.{lt-leb, le-leb, eq-eqb, ne-eqb, leb-true, eqb-true}
 use Rattle.privileges.specs.Booleans.{and-left, and-right}
-use Rattle.program.specs.Limits.{maxChannels}
+use Rattle.program.specs.Limits.{maxChannels, maxPrincipals, maxTypes, maxTerms}
 use Rattle.program.specs.Bytes.{byte, word16}
 use Rattle.program.specs.Layout.{version, hasGuards, principals, typeField, types, termField, terms, guardField, channels}
 use Rattle.program.specs.Screening.{Condition, First, first-here, first-later, None, none-end, none-next, unless}
@@ -148,39 +148,39 @@ pub is-version : (s : List ℕ) {r : Version} {n : ℕ} → r ≡ Channels n →
 is-version s e h = subst (VersionIs s) e h
 
 module _ (s : List ℕ) {k : ℕ} (h₁ : VersionHolds s k) where
-  pub fault-2 : {c p : ℕ} → First c p (field s 5 2 (holds 4 1 32)) → First c p (fieldConditions s)
+  pub fault-2 : {c p : ℕ} → First c p (field s 5 2 (holds 4 1 maxPrincipals)) → First c p (fieldConditions s)
   fault-2 f = first-right (h₁ .none-found) (first-left _ f)
 
-  module _ {p : ℕ} (h₂ : FieldHolds s 5 2 4 1 32 p) where
+  module _ {p : ℕ} (h₂ : FieldHolds s 5 2 4 1 maxPrincipals p) where
     types-place : 8 + 4 * p ≡ typeField s
     types-place = omega (arith, h₂ .count)
 
-    pub fault-3 : {c q : ℕ} → First c q (field s (8 + 4 * p) 3 (holds 10 2 256)) → First c q (fieldConditions s)
+    pub fault-3 : {c q : ℕ} → First c q (field s (8 + 4 * p) 3 (holds 10 2 maxTypes)) → First c q (fieldConditions s)
     fault-3 {c} {q} f =
         first-right (h₁ .none-found) (first-right (h₂ .none-found)
-        (first-left _ (subst (λ (x : ℕ). First c q (field s x 3 (holds 10 2 256))) types-place f)))
+        (first-left _ (subst (λ (x : ℕ). First c q (field s x 3 (holds 10 2 maxTypes))) types-place f)))
 
-    module _ {y : ℕ} (h₃ : FieldHolds s (8 + 4 * p) 3 10 2 256 y) where
+    module _ {y : ℕ} (h₃ : FieldHolds s (8 + 4 * p) 3 10 2 maxTypes y) where
       types-are : y ≡ types s
       types-are = h₃ .count ∙ ap (λ (x : ℕ). word16 s (x + 1) / 10) types-place
 
       terms-place : 8 + 4 * p + 3 + 10 * y ≡ termField s
       terms-place = omega (arith, types-place, types-are)
 
-      none-3 : None (field s (typeField s) 3 (holds 10 2 256))
-      none-3 = subst (λ (x : ℕ). None (field s x 3 (holds 10 2 256))) types-place (h₃ .none-found)
+      none-3 : None (field s (typeField s) 3 (holds 10 2 maxTypes))
+      none-3 = subst (λ (x : ℕ). None (field s x 3 (holds 10 2 maxTypes))) types-place (h₃ .none-found)
 
-      pub fault-4 : {c q : ℕ} → First c q (field s (8 + 4 * p + 3 + 10 * y) 4 (holds 8 1 1024)) → First c q (fieldConditions s)
+      pub fault-4 : {c q : ℕ} → First c q (field s (8 + 4 * p + 3 + 10 * y) 4 (holds 8 1 maxTerms)) → First c q (fieldConditions s)
       fault-4 {c} {q} f =
           first-right (h₁ .none-found) (first-right (h₂ .none-found) (first-right none-3
-          (first-left _ (subst (λ (x : ℕ). First c q (field s x 4 (holds 8 1 1024))) terms-place f))))
+          (first-left _ (subst (λ (x : ℕ). First c q (field s x 4 (holds 8 1 maxTerms))) terms-place f))))
 
-      module _ {n : ℕ} (h₄ : FieldHolds s (8 + 4 * p + 3 + 10 * y) 4 8 1 1024 n) where
+      module _ {n : ℕ} (h₄ : FieldHolds s (8 + 4 * p + 3 + 10 * y) 4 8 1 maxTerms n) where
         terms-are : n ≡ terms s
         terms-are = h₄ .count ∙ ap (λ (x : ℕ). word16 s (x + 1) / 8) terms-place
 
-        none-4 : None (field s (termField s) 4 (holds 8 1 1024))
-        none-4 = subst (λ (x : ℕ). None (field s x 4 (holds 8 1 1024))) terms-place (h₄ .none-found)
+        none-4 : None (field s (termField s) 4 (holds 8 1 maxTerms))
+        none-4 = subst (λ (x : ℕ). None (field s x 4 (holds 8 1 maxTerms))) terms-place (h₄ .none-found)
 
         pub after-terms : AfterTerms s (8 + 4 * p + 3 + 10 * y + 3 + 8 * n) k
         after-terms = record {

@@ -5,6 +5,7 @@ use mathlib.Core.Path.{_≡_}
 use Prim.Native.Nat.{ℕ, _+_, _*_, _/_, _<_, _≤_}
 use lib.Dec.{eqb}
 use lib.ListN.{length}
+use Rattle.program.specs.Limits.{maxSheet}
 use Rattle.program.specs.Bytes.{word16}
 use Rattle.program.specs.Layout.{version, guardField, sheetEnd, channels}
 use Rattle.program.specs.Screening.{Condition, First, None, unless}
@@ -20,9 +21,10 @@ use Rattle.headers.specs.declared.End.the-variants.{Whole, Fault as EndF
 use Rattle.headers.specs.declared.Header.{Header}
 use Rattle.headers.specs.declared.Header.the-variants.{Laid as HeaderLaid, Fault as HeaderFault}
 
--- a field of records of this size can be sought here: no index is too large, and a length can be divided by the size
+-- a field of records of this size can be sought here: no index is too large, since a field begins before the end of the longest sheet, and a length can be
+-- divided by the size
 pub record FieldAt (at size : ℕ) : Type 0 where
-  pub near : at < 16384
+  pub near : at < maxSheet
   pub positive : 0 < size
 
 pub record FieldHolds (s : List ℕ) (at tag size least most n : ℕ) : Type 0 where
@@ -56,7 +58,7 @@ VersionIs s (VersionFault f) = First (decodingCause f) (decodingPlace f) (versio
 
 -- what the fifth field is sought from: where the terms end, and the sheet's channels
 pub record AfterTerms (s : List ℕ) (at n : ℕ) : Type 0 where
-  pub near : at < 16384
+  pub near : at < maxSheet
   pub place : at ≡ guardField s
   pub channels-are : n ≡ channels s
 

@@ -17,7 +17,7 @@ use Rattle.program.specs.Laws.Screening.{screen-clear, screen-found}
 use Rattle.program.specs.Laws.Readable.{well-formed}
 use Rattle.program.specs.declared.answer.Refusal.{Refusal}
 use Rattle.program.specs.declared.answer.Decoded.{Decoded}
-use Rattle.program.specs.declared.answer.Decoded.the-variants.{Readable as IsReadable, Refused as IsRefused}
+use Rattle.program.specs.declared.answer.Decoded.the-variants.{Readable as IsReadable, Refused as NotReadable}
 use Rattle.program.specs.declared.records.Counts.{Counts}
 use Rattle.interp.specs.Internal.{startRight, conditions, Cleared}
 
@@ -31,7 +31,7 @@ module _ (s start : List ℕ) (cells posts : ℕ) (frames : Bool) (calls depth :
 
   -- ---- a sheet that cannot be read
   module _ {d : Decoded} (p : decodedModel d ≡ decoding s) where
-    pub unreadable : {f : Refusal} → d ≡ IsRefused f → outcome ≡ found (decodingCause f) (decodingPlace f)
+    pub unreadable : {f : Refusal} → d ≡ NotReadable f → outcome ≡ found (decodingCause f) (decodingPlace f)
     unfolding decoding
     unreadable {f = f} e = screen-found (decodingConditions s) _ (decodingCause f) (decodingPlace f) (sym p ∙ ap decodedModel e)
 
@@ -72,7 +72,7 @@ module _ (s start : List ℕ) (cells posts : ℕ) (frames : Bool) (calls depth :
         record {
           none-found = answered-by ∙ (λ i. screen (callers (e i) (f i) (g i)));
           well-formed = well-formed s r;
-          counts-are = k;
+          counts = k;
           whole = record {
             few = leb-true (length start) maxStart (search (and-left, and-right));
             even = eqb-true (length start % 2) 0 (search (and-left, and-right));

@@ -16,7 +16,7 @@ use Rattle.program.specs.Laws.Readable.{WellFormed}
 use Rattle.program.specs.Laws.Records.{authority-is}
 use Rattle.program.specs.declared.records.Counts.{Counts}
 use Rattle.semantics.specs.Access.{Frame, privs}
-use Rattle.semantics.specs.Runs.{Runner, eager, lazy, Request, Buffers, Sizes, sizes, stack, known, runConditions, evaluation, evaluationIn, outcome, ran, left, counts, After, clearedFrames, run}
+use Rattle.semantics.specs.Runs.{Runner, eager, lazy, Request, Buffers, Sizes, sizes, stack, principalsKnown, runConditions, evaluation, evaluationIn, outcome, ran, left, counts, After, clearedFrames, run}
 use Rattle.semantics.specs.Meaning.{traced}
 use Rattle.semantics.specs.Recording.{decidedIn, decisionsMade, decisions, Recorded, withEntries, recording}
 use Rattle.semantics.specs.RecordTheorems.{traced-clear, refused-unrecorded}
@@ -39,7 +39,7 @@ use Rattle.interp.specs.declared.answer.RecordedRun.{RecordedRun}
 use Rattle.interp.specs.declared.answer.Tally.{Tally}
 use Rattle.interp.specs.declared.answer.Outcome.{Outcome}
 use Rattle.interp.specs.declared.answer.Admission.{Admission}
-use Rattle.interp.specs.declared.answer.Admission.the-variants.{Admitted, Refused as Rejected}
+use Rattle.interp.specs.declared.answer.Admission.the-variants.{Admitted, Refused as NotAdmitted}
 use Rattle.interp.proofs.StartLaws.{laid-length}
 
 -- ---- a run that is turned back
@@ -131,11 +131,12 @@ stack-length [] e = refl
 stack-length (x ∷ []) e = absurd (omega (arith, e))
 stack-length (x ∷ y ∷ l) e = omega (arith, stack-length l (omega (arith, e)))
 
-same-laid : (s : List ℕ) → WellFormed s → (fs : List Frame) → known (principals s) fs ≡ true → laidOut (authorityRecord s) fs ≡ laidOut (authority s) fs
+same-laid : (s : List ℕ) → WellFormed s → (fs : List Frame) → principalsKnown (principals s) fs ≡ true
+    → laidOut (authorityRecord s) fs ≡ laidOut (authority s) fs
 same-laid s w [] h = refl
 same-laid s w (f ∷ fs) h =
     let low : ltb (f .principal) (principals s) ≡ true = search and-left in
-    let rest : known (principals s) fs ≡ true = search (and-left, and-right) in
+    let rest : principalsKnown (principals s) fs ≡ true = search (and-left, and-right) in
     λ i. same-laid s w fs rest i ++ (authority-is s w (f .principal) (ltb-true (f .principal) (principals s) low) i ∷ f .enabled ∷ [])
 
 module _ (s start : List ℕ) (e : Bool) (cells posts noted : List ℕ) (calls depth : ℕ) {c : Counts} where
@@ -158,8 +159,8 @@ module _ (s start : List ℕ) (e : Bool) (cells posts noted : List ℕ) (calls d
   eager-after store {mode = mode} K a is v =
       let q = requestOf eager e start calls depth in
       let w = K .well-formed in
-      ran-after s q cells posts [] store noted (K .none-found) (answers-at eager [] store (K .counts-are) (access-is w a (K .all-known)) v)
-      (eager-refined s w c (K .counts-are) (v .terms) (v .table) q (buffersOf cells posts store) noted (K .depth-most) (K .cells-most) mode (is .enforce-is)
+      ran-after s q cells posts [] store noted (K .none-found) (answers-at eager [] store (K .counts) (access-is w a (K .all-known)) v)
+      (eager-refined s w c (K .counts) (v .terms) (v .table) q (buffersOf cells posts store) noted (K .depth-most) (K .cells-most) mode (is .enforce-is)
       (is .interval-is) (a .may) (privs (authority s) (stack start)) (is .lazy-is) (a .may-small) (access-may w a))
       refl
 
@@ -180,10 +181,10 @@ module _ (s start : List ℕ) (e : Bool) (cells posts noted : List ℕ) (calls d
       ap (λ (x : List ℕ). length x) g ∙ length-append (laidOut (authorityRecord s) (stack start)) _
       ∙ omega (arith, laid-length (authorityRecord s) start (K .whole .even), length-drop (length start) frames, long, K .whole .few) in
       let refined =
-      lazy-refined s w c (K .counts-are) (v .terms) (v .table) q (buffersOf cells posts store) noted (K .depth-most) (K .cells-most) mode (is .enforce-is)
+      lazy-refined s w c (K .counts) (v .terms) (v .table) q (buffersOf cells posts store) noted (K .depth-most) (K .cells-most) mode (is .enforce-is)
       (is .interval-is) (is .lazy-is) (stack start) (drop (length start) frames)
       (omega (arith, two, K .whole .few)) laid (kept ∙ long) in
-      let at-end = answers-at lazy frames store (K .counts-are) (a ∙ two) v in
+      let at-end = answers-at lazy frames store (K .counts) (a ∙ two) v in
       ran-after s q cells posts frames store noted (K .none-found) at-end refined
       (l ∙ ap zerosLike (at-end .tallied .frames-are) ∙ ap (λ (z : Sizes). replicate (z .frames) 0) (refined .same-sizes) ∙ ap (λ (n : ℕ). replicate n 0) kept)
 
@@ -193,13 +194,13 @@ module _ (s start : List ℕ) (e : Bool) (cells posts noted : List ℕ) (calls d
 
 -- ---- each runner turned back
 module _ (s start : List ℕ) (e : Bool) (cells posts noted : List ℕ) (calls depth : ℕ) where
-  pub eager-refused : {a : Admission} {f : Refusal} {r : RecordedRun} → a ≡ Rejected f → Admits s start (length cells) (length posts) true calls depth a
+  pub eager-refused : {a : Admission} {f : Refusal} {r : RecordedRun} → a ≡ NotAdmitted f → Admits s start (length cells) (length posts) true calls depth a
       → r ≡ rejectedRun f → afterRecording r cells posts [] noted ≡ recording s (requestOf eager e start calls depth) (buffersOf cells posts []) noted
   eager-refused {f = f} p h t =
       refused-after s (requestOf eager e start calls depth) cells posts [] noted f t
       (subst (Admits s start (length cells) (length posts) true calls depth) p h)
 
-  pub lazy-refused : (frames : List ℕ) {a : Admission} {f : Refusal} {r : RecordedRun} → a ≡ Rejected f
+  pub lazy-refused : (frames : List ℕ) {a : Admission} {f : Refusal} {r : RecordedRun} → a ≡ NotAdmitted f
       → Admits s start (length cells) (length posts) (eqb (length frames) frameNumbers) calls depth a → r ≡ rejectedRun f
       → afterRecording r cells posts frames noted ≡ recording s (requestOf lazy e start calls depth) (buffersOf cells posts frames) noted
   lazy-refused frames {f = f} p h t =

@@ -9,9 +9,10 @@ use lib.ListN.{length, getD, set, drop, drop-of-length-le, length-append, length
 use borrow.Author.Tests.{lt-ltb, le-ltb, lt-leb, le-leb, eq-eqb, ne-eqb}
 use Rattle.privileges.specs.Sets.{meet, union}
 use Rattle.semantics.specs.Access.{Frame, frame, privs}
-use Rattle.semantics.specs.Runs.{stack, known}
+use Rattle.semantics.specs.Runs.{stack, principalsKnown}
 use Rattle.refinement.specs.Claims.{laidOut}
 use Rattle.interp.specs.Internal.{startRight}
+use Rattle.program.specs.Limits.{maxStart}
 
 -- ---- one frame
 abbrev at : List ℕ → ℕ → ℕ
@@ -31,17 +32,17 @@ stack-end l i h = ap stack (drop-of-length-le l {i = i} h)
 pub record KnownBefore (count : ℕ) (l : List ℕ) (i : ℕ) : Type 0 where
   pub even : i % 2 ≡ 0
   pub below : i ≤ length l
-  pub rest-is : known count (stack l) ≡ known count (stack (drop i l))
+  pub rest-is : principalsKnown count (stack l) ≡ principalsKnown count (stack (drop i l))
 
 module _ (count : ℕ) (l : List ℕ) (i : ℕ) where
-  pub unknown-here : i + 1 < length l → count ≤ at l i → false ≡ known count (stack (drop i l))
+  pub unknown-here : i + 1 < length l → count ≤ at l i → false ≡ principalsKnown count (stack (drop i l))
   unknown-here h u = rw (stack-frame l i h, le-ltb (at l i) count u) refl
 
-  pub known-here : i + 1 < length l → at l i < count → known count (stack (drop i l)) ≡ known count (stack (drop (i + 2) l))
+  pub known-here : i + 1 < length l → at l i < count → principalsKnown count (stack (drop i l)) ≡ principalsKnown count (stack (drop (i + 2) l))
   known-here h u = rw (stack-frame l i h, lt-ltb (at l i) count u) refl
 
-  pub known-end : length l ≤ i → true ≡ known count (stack (drop i l))
-  known-end h = ap (known count) (sym (stack-end l i h))
+  pub known-end : length l ≤ i → true ≡ principalsKnown count (stack (drop i l))
+  known-end h = ap (principalsKnown count) (sym (stack-end l i h))
 
 -- ---- backwards: the frame before a place
 pub stack-before : (l : List ℕ) (j : ℕ) → 2 ≤ j → j ≤ length l → stack (drop (j - 2) l) ≡ frame (at l (j - 2)) (at l (j - 2 + 1)) ∷ stack (drop j l)
@@ -121,11 +122,11 @@ all-granted A l i h q =
 
 -- ---- 14, test by test
 module _ (count : ℕ) (l : List ℕ) where
-  pub start-long : 32 < length l → false ≡ startRight count l
-  start-long h = rw (lt-leb (length l) 32 h) refl
+  pub start-long : maxStart < length l → false ≡ startRight count l
+  start-long h = rw (lt-leb (length l) maxStart h) refl
 
-  pub start-half : length l ≤ 32 → (length l % 2 ≡ 0 → ⊥) → false ≡ startRight count l
-  start-half h e = rw (le-leb (length l) 32 h, ne-eqb (length l % 2) 0 e) refl
+  pub start-half : length l ≤ maxStart → (length l % 2 ≡ 0 → ⊥) → false ≡ startRight count l
+  start-half h e = rw (le-leb (length l) maxStart h, ne-eqb (length l % 2) 0 e) refl
 
-  pub start-whole : length l ≤ 32 → length l % 2 ≡ 0 → known count (stack l) ≡ startRight count l
-  start-whole h e = rw (le-leb (length l) 32 h, eq-eqb (length l % 2) 0 e) refl
+  pub start-whole : length l ≤ maxStart → length l % 2 ≡ 0 → principalsKnown count (stack l) ≡ startRight count l
+  start-whole h e = rw (le-leb (length l) maxStart h, eq-eqb (length l % 2) 0 e) refl

@@ -4,7 +4,7 @@ use mathlib.Core.List.{List}
 use Prim.Native.Nat.{ℕ}
 use Rattle.program.specs.Answers.{decodingCause, decodingPlace}
 use Rattle.semantics.specs.Runs as runs
-use Rattle.semantics.specs.Runs.{Runner, Request, Buffers, Ground, ground-bool, ground-num, ended, stopped, Counts, Answer, refused, ran, After}
+use Rattle.semantics.specs.Runs.{Runner, Request, Buffers, Ground, ground-bool, ground-num, ended, stopped, RunCounts, Answer, refused, ran, After}
 use Rattle.semantics.specs.Recording.{Recorded}
 use Rattle.stores.specs.Stops.{stopCause, stopPlace}
 use Rattle.interp.specs.declared.answer.Refusal.{Refusal}
@@ -41,7 +41,7 @@ outcomeModel (End v) = ended (groundOf v)
 outcomeModel (Stop x) = stopped (stopCause x) (stopPlace x)
 
 -- "both carry calls, cells and posts made"; 02, W10: "ends and stops carry that count beside the calls"
-abbrev pub countsModel : Made → Counts
+abbrev pub countsModel : Made → RunCounts
 countsModel m = record { calls = m .calls; cells = m .cells; posts = m .posts; saturated = m .saturated }
 
 abbrev pub runModel : Run → Answer

@@ -9,11 +9,11 @@ use Rattle.program.specs.Limits.{maxStart, maxCells, maxPosts, maxCalls, maxDep
 use Rattle.program.specs.Layout.{principals}
 use Rattle.program.specs.Records.{CountsOf, authorityRecord}
 use Rattle.program.specs.Screening.{Condition, clear, found, screen, unless}
-use Rattle.program.specs.Decoding.{Readable, decodingConditions}
+use Rattle.program.specs.Decoding.{decodingConditions}
 use Rattle.program.specs.Laws.Readable.{WellFormed}
 use Rattle.program.specs.declared.records.Counts.{Counts}
 use Rattle.semantics.specs.Access.{privs}
-use Rattle.semantics.specs.Runs.{stack, known, ran, Buffers}
+use Rattle.semantics.specs.Runs.{stack, principalsKnown, ran, Buffers}
 use Rattle.stores.specs.Words.{outOf}
 use Rattle.access.specs.Access.{pairOf}
 use Rattle.termtable.specs.Table.{Decoded}
@@ -28,12 +28,6 @@ use Rattle.interp.specs.declared.answer.Refusal.{Refusal}
 use Rattle.interp.specs.declared.answer.Run.the-variants.{Refused as Rejected}
 use Rattle.interp.specs.declared.answer.RecordedRun.{RecordedRun}
 use Rattle.interp.specs.declared.answer.Tally.{Tally}
-
--- ---- the sheet
--- a sheet that is read, with its counts, as the decoder tells it
-pub record ReadSheet (s : List ℕ) (c : Counts) : Type 0 where
-  pub readable : Readable s
-  pub counts-are : CountsOf s c
 
 -- ---- the start stack
 -- at most 16 frames, none of them half
@@ -57,7 +51,7 @@ pub record StartAccess (s start : List ℕ) (acc : ℕ) : Type 0 where
 
 -- ---- admission
 abbrev pub startRight : (count : ℕ) (start : List ℕ) → Bool
-startRight count start = leb (length start) maxStart && eqb (length start % 2) 0 && known count (stack start)
+startRight count start = leb (length start) maxStart && eqb (length start % 2) 0 && principalsKnown count (stack start)
 
 -- the conditions of a run by what they depend on; whether the frame store is right is a test of its own
 abbrev pub conditions : (s start : List ℕ) (cells posts : ℕ) (frames : Bool) (calls depth : ℕ) → List Condition
@@ -68,9 +62,9 @@ conditions s start cells posts frames calls depth =
 pub record Cleared (s start : List ℕ) (cells posts : ℕ) (frames : Bool) (calls depth : ℕ) (c : Counts) : Type 0 where
   pub none-found : screen (conditions s start cells posts frames calls depth) ≡ clear
   pub well-formed : WellFormed s
-  pub counts-are : CountsOf s c
+  pub counts : CountsOf s c
   pub whole : Whole start
-  pub all-known : known (principals s) (stack start) ≡ true
+  pub all-known : principalsKnown (principals s) (stack start) ≡ true
   pub cells-most : cells ≤ maxCells
   pub frames-right : frames ≡ true
   pub depth-most : depth ≤ maxDepth

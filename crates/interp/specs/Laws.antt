@@ -9,7 +9,7 @@ use lib.ListN.{length, getD, replicate, length-replicate}
 use borrow.Author.Tests.{ltb-true}
 use Rattle.privileges.specs.Booleans.{and-left, and-right}
 use Rattle.privileges.specs.Sets.{meet, union}
-use Rattle.program.specs.Limits.{maxTerms, maxSaturated}
+use Rattle.program.specs.Limits.{maxTerms, maxEvaluations}
 use Rattle.program.specs.Layout.{principals, authority, root}
 use Rattle.program.specs.Records.{CountsOf, authorityRecord}
 use Rattle.program.specs.Laws.Readable.{WellFormed}
@@ -19,7 +19,7 @@ use Rattle.traces.specs.Traces.{Event}
 use Rattle.semantics.specs.Domains.{Domain}
 use Rattle.semantics.specs.Values.{Budget, budget, ResultOf}
 use Rattle.semantics.specs.Access.{Frame, privs}
-use Rattle.semantics.specs.Runs.{Request, Buffers, Sizes, sizes, stack, known, started, Counts as RunCounts, OutcomeOf, ran, left, counts, AfterOf, answerOf, clearedFrames, buffersAfter}
+use Rattle.semantics.specs.Runs.{Request, Buffers, Sizes, sizes, stack, principalsKnown, started, RunCounts, OutcomeOf, ran, left, counts, AfterOf, answerOf, clearedFrames, buffersAfter}
 use Rattle.access.specs.Access.{pairOf}
 use Rattle.termtable.specs.Table.{Empty}
 use Rattle.machine.specs.Steps.{wrapped}
@@ -36,21 +36,22 @@ zero-at (suc n) zero = refl
 zero-at (suc n) (suc t) = zero-at n t
 
 pub empty-table : (l : List ℕ) → l ≡ replicate maxTerms 0 → Empty l
-empty-table l e = record { long = ap length e ∙ length-replicate {A = ℕ} maxTerms 0; zero-at = λ t. ap (λ (x : List ℕ). getD x t 0) e ∙ zero-at 1024 t }
+empty-table l e = record { long = ap length e ∙ length-replicate {A = ℕ} maxTerms 0; zero-at = λ t. ap (λ (x : List ℕ). getD x t 0) e ∙ zero-at maxTerms t }
 
 -- ---- what an eager run holds at its start
-pub same-privs : (s : List ℕ) → WellFormed s → (fs : List Frame) → known (principals s) fs ≡ true → privs (authorityRecord s) fs ≡ privs (authority s) fs
+pub same-privs : (s : List ℕ) → WellFormed s → (fs : List Frame) → principalsKnown (principals s) fs ≡ true
+    → privs (authorityRecord s) fs ≡ privs (authority s) fs
 same-privs s w [] h = refl
 same-privs s w (f ∷ fs) h =
     let low : ltb (f .principal) (principals s) ≡ true = search and-left in
-    let rest : known (principals s) fs ≡ true = search (and-left, and-right) in
+    let rest : principalsKnown (principals s) fs ≡ true = search (and-left, and-right) in
     λ i. meet (authority-is s w (f .principal) (ltb-true (f .principal) (principals s) low) i) (union (f .enabled) (same-privs s w fs rest i))
 
 module _ {s start : List ℕ} {acc : ℕ} (w : WellFormed s) (a : StartAccess s start acc) where
   pub access-may : a .may ≡ authority s 0
   access-may = a .may-is ∙ authority-is s w 0 (omega (arith, w .principals-least))
 
-  pub access-is : known (principals s) (stack start) ≡ true → acc ≡ pairOf (a .may) (privs (authority s) (stack start))
+  pub access-is : principalsKnown (principals s) (stack start) ≡ true → acc ≡ pairOf (a .may) (privs (authority s) (stack start))
   access-is h = a .acc-is ∙ ap (pairOf (a .may)) (a .granted-is ∙ same-privs s w (stack start) h)
 
 -- ---- the root by its number in the sheet, and another number in the place of the access that it is
@@ -63,7 +64,7 @@ tallied-at {s} k terms mode calls depth {acc} b noted {t} {b′} {noted′} e v 
 
 -- ---- a run that starts: `store` is what the frame store holds when evaluation begins
 -- the counter of saturated results has room for every count that is told
-unwrapped : (k : RunCounts) → k .saturated ≤ maxSaturated → wrappedCounts k ≡ k
+unwrapped : (k : RunCounts) → k .saturated ≤ maxEvaluations → wrappedCounts k ≡ k
 unwrapped k f =
     let same : wrapped (k .saturated) ≡ k .saturated = omega (arith, f) in
     λ i. record { calls = k .calls; cells = k .cells; posts = k .posts; saturated = same i }
@@ -79,7 +80,7 @@ module _ {D : Domain} (root₀ : ℕ) (q : Request) (cells posts frames store : 
     buffers = buffersAfter (q .runner) (buffersOf cells posts frames) (started x);
   }
 
-  pub tallied-after : (decodes : (root word : ℕ) → OutcomeOf D) → counts q (sizes (buffersOf cells posts frames)) (left x) .saturated ≤ maxSaturated
+  pub tallied-after : (decodes : (root word : ℕ) → OutcomeOf D) → counts q (sizes (buffersOf cells posts frames)) (left x) .saturated ≤ maxEvaluations
       → {noted noted′ : List ℕ} {events : List Event} {d : Done} {t : Tally} {cells′ posts′ frames′ last : List ℕ}
       → Tallied (q .calls) d t (buffersOf cells′ posts′ frames′) noted′
       → RefinedBy decodes root₀ q (buffersOf cells posts store) noted d x events → last ≡ clearedFrames (q .runner) frames

@@ -3,7 +3,8 @@ ghost use mathlib.Core.Bool.{_&&_};
 ghost use mathlib.Core.Path.{_≡_};
 ghost use lib.Dec.{leb};
 ghost use Rattle.program.specs.Limits.{maxCells, maxPosts, maxCalls, maxDepth};
-ghost use Rattle.interp.specs.Internal.{ReadSheet, Admits};
+ghost use Rattle.interp.specs.Internal.{Admits};
+ghost use Rattle.accessors.specs.Internal.{ReadableSheet};
 use crate::answer::Admission;
 use crate::answer::Refusal;
 use crate::start::start_ok;
@@ -37,7 +38,7 @@ fn admit_readable(
     calls: u32,
     depth: u32,
 ) -> Admission
-    requires { ⌜ ReadSheet (now s) c ⌝ }
+    requires { ⌜ ReadableSheet (now s) c ⌝ }
     ensures { λ r. ⌜ Admits (now (s .entry)) (now (start .entry)) cells posts frames calls depth r ⌝ }
 {
     if !start_ok(start, c.principals) {

@@ -7,7 +7,7 @@ ghost use lib.ListN.{length};
 ghost use Rattle.semantics.specs.Runs.{eager as eagerRunner, lazy as lazyRunner, run};
 ghost use Rattle.semantics.specs.Recording.{recording};
 ghost use Rattle.program.specs.Limits.{frameNumbers};
-ghost use Rattle.termtable.specs.Table.{FormedSheet};
+ghost use Rattle.accessors.specs.Internal.{FormedSheet};
 ghost use Rattle.refinement.specs.Claims.{outcomeOf};
 ghost use Rattle.interp.specs.Answers.{outcomeModel, requestOf, buffersOf, after, afterRecording};
 ghost use Rattle.interp.specs.Internal.{Cleared, rejectedRun, Evaluated};

@@ -4,7 +4,7 @@ ghost use mathlib.Core.Path.{_≡_};
 ghost use lib.ListN.{length, drop};
 ghost use Rattle.program.specs.Records.{authorityRecord};
 ghost use Rattle.semantics.specs.Access.{privs};
-ghost use Rattle.semantics.specs.Runs.{stack, known};
+ghost use Rattle.semantics.specs.Runs.{stack, principalsKnown};
 ghost use Rattle.refinement.specs.Claims.{laidOut};
 ghost use Rattle.interp.specs.Internal.{Whole, Layable, startRight, StartAccess};
 use access::pair;
@@ -13,7 +13,7 @@ use program::limits::MAX_START;
 // Whether every frame's principal is one of so many.
 fn principals_known(start: &[u32], count: u8) -> bool
     requires { ⌜ Whole (now start) ⌝ }
-    ensures { λ r. ⌜ r ≡ known count (stack (now (start .entry))) ⌝ }
+    ensures { λ r. ⌜ r ≡ principalsKnown count (stack (now (start .entry))) ⌝ }
 {
     let mut i = 0;
     while i < start.len() {

@@ -6,6 +6,7 @@ use mathlib.Core.Path.{_≡_, refl}
 use Prim.Native.Nat.{ℕ}
 use lib.ListN.{length, getD}
 use Rattle.privileges.specs.Sets.{has, meet, union, insert}
+use Rattle.program.specs.Bytes.{withWord16}
 use Rattle.program.specs.Limits.{maxCalls, maxDepth}
 use Rattle.program.specs.Screening.{refuseAt, screen}
 use Rattle.semantics.specs.Meaning.{evalWith, apply, eval}
@@ -110,11 +111,11 @@ cases =
     ∷ entry (1 ∷ 0 ∷ []) [] (513 ∷ []) (1 ∷ 0 ∷ []) (record { answer = refused 1 0; buffers = filled }) (record { answer = refused 1 0; buffers = filled })
     ∷ []
 
-unfoldable pub observe : Case → Observed
+abbrev pub observe : Case → Observed
 observe c =
     let new = withNumbers (λ t. getD (c .numbers) t 0) (c .sheet) in
     record { bytes = new; over-ranges = rangeRun (c .sheet) (c .pairs) plainRequest filled; plainly = run new plainRequest filled }
 
 pub computed : map observe cases ≡ map (λ c. c .due) cases
-unfolding cases observe withNumbers withNumbersBelow rangeRun rangeCourse run course screen refuseAt eval apply evalWith addAuthorised has meet union insert
+unfolding cases withNumbers withNumbersBelow withWord16 rangeRun rangeCourse run course screen refuseAt eval apply evalWith addAuthorised has meet union insert
 computed = refl

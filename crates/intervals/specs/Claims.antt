@@ -11,7 +11,7 @@ use Rattle.program.specs.Layout.{terms, first}
 use Rattle.program.specs.Screening.{screen}
 use Rattle.semantics.specs.Domains.{single, Interpretation}
 use Rattle.semantics.specs.Meaning.{plain}
-use Rattle.semantics.specs.Runs.{Request, Buffers, Sizes, sizes, runConditions, evaluationOver, Course, settled, GroundOf, Ground, ground-bool, ground-num, OutcomeOf, Outcome, ended, stopped, Counts, AnswerOf, Answer, ran, AfterOf, After, afterCourse}
+use Rattle.semantics.specs.Runs.{Request, Buffers, Sizes, sizes, runConditions, evaluationOver, Course, settled, GroundOf, Ground, ground-bool, ground-num, OutcomeOf, Outcome, ended, stopped, RunCounts, AnswerOf, Answer, ran, AfterOf, After, afterCourse}
 use Rattle.soundness.specs.Claims.{postsOf}
 use Rattle.intervals.specs.Intervals.{Interval, rangeEntry, intervals}
 use Rattle.intervals.specs.Pairs.{isNumber, pairOf}
@@ -49,7 +49,7 @@ pub data InsideOutcome : OutcomeOf intervals → Outcome → Type 0 where
 
 -- "with as many posts" "and equal calls and cells"
 pub data InsideAnswer : AnswerOf intervals → Answer → Type 0 where
-  inside-answer : {o : OutcomeOf intervals} {p : Outcome} {k l : Counts} → InsideOutcome o p → k .calls ≡ l .calls → k .cells ≡ l .cells
+  inside-answer : {o : OutcomeOf intervals} {p : Outcome} {k l : RunCounts} → InsideOutcome o p → k .calls ≡ l .calls → k .cells ≡ l .cells
       → k .posts ≡ l .posts → InsideAnswer (ran o k) (ran p l)
 
 -- "each inside its range", of which an entry is lowest × 65,536 + highest
@@ -64,6 +64,6 @@ pub record Contains (a : AfterOf intervals) (b : After) : Type 0 where
 -- "unless the run is refused or stops by 36"
 pub record Decided (a : AfterOf intervals) : Type 0 where
   pub result : OutcomeOf intervals
-  pub made : Counts
+  pub made : RunCounts
   pub ran-so : a .answer ≡ ran result made
   pub not-36 : (t : ℕ) → result ≡ stopped 36 t → ⊥

@@ -20,7 +20,7 @@ use Rattle.semantics.specs.Domains.{single}
 use Rattle.semantics.specs.Values.{Budget, budget, ResultOf, Result}
 use Rattle.semantics.specs.Meaning.{plain}
 use Rattle.semantics.specs.Access.{lazyControl, eagerControl}
-use Rattle.semantics.specs.Runs.{Runner, eager, lazy, Request, Buffers, Sizes, sizes, runConditions, evaluationOver, rejected, started, settled, OutcomeOf, Outcome, stopped, Counts, AnswerOf, refused, ran, outcome, left, counts, inOrder, AfterOf, afterCourse, course, run}
+use Rattle.semantics.specs.Runs.{Runner, eager, lazy, Request, Buffers, Sizes, sizes, runConditions, evaluationOver, rejected, started, settled, OutcomeOf, Outcome, stopped, RunCounts, AnswerOf, refused, ran, outcome, left, counts, inOrder, AfterOf, afterCourse, course, run}
 use Rattle.semantics.specs.Laws.Starting.{clear-well, evaluation-spends, after-sizes, clear-few, countsIn}
 use Rattle.semantics.specs.Claims.{IfAt, Few}
 use Rattle.semantics.specs.Laws.Stops.{evaluation-stop, stop-cases}
@@ -93,7 +93,7 @@ less-decides i j hi hj b = (
         absurd (true≢false (sym (lt-ltb (i .low) (j .high) (leb-false (j .high) (i .low) f)) ∙ high ∙ sym low ∙ e))
 
 -- ---- When a run over ranges is refused
-ran≢refused : {c p : ℕ} {o : OutcomeOf intervals} {k : Counts} {A : Type 0} → ran o k ≡ refused c p → A
+ran≢refused : {c p : ℕ} {o : OutcomeOf intervals} {k : RunCounts} {A : Type 0} → ran o k ≡ refused c p → A
 ran≢refused e = absurd (let z : _≡_ {A = ℕ} 0 1 = cc in omega arith)
 
 module _ (s ps : List ℕ) (q : Request) (b : Buffers) where
@@ -134,7 +134,7 @@ module _ (s ps : List ℕ) (q : Request) (b : Buffers) where
   pub range-untouched : (c p : ℕ) → answerIs (refused c p) → rangeRun s ps q b .buffers ≡ b
   range-untouched c p e = ap (λ (x : AfterOf intervals). x .buffers) (run-found c p (refused-found c p conditions refl e))
 
-  ran-clear : (o : OutcomeOf intervals) (k : Counts) (x : Screening) → conditions ≡ x → answerIs (ran o k) → x ≡ clear
+  ran-clear : (o : OutcomeOf intervals) (k : RunCounts) (x : Screening) → conditions ≡ x → answerIs (ran o k) → x ≡ clear
   ran-clear o k clear h e = refl
   ran-clear o k (found c p) h e = ran≢refused (sym e ∙ answered (run-found c p h))
 
@@ -144,7 +144,7 @@ module _ (s ps : List ℕ) (q : Request) (b : Buffers) where
 
   -- ---- By which causes it stops
   -- 02, W14: "An if with an undecided condition stops by 36 at the if"; every other stop is one of 01's, 17 to 22.
-  pub range-stopped-by : (c t : ℕ) (k : Counts) → answerIs (ran (stopped c t) k) → ((17 ≤ c) × (c ≤ 22)) ⊎ ((c ≡ 36) × IfAt s t)
+  pub range-stopped-by : (c t : ℕ) (k : RunCounts) → answerIs (ran (stopped c t) k) → ((17 ≤ c) × (c ≤ 22)) ⊎ ((c ≡ 36) × IfAt s t)
   range-stopped-by c t k e =
       let clearly = ran-clear (stopped c t) k conditions refl e in
       let same : ran _ _ ≡ ran (stopped c t) k = sym (answered (run-clear clearly)) ∙ e in
@@ -169,7 +169,7 @@ module _ (s ps : List ℕ) (q : Request) (b : Buffers) where
       clear-few s q b (plain-clear s ps q b e) budgetLeft (evaluation-spends (ranged s ps) (plain (q .enforce)) (q .runner) s q (sizes b))
       (omega (arith, evaluation-uncounted s ps (plain (q .enforce)) (q .runner) q (sizes b)))
 
-  module _ (o : OutcomeOf intervals) (k : Counts) (e : rangeRun s ps q b .answer ≡ ran o k) where
+  module _ (o : OutcomeOf intervals) (k : RunCounts) (e : rangeRun s ps q b .answer ≡ ran o k) where
     all-clear : screen (rangeConditions s ps q (sizes b)) ≡ clear
     all-clear = ran-clear s ps q b o k (conditions s ps q b) refl e
 
@@ -179,7 +179,7 @@ module _ (s ps : List ℕ) (q : Request) (b : Buffers) where
     -- "Held results aren't counted."
     pub range-uncounted : k .saturated ≡ 0
     range-uncounted =
-        ap (λ (x : Counts). x .saturated) (sym counts-are) ∙ go budgetLeft (evaluation-uncounted s ps (plain (q .enforce)) (q .runner) q (sizes b))
+        ap (λ (x : RunCounts). x .saturated) (sym counts-are) ∙ go budgetLeft (evaluation-uncounted s ps (plain (q .enforce)) (q .runner) q (sizes b))
       where
         go : (u : Budget) → saturatedIn u ≡ 0 → counts q (sizes b) u .saturated ≡ 0
         go (budget c d r l) h = h

@@ -6,6 +6,7 @@ use mathlib.Core.List.{List, [], _∷_}
 use mathlib.Core.Path.{_≡_}
 use Prim.Native.Nat.{ℕ, _<_, _≤_}
 use Rattle.privileges.specs.Sets.{remove}
+use Rattle.program.specs.Limits.{maxPrivilege}
 use Rattle.program.specs.Layout.{authority, terms}
 use Rattle.program.specs.Decoding.{Readable}
 use Rattle.semantics.specs.Names.{names}
@@ -27,7 +28,7 @@ pub record LowestNaming (s : List ℕ) (p t : ℕ) : Type 0 where
 -- a readable sheet, and a privilege that is not above 31
 pub record Answerable (s : List ℕ) (p : ℕ) : Type 0 where
   pub readable : Readable s
-  pub privilege : p ≤ 31
+  pub privilege : p ≤ maxPrivilege
 
 -- "two starts whose granted sets differ at most in p": every other privilege is granted by both stacks or by neither
 pub record DifferAtMost (s : List ℕ) (p : ℕ) (start start′ : List ℕ) : Type 0 where

@@ -4,6 +4,7 @@ use mathlib.Core.List.{List, [], _∷_, _++_}
 use mathlib.Core.Option.{Option, none, some}
 use Prim.Native.Nat.{ℕ}
 use lib.Dec.{leb}
+use Rattle.program.specs.Limits.{maxPrivilege}
 use Rattle.program.specs.Layout.{terms}
 use Rattle.program.specs.Screening.{Condition, unlessFound, unless, lowest, screen}
 use Rattle.program.specs.Decoding.{decodingConditions}
@@ -24,7 +25,7 @@ namingOf (some t) = named t
 
 -- the decoder's refusals, then 30, "a privilege above 31" (W7)
 abbrev pub namingConditions : List ℕ → (p : ℕ) → List Condition
-namingConditions s p = decodingConditions s ++ unless 30 (leb p 31) ∷ []
+namingConditions s p = decodingConditions s ++ unless 30 (leb p maxPrivilege) ∷ []
 
 unfoldable pub naming : List ℕ → (p : ℕ) → Naming
 naming s p = unlessFound refused (screen (namingConditions s p)) λ _. namingOf (firstNaming s p)

@@ -1,11 +1,10 @@
 -- What is told of a term from the reader's answer, from its place, and from its judgement there. Assumes nothing.
 use mathlib.Core.Bool.{true, false}
-use mathlib.Core.List.{List, []}
-use mathlib.Core.Option.{Option, some}
+use mathlib.Core.List.{List}
+use mathlib.Core.Option.{Option}
 use mathlib.Core.Path.{_≡_, refl, sym, ap, _∙_}
-use Prim.Native.Nat.{ℕ, _-_}
+use Prim.Native.Nat.{ℕ}
 use Rattle.program.specs.Layout.{authority, typesOf}
-use Rattle.program.specs.Terms.{tree, program}
 use Rattle.program.specs.Screening.{Screening, unlessFound}
 use Rattle.program.specs.Decoding.{decoding}
 use Rattle.program.specs.Answers.{decodingCause, decodingPlace, decodedModel}
@@ -13,13 +12,12 @@ use Rattle.program.specs.declared.answer.Refusal.{Refusal}
 use Rattle.program.specs.declared.answer.Decoded.{Decoded}
 use Rattle.program.specs.declared.answer.Decoded.the-variants.{Readable, Refused}
 use Rattle.program.specs.declared.records.Counts.{Counts}
-use Rattle.typing.specs.Places.{Placed, placed}
+use Rattle.typing.specs.Places.{Placed}
 use Rattle.typing.specs.declared.answer.Inferred.{Inferred}
-use Rattle.subtyping.specs.Internal.{Sheet}
-use Rattle.rules.specs.Inference.{inferredModel, lastFirst, context, termJudgement}
-use Rattle.rules.specs.declared.bindings.Bindings.{Bindings}
-use Rattle.checker.proofs.VerdictLaws.{root-ready}
-use Rattle.places.specs.Internal.{present, childAt}
+use Rattle.accessors.specs.Internal.{FormedSheet}
+use Rattle.rules.specs.Inference.{inferredModel, context, termJudgement}
+use Rattle.places.specs.Internal.{AtRoot, childAt}
+use Rattle.places.proofs.PlaceLaws.{root-place-ready, root-child}
 use Rattle.places.specs.declared.Place.{Place}
 use Rattle.places.specs.declared.Child.{Child}
 use Rattle.subterms.specs.Judging.{withNumber, JudgedTerm, refused, judgedAs, judgedOf, judging}
@@ -37,16 +35,13 @@ module _ (s : List ℕ) (t : ℕ) {d : Decoded} (p : decodedModel d ≡ decoding
   readable-judged e q = q ∙ ap (λ (x : Screening). unlessFound refused x λ _. judgedIn s t) (sym (ap decodedModel e) ∙ p)
 
 -- ---- a readable sheet, from what is found in the root
-module _ {s : List ℕ} {c : Counts} (S : Sheet s c) (b : Bindings) (none-bound : b .len ≡ 0) {y : Child} (q : y ≡ present (c .terms - 1) b 0) where
+module _ {s : List ℕ} {c : Counts} (S : FormedSheet s c) {y : Child} (at-root : AtRoot c y) where
   pub root-searchable : Searchable s c y
-  root-searchable h = rw q (root-ready S b none-bound)
-
-  root-is : childAt s y ≡ some (placed [] 0 (program s))
-  root-is = rw q (λ i. some (placed (lastFirst (b .types) (none-bound i)) 0 (tree s (S .counts .terms-are i - 1))))
+  root-searchable h = root-place-ready S at-root
 
   module _ (t : ℕ) {r : Child} (f : FoundAs s c t (childAt s y) r) where
     judged-is : judgedOf (typesOf s) (authority s) (childAt s r) ≡ judgedIn s t
-    judged-is = ap (judgedOf (typesOf s) (authority s)) (f .is ∙ ap (λ (o : Option Placed). withNumber t (subtermsIn (typesOf s) o)) root-is)
+    judged-is = ap (judgedOf (typesOf s) (authority s)) (f .is ∙ ap (λ (o : Option Placed). withNumber t (subtermsIn (typesOf s) o)) (root-child S at-root))
 
     pub absent-judged : r .present ≡ false → refused 37 0 ≡ judgedIn s t
     absent-judged e = (let z : refused 37 0 ≡ judgedOf (typesOf s) (authority s) (childAt s r) = rw e refl in z) ∙ judged-is

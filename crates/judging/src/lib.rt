@@ -4,17 +4,15 @@ mod find;
 use crate::find::find;
 use checker::infer::infer;
 use places::Place;
-use places::present;
+use places::root;
 use program::answer::Decoded;
-use program::limits::NESTING_PLACES;
 use program::records::Counts;
-use rules::bindings::Bindings;
 use subterms::answer::Judged;
 use subtyping::known::KNOWN_WORDS;
 use subtyping::known::Known;
 use typing::answer::Inferred;
 ghost use mathlib.Core.Path.{_≡_};
-ghost use Rattle.subtyping.specs.Internal.{Sheet};
+ghost use Rattle.accessors.specs.Internal.{FormedSheet};
 ghost use Rattle.places.specs.Internal.{ReadyPlace};
 ghost use Rattle.subterms.specs.Judging.{judging};
 ghost use Rattle.subterms.specs.Answers.{judgedModel};
@@ -32,17 +30,12 @@ pub fn judgement(sheet: &[u8], term: u32) -> Judged
     }
 }
 
-// The same of a readable sheet with its counts. The root is a sign, so that the principal named here is never looked at.
+// The same of a readable sheet with its counts.
 fn judgement_readable(s: &[u8], c: Counts, term: u32) -> Judged
-    requires { ⌜ Sheet (now s) c ⌝ }
+    requires { ⌜ FormedSheet (now s) c ⌝ }
     ensures { λ r. ⌜ judgedModel r ≡ judgedIn (now (s .entry)) term ⌝ }
 {
-    let none = Bindings {
-        types: [0; NESTING_PLACES],
-        len: 0,
-    };
-    let root = present(c.terms - 1, none, 0);
-    let found = find(s, c, root, term);
+    let found = find(s, c, root(c), term);
     if !found.present {
         return Judged::NoTerm;
     }

@@ -11,13 +11,13 @@ use Rattle.program.specs.Screening.{Screening, clear, found, refuseAt, screen, 
 use Rattle.program.specs.Decoding.{decodingConditions, decoding, Readable}
 use Rattle.program.specs.Laws.Screening.{screen-clear, screen-found}
 use Rattle.semantics.specs.Values.{Budget, budget}
-use Rattle.semantics.specs.Runs.{Request, Buffers, Sizes, sizes, startOk, buffersOk, limitsOk, runConditions, Course, rejected, started, course, Outcome, Counts, Answer, refused, ran, left, counts, answerOf, inOrder, buffersAfter, After, run}
+use Rattle.semantics.specs.Runs.{Request, Buffers, Sizes, sizes, startOk, buffersOk, limitsOk, runConditions, Course, rejected, started, course, Outcome, RunCounts, Answer, refused, ran, left, counts, answerOf, inOrder, buffersAfter, After, run}
 use Rattle.semantics.specs.Claims.{Few}
 use Rattle.semantics.specs.Theorems.{course-found, run-course, refused-untouched, lengths-kept, counts-few}
 use Rattle.largest.specs.Largest.{largestConditions, refusedWith, largestRun}
 
 -- ---- "a buffer asked for as the largest and lent in another length is 15"
-refused≢ran : {c p : ℕ} {o : Outcome} {k : Counts} → refused c p ≡ ran o k → ⊥
+refused≢ran : {c p : ℕ} {o : Outcome} {k : RunCounts} → refused c p ≡ ran o k → ⊥
 refused≢ran e = let z : _≡_ {A = ℕ} 0 1 = cc in omega arith
 
 -- no run makes more posts than its list has places
@@ -25,7 +25,7 @@ abbrev posted : ℕ → Answer → ℕ
 posted n (refused c p) = n
 posted n (ran o k) = k .posts
 
-by-course : (r n : ℕ) (q : Request) (b : Buffers) (x : Course) (o : Outcome) (k : Counts) → length (buffersAfter (q .runner) b x .posts) ≡ n
+by-course : (r n : ℕ) (q : Request) (b : Buffers) (x : Course) (o : Outcome) (k : RunCounts) → length (buffersAfter (q .runner) b x .posts) ≡ n
     → answerOf r q (sizes b) x ≡ ran o k → k .posts ≤ n
 by-course r n q b (rejected c p) o k h e = absurd (refused≢ran e)
 by-course r n q b (started x) o k h e = go (left x) h (ap (posted n) e)
@@ -35,7 +35,7 @@ by-course r n q b (started x) o k h e = go (left x) h (ap (posted n) e)
         omega (arith, length-append (reverse (log .posts)) (drop (length (reverse (log .posts))) (b .posts)), length-reverse (log .posts))
 
 module _ (s : List ℕ) (q : Request) (b : Buffers) where
-  run-posts : (o : Outcome) (k : Counts) → run s q b .answer ≡ ran o k → k .posts ≤ length (b .posts)
+  run-posts : (o : Outcome) (k : RunCounts) → run s q b .answer ≡ ran o k → k .posts ≤ length (b .posts)
   unfolding run
   run-posts o k e = by-course (root s) (length (b .posts)) q b (course s q (sizes b)) o k (ap (λ (z : Sizes). z .posts) (lengths-kept s q b)) e
 
@@ -92,7 +92,7 @@ module _ (s : List ℕ) (q : Request) (b : Buffers) where
       go (found c p) e = unreadable-first true c p e ∙ sym (run-by c p (screen-found (decodingConditions s) _ c p e))
 
   -- The counts and the buffers are therefore as in any run.
-  pub largest-few : (right : Bool) (o : Outcome) (k : Counts) → largestRun right s q b .answer ≡ ran o k → Few k
+  pub largest-few : (right : Bool) (o : Outcome) (k : RunCounts) → largestRun right s q b .answer ≡ ran o k → Few k
   unfolding largestRun
   largest-few right o k = go (screen (largestConditions right s q))
     where
@@ -100,7 +100,7 @@ module _ (s : List ℕ) (q : Request) (b : Buffers) where
       go clear e = counts-few s q b o k e
       go (found c p) e = absurd (refused≢ran e)
 
-  pub largest-posts : (right : Bool) (o : Outcome) (k : Counts) → largestRun right s q b .answer ≡ ran o k → k .posts ≤ length (b .posts)
+  pub largest-posts : (right : Bool) (o : Outcome) (k : RunCounts) → largestRun right s q b .answer ≡ ran o k → k .posts ≤ length (b .posts)
   unfolding largestRun
   largest-posts right o k = go (screen (largestConditions right s q))
     where

@@ -15,7 +15,7 @@ use Rattle.typing.specs.Answers.{faultCause, faultPlace, verdictModel}
 use Rattle.typing.specs.declared.answer.Fault.{Fault}
 use Rattle.typing.specs.declared.answer.Verdict.{Verdict as VerdictAnswer}
 use Rattle.typing.specs.declared.answer.Verdict.the-variants as answer
-use Rattle.subtyping.specs.Internal.{Sheet}
+use Rattle.accessors.specs.Internal.{FormedSheet}
 use Rattle.erasure.specs.Lean.{leanSheet, erasable}
 use Rattle.erasure.specs.Erasure.{After, ifRoom, ifErasable, erased, erasure}
 use Rattle.erasure.specs.declared.answer.Erased.the-variants.{Lean, Unreadable, Refused, NotErasable, NoRoom}
@@ -65,5 +65,5 @@ module _ (s b : List ℕ) where
         (λ i. after (Lean (q i)) (p i)) ∙ (λ i. ifRoom (sym (le-leb (length (leanSheet s)) (length b) (omega arith)) i) (leanSheet s) b) ∙ to-room
 
 -- ---- the numbers that it is written by
-pub sheet-ready : {s : List ℕ} {c : Counts} {y : TypeNumbers} {m : TermNumbers} → Sheet s c → TypesNumbered s y → TermsNumbered s m → SheetReady s c y m
+pub sheet-ready : {s : List ℕ} {c : Counts} {y : TypeNumbers} {m : TermNumbers} → FormedSheet s c → TypesNumbered s y → TermsNumbered s m → SheetReady s c y m
 sheet-ready S Y M = record { sheet = S; types-numbered = Y; terms-numbered = M }

@@ -2,8 +2,7 @@
 ghost use mathlib.Core.Path.{_≡_};
 ghost use lib.Dec.{leb};
 ghost use lib.ListN.{length};
-ghost use Rattle.subtyping.specs.Internal.{Sheet};
-ghost use Rattle.checker.specs.Internal.{ReadableSheet};
+ghost use Rattle.accessors.specs.Internal.{FormedSheet, ReadableSheet};
 ghost use Rattle.erasure.specs.Lean.{erasable as erasableOf, leanSheet};
 ghost use Rattle.erasure.specs.Erasure.{ifErasable, erasure};
 ghost use Rattle.lean.specs.Answers.{after};
@@ -48,7 +47,7 @@ fn erase_readable(s: &[u8], c: Counts, buffer: &mut [u8]) -> Erased
 
 // Of an accepted sheet. The length comes first and the bytes after it, so that nothing is written where there is no room for all.
 fn erase_accepted(s: &[u8], c: Counts, buffer: &mut [u8]) -> Erased
-    requires { ⌜ Sheet (now s) c ⌝ }
+    requires { ⌜ FormedSheet (now s) c ⌝ }
     ensures { λ r. ⌜ after r (now (buffer .exit))
         ≡ ifErasable (erasableOf (now (s .entry))) (leb (length (leanSheet (now (s .entry)))) (length (now (buffer .entry)))) (leanSheet (now (s .entry)))
         (now (buffer .entry)) ⌝ }
@@ -68,7 +67,7 @@ fn erase_accepted(s: &[u8], c: Counts, buffer: &mut [u8]) -> Erased
 
 // Whether the sheet is of version 1 and has no test, reachable or not.
 fn erasable(s: &[u8], c: Counts) -> bool
-    requires { ⌜ Sheet (now s) c ⌝ }
+    requires { ⌜ FormedSheet (now s) c ⌝ }
     ensures { λ r. ⌜ r ≡ erasableOf (now (s .entry)) ⌝ }
 {
     (be16(s, 3) == 1) & untested(s, c)

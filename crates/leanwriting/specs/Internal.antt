@@ -4,7 +4,7 @@ use Prim.Native.Nat.{ℕ, _+_, _*_, _<_, _≤_}
 use lib.ListN.{length, take, drop}
 use Rattle.program.specs.Layout.{types, terms}
 use Rattle.program.specs.declared.records.Counts.{Counts}
-use Rattle.subtyping.specs.Internal.{Sheet}
+use Rattle.accessors.specs.Internal.{FormedSheet}
 use Rattle.erasure.specs.Lean.{newTypes, newTerms, leanSheet}
 use Rattle.renumbering.specs.Internal.{TypesNumbered, TermsNumbered, TypesReady, TermsReady}
 use Rattle.renumbering.specs.declared.types.TypeNumbers.{TypeNumbers}
@@ -20,7 +20,7 @@ pub record NumberedTerm (s : List ℕ) (c : Counts) (y m : List ℕ) (t : ℕ) :
   pub inside : t < terms s
 
 pub record SheetReady (s : List ℕ) (c : Counts) (y : TypeNumbers) (m : TermNumbers) : Type 0 where
-  pub sheet : Sheet s c
+  pub sheet : FormedSheet s c
   pub types-numbered : TypesNumbered s y
   pub terms-numbered : TermsNumbered s m
 

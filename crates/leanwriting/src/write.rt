@@ -4,7 +4,7 @@ ghost use mathlib.Core.Path.{_≡_};
 ghost use Prim.Native.Nat.{_+_, _≤_};
 ghost use lib.ListN.{length, drop};
 ghost use lib.Seq.{paste};
-ghost use Rattle.program.specs.Layout.{types as typesOf, terms as termsOf};
+ghost use Rattle.program.specs.Layout.{types as typeCount, terms as termCount};
 ghost use Rattle.erasure.specs.Kept.{gather};
 ghost use Rattle.erasure.specs.Lean.{keptType, keptTerm, bytes16, typeBytes, termBytes, leanSheet};
 ghost use Rattle.leanwriting.specs.Internal.{over, Puttable, TypesPuttable, TermsPuttable, SheetPuttable};
@@ -43,7 +43,7 @@ fn put_head(buffer: &mut [u8], at: usize, tag: u8, size: u16)
 fn put_types(s: &[u8], c: Counts, types: &[u16; TYPE_PLACES], buffer: &mut [u8], at: usize)
     requires { ⌜ TypesPuttable (now s) c (now types) (now buffer) at ⌝ }
     ensures { λ _. ⌜ now (buffer .exit)
-        ≡ over (now (buffer .entry)) at (gather (keptType (now (s .entry))) (typeBytes (now (s .entry))) (typesOf (now (s .entry)))) ⌝ }
+        ≡ over (now (buffer .entry)) at (gather (keptType (now (s .entry))) (typeBytes (now (s .entry))) (typeCount (now (s .entry)))) ⌝ }
 {
     let n = c.types;
     let mut count = 0;
@@ -71,7 +71,7 @@ fn put_terms(
 )
     requires { ⌜ TermsPuttable (now s) c (now types) (now terms) (now buffer) at ⌝ }
     ensures { λ _. ⌜ now (buffer .exit)
-        ≡ over (now (buffer .entry)) at (gather (keptTerm (now (s .entry))) (termBytes (now (s .entry))) (termsOf (now (s .entry)))) ⌝ }
+        ≡ over (now (buffer .entry)) at (gather (keptTerm (now (s .entry))) (termBytes (now (s .entry))) (termCount (now (s .entry)))) ⌝ }
 {
     let n = c.terms;
     let mut count = 0;

@@ -7,7 +7,7 @@ use native.Mathlib.Nat.{add-zero}
 use native.Mathlib.Omega.{arith}
 use lib.ListN.{length, getD, length-drop}
 use Rattle.program.specs.Limits.{maxCells}
-use Rattle.semantics.specs.Runs.{Buffers, refused, After}
+use Rattle.semantics.specs.Runs.{Buffers, refused, After, postCount}
 use Rattle.interp.specs.Answers.{buffersOf, runModel, outcomeModel, countsModel, after}
 use Rattle.interp.specs.declared.answer.Refusal.{Refusal}
 use Rattle.interp.specs.declared.answer.Outcome.{Outcome}
@@ -16,7 +16,7 @@ use Rattle.interp.specs.declared.answer.Run.{Run}
 use Rattle.interp.specs.declared.answer.Run.the-variants.{Refused, Ran}
 use Rattle.largest.specs.Largest.{request, isLargest}
 use Rattle.queues.specs.Queues.{maxLines, Job, State, inside, Turn, nobody, serves, turnAt, turnOf, partOf, dequeued}
-use Rattle.lines.specs.Serving.{restFrom, jobRun, jobAfter, postCount, idle, answered, servedAs, serveTurn, serveOf}
+use Rattle.lines.specs.Serving.{restFrom, jobRun, jobAfter, idle, answered, servedAs, serveTurn, serveOf}
 use Rattle.queues.specs.Answers.{noQueue, jobModel, queueModel, linesModel}
 use Rattle.queues.specs.Internal.{hasJob, Next}
 use Rattle.lines.specs.Internal.{Movable}

@@ -4,7 +4,7 @@ use Rattle.interp.specs.Answers.{runModel}
 use Rattle.interp.specs.declared.answer.Run.{Run}
 use Rattle.queues.specs.Queues.{maxLines}
 use Rattle.queues.specs.declared.state.Lines.{Lines}
-use Rattle.lines.specs.Serving.{postCount}
+use Rattle.semantics.specs.Runs.{postCount}
 
 -- a line, and a place that has room for the posts of a run behind it
 pub record Movable (q : Lines) (line : ℕ) (r : Run) : Type 0 where

@@ -4,7 +4,7 @@ use mathlib.Core.List.{List, _++_}
 use Prim.Native.Nat.{ℕ, _+_}
 use lib.ListN.{take, drop}
 use Rattle.program.specs.Limits.{maxCells}
-use Rattle.semantics.specs.Runs.{Buffers, Answer, refused, ran, After}
+use Rattle.semantics.specs.Runs.{Buffers, Answer, refused, After, postCount}
 use Rattle.largest.specs.Largest.{request, isLargest, largestRun}
 use Rattle.queues.specs.Queues.{Job, State, inside, partOf, Turn, nobody, serves, turnOf, dequeued}
 
@@ -27,11 +27,6 @@ jobRun j at store b = behind at b (largestRun (isLargest maxCells (b .cells)) (p
 abbrev pub jobAfter : (inside : Bool) → Job → (place : ℕ) (store : List ℕ) → Buffers → After
 jobAfter true j at store b = jobRun j at store b
 jobAfter false j at store b = record { answer = refused 28 0; buffers = b }
-
--- "the place where the last one stopped": a refused job made no post
-abbrev pub postCount : Answer → ℕ
-postCount (refused c p) = 0
-postCount (ran o k) = k .posts
 
 -- what a serve answers, of which line (0 if of none), and what it leaves
 pub data ServeAnswer : Type 0 where

@@ -21,7 +21,7 @@ use Rattle.program.specs.Decoding.{decodingConditions, decoding, Readable}
 use Rattle.program.specs.Laws.Screening.{found≢clear, found-first, first-found, clear-none, none-cons, screen-clear, unless-none}
 use Rattle.program.specs.Limits.{maxCells, maxPosts}
 use Rattle.semantics.specs.Values.{Budget, budget}
-use Rattle.semantics.specs.Runs.{Request, Buffers, Sizes, sizes, startOk, buffersOk, limitsOk, runConditions, Course, rejected, started, course, Outcome, Counts, Answer, refused, ran, left, counts, answerOf, inOrder, postsMade, buffersAfter, After, run}
+use Rattle.semantics.specs.Runs.{Request, Buffers, Sizes, sizes, startOk, buffersOk, limitsOk, runConditions, Course, rejected, started, course, Outcome, RunCounts, Answer, refused, ran, left, counts, answerOf, inOrder, postsMade, buffersAfter, After, run, postCount}
 use Rattle.semantics.specs.Claims.{Few}
 use Rattle.semantics.specs.Laws.Starting.{countsIn}
 use Rattle.semantics.specs.Theorems.{refused-exactly}
@@ -34,7 +34,7 @@ use Rattle.queues.specs.Laws.{queue-is}
 use Rattle.queues.specs.declared.state.Queue.{Queue}
 use Rattle.queues.specs.declared.state.Lines.{Lines}
 use Rattle.queues.specs.Theorems.{FirstWaiting, served-first, nobody-waiting}
-use Rattle.lines.specs.Serving.{restFrom, behind, jobRun, jobAfter, postCount, idle, answered, Served, servedAs, serveTurn, serveOf}
+use Rattle.lines.specs.Serving.{restFrom, behind, jobRun, jobAfter, idle, answered, Served, servedAs, serveTurn, serveOf}
 
 -- ---- states that the entries make
 none-waits : (l : ℕ) → queueAt start l ≡ []
@@ -408,11 +408,11 @@ module _ (s : State) (store : List ℕ) (b : Buffers) where
           record { place-stays = omega (arith, ap postCount f); buffers-stay = job-left (inside j store) j c p f }
 
   -- The counts that are told are those of a run.
-  job-few : (inside : Bool) (j : Job) (o : Outcome) (k : Counts) → jobAfter inside j (s .place) store b .answer ≡ ran o k → Few k
+  job-few : (inside : Bool) (j : Job) (o : Outcome) (k : RunCounts) → jobAfter inside j (s .place) store b .answer ≡ ran o k → Few k
   job-few true j o k e = largest-few (partOf j store) (request (j .calls)) (restFrom (s .place) b) (isLargest maxCells (b .cells)) o k e
   job-few false j o k e = absurd (let y : _≡_ {A = ℕ} 0 1 = cc in omega arith)
 
-  pub served-few : (o : Outcome) (k : Counts) → serveOf s store b .answer ≡ answered (ran o k) → Few k
+  pub served-few : (o : Outcome) (k : RunCounts) → serveOf s store b .answer ≡ answered (ran o k) → Few k
   unfolding serveOf
   served-few o k = go (turnOf s)
     where
@@ -462,12 +462,12 @@ fifteen-screened true false = (λ e. absurd (let z : _≡_ {A = ℕ} 16 15 = cc 
 fifteen-screened false y = (λ e. refl, λ e. refl)
 
 -- what a run that starts leaves in the list lent to it: its posts, as many as it tells, and then what stood there
-record Listed (made : List ℕ) (k : Counts) (before after : List ℕ) : Type 0 where
+record Listed (made : List ℕ) (k : RunCounts) (before after : List ℕ) : Type 0 where
   as-many : length made ≡ k .posts
   list-is : after ≡ made ++ drop (k .posts) before
 
 module _ (sheet : List ℕ) (q : Request) (b : Buffers) where
-  run-listed : (o : Outcome) (k : Counts) → run sheet q b .answer ≡ ran o k
+  run-listed : (o : Outcome) (k : RunCounts) → run sheet q b .answer ≡ ran o k
       → Listed (postsMade (course sheet q (sizes b))) k (b .posts) (run sheet q b .buffers .posts)
   unfolding run
   run-listed o k = go (course sheet q (sizes b))
@@ -481,7 +481,7 @@ module _ (sheet : List ℕ) (q : Request) (b : Buffers) where
       go (rejected c p) e = absurd (let y : _≡_ {A = ℕ} 0 1 = cc in omega arith)
       go (started x) e = by-budget (left x) (ap (λ (a : Answer). countsIn k a .posts) e)
 
-  largest-listed : (right : Bool) (o : Outcome) (k : Counts) → largestRun right sheet q b .answer ≡ ran o k
+  largest-listed : (right : Bool) (o : Outcome) (k : RunCounts) → largestRun right sheet q b .answer ≡ ran o k
       → Listed (postsMade (course sheet q (sizes b))) k (b .posts) (largestRun right sheet q b .buffers .posts)
   unfolding largestRun
   largest-listed right o k = go (screen (largestConditions right sheet q))
@@ -497,7 +497,7 @@ jobPosts j at store b = postsMade (course (partOf j store) (request (j .calls)) 
 
 -- "the next job writes from the place where the last one stopped": the place moves by the posts told, they stand in the list from the old place on, and what
 -- is behind them is as it was. What is before them: `serve-keeps`.
-pub record Followed (s : State) (store : List ℕ) (b : Buffers) (j : Job) (k : Counts) (r : Served) : Type 0 where
+pub record Followed (s : State) (store : List ℕ) (b : Buffers) (j : Job) (k : RunCounts) (r : Served) : Type 0 where
   pub moved : r .state .place ≡ s .place + k .posts
   pub as-many : length (jobPosts j (s .place) store b) ≡ k .posts
   pub stand : take (k .posts) (drop (s .place) (r .buffers .posts)) ≡ jobPosts j (s .place) store b
@@ -555,7 +555,7 @@ module _ (s : State) (store : List ℕ) (b : Buffers) (l : ℕ) (j : Job) (rest 
   abbrev A : After
   A = largestRun (isLargest maxCells (b .cells)) P Q R
 
-  by-run : (o : Outcome) (k : Counts) → A .answer ≡ ran o k → Followed s store b j k (servedAs s l rest (behind (s .place) b A))
+  by-run : (o : Outcome) (k : RunCounts) → A .answer ≡ ran o k → Followed s store b j k (servedAs s l rest (behind (s .place) b A))
   by-run o k e =
       let made = jobPosts j (s .place) store b in
       let L = largest-listed P Q R (isLargest maxCells (b .cells)) o k e in
@@ -573,7 +573,7 @@ module _ (s : State) (store : List ℕ) (b : Buffers) (l : ℕ) (j : Job) (rest 
             ∙ sym (ap (λ (n : ℕ). drop n (b .posts)) on);
       }
 
-  pub posts-follow : (o : Outcome) (k : Counts) → serveOf s store b .answer ≡ answered (ran o k) → Followed s store b j k (serveOf s store b)
+  pub posts-follow : (o : Outcome) (k : RunCounts) → serveOf s store b .answer ≡ answered (ran o k) → Followed s store b j k (serveOf s store b)
   posts-follow o k e = go (inside j store) refl
     where
       answer-is : {x : Bool} → inside j store ≡ x → answered (jobAfter x j (s .place) store b .answer) ≡ answered (ran o k)

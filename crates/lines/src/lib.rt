@@ -6,7 +6,8 @@ ghost use Prim.Native.Nat.{_+_, min as least};
 ghost use Rattle.interp.specs.Answers.{after, buffersOf, runModel};
 ghost use Rattle.queues.specs.Queues.{inside as insideOf, dequeued};
 ghost use Rattle.queues.specs.Answers.{jobModel, queueModel, linesModel};
-ghost use Rattle.lines.specs.Serving.{jobRun, postCount, serveOf};
+ghost use Rattle.lines.specs.Serving.{jobRun, serveOf};
+ghost use Rattle.semantics.specs.Runs.{postCount};
 ghost use Rattle.lines.specs.Answers.{servedModel};
 ghost use Rattle.lines.specs.Internal.{Movable};
 

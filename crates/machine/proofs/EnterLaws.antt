@@ -1,5 +1,5 @@
 -- A letrec, check, sign or test is what it enters: a law for each of its ends. Assumes nothing.
-use mathlib.Core.Bool.{Bool, true, false, _&&_, not, true≢false}
+use mathlib.Core.Bool.{Bool, true, false, _&&_, not, true≢false, cond}
 use mathlib.Core.List.{List}
 use mathlib.Core.Logic.{_⊎_, inl, inr, ⊎-elim}
 use mathlib.Core.Path.{_≡_, refl, sym, ap, _∙_, subst}
@@ -12,7 +12,7 @@ use borrow.Author.Tests.{lt-ltb, le-ltb, eq-eqb, eqb-true, not-true}
 use Rattle.machine.specs.declared.enter.Entered.{Entered}
 use Rattle.privileges.specs.Booleans.{and-left, and-right}
 use Rattle.traces.specs.Traces.{Event}
-use Rattle.stores.specs.Words.{pick, functionWord, stopWord, isStop}
+use Rattle.stores.specs.Words.{functionWord, stopWord, isStop}
 use Rattle.termtable.specs.Table.{wordKind, wordSmall, wordFirst, wordSecond, wordThird, wordAuthority}
 use Rattle.stores.specs.Cells.{nextCell, Bound}
 use Rattle.access.specs.Access.{enforced, grantedOf, allowedOf, signAccess, signFrames}
@@ -98,7 +98,7 @@ module _ (t x env acc : ℕ) (n cells frames noted : List ℕ) where
             (λ b k. rw p (omega (arith, first, k .first-lower refl)))
 
     pub enter-test : {s u v o : ℕ} {b : Bool} {n′ l noted′ : List ℕ} {e : Entered} → k ≡ 10 → s ≡ wordSmall x → b ≡ grantedOf (modeOf n) acc frames s
-        → l ≡ frames → Noted (decisionOf t s b) n noted n′ noted′ → u ≡ wordFirst x → v ≡ wordSecond x → o ≡ pick b u v → e ≡ going o env acc
+        → l ≡ frames → Noted (decisionOf t s b) n noted n′ noted′ → u ≡ wordFirst x → v ≡ wordSecond x → o ≡ cond b u v → e ≡ going o env acc
         → Enters t x env acc n cells frames noted e n′ cells l noted′
     unfolding shapeOf testS
     enter-test {s = s} {u = u} {v = v} {b = b} {n′ = n′} {noted′ = noted′} is small q same d first second o p =
@@ -108,11 +108,11 @@ module _ (t x env acc : ℕ) (n cells frames noted : List ℕ) where
         (calls-stay d)
         (λ c k. rw (p, o) (least b c (omega (arith, first, k .first-lower refl)) (omega (arith, second, k .second-lower refl))))
       where
-        by : (b : Bool) (to : ℕ → Done) → pick b (to u) (to v) ≡ to (pick b u v)
+        by : (b : Bool) (to : ℕ → Done) → cond b (to u) (to v) ≡ to (cond b u v)
         by true to = refl
         by false to = refl
 
-        least : (b : Bool) (c : ℕ) → u < c → v < c → pick b u v < c
+        least : (b : Bool) (c : ℕ) → u < c → v < c → cond b u v < c
         least true c l h = l
         least false c l h = h
 

@@ -1,5 +1,5 @@
 -- What an entry of the record leaves: its four bytes, the counters, and what a full record leaves as it is. Assumes nothing.
-use mathlib.Core.Bool.{Bool, true, false}
+use mathlib.Core.Bool.{Bool, true, false, cond}
 use mathlib.Core.List.{List, [], _∷_, _++_, append-assoc}
 use mathlib.Core.Path.{_≡_, refl, sym, ap, _∙_}
 use Prim.Native.Nat.{ℕ, zero, suc, _+_, _*_, _/_, _%_, _<_, _≤_}
@@ -8,7 +8,6 @@ use lib.ListN.{length, getD, set, take, drop}
 use lib.Seq.{getD-set-other}
 use borrow.Author.Tests.{lt-ltb, le-ltb}
 use Rattle.traces.specs.Traces.{Event, decisionByte, eventBytes}
-use Rattle.stores.specs.Words.{pick}
 use Rattle.machine.specs.Steps.{entriesMade, decisionOf, overwrite, makesEntry, noteCounters, noteBytes, Noted}
 
 -- four numbers that are set one after another
@@ -54,6 +53,6 @@ pub note-others : (d : Bool) (n l : List ℕ) (j : ℕ) → (j ≡ 5 → ⊥) �
 unfolding noteCounters
 note-others d n l j h = go (makesEntry d n l)
   where
-    go : (m : Bool) → getD (pick m (set n 5 (entriesMade n + 1)) n) j 0 ≡ getD n j 0
+    go : (m : Bool) → getD (cond m (set n 5 (entriesMade n + 1)) n) j 0 ≡ getD n j 0
     go true = getD-set-other n 5 j (entriesMade n + 1) 0 h
     go false = refl

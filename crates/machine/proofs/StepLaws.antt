@@ -1,5 +1,5 @@
 -- What the operations and a post give, a law for each way that they end. Assumes nothing.
-use mathlib.Core.Bool.{Bool, true, false}
+use mathlib.Core.Bool.{Bool, true, false, cond}
 use mathlib.Core.List.{List}
 use mathlib.Core.Path.{_≡_, refl, sym, ap, ap₂, _∙_}
 use Prim.Native.Nat.{ℕ, _+_, _-_, _<_, _≤_, min}
@@ -8,15 +8,15 @@ use native.Mathlib.Omega.{arith}
 use lib.Dec.{ltb, eqb}
 use lib.ListN.{length, getD, set}
 use borrow.Author.Tests.{eq-eqb, ne-eqb, le-leb, lt-leb, lt-ltb, le-ltb, ltb-true}
-use Rattle.program.specs.Limits.{noGuard}
-use Rattle.stores.specs.Words.{pick, booleanWord, numberWord, intervalWord, undecidedWord, stopWord, sortOf, payloadOf, envOf}
+use Rattle.program.specs.Limits.{noGuard, maxNumber}
+use Rattle.stores.specs.Words.{booleanWord, numberWord, intervalWord, undecidedWord, stopWord, sortOf, payloadOf, envOf}
 use Rattle.access.specs.Access.{enforced, intervalMode, grantedOf, allowedOf}
 use Rattle.termtable.specs.Table.{wordSmall, wordGuard}
 use Rattle.machine.specs.Steps.{postsMade, modeOf, resultOf, lessOf, intervalResult, numbersResult, operateOf, saturatesOf, operateSaturates, countSaturated, operateCounters, Operated, decisionOf, noteCounters, noteBytes, Noted, Guard, guardPassed, numberDecides, Guarded, causeOf, entryOf, listedAs, postCause, postWord, postCounters, postList, Appended}
 use Rattle.machine.proofs.NoteLaws.{note-others}
 
 -- ---- what two numbers give, by the kind
-sum-is : {k : ℕ} (x y : ℕ) → k ≡ 11 → resultOf k x y ≡ numberWord (min (x + y) 65535)
+sum-is : {k : ℕ} (x y : ℕ) → k ≡ 11 → resultOf k x y ≡ numberWord (min (x + y) maxNumber)
 unfolding resultOf
 sum-is {k} x y e = simp (eq-eqb k 11 e)
 
@@ -24,7 +24,7 @@ difference-is : {k : ℕ} (x y : ℕ) → (k ≡ 11 → ⊥) → k ≡ 12 → re
 unfolding resultOf
 difference-is {k} x y n e = simp (ne-eqb k 11 n, eq-eqb k 12 e)
 
-sum-saturates : {k : ℕ} (x y : ℕ) → k ≡ 11 → saturatesOf k x y ≡ ltb 65535 (x + y)
+sum-saturates : {k : ℕ} (x y : ℕ) → k ≡ 11 → saturatesOf k x y ≡ ltb maxNumber (x + y)
 unfolding saturatesOf
 sum-saturates {k} x y e = simp (eq-eqb k 11 e)
 
@@ -34,10 +34,10 @@ difference-saturates {k} x y n e = simp (ne-eqb k 11 n, eq-eqb k 12 e)
 
 -- ---- the same of two intervals
 module _ {x y : ℕ} where
-  pub add-fits : y ≤ 65535 - x → x ≤ 65535 → x + y ≡ min (x + y) 65535
+  pub add-fits : y ≤ maxNumber - x → x ≤ maxNumber → x + y ≡ min (x + y) maxNumber
   add-fits h g = sym (min-eq-left (omega arith))
 
-  pub add-over : 65535 - x < y → x ≤ 65535 → 65535 ≡ min (x + y) 65535
+  pub add-over : maxNumber - x < y → x ≤ maxNumber → maxNumber ≡ min (x + y) maxNumber
   add-over h g = sym (min-eq-right (omega arith))
 
 module _ (a a′ b b′ : ℕ) {r : ℕ} where
@@ -57,7 +57,7 @@ module _ (k a b : ℕ) {x x′ y y′ r : ℕ} (u : x ≡ payloadOf a) (u′ : x
   interval-of : r ≡ intervalResult k x x′ y y′ → r ≡ intervalResult k (payloadOf a) (envOf a) (payloadOf b) (envOf b)
   interval-of q = q ∙ (λ i. intervalResult k (u i) (u′ i) (v i) (v′ i))
 
-  pub interval-sum : {l h : ℕ} → k ≡ 11 → l ≡ min (x + y) 65535 → h ≡ min (x′ + y′) 65535 → r ≡ intervalWord l h
+  pub interval-sum : {l h : ℕ} → k ≡ 11 → l ≡ min (x + y) maxNumber → h ≡ min (x′ + y′) maxNumber → r ≡ intervalWord l h
       → r ≡ intervalResult k (payloadOf a) (envOf a) (payloadOf b) (envOf b)
   unfolding intervalResult
   interval-sum e l h q = interval-of (q ∙ ap₂ intervalWord l h ∙ sym (simp (eq-eqb k 11 e)))
@@ -94,7 +94,7 @@ module _ (k t a b : ℕ) (n : List ℕ) {r : ℕ} where
       }
 
       module _ (plain : m ≡ false) {x y : ℕ} (u : x ≡ payloadOf a) (v : y ≡ payloadOf b) where
-        operate-both : {n′ : List ℕ} (over : Bool) → r ≡ resultOf k x y → over ≡ saturatesOf k x y → n′ ≡ pick over (countSaturated n) n
+        operate-both : {n′ : List ℕ} (over : Bool) → r ≡ resultOf k x y → over ≡ saturatesOf k x y → n′ ≡ cond over (countSaturated n) n
             → Operated k t a b n r n′
         unfolding numbersResult operateOf operateSaturates operateCounters
         operate-both over e s c = record {
@@ -104,20 +104,20 @@ module _ (k t a b : ℕ) (n : List ℕ) {r : ℕ} where
         }
           where
             counters : Bool → List ℕ
-            counters o = pick o (countSaturated n) n
+            counters o = cond o (countSaturated n) n
 
         module _ (sum : k ≡ 11) where
-          pub sum-fits : y ≤ 65535 - x → x ≤ 65535 → r ≡ numberWord (x + y) → Operated k t a b n r n
+          pub sum-fits : y ≤ maxNumber - x → x ≤ maxNumber → r ≡ numberWord (x + y) → Operated k t a b n r n
           sum-fits h g e =
-              let l : x + y ≤ 65535 = omega arith in
+              let l : x + y ≤ maxNumber = omega arith in
               operate-both false (e ∙ ap numberWord (add-fits h g) ∙ sym (sum-is x y sum))
-              (sym (sum-saturates x y sum ∙ le-ltb 65535 (x + y) l)) refl
+              (sym (sum-saturates x y sum ∙ le-ltb maxNumber (x + y) l)) refl
 
-          pub sum-over : {n′ : List ℕ} → 65535 - x < y → x ≤ 65535 → r ≡ numberWord 65535 → n′ ≡ countSaturated n → Operated k t a b n r n′
+          pub sum-over : {n′ : List ℕ} → maxNumber - x < y → x ≤ maxNumber → r ≡ numberWord maxNumber → n′ ≡ countSaturated n → Operated k t a b n r n′
           sum-over h g e c =
-              let l : 65535 < x + y = omega arith in
+              let l : maxNumber < x + y = omega arith in
               operate-both true (e ∙ ap numberWord (add-over h g) ∙ sym (sum-is x y sum))
-              (sym (sum-saturates x y sum ∙ lt-ltb 65535 (x + y) l)) c
+              (sym (sum-saturates x y sum ∙ lt-ltb maxNumber (x + y) l)) c
 
         module _ (no-sum : k ≡ 11 → ⊥) (difference : k ≡ 12) where
           pub difference-fits : y ≤ x → r ≡ numberWord (x - y) → Operated k t a b n r n

@@ -1,11 +1,11 @@
 -- The shapes that end as one child of theirs: letrec, check, sign and test. What they do before that child is a step that evaluates no other term.
-use mathlib.Core.Bool.{true}
+use mathlib.Core.Bool.{true, cond}
 use mathlib.Core.List.{List}
 use mathlib.Core.Logic.{_⊎_}
 use mathlib.Core.Path.{_≡_}
 use Prim.Native.Nat.{ℕ, _<_}
 use Rattle.machine.specs.declared.enter.Entered.{Entered}
-use Rattle.stores.specs.Words.{pick, isStop}
+use Rattle.stores.specs.Words.{isStop}
 use Rattle.termtable.specs.Table.{wordKind, wordSmall}
 use Rattle.machine.specs.Steps.{callsLeft}
 use Rattle.machine.specs.Store.{Store, Done, storeOf, doneOf, Runs, Applier, shapeOf, byShape}
@@ -28,7 +28,7 @@ halting w u = record { stop = w; next = u; env = 0; acc = 0 }
 
 -- a stop stays, or the child is evaluated
 abbrev pub goesTo : Entered → (ℕ → Runs) → Store → Done
-goesTo e ev st = pick (isStop (e .stop)) (doneOf (e .stop) st) (ev (e .next) (e .env) (e .acc) st)
+goesTo e ev st = cond (isStop (e .stop)) (doneOf (e .stop) st) (ev (e .next) (e .env) (e .acc) st)
 
 pub record Enters (t x env acc : ℕ) (n cells frames noted : List ℕ) (e : Entered) (n′ cells′ frames′ noted′ : List ℕ) : Type 0 where
   pub goes : (ev : ℕ → Runs) (ap : Applier) (posts : List ℕ)

@@ -1,11 +1,11 @@
 -- The store-level interpreter: terms as words by their numbers, cells as bytes, frames as numbers. It mirrors the code, and no reader of a public
 -- promise needs it: the crate `refinement` proves that it is the meaning.
-use mathlib.Core.Bool.{Bool, true}
+use mathlib.Core.Bool.{Bool, true, cond}
 use mathlib.Core.List.{List}
 use Prim.Native.Nat.{ℕ, zero, suc, _+_, _-_, _/_}
 use lib.Dec.{leb, ltb, eqb}
 use lib.ListN.{length, getD, set}
-use Rattle.stores.specs.Words.{pick, booleanWord, intervalWord, functionWord, stopWord, sortOf, payloadOf, envOf, isStop}
+use Rattle.stores.specs.Words.{booleanWord, intervalWord, functionWord, stopWord, sortOf, payloadOf, envOf, isStop}
 use Rattle.termtable.specs.Table.{wordKind, wordSmall, wordFirst, wordSecond, wordThird, wordAuthority, wordGuard}
 use Rattle.stores.specs.Cells.{lookOf, cellSet, nextCell}
 use Rattle.access.specs.Access.{enforced, grantedOf, allowedOf, signAccess, signFrames, enableAccess, enableFrames, enabledNow, restoreFrames}
@@ -40,7 +40,7 @@ withEntry d t p acc st =
 
 -- what follows a value; a stop stays
 unfoldable pub andThen : Done → (ℕ → Store → Done) → Done
-andThen d k = pick (isStop (d .out)) d (k (d .out) (d .store))
+andThen d k = cond (isStop (d .out)) d (k (d .out) (d .store))
 
 abbrev pub Runs : Type 0
 Runs = (env acc : ℕ) → Store → Done
@@ -54,14 +54,14 @@ pub data Shape : Type 0 where
 
 unfoldable pub shapeOf : (kind : ℕ) → Shape
 shapeOf k =
-    pick (leb k 3) childless (pick (eqb k 4) letrec (pick (eqb k 5) call (pick (eqb k 6) if (pick (eqb k 7) check
-    (pick (eqb k 8) enable (pick (eqb k 9) sign (pick (eqb k 10) test (pick (leb k 13) binary post))))))))
+    cond (leb k 3) childless (cond (eqb k 4) letrec (cond (eqb k 5) call (cond (eqb k 6) if (cond (eqb k 7) check
+    (cond (eqb k 8) enable (cond (eqb k 9) sign (cond (eqb k 10) test (cond (leb k 13) binary post))))))))
 
 -- boolean, number, variable, function
 unfoldable pub leafOf : (cells : List ℕ) (t word env : ℕ) → ℕ
 leafOf cells t x env =
-    pick (eqb (wordKind x) 0) (booleanWord (ltb 0 (wordSmall x))) (pick (eqb (wordKind x) 1) (intervalWord (wordFirst x) (wordSecond x))
-    (pick (eqb (wordKind x) 2) (lookOf cells t env (wordFirst x)) (functionWord (wordSecond x) env)))
+    cond (eqb (wordKind x) 0) (booleanWord (ltb 0 (wordSmall x))) (cond (eqb (wordKind x) 1) (intervalWord (wordFirst x) (wordSecond x))
+    (cond (eqb (wordKind x) 2) (lookOf cells t env (wordFirst x)) (functionWord (wordSecond x) env)))
 
 -- a new cell: whether there is one, its number, and the store with it
 unfoldable pub hasRoom : Store → Bool
@@ -81,14 +81,14 @@ called w behind st =
 
 -- ---- the kinds of terms
 unfoldable pub letrecS : Runs → (body t : ℕ) → Runs
-letrecS p body t env acc st = pick (hasRoom st) (p (ownCell st) acc (bound (functionWord body (ownCell st)) env st)) (doneOf (stopWord 21 t) st)
+letrecS p body t env acc st = cond (hasRoom st) (p (ownCell st) acc (bound (functionWord body (ownCell st)) env st)) (doneOf (stopWord 21 t) st)
 
 unfoldable pub callS : Runs → Runs → Applier → (t : ℕ) → Runs
 callS p q ap t env acc st = andThen (p env acc st) (λ f st₁. andThen (q env acc st₁) (λ v st₂. ap t f v acc st₂))
 
 unfoldable pub branchS : (t word : ℕ) → (onTrue onFalse : Done) → Store → Done
 branchS t w p q st =
-    pick (eqb (sortOf w) 0) (pick (eqb (payloadOf w) 2) (doneOf (stopWord 36 t) st) (pick (ltb 0 (payloadOf w)) p q)) (doneOf (stopWord 18 t) st)
+    cond (eqb (sortOf w) 0) (cond (eqb (payloadOf w) 2) (doneOf (stopWord 36 t) st) (cond (ltb 0 (payloadOf w)) p q)) (doneOf (stopWord 18 t) st)
 
 unfoldable pub ifS : Runs → Runs → Runs → (t : ℕ) → Runs
 ifS p q r t env acc st = andThen (p env acc st) (λ w st₁. branchS t w (q env acc st₁) (r env acc st₁) st₁)
@@ -98,11 +98,11 @@ abbrev pub checked : (t p acc : ℕ) → Store → Store
 checked t p acc st = withEntry (enforced (modeOf (st .n))) t p acc st
 
 unfoldable pub checkS : Runs → (p t : ℕ) → Runs
-checkS r p t env acc st = pick (allowedOf (modeOf (st .n)) acc (st .frames) p) (r env acc (checked t p acc st)) (doneOf (stopWord 17 t) (checked t p acc st))
+checkS r p t env acc st = cond (allowedOf (modeOf (st .n)) acc (st .frames) p) (r env acc (checked t p acc st)) (doneOf (stopWord 17 t) (checked t p acc st))
 
 unfoldable pub testS : Runs → Runs → (p t : ℕ) → Runs
 testS r q p t env acc st =
-    pick (grantedOf (modeOf (st .n)) acc (st .frames) p) (r env acc (withEntry true t p acc st)) (q env acc (withEntry true t p acc st))
+    cond (grantedOf (modeOf (st .n)) acc (st .frames) p) (r env acc (withEntry true t p acc st)) (q env acc (withEntry true t p acc st))
 
 unfoldable pub signS : Runs → (may : ℕ) → Runs
 signS r may env acc st = r env (signAccess (modeOf (st .n)) acc may) (withFrames (signFrames (modeOf (st .n)) acc (st .frames) may) st)
@@ -151,8 +151,8 @@ byShape post ev ap t x env acc st = postS (ev (wordFirst x)) t x env acc st
 -- a body begins: 20, then 21, or its argument is bound, with one call less
 unfoldable pub begin : (ℕ → Runs) → (t fun arg acc : ℕ) → Store → Done
 begin ev t f v acc st =
-    pick (eqb (callsLeft (st .n)) 0) (doneOf (stopWord 20 t) st)
-    (pick (hasRoom st) (ev (payloadOf f) (ownCell st) acc (called v (envOf f) st)) (doneOf (stopWord 21 t) st))
+    cond (eqb (callsLeft (st .n)) 0) (doneOf (stopWord 20 t) st)
+    (cond (hasRoom st) (ev (payloadOf f) (ownCell st) acc (called v (envOf f) st)) (doneOf (stopWord 21 t) st))
 
 module _ (terms : List ℕ) where
   unfoldable pub step : (ℕ → Runs) → Applier → (t : ℕ) → Runs
@@ -161,12 +161,12 @@ module _ (terms : List ℕ) where
   -- terms with numbers below n
   unfoldable pub below : Applier → (n t : ℕ) → Runs
   below ap zero t env acc st = doneOf (stopWord 18 t) st
-  below ap (suc n) t env acc st = pick (eqb t n) (step (below ap n) ap t env acc st) (below ap n t env acc st)
+  below ap (suc n) t env acc st = cond (eqb t n) (step (below ap n) ap t env acc st) (below ap n t env acc st)
 
   -- 18 for what is no function, then 19. A term's number has 16 bits; one past the table has the word 0, which is a boolean's.
   unfoldable pub applyAt : (depth : ℕ) → Applier
-  applyAt zero t f v acc st = pick (eqb (sortOf f) 2) (doneOf (stopWord 19 t) st) (doneOf (stopWord 18 t) st)
-  applyAt (suc k) t f v acc st = pick (eqb (sortOf f) 2) (begin (below (applyAt k) 65536) t f v acc st) (doneOf (stopWord 18 t) st)
+  applyAt zero t f v acc st = cond (eqb (sortOf f) 2) (doneOf (stopWord 19 t) st) (doneOf (stopWord 18 t) st)
+  applyAt (suc k) t f v acc st = cond (eqb (sortOf f) 2) (begin (below (applyAt k) 65536) t f v acc st) (doneOf (stopWord 18 t) st)
 
   unfoldable pub evalAt : (depth t : ℕ) → Runs
   evalAt k = below (applyAt k) 65536

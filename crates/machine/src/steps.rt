@@ -1,15 +1,17 @@
 // The steps of a run that evaluate no other term.
-ghost use mathlib.Core.Bool.{true};
+ghost use mathlib.Core.Bool.{true, cond};
 ghost use mathlib.Core.Path.{_≡_};
 ghost use Prim.Native.Nat.{_+_, _-_, min};
-ghost use Rattle.stores.specs.Words.{pick, numberWord, payloadOf, envOf};
+ghost use Rattle.stores.specs.Words.{numberWord, payloadOf, envOf};
 ghost use Rattle.stores.specs.Returns.{Returned};
 ghost use Rattle.machine.specs.Steps.{countSaturated, lessOf, intervalResult, Operated, Guard, Guarded, causeOf, entryOf, listedAs, Appended};
 ghost use Rattle.termtable.specs.Table.{wordGuard};
+ghost use Rattle.program.specs.Limits.{maxNumber};
 use crate::notes::note;
 use access::enforces;
 use access::granted;
 use access::intervals;
+use program::limits::MAX_NUMBER;
 use program::limits::NO_GUARD;
 use std::num::wrapping_add_usize;
 use stores::words;
@@ -18,7 +20,7 @@ use termtable::small_of;
 
 // One of two numbers.
 pub fn choose(yes: bool, a: u16, b: u16) -> u16
-    ensures { λ r. ⌜ r ≡ pick yes a b ⌝ }
+    ensures { λ r. ⌜ r ≡ cond yes a b ⌝ }
 {
     if yes { a } else { b }
 }
@@ -32,12 +34,12 @@ fn saturate(n: &mut [usize; 6], limit: u16) -> u64
 }
 
 fn add(x: u16, y: u16) -> u16
-    ensures { λ r. ⌜ r ≡ min (x + y) 65535 ⌝ }
+    ensures { λ r. ⌜ r ≡ min (x + y) maxNumber ⌝ }
 {
-    if y <= 65535 - x {
+    if y <= MAX_NUMBER - x {
         return x + y;
     }
-    65535
+    MAX_NUMBER
 }
 
 fn subtract(x: u16, y: u16) -> u16
@@ -95,10 +97,10 @@ pub fn operate(n: &mut [usize; 6], kind: u8, t: u16, a: u64, b: u64) -> u64
     let x = words::payload(a);
     let y = words::payload(b);
     if kind == 11 {
-        if y <= 65535 - x {
+        if y <= MAX_NUMBER - x {
             return words::number(x + y);
         }
-        return saturate(n, 65535);
+        return saturate(n, MAX_NUMBER);
     }
     if kind == 12 {
         if y <= x {

@@ -7,7 +7,7 @@ use Prim.Native.Nat.{ℕ, _+_, _-_, _<_, _≤_}
 use native.Mathlib.Omega.{arith}
 use lib.Dec.{leb, eqb}
 use borrow.Author.Tests.{lt-leb, le-leb}
-use Rattle.program.specs.Limits.{maxChannels}
+use Rattle.program.specs.Limits.{maxChannels, maxPrivilege}
 use Rattle.program.specs.Layout.{terms, termAt, kindByte, guardOf, guardIn}
 use Rattle.program.specs.Formats.{Kind, Boolean, Number, Variable, Function, Letrec, Call, If, Check, Enable, Sign, Test, Sum, Difference, Less, Post, kindOf, format}
 use Rattle.program.specs.Terms.{Term, node, tree, contains}
@@ -99,13 +99,13 @@ module _ (s : List ℕ) (p : ℕ) where
   abbrev readableAnswer : Bool → Naming
   readableAnswer low = unlessFound refused (screen (unless 30 low ∷ [])) (λ _. namingOf (firstNaming s p))
 
-  pub too-high : 31 < p → refused 30 0 ≡ readableAnswer (leb p 31)
+  pub too-high : maxPrivilege < p → refused 30 0 ≡ readableAnswer (leb p maxPrivilege)
   unfolding screen refuseAt
-  too-high h = λ i. readableAnswer (sym (lt-leb p 31 h) i)
+  too-high h = λ i. readableAnswer (sym (lt-leb p maxPrivilege h) i)
 
-  pub not-above : p ≤ 31 → {a : Naming} → a ≡ namingOf (firstNaming s p) → a ≡ readableAnswer (leb p 31)
+  pub not-above : p ≤ maxPrivilege → {a : Naming} → a ≡ namingOf (firstNaming s p) → a ≡ readableAnswer (leb p maxPrivilege)
   unfolding screen refuseAt
-  not-above h e = e ∙ λ i. readableAnswer (sym (le-leb p 31 h) i)
+  not-above h e = e ∙ λ i. readableAnswer (sym (le-leb p maxPrivilege h) i)
 
   -- ---- the decoder's answer
   module _ {d : Decoded} (m : decodedModel d ≡ decoding s) where
@@ -113,13 +113,13 @@ module _ (s : List ℕ) (p : ℕ) where
     unfolding naming decoding
     unreadable-naming {f} e = λ i.
         unlessFound refused
-        (sym (screen-found (decodingConditions s) (unless 30 (leb p 31) ∷ []) (decodingCause f) (decodingPlace f) (sym m ∙ ap decodedModel e)) i)
+        (sym (screen-found (decodingConditions s) (unless 30 (leb p maxPrivilege) ∷ []) (decodingCause f) (decodingPlace f) (sym m ∙ ap decodedModel e)) i)
         (λ _. namingOf (firstNaming s p))
 
-    pub readable-naming : {c : Counts} → d ≡ Readable c → {a : Naming} → a ≡ readableAnswer (leb p 31) → a ≡ naming s p
+    pub readable-naming : {c : Counts} → d ≡ Readable c → {a : Naming} → a ≡ readableAnswer (leb p maxPrivilege) → a ≡ naming s p
     unfolding naming decoding
     readable-naming e h = h ∙ λ i.
-        unlessFound refused (sym (screen-clear (decodingConditions s) (unless 30 (leb p 31) ∷ []) (sym m ∙ ap decodedModel e)) i) (λ _. namingOf
+        unlessFound refused (sym (screen-clear (decodingConditions s) (unless 30 (leb p maxPrivilege) ∷ []) (sym m ∙ ap decodedModel e)) i) (λ _. namingOf
         (firstNaming s p))
 
 -- ---- the search

@@ -3,11 +3,11 @@ use mathlib.Core.List.{List}
 use Prim.Native.Nat.{ℕ, _<_}
 use Rattle.program.specs.Layout.{terms}
 use Rattle.program.specs.declared.records.Counts.{Counts}
-use Rattle.subtyping.specs.Internal.{Sheet}
+use Rattle.accessors.specs.Internal.{FormedSheet}
 
 -- a readable sheet with its counts, and a privilege
 pub record NamingSheet (s : List ℕ) (c : Counts) (p : ℕ) : Type 0 where
-  pub sheet : Sheet s c
+  pub sheet : FormedSheet s c
   pub privilege : p < 32
 
 -- and a term

@@ -2,8 +2,9 @@
 ghost use mathlib.Core.List.{[], _∷_};
 ghost use mathlib.Core.Path.{_≡_};
 ghost use lib.Dec.{leb};
+ghost use Rattle.program.specs.Limits.{maxPrivilege};
 ghost use Rattle.program.specs.Screening.{screen, unlessFound, unless};
-ghost use Rattle.subtyping.specs.Internal.{Sheet};
+ghost use Rattle.accessors.specs.Internal.{FormedSheet};
 ghost use Rattle.semantics.specs.Names.{names as namesOf};
 ghost use Rattle.irrelevance.specs.Naming.{refused, firstNaming, namingOf, naming};
 ghost use Rattle.irrelevance.specs.Answers.{namedModel};
@@ -12,6 +13,7 @@ use accessors::guard;
 use accessors::term;
 use irrelevance::answer::Named;
 use program::answer::Decoded;
+use program::limits::MAX_PRIVILEGE_NUMBER;
 use program::records::Counts;
 
 // Whether the sheet names a privilege, on any bytes and any number: the decoder's refusals, then 30, then the lowest term that names it, or none.
@@ -27,11 +29,11 @@ pub fn names(sheet: &[u8], privilege: u32) -> Named
 
 // The same of a readable sheet with its counts.
 fn names_readable(s: &[u8], c: Counts, privilege: u32) -> Named
-    requires { ⌜ Sheet (now s) c ⌝ }
-    ensures { λ r. ⌜ namedModel r ≡ unlessFound refused (screen (unless 30 (leb privilege 31) ∷ [])) (λ _. namingOf (firstNaming (now
+    requires { ⌜ FormedSheet (now s) c ⌝ }
+    ensures { λ r. ⌜ namedModel r ≡ unlessFound refused (screen (unless 30 (leb privilege maxPrivilege) ∷ [])) (λ _. namingOf (firstNaming (now
         (s .entry)) privilege)) ⌝ }
 {
-    if 31 < privilege {
+    if MAX_PRIVILEGE_NUMBER < privilege {
         return Named::NoPrivilege;
     }
     first_naming(s, c, privilege as u8)

@@ -22,7 +22,7 @@ use Rattle.pairs.specs.Internal.{TermOf, RangeWord, Laid}
 
 -- ---- a term's kind, by its record
 pub number-by : {s : List ℕ} {c : Counts} {t : ℕ} → TermOf s c t → {x : TermRecord} → x ≡ termRecord s c t → eqb (x .kind) 1 ≡ isNumber s t
-number-by {s} {c} {t} h e = ap (λ (x : TermRecord). eqb (x .kind) 1) (e ∙ term-is s (h .well-formed) c (h .counts-are) t (h .inside))
+number-by {s} {c} {t} h e = ap (λ (x : TermRecord). eqb (x .kind) 1) (e ∙ term-is s (h .well-formed) c (h .counts) t (h .inside))
 
 -- ---- counting
 -- of the first t of so many terms n are number terms

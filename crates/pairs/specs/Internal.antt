@@ -15,13 +15,13 @@ use Rattle.termtable.specs.Table.{wordKind, wordFirst, wordSecond, Decoded}
 -- a readable sheet with its counts, and a term
 pub record TermOf (s : List ℕ) (c : Counts) (t : ℕ) : Type 0 where
   pub well-formed : WellFormed s
-  pub counts-are : CountsOf s c
+  pub counts : CountsOf s c
   pub inside : t < terms s
 
 -- the words of its terms, and a pair for each of its number terms
 pub record Layable (s : List ℕ) (c : Counts) (pairs words : List ℕ) : Type 0 where
   pub well-formed : WellFormed s
-  pub counts-are : CountsOf s c
+  pub counts : CountsOf s c
   pub decoded : Decoded s c words
   pub enough : 2 * numbersBelow s (terms s) ≤ length pairs
 

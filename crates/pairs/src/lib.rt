@@ -2,9 +2,9 @@
 ghost use mathlib.Core.Path.{_≡_};
 ghost use Prim.Native.Nat.{_*_, _≤_};
 ghost use lib.ListN.{length};
-ghost use Rattle.program.specs.Layout.{terms as termsOf};
+ghost use Rattle.program.specs.Layout.{terms as termCount};
 ghost use Rattle.intervals.specs.Pairs.{isNumber, numbersBelow, ordered as orderedPairs, pairsOk};
-ghost use Rattle.termtable.specs.Table.{FormedSheet};
+ghost use Rattle.accessors.specs.Internal.{FormedSheet};
 ghost use Rattle.pairs.specs.Internal.{TermOf, Layable, Laid};
 use program::limits::TERM_PLACES;
 use program::records::Counts;
@@ -21,7 +21,7 @@ fn is_number(s: &[u8], c: Counts, t: u16) -> bool
 // How many terms are numbers.
 fn count_numbers(s: &[u8], c: Counts) -> u16
     requires { ⌜ FormedSheet (now s) c ⌝ }
-    ensures { λ r. ⌜ r ≡ numbersBelow (now (s .entry)) (termsOf (now (s .entry))) ⌝ }
+    ensures { λ r. ⌜ r ≡ numbersBelow (now (s .entry)) (termCount (now (s .entry))) ⌝ }
 {
     let count = c.terms;
     let mut n = 0;
@@ -69,7 +69,7 @@ pub fn pairs_ok(s: &[u8], c: Counts, pairs: &[u16]) -> bool
 // Gives the word of each number term its pair, as first and second: the word of a number term and that of a number that is known within limits are alike.
 pub fn lay_pairs(s: &[u8], c: Counts, pairs: &[u16], terms: &mut [u64; TERM_PLACES])
     requires { ⌜ Layable (now s) c (now pairs) (now terms) ⌝ }
-    ensures { λ _. ⌜ Laid (now (s .entry)) (now (pairs .entry)) (termsOf (now (s .entry))) (now (terms .entry)) (now (terms .exit)) ⌝ }
+    ensures { λ _. ⌜ Laid (now (s .entry)) (now (pairs .entry)) (termCount (now (s .entry))) (now (terms .entry)) (now (terms .exit)) ⌝ }
 {
     let count = c.terms;
     let mut n = 0;

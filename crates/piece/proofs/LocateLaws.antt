@@ -1,13 +1,13 @@
 -- The piece of a sheet from the reader's answer and from what is found of the root, and the place of its record. Assumes nothing.
 use mathlib.Core.List.{List, []}
-use mathlib.Core.Option.{Option, none, some}
+use mathlib.Core.Option.{Option, none}
 use mathlib.Core.Path.{_≡_, refl, sym, ap, _∙_, subst}
 use Prim.Native.Nat.{ℕ, _+_, _*_, _-_, _≤_}
 use native.Mathlib.Omega.{arith}
 use lib.ListN.{length, take, drop}
 use denote.Enum.Declared.{tagOf}
 use Rattle.program.specs.Layout.{authority, typesOf}
-use Rattle.program.specs.Terms.{tree, program}
+use Rattle.program.specs.Terms.{program}
 use Rattle.program.specs.Screening.{Screening, unlessFound}
 use Rattle.program.specs.Decoding.{decoding}
 use Rattle.program.specs.Answers.{decodedModel}
@@ -15,14 +15,12 @@ use Rattle.program.specs.declared.answer.Refusal.{Refusal}
 use Rattle.program.specs.declared.answer.Decoded.{Decoded}
 use Rattle.program.specs.declared.answer.Decoded.the-variants.{Readable, Refused as NotReadable}
 use Rattle.program.specs.declared.records.Counts.{Counts}
-use Rattle.typing.specs.Places.{Placed, placed}
+use Rattle.typing.specs.Places.{Placed}
 use Rattle.typing.specs.declared.answer.Fault.{Fault}
-use Rattle.subtyping.specs.Internal.{Sheet}
+use Rattle.accessors.specs.Internal.{FormedSheet}
 use Rattle.subtyping.specs.Known.{Known}
-use Rattle.rules.specs.Inference.{lastFirst}
-use Rattle.rules.specs.declared.bindings.Bindings.{Bindings}
-use Rattle.checker.proofs.VerdictLaws.{root-ready}
-use Rattle.places.specs.Internal.{present, childAt}
+use Rattle.places.specs.Internal.{AtRoot, childAt}
+use Rattle.places.proofs.PlaceLaws.{root-place-ready, root-child}
 use Rattle.subterms.specs.Smallest.{subterms, Refused, smallestOf, Piece, unreadable, pieceFrom, pieceOf, recordLength, recordOf}
 use Rattle.subterms.specs.Laws.Subterms.{subtermsIn}
 use Rattle.subterms.specs.Theorems.{record-inside, place-most, length-most}
@@ -57,16 +55,13 @@ nothing-is : (x : Candidate) → tagOf the-type x ≡ 0 → candidateModel x ≡
 nothing-is Nothing h = refl
 nothing-is (candidate.Refused t n f) h = absurd (omega (arith, h))
 
-module _ {s : List ℕ} {c : Counts} (S : Sheet s c) (b : Bindings) (none-bound : b .len ≡ 0) {y : Child} (q : y ≡ present (c .terms - 1) b 0) where
+module _ {s : List ℕ} {c : Counts} (S : FormedSheet s c) {y : Child} (at-root : AtRoot c y) where
   pub root-visitable : {l : List ℕ} → Known (typesOf s) l → Visitable s c l y
-  root-visitable k = record { ready = λ _. rw q (root-ready S b none-bound); known = k }
-
-  root-is : childAt s y ≡ some (placed [] 0 (program s))
-  root-is = rw q (λ i. some (placed (lastFirst (b .types) (none-bound i)) 0 (tree s (S .counts .terms-are i - 1))))
+  root-visitable k = record { ready = λ _. root-place-ready S at-root; known = k }
 
   module _ {v : Visited} {l : List ℕ} (f : VisitedAs s (childAt s y) v l) where
     found-is : candidateModel (v .smallest) ≡ smallestOf (typesOf s) (authority s) (subterms (typesOf s) [] 0 (program s))
-    found-is = f .smallest-is ∙ ap (λ (o : Option Placed). smallestOf (typesOf s) (authority s) (subtermsIn (typesOf s) o)) root-is
+    found-is = f .smallest-is ∙ ap (λ (o : Option Placed). smallestOf (typesOf s) (authority s) (subtermsIn (typesOf s) o)) (root-child S at-root)
 
     pub nothing-located : tagOf the-type (v .smallest) ≡ 0 → {r : Located} → r ≡ record { piece = NoPiece; at = 0; len = 0 } → LocatedAs s (pieceIn s) r
     nothing-located e q =

@@ -1,16 +1,14 @@
 // The smallest faulty piece of a sheet: the smallest term that is refused where it stands, and the record of that term.
-use places::present;
+use places::root;
 use program::answer::Decoded;
-use program::limits::NESTING_PLACES;
 use program::records::Counts;
-use rules::bindings::Bindings;
 use smallest::candidates::Candidate;
 use smallest::visit::visit;
 use subterms::answer::Piece;
 use subtyping::known::KNOWN_WORDS;
 use subtyping::known::Known;
 ghost use mathlib.Core.Path.{_≡_};
-ghost use Rattle.subtyping.specs.Internal.{Sheet};
+ghost use Rattle.accessors.specs.Internal.{FormedSheet};
 ghost use Rattle.subterms.specs.Smallest.{pieceOf, recordOf};
 ghost use Rattle.subterms.specs.Answers.{pieceModel};
 ghost use Rattle.piece.specs.Answers.{LocatedAs};
@@ -62,18 +60,13 @@ fn nowhere(piece: Piece) -> Located
     }
 }
 
-// The same of a readable sheet with its counts. The root is a sign, so that the principal named here is never looked at.
+// The same of a readable sheet with its counts.
 fn locate_readable(s: &[u8], c: Counts) -> Located
-    requires { ⌜ Sheet (now s) c ⌝ }
+    requires { ⌜ FormedSheet (now s) c ⌝ }
     ensures { λ r. ⌜ LocatedAs (now (s .entry)) (pieceIn (now (s .entry))) r ⌝ }
 {
-    let none = Bindings {
-        types: [0; NESTING_PLACES],
-        len: 0,
-    };
     let mut known: Known = [0; KNOWN_WORDS];
-    let root = present(c.terms - 1, none, 0);
-    let found = visit(s, c, &mut known, root);
+    let found = visit(s, c, &mut known, root(c));
     let x = found.smallest;
     match x {
         Candidate::Nothing => nowhere(Piece::NoPiece),

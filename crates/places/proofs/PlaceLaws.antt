@@ -1,17 +1,17 @@
 -- The children of a term, from its record: which there are, where each stands, and what judging it asks; each has a lower number. Assumes nothing.
 use mathlib.Core.Bool.{Bool, true, false, cond, true≢false}
-use mathlib.Core.List.{List, _∷_}
+use mathlib.Core.List.{List, [], _∷_}
 use mathlib.Core.Logic.{⊎-elim}
 use mathlib.Core.Option.{Option, none, some}
 use mathlib.Core.Path.{_≡_, refl, sym, ap, _∙_, subst}
-use Prim.Native.Nat.{ℕ, zero, suc, _+_, _*_, _<_, _≤_}
+use Prim.Native.Nat.{ℕ, zero, suc, _+_, _*_, _-_, _<_, _≤_}
 use native.Mathlib.Nat.{eq-or-lt-of-le}
 use native.Mathlib.Omega.{arith}
 use lib.ListN.{replicate}
-use Rattle.program.specs.Limits.{maxTypes}
+use Rattle.program.specs.Limits.{maxTypes, maxNesting}
 use Rattle.program.specs.Layout.{typesOf, termAt, guardOf}
 use Rattle.program.specs.Formats.{Part, functionType, kindOf, format}
-use Rattle.program.specs.Terms.{Term, node, tree}
+use Rattle.program.specs.Terms.{Term, node, tree, program}
 use Rattle.program.specs.Decoding.{partOk}
 use Rattle.program.specs.Records.{termAtByte, termRecord, typeRecord}
 use Rattle.program.specs.declared.records.Counts.{Counts}
@@ -22,14 +22,16 @@ use Rattle.program.specs.Laws.Records.{term-is}
 use Rattle.program.specs.Laws.Trees.{parts, tree-node}
 use Rattle.subtyping.specs.Laws.Records.{type-parts}
 use Rattle.subtyping.proofs.KnownLaws.{known-none}
-use Rattle.rules.specs.Inference.{context, Ready}
+use Rattle.rules.specs.Inference.{lastFirst, context, Ready}
 use Rattle.rules.specs.Steps.{Pushed}
 use Rattle.rules.specs.declared.bindings.Bindings.{Bindings}
 use Rattle.checker.specs.Internal.{ReadyAt}
+use Rattle.checker.proofs.VerdictLaws.{root-ready}
 use Rattle.checker.proofs.TermLaws.{Child as Below, kind-most, check-child, enable-child, sign-child, post-child, call-first, call-second, test-first, test-second, binary-first, binary-second, if-first, if-second, if-third, function-room, function-child, letrec-room, letrec-body, letrec-rest}
 use Rattle.typing.specs.Places.{Placed, placed}
-use Rattle.places.specs.Internal.{placedAt, present, Children, childrenOf, childAt, Reached}
+use Rattle.places.specs.Internal.{placedAt, ReadyPlace, present, AtRoot, Children, childrenOf, given, childAt, Reached}
 use Rattle.places.specs.declared.Child.{Child}
+use Rattle.accessors.specs.Internal.{FormedSheet}
 
 -- ---- what holds at each of the numbers from m on holds at every number among them
 infixr 10 _and_
@@ -82,10 +84,10 @@ module _ {s : List ℕ} {c : Counts} {t : ℕ} {b : Bindings} {n : ℕ} (R : Rea
   pub most : x .kind ≤ 14
   most = kind-most at-record
 
-  pub function-fits : x .kind ≡ 3 → b .len < 32
+  pub function-fits : x .kind ≡ 3 → b .len < maxNesting
   function-fits e = function-room at-record e
 
-  pub letrec-fits : x .kind ≡ 4 → b .len < 31
+  pub letrec-fits : x .kind ≡ 4 → b .len + 1 < maxNesting
   letrec-fits e = letrec-room at-record e
 
   pub letrec-function : x .kind ≡ 4 → typesOf s .isFun (x .first) ≡ true
@@ -208,3 +210,19 @@ there s y e = rw e refl
 
 pub not-there : (s : List ℕ) (y : Child) → y .present ≡ false → childAt s y ≡ none
 not-there s y e = rw e refl
+
+-- ---- the root
+pub root-at : {c : Counts} {b : Bindings} → b .len ≡ 0 → {r : Child} → r ≡ present (c .terms - 1) b 0 → AtRoot c r
+root-at e q = rw q (record { is-present = refl; term-is = refl; no-bindings = e; principal-is = refl })
+
+module _ {s : List ℕ} {c : Counts} (S : FormedSheet s c) {r : Child} (h : AtRoot c r) where
+  pub root-place-ready : ReadyPlace s c (r .place)
+  root-place-ready = rw (h .term-is, h .principal-is) (root-ready S (r .place .bindings) (h .no-bindings))
+
+  pub root-placed : placedAt s (r .place) ≡ placed [] 0 (program s)
+  root-placed = λ i.
+      placed (lastFirst (r .place .bindings .types) (h .no-bindings i)) (h .principal-is i)
+      (tree s ((h .term-is ∙ ap (λ (n : ℕ). n - 1) (S .counts .terms-are)) i))
+
+  pub root-child : childAt s r ≡ some (placed [] 0 (program s))
+  root-child = λ i. given (h .is-present i) (root-placed i)

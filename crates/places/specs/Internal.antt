@@ -3,7 +3,7 @@ use mathlib.Core.Bool.{Bool, true, false}
 use mathlib.Core.List.{List, _∷_}
 use mathlib.Core.Option.{Option, none, some}
 use mathlib.Core.Path.{_≡_}
-use Prim.Native.Nat.{ℕ, _<_}
+use Prim.Native.Nat.{ℕ, _-_, _<_}
 use Rattle.program.specs.Layout.{Types, typesOf}
 use Rattle.program.specs.Terms.{boolean, number, variable, function, letrec, call, if, check, enable, sign, test, binary, post, tree}
 use Rattle.program.specs.declared.records.Counts.{Counts}
@@ -23,6 +23,13 @@ ReadyPlace s c x = Ready s c (x .term) (x .bindings) (x .principal)
 
 abbrev pub present : (t : ℕ) → Bindings → (n : ℕ) → Child
 present t b n = record { present = true; place = record { term = t; bindings = b; principal = n } }
+
+-- the root, where it stands
+pub record AtRoot (c : Counts) (r : Child) : Type 0 where
+  pub is-present : r .present ≡ true
+  pub term-is : r .place .term ≡ c .terms - 1
+  pub no-bindings : r .place .bindings .len ≡ 0
+  pub principal-is : r .place .principal ≡ 0
 
 -- ---- children by their position
 pub record Children : Type 0 where

@@ -3,10 +3,12 @@ use accessors::term;
 use accessors::type_record;
 use program::records::Counts;
 use rules::bindings::Bindings;
+use rules::bindings::none;
 use rules::bindings::push;
 ghost use mathlib.Core.Bool.{false};
 ghost use mathlib.Core.Path.{_≡_};
-ghost use Rattle.places.specs.Internal.{present as presentOf, childrenAt, ReadyPlace, Reached};
+ghost use Prim.Native.Nat.{_≤_};
+ghost use Rattle.places.specs.Internal.{present as presentOf, AtRoot, childrenAt, ReadyPlace, Reached};
 
 // A term with the bindings and the principal that it has in the sheet.
 pub struct Place {
@@ -41,6 +43,14 @@ pub fn absent(at: Place) -> Child
         present: false,
         place: at,
     }
+}
+
+// The root, where it stands: without bindings. It is a sign, so that the principal named here is never looked at.
+pub fn root(c: Counts) -> Child
+    requires { ⌜ 1 ≤ c .terms ⌝ }
+    ensures { λ r. ⌜ AtRoot c r ⌝ }
+{
+    present(c.terms - 1, none(), 0)
 }
 
 // The first child. A sign's stands under the principal that signs.

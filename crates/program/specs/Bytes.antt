@@ -1,7 +1,7 @@
 -- Numbers in bytes. 01, "The bytes of a sheet": "all numbers have their highest byte first". Past the end there are zeros.
 use mathlib.Core.List.{List}
-use Prim.Native.Nat.{ℕ, _+_, _*_, _<_}
-use lib.ListN.{getD}
+use Prim.Native.Nat.{ℕ, _+_, _*_, _/_, _%_, _<_}
+use lib.ListN.{getD, set}
 
 abbrev pub byte : List ℕ → (at : ℕ) → ℕ
 byte s i = getD s i 0
@@ -11,6 +11,10 @@ word16 s i = byte s i * 256 + byte s (i + 1)
 
 abbrev pub word32 : List ℕ → (at : ℕ) → ℕ
 word32 s i = word16 s i * 65536 + word16 s (i + 2)
+
+-- a number's two bytes put at a place
+unfoldable pub withWord16 : List ℕ → (at number : ℕ) → List ℕ
+withWord16 s i n = set (set s i (n / 256)) (i + 1) (n % 256)
 
 -- what a slice of bytes holds
 pub record Bytes (s : List ℕ) : Type 0 where

@@ -5,7 +5,7 @@ use mathlib.Core.Path.{_≡_}
 use Prim.Native.Nat.{ℕ, zero, suc, _+_, _*_, _/_}
 use lib.Dec.{leb, ltb, eqb}
 use lib.ListN.{length}
-use Rattle.program.specs.Limits.{maxPrincipals, maxTypes, maxTerms, maxChannels, noGuard, maxTypeDepth, maxNesting}
+use Rattle.program.specs.Limits.{maxPrincipals, maxTypes, maxTerms, maxChannels, noGuard, maxTypeDepth, maxNesting, maxPrivilege}
 use Rattle.program.specs.Tests.{also, orElse}
 use Rattle.program.specs.Bytes.{byte, word16}
 use Rattle.program.specs.Layout.{version, hasGuards, principals, typeField, types, typeAt, termField, terms, guardField, sheetEnd, channels, guardByte, root, kindByte, small, first, second, third, typesOf}
@@ -62,7 +62,7 @@ abbrev pub partOk : List ℕ → (t : ℕ) → Part → (value : ℕ) → Bool
 partOk s t unused x = eqb x 0
 partOk s t flag x = leb x 1
 partOk s t anyNumber x = true
-partOk s t privilege x = leb x 31
+partOk s t privilege x = leb x maxPrivilege
 partOk s t principal x = ltb x (principals s)
 -- 02, W8: "a channel, 0 to 15"; in version 1 there is channel 0 alone, so that the part is zero as before
 partOk s t channel x = ltb x (channels s)
@@ -129,7 +129,7 @@ nestedIn s (suc k) t = orElse (eqb t (root s)) λ _. nestedIn s k (parent s t (t
 
 -- 02, W8: "for each channel a privilege 0 to 31, or 255 for none. … any other privilege byte is 31 at its channel"
 abbrev pub guardOk : List ℕ → (c : ℕ) → Bool
-guardOk s c = leb (guardByte s c) 31 || eqb (guardByte s c) noGuard
+guardOk s c = leb (guardByte s c) maxPrivilege || eqb (guardByte s c) noGuard
 
 -- ---- all of them
 

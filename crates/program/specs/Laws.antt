@@ -1,5 +1,6 @@
 -- What is proved of the definitions, for the crates above. Nothing here has to be believed.
 pub mod Lists
+pub mod Bytes
 pub mod Screening
 pub mod Search
 pub mod Order

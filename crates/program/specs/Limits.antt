@@ -11,6 +11,10 @@ maxTypes = 256
 abbrev pub maxTerms : ℕ
 maxTerms = 1024
 
+-- "privilege k, 0 to 31"
+abbrev pub maxPrivilege : ℕ
+maxPrivilege = 31
+
 -- 02, W8: "a channel, 0 to 15"; "for each channel a privilege 0 to 31, or 255 for none"
 abbrev pub maxChannels : ℕ
 maxChannels = 16
@@ -32,6 +36,10 @@ maxTypeDepth = 12
 
 abbrev pub maxNesting : ℕ
 maxNesting = 32
+
+-- the numbers of a sheet: "number: first, 0 to 65,535", "Sums are held at 65,535"
+abbrev pub maxNumber : ℕ
+maxNumber = 65535
 
 -- a start stack of 16 frames; "A frame is two 32-bit numbers"
 abbrev pub maxStartFrames : ℕ
@@ -57,7 +65,12 @@ maxCalls = 4096
 abbrev pub maxDepth : ℕ
 maxDepth = 100
 
--- 02, W10: the most sums and differences that are held. A term is evaluated at most once outside of calls and once in each call, so they are 4,195,328, which
--- is below 2^32.
-abbrev pub maxSaturated : ℕ
-maxSaturated = (maxCalls + 1) * maxTerms
+-- The frames of the deepest lazy run: those of the start stack, and as many as terms nest for the root and for each open call. Two numbers each make the 6,496
+-- of its store (`refinement`, Laws/Controls: frames-fit).
+abbrev pub maxFrames : ℕ
+maxFrames = maxStartFrames + (maxDepth + 1) * maxNesting
+
+-- The most evaluations of terms in a run: a term is evaluated at most once outside of calls and once in each call, so they are 4,195,328, which is below 2^32.
+-- So many sums and differences are held at most (02, W10), and so many decisions recorded (02, W12).
+abbrev pub maxEvaluations : ℕ
+maxEvaluations = (maxCalls + 1) * maxTerms

@@ -5,6 +5,11 @@ pub const MAX_TYPES: u16 = 256;
 
 pub const MAX_TERMS: u16 = 1024;
 
+// The highest privilege, and the same as a number of 32 bits, as callers give one.
+pub const MAX_PRIVILEGE: u8 = 31;
+
+pub const MAX_PRIVILEGE_NUMBER: u32 = MAX_PRIVILEGE as u32;
+
 pub const MAX_CHANNELS: u8 = 16;
 
 // The guard byte of a channel without a guard.
@@ -34,12 +39,15 @@ pub const MAX_TYPE_DEPTH: u8 = 12;
 
 pub const MAX_NESTING: u8 = 32;
 
+// The largest number, at which sums are held.
+pub const MAX_NUMBER: u16 = 65535;
+
 // Frames of a start stack, and their numbers.
 pub const MAX_START_FRAMES: usize = 16;
 
 pub const MAX_START: usize = 2 * MAX_START_FRAMES;
 
-// Bytes of the cell store, entries of the list of posts, numbers of a lazy run's frame store.
+// Bytes of the cell store, entries of the list of posts, numbers of a lazy run's frame store: two for each of maxFrames.
 pub const MAX_CELLS: usize = 65536;
 
 pub const MAX_POSTS: usize = 256;

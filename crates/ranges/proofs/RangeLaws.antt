@@ -1,5 +1,5 @@
 -- From the tally of the root to the whole run over ranges: the refinement theorem at the start that the run makes. And how a run is turned back.
-use mathlib.Core.Bool.{Bool, true, false}
+use mathlib.Core.Bool.{Bool, true, false, cond}
 use mathlib.Core.List.{List, [], _∷_}
 use mathlib.Core.Option.{none, some}
 use mathlib.Core.Path.{_≡_, refl, sym, ap, _∙_, subst}
@@ -18,7 +18,7 @@ use Rattle.intervals.specs.Pairs.{pairsOk, ranged}
 use Rattle.intervals.specs.Runs.{rangeConditions, rangeRun}
 use Rattle.intervals.specs.Theorems.{run-clear, run-found, few-clear}
 use Rattle.stores.specs.declared.state.Out.{Out}
-use Rattle.stores.specs.Words.{pick, payloadOf, envOf, outOf}
+use Rattle.stores.specs.Words.{payloadOf, envOf, outOf}
 use Rattle.access.specs.Access.{ModeIs}
 use Rattle.refinement.specs.Claims.{decidedBy, rangeOutcomeIn, rangeOutcomeBy, rangeOutcomeOf, IntervalTable}
 use Rattle.refinement.specs.Theorems.{interval-refined}
@@ -39,7 +39,7 @@ pub is-undecided : (n : ℕ) → n ≡ 2 → none ≡ decidedBy n
 is-undecided n e = ap decidedBy (sym e)
 
 pub is-yes : (n : ℕ) → (n ≡ 2 → ⊥) → 0 < n → some true ≡ decidedBy n
-is-yes n h l = λ i. pick (sym (ne-eqb n 2 h) i) none (some (sym (lt-ltb 0 n l) i))
+is-yes n h l = λ i. cond (sym (ne-eqb n 2 h) i) none (some (sym (lt-ltb 0 n l) i))
 
 pub is-no : (n : ℕ) → n ≤ 0 → some false ≡ decidedBy n
 is-no n l = ap decidedBy {x = 0} {y = n} (omega arith)
@@ -93,11 +93,11 @@ module _ (s ps start : List ℕ) (e : Bool) (cells posts : List ℕ) (calls dept
           let clear-of : screen (rangeConditions s ps request (sizes b)) ≡ clear =
           screen-clear (runConditions s request (sizes b)) (unless 35 (pairsOk s ps) ∷ []) (K .none-found)
           ∙ none-clear (none-next (none-unless 35 ok) none-end) in
-          let at-root = outcome-is ∙ ap (λ (n : ℕ). rangeOutcomeOf (n - 1) (t .word)) (K .counts-are .terms-are) in
+          let at-root = outcome-is ∙ ap (λ (n : ℕ). rangeOutcomeOf (n - 1) (t .word)) (K .counts .terms-are) in
           let refined =
-          interval-refined s w c (K .counts-are) ps terms table request (buffersOf cells posts store) noted (K .depth-most) (K .cells-most) mode
+          interval-refined s w c (K .counts) ps terms table request (buffersOf cells posts store) noted (K .depth-most) (K .cells-most) mode
           (is .enforce-is) (is .interval-is) (a .may) (privs (authority s) (stack start)) (is .lazy-is) (a .may-small) (access-may w a) in
           (λ i. record { answer = ran (at-root i) (countsModel (t .made)); buffers = buffersOf cells′ posts′ [] })
           ∙ tallied-after (root s) request cells posts [] store x rangeOutcomeOf (few-clear s ps request b clear-of .saturated-most)
-          (tallied-at (K .counts-are) terms mode calls depth (buffersOf cells posts store) noted (access-is w a (K .all-known)) v) refined refl
+          (tallied-at (K .counts) terms mode calls depth (buffersOf cells posts store) noted (access-is w a (K .all-known)) v) refined refl
           ∙ sym (run-clear s ps request b clear-of)

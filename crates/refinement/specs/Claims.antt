@@ -1,5 +1,5 @@
 -- What the theorems claim of the interpreter's outcome, counts and stores.
-use mathlib.Core.Bool.{Bool}
+use mathlib.Core.Bool.{Bool, cond}
 use mathlib.Core.List.{List, [], _∷_, _++_}
 use mathlib.Core.Option.{Option, none, some}
 use mathlib.Core.Path.{_≡_}
@@ -12,14 +12,14 @@ use Rattle.traces.specs.Traces.{Event, recorded}
 use Rattle.semantics.specs.Domains.{Domain}
 use Rattle.semantics.specs.Values.{ResultOf, Result}
 use Rattle.semantics.specs.Access.{Frame}
-use Rattle.semantics.specs.Runs.{Request, Buffers, Sizes, sizes, ground-bool, ground-num, OutcomeOf, Outcome, ended, stopped, Counts as Made, outcome, left, counts, inOrder}
+use Rattle.semantics.specs.Runs.{Request, Buffers, Sizes, sizes, ground-bool, ground-num, OutcomeOf, Outcome, ended, stopped, RunCounts, outcome, left, counts, inOrder}
 use Rattle.semantics.specs.Recording.{withEntries}
 use Rattle.intervals.specs.Intervals.{interval, intervals}
 use Rattle.intervals.specs.Pairs.{pairOf}
 use Rattle.stores.specs.declared.state.Value.the-variants.{Bool as VBool, Num, Fun}
 use Rattle.stores.specs.declared.state.Out.{Out}
 use Rattle.stores.specs.declared.state.Out.the-variants.{Val, Stop as Stopped}
-use Rattle.stores.specs.Words.{pick, sortOf, payloadOf, envOf, outBy, outOf}
+use Rattle.stores.specs.Words.{sortOf, payloadOf, envOf, outBy, outOf}
 use Rattle.termtable.specs.Table.{wordKind, wordFirst, wordSecond, Holds}
 use Rattle.machine.specs.Steps.{callsLeft, cellsMade, postsMade, saturatedMade, entriesMade, wrapped}
 use Rattle.machine.specs.Store.{Store, Done, storeOf}
@@ -34,7 +34,7 @@ outcomeOf r (Stopped x) = stopped (stopCause x) (stopPlace x)
 
 -- what the payload of a boolean's word decides; by 2 nothing
 abbrev pub decidedBy : (payload : ℕ) → Option Bool
-decidedBy n = pick (eqb n 2) none (some (ltb 0 n))
+decidedBy n = cond (eqb n 2) none (some (ltb 0 n))
 
 -- what the word at the root tells of a run over ranges, by its parts; 02, W14: "An end is a range, or yes, no or undecided"
 abbrev pub rangeOutcomeIn : (root payload env : ℕ) → Out → OutcomeOf intervals
@@ -57,11 +57,11 @@ pub record IntervalTable (s : List ℕ) (c : Counts) (pairs table : List ℕ) : 
   pub highest-is : (t : ℕ) → t < terms s → kindByte s t ≡ 1 → wordSecond (getD table t 0) ≡ pairOf s pairs t .high
 
 -- what was made, of so many calls allowed: the counters hold the calls that are left
-abbrev pub countsOf : (calls : ℕ) → (counters : List ℕ) → Made
+abbrev pub countsOf : (calls : ℕ) → (counters : List ℕ) → RunCounts
 countsOf c n = record { calls = c - callsLeft n; cells = cellsMade n; posts = postsMade n; saturated = saturatedMade n }
 
 -- the counter of saturated results has 64 bits
-abbrev pub wrappedCounts : Made → Made
+abbrev pub wrappedCounts : RunCounts → RunCounts
 wrappedCounts k = record { calls = k .calls; cells = k .cells; posts = k .posts; saturated = wrapped (k .saturated) }
 
 abbrev pub sizesOf : Store → Sizes

@@ -13,14 +13,14 @@ use Rattle.program.specs.Records.{termAtByte, termRecord}
 use Rattle.program.specs.Laws.Records.{term-laid}
 use Rattle.program.specs.declared.records.Counts.{Counts}
 use Rattle.program.specs.declared.records.TermRecord.{TermRecord}
-use Rattle.subtyping.specs.Internal.{Sheet}
+use Rattle.accessors.specs.Internal.{FormedSheet}
 use Rattle.erasure.specs.Kept.{keptBelow}
 use Rattle.erasure.specs.Lean.{idle, keptTerm, newTerm, untested, erasable}
 use Rattle.erasure.specs.Laws.Terms.{idle-kept, idle-gone, idle-child, term-kept, term-idle}
 use Rattle.renumbering.specs.Internal.{Table}
 
 -- ---- a term whose record is read
-module _ {s : List ℕ} {c : Counts} (S : Sheet s c) {t : ℕ} (l : t < terms s) {x : TermRecord} (e : x ≡ termRecord s c t) where
+module _ {s : List ℕ} {c : Counts} (S : FormedSheet s c) {t : ℕ} (l : t < terms s) {x : TermRecord} (e : x ≡ termRecord s c t) where
   pub term-read : x ≡ termAtByte s (termAt s t)
   term-read = e ∙ term-laid s (S .well-formed .terms-inside) c (S .counts) t l
 

@@ -16,7 +16,7 @@ use Rattle.program.specs.Laws.Readable.{WellFormed}
 use Rattle.program.specs.Laws.Records.{type-laid}
 use Rattle.program.specs.declared.records.Counts.{Counts}
 use Rattle.program.specs.declared.records.TypeRecord.{TypeRecord}
-use Rattle.subtyping.specs.Internal.{Sheet}
+use Rattle.accessors.specs.Internal.{FormedSheet}
 use Rattle.erasure.specs.Kept.{keptBelow}
 use Rattle.erasure.specs.Lean.{alike, orSelf, heads, head, keptType, newType}
 use Rattle.erasure.specs.Laws.Kept.{kept-strict}
@@ -28,7 +28,7 @@ unfolding newType
 head-number s a b e = ap (keptBelow (keptType s)) e
 
 -- the record that is read, of a type of the sheet
-pub type-read : {s : List ℕ} {c : Counts} → Sheet s c → {t : ℕ} → t < types s → {x : TypeRecord} → x ≡ typeRecord s c t → x ≡ typeAtByte s (typeAt s t)
+pub type-read : {s : List ℕ} {c : Counts} → FormedSheet s c → {t : ℕ} → t < types s → {x : TypeRecord} → x ≡ typeRecord s c t → x ≡ typeAtByte s (typeAt s t)
 type-read {s} {c} S {t} l e = e ∙ type-laid s (S .well-formed .terms-inside) c (S .counts) t l
 
 -- its parts are lower than every type from t on, but for type 0
@@ -36,7 +36,7 @@ pub record Parts (x : TypeRecord) (t : ℕ) : Type 0 where
   pub arg-below : x .arg < t
   pub res-below : x .res < t
 
-pub parts-below : {s : List ℕ} {c : Counts} → Sheet s c → {u t : ℕ} → u < types s → u ≤ t → 1 ≤ t → {x : TypeRecord} → x ≡ typeRecord s c u → Parts x t
+pub parts-below : {s : List ℕ} {c : Counts} → FormedSheet s c → {u t : ℕ} → u < types s → u ≤ t → 1 ≤ t → {x : TypeRecord} → x ≡ typeRecord s c u → Parts x t
 parts-below {s} S {u} {t} l h g e =
     let low = lower s (S .well-formed) u t l h g in
     rw (type-read S l e) (record { arg-below = low .arg; res-below = low .res })
@@ -82,7 +82,7 @@ pub record NoneAlikeBelow (s : List ℕ) (t u : ℕ) : Type 0 where
   pub below : u ≤ t
   pub rest-is : lowest (differs s t) 0 t ≡ lowest (differs s t) u (t - u)
 
-pub merging : {s l : List ℕ} {c : Counts} {t n : ℕ} → Sheet s c → Table (newType s) l t → t < n → n ≡ types s → Merging s c l t
+pub merging : {s l : List ℕ} {c : Counts} {t n : ℕ} → FormedSheet s c → Table (newType s) l t → t < n → n ≡ types s → Merging s c l t
 merging S T h e = record { sheet = S; numbers = T; inside = omega arith }
 
 module _ {s l : List ℕ} {c : Counts} {t : ℕ} (M : Merging s c l t) where

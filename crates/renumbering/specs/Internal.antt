@@ -5,7 +5,7 @@ use Prim.Native.Nat.{ℕ, _<_}
 use lib.ListN.{getD}
 use Rattle.program.specs.Layout.{types, terms}
 use Rattle.program.specs.declared.records.Counts.{Counts}
-use Rattle.subtyping.specs.Internal.{Sheet}
+use Rattle.accessors.specs.Internal.{FormedSheet}
 use Rattle.erasure.specs.Lean.{newTypes, newType, newTerms, newTerm}
 use Rattle.renumbering.specs.declared.types.TypeNumbers.{TypeNumbers}
 use Rattle.renumbering.specs.declared.terms.TermNumbers.{TermNumbers}
@@ -16,7 +16,7 @@ pub record Table (f : ℕ → ℕ) (l : List ℕ) (count : ℕ) : Type 0 where
 
 -- a type of a readable sheet, with the new numbers of those below it
 pub record Merging (s : List ℕ) (c : Counts) (l : List ℕ) (t : ℕ) : Type 0 where
-  pub sheet : Sheet s c
+  pub sheet : FormedSheet s c
   pub numbers : Table (newType s) l t
   pub inside : t < types s
 
@@ -35,7 +35,7 @@ pub record TermsNumbered (s : List ℕ) (m : TermNumbers) : Type 0 where
 
 -- all new numbers of types, and of terms
 pub record TypesReady (s : List ℕ) (c : Counts) (y : List ℕ) : Type 0 where
-  pub sheet : Sheet s c
+  pub sheet : FormedSheet s c
   pub table : Table (newType s) y (types s)
 
 pub record TermsReady (s : List ℕ) (c : Counts) (y m : List ℕ) : Type 0 where

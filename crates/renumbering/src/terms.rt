@@ -2,8 +2,8 @@
 ghost use mathlib.Core.Bool.{_&&_};
 ghost use mathlib.Core.Path.{_≡_};
 ghost use lib.Dec.{leb};
-ghost use Rattle.program.specs.Layout.{terms as termsOf};
-ghost use Rattle.subtyping.specs.Internal.{Sheet};
+ghost use Rattle.program.specs.Layout.{terms as termCount};
+ghost use Rattle.accessors.specs.Internal.{FormedSheet};
 ghost use Rattle.erasure.specs.Lean.{untested as untestedBelow};
 ghost use Rattle.renumbering.specs.Internal.{TermsNumbered};
 use accessors::term;
@@ -25,7 +25,7 @@ pub fn is_idle(kind: u8) -> bool
 
 // The new numbers. A check or an enable has that of its inner term, which is lower, so that one pass gives all of them.
 pub fn number_terms(s: &[u8], c: Counts) -> TermNumbers
-    requires { ⌜ Sheet (now s) c ⌝ }
+    requires { ⌜ FormedSheet (now s) c ⌝ }
     ensures { λ r. ⌜ TermsNumbered (now (s .entry)) r ⌝ }
 {
     let mut numbers = [0u16; TERM_PLACES];
@@ -52,8 +52,8 @@ pub fn number_terms(s: &[u8], c: Counts) -> TermNumbers
 
 // Whether no term is a test.
 pub fn untested(s: &[u8], c: Counts) -> bool
-    requires { ⌜ Sheet (now s) c ⌝ }
-    ensures { λ r. ⌜ r ≡ untestedBelow (now (s .entry)) (termsOf (now (s .entry))) ⌝ }
+    requires { ⌜ FormedSheet (now s) c ⌝ }
+    ensures { λ r. ⌜ r ≡ untestedBelow (now (s .entry)) (termCount (now (s .entry))) ⌝ }
 {
     let n = c.terms;
     let mut t = 0;

@@ -1,6 +1,6 @@
 // Types whose records become equal are merged into the first of them; those that are kept are numbered anew without gaps.
 ghost use mathlib.Core.Path.{_≡_};
-ghost use Rattle.subtyping.specs.Internal.{Sheet};
+ghost use Rattle.accessors.specs.Internal.{FormedSheet};
 ghost use Rattle.erasure.specs.Lean.{alike as alikeOf, heads, head};
 ghost use Rattle.renumbering.specs.Internal.{Merging, Pair, TypesNumbered};
 use accessors::type_record;
@@ -45,7 +45,7 @@ fn first_alike(s: &[u8], c: Counts, numbers: &[u16; TYPE_PLACES], t: u16) -> u16
 
 // The new numbers. A type that is merged has that of a lower one, so that one pass gives all of them.
 pub fn number_types(s: &[u8], c: Counts) -> TypeNumbers
-    requires { ⌜ Sheet (now s) c ⌝ }
+    requires { ⌜ FormedSheet (now s) c ⌝ }
     ensures { λ r. ⌜ TypesNumbered (now (s .entry)) r ⌝ }
 {
     let mut numbers = [0u16; TYPE_PLACES];

@@ -8,7 +8,7 @@ use Rattle.program.specs.Layout.{principals, types, terms}
 use Rattle.program.specs.Screening.{Screening, clear, found}
 use Rattle.program.specs.Decoding.{decoding}
 use Rattle.typing.specs.Verdicts.{Verdict, accepted, rejected, verdict}
-use Rattle.semantics.specs.Runs.{Buffers, ground-bool, ground-num, Outcome, ended, stopped, Counts, Answer, refused, ran, After}
+use Rattle.semantics.specs.Runs.{Buffers, ground-bool, ground-num, Outcome, ended, stopped, RunCounts, Answer, refused, ran, After}
 
 -- 0: done, with an answer; 1: a run stopped; 2: refused; 3: nothing was done (notDone); 4: no line has a job (capi_lines alone)
 pub record Reply : Type 0 where
@@ -39,7 +39,7 @@ abbrev pub bit : Bool → ℕ
 bit b = cond b 1 0
 
 -- an end: 0 and a boolean, or 1 and a number; a stop: its cause and term; both with calls, cells, posts and saturated results
-abbrev pub finished : Outcome → Counts → Reply
+abbrev pub finished : Outcome → RunCounts → Reply
 finished (ended (ground-bool b)) k = record { status = 0; numbers = 0 ∷ 0 ∷ 0 ∷ bit b ∷ k .calls ∷ k .cells ∷ k .posts ∷ k .saturated ∷ [] }
 finished (ended (ground-num n)) k = record { status = 0; numbers = 0 ∷ 0 ∷ 1 ∷ n ∷ k .calls ∷ k .cells ∷ k .posts ∷ k .saturated ∷ [] }
 finished (stopped c t) k = record { status = 1; numbers = c ∷ t ∷ 0 ∷ 0 ∷ k .calls ∷ k .cells ∷ k .posts ∷ k .saturated ∷ [] }

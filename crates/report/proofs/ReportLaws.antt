@@ -1,4 +1,4 @@
--- The report from its steps.
+-- From the promises of what `report` calls to its own: the text that is copied, the run of an accepted sheet, the text by the verdict, and the whole report.
 use mathlib.Core.Bool.{Bool, true, _&&_, cond}
 use mathlib.Core.List.{List, [], _++_}
 use mathlib.Core.Path.{_≡_, sym, ap, _∙_}
@@ -18,9 +18,9 @@ use Rattle.interp.specs.declared.answer.Outcome.{Outcome}
 use Rattle.interp.specs.declared.answer.Made.{Made}
 use Rattle.interp.specs.declared.answer.Run.{Run}
 use Rattle.interp.specs.declared.answer.Run.the-variants.{Refused, Ran}
-use Rattle.text.specs.Text.{line, acceptance, outcomeText, countsText, refusal, request, eagerSizes, answer, ofRun, ofVerdict, printed}
-use Rattle.report.specs.Reports.{Fate, written, tooShort, unfit, Report, leaving, delivered, used, reported}
-use Rattle.drafts.specs.Internal.{held, Holds}
+use Rattle.text.specs.Text.{line, acceptanceText, outcomeText, countsText, refusalText, request, eagerSizes, answer, ofRun, ofVerdict, printed}
+use Rattle.report.specs.Reports.{ReportAnswer, written, tooShort, unfit, Report, leaving, delivered, used, reported}
+use Rattle.drafts.specs.Internal.{contents, Holds, draftBytes}
 use Rattle.report.specs.Internal.{LargestBuffers, RunReported, Rendered, Delivered}
 use Rattle.report.specs.declared.answer.Reported.{Reported}
 use Rattle.report.specs.declared.answer.Reported.the-variants.{Written, TooShort, Unfit}
@@ -28,8 +28,8 @@ use Rattle.numbers.specs.Codes.{CodeIs}
 use Rattle.numbers.specs.declared.Code.{Code}
 use Rattle.drafts.specs.declared.draft.Draft.{Draft}
 
-abbrev whole : Fate → Buffers → List ℕ → Report
-whole f b t = record { fate = f; buffers = b; text = t }
+abbrev whole : ReportAnswer → Buffers → List ℕ → Report
+whole f b t = record { answer = f; buffers = b; text = t }
 
 -- the first i of n bytes are copied to the front of a text, which keeps its length and its other bytes
 pub record Copied (bytes old new : List ℕ) (n i : ℕ) : Type 0 where
@@ -38,60 +38,60 @@ pub record Copied (bytes old new : List ℕ) (n i : ℕ) : Type 0 where
   pub copied : new ≡ take i bytes ++ drop i old
 
 -- the array of a draft has 224 bytes
-module _ (d : Draft) (t : List ℕ) (size : length (d .bytes) ≡ 224) (room : d .len ≤ 224) where
-  held-length : length (held d) ≡ d .len
+module _ (d : Draft) (t : List ℕ) (size : length (d .bytes) ≡ draftBytes) (room : d .len ≤ draftBytes) where
+  held-length : length (contents d) ≡ d .len
   held-length = length-take-le (d .len) (d .bytes) (omega arith)
 
-  pub too-short : length t < d .len → Delivered (held d) t (TooShort (d .len)) t
+  pub too-short : length t < d .len → Delivered (contents d) t (TooShort (d .len)) t
   too-short h = record {
     leaves = λ cells posts.
         ap (λ (n : ℕ). whole (tooShort n) (buffersOf cells posts []) t) (sym held-length)
-        ∙ sym (ap (λ (b : Bool). delivered b (held d) t (buffersOf cells posts [])) (lt-leb (length (held d)) (length t) (omega (arith, held-length))));
+        ∙ sym (ap (λ (b : Bool). delivered b (contents d) t (buffersOf cells posts [])) (lt-leb (length (contents d)) (length t) (omega (arith, held-length))));
   }
 
   pub fitting : (i : ℕ) (x : List ℕ) → i ≤ d .len → d .len ≤ i → d .len ≤ length t → x ≡ take i (d .bytes) ++ drop i t
-      → Delivered (held d) t (Written (d .len)) x
+      → Delivered (contents d) t (Written (d .len)) x
   fitting i x g k h e = record {
     leaves = λ cells posts.
         let all : i ≡ d .len = omega arith in
-        let is : x ≡ held d ++ drop (length (held d)) t =
-        e ∙ ap (λ (n : ℕ). take n (d .bytes) ++ drop n t) all ∙ ap (λ (n : ℕ). held d ++ drop n t) (sym held-length) in
+        let is : x ≡ contents d ++ drop (length (contents d)) t =
+        e ∙ ap (λ (n : ℕ). take n (d .bytes) ++ drop n t) all ∙ ap (λ (n : ℕ). contents d ++ drop n t) (sym held-length) in
         (λ j. whole (written (sym held-length j)) (buffersOf cells posts []) (is j))
-        ∙ sym (ap (λ (b : Bool). delivered b (held d) t (buffersOf cells posts [])) (le-leb (length (held d)) (length t) (omega (arith, held-length))));
+        ∙ sym (ap (λ (b : Bool). delivered b (contents d) t (buffersOf cells posts [])) (le-leb (length (contents d)) (length t) (omega (arith, held-length))));
   }
 
 -- ---- the run of an accepted sheet
 module _ (s : List ℕ) (terms type needs : ℕ) (b : Buffers) (cells posts : List ℕ) {x : Run} (h : after x cells posts [] ≡ run s request b) where
-  reported-by : (z : Run) → x ≡ z → ofRun (acceptance terms type needs) (runModel z) ≡ ofRun (acceptance terms type needs) (run s request b .answer)
-  reported-by z e = ap (λ (y : Run). ofRun (acceptance terms type needs) (runModel y)) (sym e)
-      ∙ ap (λ (a : After). ofRun (acceptance terms type needs) (a .answer)) h
+  reported-by : (z : Run) → x ≡ z → ofRun (acceptanceText terms type needs) (runModel z) ≡ ofRun (acceptanceText terms type needs) (run s request b .answer)
+  reported-by z e = ap (λ (y : Run). ofRun (acceptanceText terms type needs) (runModel y)) (sym e)
+      ∙ ap (λ (a : After). ofRun (acceptanceText terms type needs) (a .answer)) h
 
   -- 53 bytes at most, as `refusal` tells
   pub refused-reported : {f : Refusal} {n : Code} {r : Draft} → x ≡ Refused f → CodeIs (refusalCause f) (refusalPlace f) n
-      → Holds (refusal (n .cause) (n .place)) 53 r → RunReported s terms type needs b (buffersOf cells posts []) r
+      → Holds (refusalText (n .cause) (n .place)) 53 r → RunReported s terms type needs b (buffersOf cells posts []) r
   refused-reported {f = f} e k p = record {
-    held-is = p .held-is ∙ (λ i. refusal (k .cause-is i) (k .place-is i)) ∙ reported-by (Refused f) e;
+    contents-are = p .contents-are ∙ (λ i. refusalText (k .cause-is i) (k .place-is i)) ∙ reported-by (Refused f) e;
     len-most = omega (arith, p .len-most);
     buffers-are = ap (λ (a : After). a .buffers) h;
   }
 
   -- 209 bytes at most, as `accepted` tells
   pub ran-reported : {o : Outcome} {m : Made} {r : Draft} → x ≡ Ran o m
-      → Holds (acceptance terms type needs ++ line (outcomeText (outcomeModel o) ++ countsText (countsModel m))) 209 r
+      → Holds (acceptanceText terms type needs ++ line (outcomeText (outcomeModel o) ++ countsText (countsModel m))) 209 r
       → RunReported s terms type needs b (buffersOf cells posts []) r
   ran-reported {o = o} {m = m} e p = record {
-    held-is = p .held-is ∙ reported-by (Ran o m) e;
+    contents-are = p .contents-are ∙ reported-by (Ran o m) e;
     len-most = omega (arith, p .len-most);
     buffers-are = ap (λ (a : After). a .buffers) h;
   }
 
 -- ---- the text from the verdict
 module _ (s : List ℕ) (b : Buffers) where
-  pub rejected-reported : {c p : ℕ} {n : Code} {r : Draft} → rejected c p ≡ verdict s → CodeIs c p n → Holds (refusal (n .cause) (n .place)) 53 r
+  pub rejected-reported : {c p : ℕ} {n : Code} {r : Draft} → rejected c p ≡ verdict s → CodeIs c p n → Holds (refusalText (n .cause) (n .place)) 53 r
       → Rendered s b b r
   unfolding printed
   rejected-reported e k p = record {
-    held-is = p .held-is ∙ (λ i. refusal (k .cause-is i) (k .place-is i)) ∙ ap (λ (v : Verdict). ofVerdict v (λ _. answer s)) e;
+    contents-are = p .contents-are ∙ (λ i. refusalText (k .cause-is i) (k .place-is i)) ∙ ap (λ (v : Verdict). ofVerdict v (λ _. answer s)) e;
     len-most = omega (arith, p .len-most);
     buffers-are = ap (λ (v : Verdict). used v s b) e;
   }
@@ -105,7 +105,7 @@ module _ (s : List ℕ) (b : Buffers) where
       → Rendered s b b′ r
   unfolding printed
   accepted-reported {n = n} {τ = τ} {N = N} e z p = record {
-    held-is = p .held-is ∙ ap (ofRun (acceptance n τ N)) (same-answer z) ∙ ap (λ (v : Verdict). ofVerdict v (λ _. answer s)) e;
+    contents-are = p .contents-are ∙ ap (ofRun (acceptanceText n τ N)) (same-answer z) ∙ ap (λ (v : Verdict). ofVerdict v (λ _. answer s)) e;
     len-most = p .len-most;
     buffers-are = p .buffers-are ∙ ap (λ (v : Verdict). used v s b) e;
   }
@@ -131,10 +131,10 @@ module _ (s cells posts text : List ℕ) where
       ∙ ap (λ (f : Bool). by (true && f)) (ne-eqb (length posts) maxPosts h))
 
   pub all-reported : {cells′ posts′ text′ : List ℕ} {d : Draft} {r : Reported} → length cells ≡ maxCells → length posts ≡ maxPosts
-      → Rendered s B (buffersOf cells′ posts′ []) d → Delivered (held d) text r text′ → leaving r cells′ posts′ text′ ≡ reported s B text
+      → Rendered s B (buffersOf cells′ posts′ []) d → Delivered (contents d) text r text′ → leaving r cells′ posts′ text′ ≡ reported s B text
   unfolding reported
   all-reported {cells′ = cells′} {posts′ = posts′} e f p q =
       q .leaves cells′ posts′
-      ∙ (λ i. delivered (leb (length (p .held-is i)) (length text)) (p .held-is i) text (p .buffers-are i))
+      ∙ (λ i. delivered (leb (length (p .contents-are i)) (length text)) (p .contents-are i) text (p .buffers-are i))
       ∙ sym (ap (λ (f : Bool). by (f && eqb (length posts) maxPosts)) (eq-eqb (length cells) maxCells e)
       ∙ ap (λ (f : Bool). by (true && f)) (eq-eqb (length posts) maxPosts f))

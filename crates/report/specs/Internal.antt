@@ -8,8 +8,8 @@ use Rattle.program.specs.Limits.{maxCells, maxPosts}
 use Rattle.typing.specs.Verdicts.{verdict}
 use Rattle.semantics.specs.Runs.{Buffers, run}
 use Rattle.interp.specs.Answers.{buffersOf}
-use Rattle.text.specs.Text.{acceptance, request, ofRun, printed}
-use Rattle.drafts.specs.Internal.{held}
+use Rattle.text.specs.Text.{acceptanceText, request, ofRun, printed}
+use Rattle.drafts.specs.Internal.{contents, draftBytes}
 use Rattle.drafts.specs.declared.draft.Draft.{Draft}
 use Rattle.report.specs.Reports.{leaving, delivered, used}
 use Rattle.report.specs.declared.answer.Reported.{Reported}
@@ -21,13 +21,13 @@ pub record LargestBuffers (cells posts : List ℕ) : Type 0 where
 
 -- the text of an accepted sheet and its run, which leaves the buffers so
 pub record RunReported (s : List ℕ) (terms type needs : ℕ) (b b′ : Buffers) (r : Draft) : Type 0 where
-  pub held-is : held r ≡ ofRun (acceptance terms type needs) (run s request b .answer)
-  pub len-most : r .len ≤ 224
+  pub contents-are : contents r ≡ ofRun (acceptanceText terms type needs) (run s request b .answer)
+  pub len-most : r .len ≤ draftBytes
   pub buffers-are : b′ ≡ run s request b .buffers
 
 pub record Rendered (s : List ℕ) (b b′ : Buffers) (r : Draft) : Type 0 where
-  pub held-is : held r ≡ printed s
-  pub len-most : r .len ≤ 224
+  pub contents-are : contents r ≡ printed s
+  pub len-most : r .len ≤ draftBytes
   pub buffers-are : b′ ≡ used (verdict s) s b
 
 -- whatever the other buffers hold

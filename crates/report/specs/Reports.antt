@@ -12,28 +12,28 @@ use Rattle.report.specs.declared.answer.Reported.{Reported}
 use Rattle.report.specs.declared.answer.Reported.the-variants.{Written, TooShort, Unfit}
 
 -- the text, so long, was written; it found no place; nothing was done, since the buffers are not the largest
-pub data Fate : Type 0 where
-  written tooShort : (length : ℕ) → Fate
-  unfit : Fate
+pub data ReportAnswer : Type 0 where
+  written tooShort : (length : ℕ) → ReportAnswer
+  unfit : ReportAnswer
 
-abbrev pub reportedModel : Reported → Fate
+abbrev pub reportedModel : Reported → ReportAnswer
 reportedModel (Written n) = written n
 reportedModel (TooShort n) = tooShort n
 reportedModel Unfit = unfit
 
 -- the answer, with the cell store, the list of posts and the place for the text as they are left
 pub record Report : Type 0 where
-  pub fate : Fate
+  pub answer : ReportAnswer
   pub buffers : Buffers
   pub text : List ℕ
 
 abbrev pub leaving : Reported → (cells posts text : List ℕ) → Report
-leaving r cells posts text = record { fate = reportedModel r; buffers = buffersOf cells posts []; text = text }
+leaving r cells posts text = record { answer = reportedModel r; buffers = buffersOf cells posts []; text = text }
 
 -- a text stands at the front of the place for it, whose rest is untouched; where it does not fit, all of it is
 abbrev pub delivered : (fits : Bool) (p text : List ℕ) → Buffers → Report
-delivered true p text b = record { fate = written (length p); buffers = b; text = p ++ drop (length p) text }
-delivered false p text b = record { fate = tooShort (length p); buffers = b; text = text }
+delivered true p text b = record { answer = written (length p); buffers = b; text = p ++ drop (length p) text }
+delivered false p text b = record { answer = tooShort (length p); buffers = b; text = text }
 
 -- the buffers after a sheet with this verdict: a refused one is not run
 abbrev pub used : Verdict → List ℕ → Buffers → Buffers
@@ -44,4 +44,4 @@ used (rejected c p) s b = b
 unfoldable pub reported : (s : List ℕ) → Buffers → (text : List ℕ) → Report
 reported s b text =
     cond (areLargest b) (delivered (leb (length (printed s)) (length text)) (printed s) text (used (verdict s) s b))
-    (record { fate = unfit; buffers = b; text = text })
+    (record { answer = unfit; buffers = b; text = text })

@@ -18,13 +18,13 @@ use Rattle.report.specs.declared.answer.Reported.the-variants.{Written}
 
 -- a report by its two tests
 abbrev by : (s text : List ℕ) (after before : Buffers) (large fits : Bool) → Report
-by s text u b large fits = cond large (delivered fits (printed s) text u) (record { fate = unfit; buffers = b; text = text })
+by s text u b large fits = cond large (delivered fits (printed s) text u) (record { answer = unfit; buffers = b; text = text })
 
 -- so 209 bytes of place are enough for every sheet
-pub always-written : (s : List ℕ) (b : Buffers) (text : List ℕ) → areLargest b ≡ true → 209 ≤ length text → reported s b text .fate
+pub always-written : (s : List ℕ) (b : Buffers) (text : List ℕ) → areLargest b ≡ true → 209 ≤ length text → reported s b text .answer
     ≡ written (length (printed s))
 unfolding reported
-always-written s b text e h = λ i. by s text (used (verdict s) s b) b (e i) (le-leb (length (printed s)) (length text) (omega (arith, text-most s)) i) .fate
+always-written s b text e h = λ i. by s text (used (verdict s) s b) b (e i) (le-leb (length (printed s)) (length text) (omega (arith, text-most s)) i) .answer
 
 -- ---- what is written is the text, at the front of the place for it
 pub record TextWritten (s : List ℕ) (n : ℕ) (text : List ℕ) : Type 0 where
@@ -42,13 +42,13 @@ written-front s text text′ {n = n} l e = record {
 by-cases : (s : List ℕ) (u b : Buffers) (text cells posts text′ : List ℕ) {n : ℕ} (large fits : Bool)
     → leaving (Written n) cells posts text′ ≡ by s text u b large fits → TextWritten s n text′
 by-cases s u b text cells posts text′ {n = n} true true e =
-    let f : written n ≡ written (length (printed s)) = ap (λ (r : Report). r .fate) e in
+    let f : written n ≡ written (length (printed s)) = ap (λ (r : Report). r .answer) e in
     written-front s text text′ (cc) (ap (λ (r : Report). r .text) e)
 by-cases s u b text cells posts text′ {n = n} true false e =
-    let f : written n ≡ tooShort (length (printed s)) = ap (λ (r : Report). r .fate) e in
+    let f : written n ≡ tooShort (length (printed s)) = ap (λ (r : Report). r .answer) e in
     absurd (let z : _≡_ {A = ℕ} 0 1 = cc in omega arith)
 by-cases s u b text cells posts text′ {n = n} false fits e =
-    let f : written n ≡ unfit = ap (λ (r : Report). r .fate) e in
+    let f : written n ≡ unfit = ap (λ (r : Report). r .answer) e in
     absurd (let z : _≡_ {A = ℕ} 0 1 = cc in omega arith)
 
 pub text-written : (s : List ℕ) (b : Buffers) (text cells posts text′ : List ℕ) {r : Reported} {n : ℕ} → r ≡ Written n → leaving r cells posts text′

@@ -19,7 +19,7 @@ ghost use mathlib.Core.Path.{_≡_};
 ghost use Prim.Native.Nat.{_≤_};
 ghost use Rattle.interp.specs.Answers.{buffersOf};
 ghost use Rattle.report.specs.Reports.{leaving, reported};
-ghost use Rattle.drafts.specs.Internal.{held};
+ghost use Rattle.drafts.specs.Internal.{contents, draftBytes};
 ghost use Rattle.report.specs.Internal.{LargestBuffers, RunReported, Rendered, Delivered};
 
 // Judges the sheet and, if it is accepted, runs it eagerly, checks in force, on an empty stack with the largest allowances, in the lent cell store
@@ -80,8 +80,8 @@ fn run_accepted(
 
 // Copies the text to its place, if it fits there.
 fn deliver(d: Draft, text: &mut [u8]) -> Reported
-    requires { ⌜ d .len ≤ 224 ⌝ }
-    ensures { λ r. ⌜ Delivered (held d) (now (text .entry)) r (now (text .exit)) ⌝ }
+    requires { ⌜ d .len ≤ draftBytes ⌝ }
+    ensures { λ r. ⌜ Delivered (contents d) (now (text .entry)) r (now (text .exit)) ⌝ }
 {
     let n = d.len;
     if text.len() < n {

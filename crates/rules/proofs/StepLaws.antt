@@ -21,7 +21,7 @@ use Rattle.typing.specs.Subtyping.{subtype, wider}
 use Rattle.typing.specs.Rules.{bound, postNeeds}
 use Rattle.typing.specs.Checking.{Judgement, typed, fault, _next_, require, variableType, joined}
 use Rattle.program.specs.Search.{foundOf}
-use Rattle.subtyping.specs.Internal.{Sheet}
+use Rattle.accessors.specs.Internal.{FormedSheet}
 use Rattle.subtyping.specs.Laws.Records.{function-is, TypeParts, type-parts}
 use Rattle.rules.specs.Inference.{inferredModel}
 use Rattle.rules.specs.Steps.{leafBy, leafStep, checkStep, enableStep, signStep, postStep, GuardByte, testStep, ifStep, binaryStep, bodyStep, functionStep, letrecStep, callStep, resultOf}
@@ -158,7 +158,7 @@ module _ {j : Inferred} {τ N : ℕ} (e : j ≡ Typed τ N) where
   unfolding letrecStep
   letrec-body f t σ P g h = rw (e, ← g) h
 
-  module _ {s : List ℕ} {c : Counts} (S : Sheet s c) (t φ P : ℕ) {b : Bool} (hb : b ≡ (leb 2 φ && ltb φ (c .types))) where
+  module _ {s : List ℕ} {c : Counts} (S : FormedSheet s c) (t φ P : ℕ) {b : Bool} (hb : b ≡ (leb 2 φ && ltb φ (c .types))) where
     pub call-other : b ≡ false → fault 24 t ≡ callStep (typesOf s) t φ P (inferredModel j)
     unfolding callStep
     call-other h = rw e (λ i. require (sym (sym (function-is S φ hb) ∙ h) i) 24 t

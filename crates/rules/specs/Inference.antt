@@ -10,7 +10,7 @@ use Rattle.typing.specs.Checking.{Judgement, typed, fault, infer}
 use Rattle.typing.specs.Answers.{faultCause, faultPlace}
 use Rattle.typing.specs.declared.answer.Inferred.{Inferred}
 use Rattle.typing.specs.declared.answer.Inferred.the-variants.{Typed, Faulty}
-use Rattle.subtyping.specs.Internal.{Sheet}
+use Rattle.accessors.specs.Internal.{FormedSheet}
 use Rattle.rules.specs.declared.bindings.Bindings.{Bindings}
 
 abbrev pub inferredModel : Inferred → Judgement
@@ -49,7 +49,7 @@ roomAt s t = room (tree s t)
 
 -- what judging term t asks
 pub record Ready (s : List ℕ) (c : Counts) (t : ℕ) (b : Bindings) (n : ℕ) : Type 0 where
-  pub sheet : Sheet s c
+  pub sheet : FormedSheet s c
   pub inside : t < terms s
   pub principal : n < principals s
   pub fits : b .len + roomAt s t ≤ maxNesting

@@ -6,7 +6,7 @@ use mathlib.Core.Path.{_≡_}
 use Prim.Native.Nat.{ℕ, zero, suc, _+_}
 use lib.Dec.{leb, eqb}
 use Rattle.privileges.specs.Sets.{has, union, insert, remove, subset}
-use Rattle.program.specs.Limits.{noGuard}
+use Rattle.program.specs.Limits.{noGuard, maxPrivilege}
 use Rattle.program.specs.Layout.{Types}
 use Rattle.program.specs.declared.records.TermRecord.{TermRecord}
 use Rattle.program.specs.declared.records.TypeRecord.{TypeRecord}
@@ -44,7 +44,7 @@ postStep g at j = j next λ τ N. require (eqb τ 1) 10 at (typed 1 (postNeeds g
 
 -- a readable sheet's guard byte: 02, W8, "a privilege 0 to 31, or 255 for none"
 abbrev pub GuardByte : ℕ → Type 0
-GuardByte x = (leb x 31 || eqb x noGuard) ≡ true
+GuardByte x = (leb x maxPrivilege || eqb x noGuard) ≡ true
 
 unfoldable pub testStep : Types → (p at τ N : ℕ) → Judgement → Judgement
 testStep T p at τ N j = j next λ ρ M. joined at (wider T τ ρ) (union (remove p N) M)

@@ -15,6 +15,16 @@ pub struct Bindings {
     pub len: usize,
 }
 
+// No bindings, as around the root.
+pub fn none() -> Bindings
+    ensures { λ r. ⌜ r .len ≡ 0 ⌝ }
+{
+    Bindings {
+        types: [0; NESTING_PLACES],
+        len: 0,
+    }
+}
+
 // One binding more.
 pub fn push(b: Bindings, ty: u16) -> Bindings
     requires { ⌜ b .len < maxNesting ⌝ }

@@ -19,7 +19,7 @@ ghost use Rattle.program.specs.Layout.{typesOf, guardIn};
 ghost use Rattle.typing.specs.Rules.{postNeeds};
 ghost use Rattle.typing.specs.Checking.{joined as joinedOf};
 ghost use Rattle.program.specs.Search.{foundOf};
-ghost use Rattle.subtyping.specs.Known.{Judging, Testing, Answered};
+ghost use Rattle.subtyping.specs.Known.{KnownSheet, KnownSheetPrivilege, Answered};
 ghost use Rattle.rules.specs.Inference.{inferredModel, context};
 ghost use Rattle.rules.specs.Steps.{
   leafStep,
@@ -159,7 +159,7 @@ pub fn tested(
     needs1: u32,
     j: Inferred,
 ) -> Inferred
-    requires { ⌜ Testing (now s) c (now known) p ⌝ }
+    requires { ⌜ KnownSheetPrivilege (now s) c (now known) p ⌝ }
     ensures { λ r. ⌜ Answered (typesOf (now (s .entry))) (inferredModel r) (testStep (typesOf (now (s .entry))) p t ty1 needs1 (inferredModel j))
         (now (known .exit)) ⌝ }
 {
@@ -184,7 +184,7 @@ pub fn branched(
     needs1: u32,
     j: Inferred,
 ) -> Inferred
-    requires { ⌜ Judging (now s) c (now known) ⌝ }
+    requires { ⌜ KnownSheet (now s) c (now known) ⌝ }
     ensures { λ r. ⌜ Answered (typesOf (now (s .entry))) (inferredModel r) (ifStep (typesOf (now (s .entry))) t ty0 needs0 ty1 needs1 (inferredModel j))
         (now (known .exit)) ⌝ }
 {
@@ -270,7 +270,7 @@ pub fn call_of(
     needs1: u32,
     j: Inferred,
 ) -> Inferred
-    requires { ⌜ Judging (now s) c (now known) ⌝ }
+    requires { ⌜ KnownSheet (now s) c (now known) ⌝ }
     ensures { λ r. ⌜ Answered (typesOf (now (s .entry))) (inferredModel r) (callStep (typesOf (now (s .entry))) t ty1 needs1 (inferredModel j))
         (now (known .exit)) ⌝ }
 {

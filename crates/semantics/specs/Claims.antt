@@ -3,11 +3,11 @@
 use mathlib.Core.List.{List, [], _∷_}
 use mathlib.Core.Option.{some}
 use mathlib.Core.Path.{_≡_}
-use Prim.Native.Nat.{ℕ, _*_, _<_, _≤_}
-use Rattle.program.specs.Limits.{maxCalls, maxPosts, maxSaturated}
+use Prim.Native.Nat.{ℕ, _*_, _/_, _<_, _≤_}
+use Rattle.program.specs.Limits.{maxCells, maxPosts, maxCalls, maxEvaluations}
 use Rattle.program.specs.Layout.{terms, channels, guardOf, kindByte, small}
 use Rattle.program.specs.Formats.{If, Check, Test, Post, kindOf}
-use Rattle.semantics.specs.Runs.{Counts}
+use Rattle.semantics.specs.Runs.{RunCounts}
 
 -- what every entry of a list has
 abbrev pub Each : {A : Type 0} → (A → Type 0) → List A → Type 0
@@ -40,8 +40,8 @@ pub record Decision (s : List ℕ) (t p : ℕ) : Type 0 where
   pub queries : Queries s t p
 
 -- How large the counts are that a run tells: a cell has eight of 65,536 bytes.
-pub record Few (k : Counts) : Type 0 where
+pub record Few (k : RunCounts) : Type 0 where
   pub calls-most : k .calls ≤ maxCalls
-  pub cells-most : k .cells ≤ 8192
+  pub cells-most : k .cells ≤ maxCells / 8
   pub posts-most : k .posts ≤ maxPosts
-  pub saturated-most : k .saturated ≤ maxSaturated
+  pub saturated-most : k .saturated ≤ maxEvaluations

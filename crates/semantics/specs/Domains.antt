@@ -3,6 +3,7 @@ use mathlib.Core.Bool.{Bool, false}
 use mathlib.Core.Option.{Option, some}
 use Prim.Native.Nat.{ℕ, _+_, _*_, _-_, min}
 use lib.Dec.{ltb}
+use Rattle.program.specs.Limits.{maxNumber}
 use Rattle.program.specs.Terms.{Op, sum, difference, less}
 
 pub record Domain : Type 1 where
@@ -29,7 +30,7 @@ pub record Interpretation : Type 1 where
 
 -- 02, W10: "Sum and difference now also say whether the exact result was outside 0 to 65,535."
 abbrev pub saturates : Op → (m n : ℕ) → Bool
-saturates sum m n = ltb 65535 (m + n)
+saturates sum m n = ltb maxNumber (m + n)
 saturates difference m n = ltb m n
 saturates less m n = false
 
@@ -44,7 +45,7 @@ single = record {
   Truth = Bool;
   truth = λ b. b;
   decide = λ b. some b;
-  sum = λ m n. min 65535 (m + n);
+  sum = λ m n. min maxNumber (m + n);
   difference = λ m n. m - n;
   less = λ m n. ltb m n;
   saturates = λ op m n. saturates op m n;

@@ -37,9 +37,9 @@ choose true y n u = y u
 choose false y n u = n u
 
 -- "18 stuck: unbound variable, wrong kind of value, or a root that gives a function."
-abbrev pub found : {D : Domain} (at : ℕ) → Option (ValueOf D) → Budget → ResultOf D
-found at (some v) u = ends v u
-found at none u = stops 18 at u
+abbrev pub variableValue : {D : Domain} (at : ℕ) → Option (ValueOf D) → Budget → ResultOf D
+variableValue at (some v) u = ends v u
+variableValue at none u = stops 18 at u
 
 -- 02, W14: "An if with an undecided condition stops by 36 at the if"
 abbrev pub decided : {D : Domain} (at : ℕ) → Option Bool → (onTrue onFalse : Budget → ResultOf D) → Budget → ResultOf D
@@ -142,7 +142,7 @@ module _ (I : Interpretation) (X : Control) where
     -- Figures 2 and 4: true, x
     evalWith app (boolean at b) st env u = ends (bool (I .domain .truth b)) u
     evalWith app (number at n) st env u = ends (num (I .literal at n)) u
-    evalWith app (variable at i) st env u = found at (lookup env i) u
+    evalWith app (variable at i) st env u = variableValue at (lookup env i) u
     -- fun: the body will run with the caller's state, not with this one
     evalWith app (function at ty body) st env u = ends (closure false ty body env) u
     -- letrec

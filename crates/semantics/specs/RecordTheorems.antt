@@ -8,7 +8,7 @@ use native.Mathlib.Omega.{arith}
 use lib.ListN.{length, take, drop, length-take, length-reverse}
 use lib.Seq.{length-front, length-take-le, take-nil, take-append-seam, drop-append-seam}
 use borrow.Author.Tests.{leb-true}
-use Rattle.program.specs.Limits.{maxTerms, maxCalls}
+use Rattle.program.specs.Limits.{maxTerms, maxEvaluations, maxPrivilege}
 use Rattle.program.specs.Bytes.{Bytes}
 use Rattle.program.specs.Layout.{terms, root, small, kindByte}
 use Rattle.program.specs.Formats.{Part, privilege, Kind, Check, Test, kindOf, format}
@@ -23,7 +23,7 @@ use Rattle.traces.specs.Claims.{Storable, storable-none, storable-more}
 use Rattle.traces.specs.Laws.Records.{bytes-length}
 use Rattle.semantics.specs.Values.{Budget, budget, Result}
 use Rattle.semantics.specs.Meaning.{traced}
-use Rattle.semantics.specs.Runs.{Request, Buffers, Sizes, sizes, runConditions, evaluation, evaluationIn, Course, rejected, started, settled, course, Outcome, Counts, stopped, outcome, refused, ran, left, counts, answerOf, zeros, clearedFrames, buffersAfter, After, run}
+use Rattle.semantics.specs.Runs.{Request, Buffers, Sizes, sizes, runConditions, evaluation, evaluationIn, Course, rejected, started, settled, course, Outcome, RunCounts, stopped, outcome, refused, ran, left, counts, answerOf, zeros, clearedFrames, buffersAfter, After, run}
 use Rattle.semantics.specs.Recording.{tracedCourse, decidedIn, decisionsMade, decisions, Recorded, withEntries, recordedWith, recording}
 use Rattle.semantics.specs.Laws.Tracing.{forget, evaluation-forgets, outcome-forgotten, counts-forgotten, posts-forgotten}
 use Rattle.semantics.specs.Laws.Saturation.{listedIn, evaluation-load}
@@ -139,7 +139,7 @@ module _ (s : List ℕ) (w : WellFormed s) where
   small-privilege t l k e h =
       let ok : partOk s t (format k .small) (small s t) ≡ true =
       subst (λ (k : Kind). partOk s t (format k .small) (small s t) ≡ true) e (parts s w t l .small-ok) in
-      omega (arith, leb-true (small s t) 31 (subst (λ (x : Part). partOk s t x (small s t) ≡ true) h ok))
+      omega (arith, leb-true (small s t) maxPrivilege (subst (λ (x : Part). partOk s t x (small s t) ≡ true) h ok))
 
   -- a term below 1,024 and a privilege below 32
   decision-low : (t p : ℕ) → Decision s t p → (t < maxTerms) × (p < 32)
@@ -200,7 +200,7 @@ module _ (s : List ℕ) (q : Request) (b : Buffers) where
   traced-answer h = sym (ap (λ (a : After). a .answer) (as-without s q b)) ∙ ap (answerOf (root s) q (sizes b)) (traced-clear s q (sizes b) h)
 
   -- "17 refused check", or guard: a run that is stopped by 17 at a term has a no there as its last decision, and each check and guard before is yes.
-  pub refused-no : (t : ℕ) (k : Counts) → run s q b .answer ≡ ran (stopped 17 t) k → EndsInNo s t (decisions s q (sizes b))
+  pub refused-no : (t : ℕ) (k : RunCounts) → run s q b .answer ≡ ran (stopped 17 t) k → EndsInNo s t (decisions s q (sizes b))
   refused-no t k e =
       let h = starts-screened s q b (_, _, e) in
       let same : ran _ _ ≡ ran (stopped 17 t) k = sym (traced-answer h) ∙ e in
@@ -209,7 +209,7 @@ module _ (s : List ℕ) (q : Request) (b : Buffers) where
       (record { before = x .0; privilege = x .1; last-is = x .2; yes-before = x .3 })
 
   -- In every other run, whatever it ends in, each check and guard is yes.
-  pub others-yes : ((t : ℕ) (k : Counts) → run s q b .answer ≡ ran (stopped 17 t) k → ⊥) → Each (NoOfTest s) (decisions s q (sizes b))
+  pub others-yes : ((t : ℕ) (k : RunCounts) → run s q b .answer ≡ ran (stopped 17 t) k → ⊥) → Each (NoOfTest s) (decisions s q (sizes b))
   others-yes n = go (screen (runConditions s q (sizes b))) refl
     where
       go : (x : Screening) → screen (runConditions s q (sizes b)) ≡ x → Each (NoOfTest s) (decisions s q (sizes b))
@@ -219,14 +219,15 @@ module _ (s : List ℕ) (q : Request) (b : Buffers) where
           (λ t e. n t (counts q (sizes b) (left result)) (traced-answer h ∙ ap (λ (o : Outcome). ran o (counts q (sizes b) (left result))) e)))
       go (found c p) h = subst (λ (c : Course). Each (NoOfTest s) (decisionsMade c)) (sym (traced-found s q (sizes b) c p h)) tt
 
--- ---- how many decisions a run makes: at most 4,195,328, so that a record of four times as many bytes is complete
+-- ---- how many decisions a run makes: at most 4,195,328 = (4,096 + 1) * 1,024, of each term once outside of calls and once in each call, so that a record of
+-- four times as many bytes is complete
 listed-length : (u : Budget) → length (decidedIn u) ≡ listedIn u
 listed-length (budget c d r l) = length-reverse (l .decisions)
 
-pub decisions-few : (s : List ℕ) (q : Request) (b : Buffers) → length (decisions s q (sizes b)) ≤ (maxCalls + 1) * maxTerms
+pub decisions-few : (s : List ℕ) (q : Request) (b : Buffers) → length (decisions s q (sizes b)) ≤ maxEvaluations
 decisions-few s q b = go (screen (runConditions s q (sizes b))) refl
   where
-    go : (x : Screening) → screen (runConditions s q (sizes b)) ≡ x → length (decisions s q (sizes b)) ≤ (maxCalls + 1) * maxTerms
+    go : (x : Screening) → screen (runConditions s q (sizes b)) ≡ x → length (decisions s q (sizes b)) ≤ maxEvaluations
     go clear h =
         let x = evaluationIn (traced (q .enforce)) (q .runner) s q (sizes b) in
         let n : length (decisions s q (sizes b)) ≡ listedIn (left x) =

@@ -50,15 +50,15 @@ stack [] = []
 stack (n ∷ []) = []
 stack (n ∷ E ∷ xs) = frame n E ∷ stack xs
 
-abbrev pub known : (count : ℕ) → List Frame → Bool
-known count [] = true
-known count (f ∷ fs) = ltb (f .principal) count && known count fs
+abbrev pub principalsKnown : (count : ℕ) → List Frame → Bool
+principalsKnown count [] = true
+principalsKnown count (f ∷ fs) = ltb (f .principal) count && principalsKnown count fs
 
 -- ---- what turns a run back, "after 1 to 8 and in this order"; 02, W8: 31 comes "straight after 8 and before all else"
 
 -- "14 start stack: more than 16 frames, half a frame, or an unknown principal"
 abbrev pub startOk : List ℕ → Request → Bool
-startOk s q = leb (length (q .start)) maxStart && eqb (length (q .start) % 2) 0 && known (principals s) (stack (q .start))
+startOk s q = leb (length (q .start)) maxStart && eqb (length (q .start) % 2) 0 && principalsKnown (principals s) (stack (q .start))
 
 -- "a lazy run's frame store not of 6,496 32-bit numbers"
 abbrev pub framesOk : Runner → ℕ → Bool
@@ -122,7 +122,7 @@ pub data OutcomeOf (D : Domain) : Type 0 where
   ended : GroundOf D → OutcomeOf D
   stopped : (cause term : ℕ) → OutcomeOf D
 
-pub record Counts : Type 0 where
+pub record RunCounts : Type 0 where
   pub calls : ℕ
   pub cells : ℕ
   pub posts : ℕ
@@ -130,7 +130,12 @@ pub record Counts : Type 0 where
 
 pub data AnswerOf (D : Domain) : Type 0 where
   refused : (cause place : ℕ) → AnswerOf D
-  ran : OutcomeOf D → Counts → AnswerOf D
+  ran : OutcomeOf D → RunCounts → AnswerOf D
+
+-- the posts made: a run that is turned back made none
+abbrev pub postCount : {D : Domain} → AnswerOf D → ℕ
+postCount (refused c p) = 0
+postCount (ran o k) = k .posts
 
 -- 01's
 abbrev pub Ground : Type 0
@@ -154,7 +159,7 @@ left (ends v u) = u
 left (stops cause at u) = u
 
 -- what was made is what was allowed less what is left
-abbrev pub counts : Request → Sizes → Budget → Counts
+abbrev pub counts : Request → Sizes → Budget → RunCounts
 counts q z (budget c d r l) = record { calls = q .calls - c; cells = z .cells / 8 - d; posts = length (l .posts); saturated = l .saturated }
 
 -- "After 1 to 16 … no count is told."

@@ -13,6 +13,7 @@ use lib.ListN.{length, take, drop, length-reverse}
 use lib.Seq.{take-append-seam, drop-append-seam}
 use borrow.Author.Tests.{ltb-false, le-ltb}
 use Rattle.privileges.specs.Sets.{has}
+use Rattle.program.specs.Limits.{maxNumber}
 use Rattle.program.specs.Bytes.{Bytes}
 use Rattle.program.specs.Layout.{version, root, kindByte, small}
 use Rattle.program.specs.Formats.{Check, kindOf}
@@ -25,7 +26,7 @@ use Rattle.semantics.specs.Domains.{saturates, postEntry, single, standa
 use Rattle.semantics.specs.Values.{num, Env, Log, logPost, Budget, budget, Result, ends}
 use Rattle.semantics.specs.Meaning.{Control, Mode, plain, _then_, postValue, eventIf, listsChecks, evalWith, eval}
 use Rattle.semantics.specs.Access.{Frame, chk, privs}
-use Rattle.semantics.specs.Runs.{Runner, eager, lazy, Request, Buffers, Sizes, sizes, runConditions, evaluation, Course, rejected, started, settled, course, Outcome, stopped, Counts, refused, ran, left, counts, answerOf, inOrder, postsMade, zeros, clearedFrames, buffersAfter, After, run}
+use Rattle.semantics.specs.Runs.{Runner, eager, lazy, Request, Buffers, Sizes, sizes, runConditions, evaluation, Course, rejected, started, settled, course, Outcome, stopped, RunCounts, refused, ran, left, counts, answerOf, inOrder, postsMade, zeros, clearedFrames, buffersAfter, After, run}
 use Rattle.semantics.specs.Laws.Bodies.{Stop}
 use Rattle.semantics.specs.Claims.{Each, MayRefuse, at-check, at-guard, OnChannel, Few}
 use Rattle.semantics.specs.Laws.Stops.{Recorded, evaluation-stop, refusing, stop-single}
@@ -40,7 +41,7 @@ pub grants-as-a-set : (A : ℕ → ℕ) (fs : List Frame) (p : ℕ) → (has p (
 grants-as-a-set A fs p = (λ h. sym (privs-chk A fs p) ∙ h, λ h. privs-chk A fs p ∙ h)
 
 -- ---- When a run is refused
-ran≢refused : {c p : ℕ} {o : Outcome} {k : Counts} {A : Type 0} → ran o k ≡ refused c p → A
+ran≢refused : {c p : ℕ} {o : Outcome} {k : RunCounts} {A : Type 0} → ran o k ≡ refused c p → A
 ran≢refused e = absurd (let z : _≡_ {A = ℕ} 0 1 = cc in omega arith)
 
 module _ (s : List ℕ) (q : Request) (b : Buffers) where
@@ -83,7 +84,7 @@ module _ (s : List ℕ) (q : Request) (b : Buffers) where
 
   -- "every other run starts": it ends or stops, with its counts
   abbrev pub Starts : Type 0
-  Starts = (o : Outcome) × (k : Counts) × (run s q b .answer ≡ ran o k)
+  Starts = (o : Outcome) × (k : RunCounts) × (run s q b .answer ≡ ran o k)
 
   starts-clear : (x : Screening) → conditions ≡ x → Starts → x ≡ clear
   starts-clear clear h st = refl
@@ -100,20 +101,20 @@ module _ (s : List ℕ) (q : Request) (b : Buffers) where
 
 -- ---- By which causes a run stops
 module _ (s : List ℕ) (q : Request) (b : Buffers) where
-  stop-of : (c t : ℕ) (k : Counts) → run s q b .answer ≡ ran (stopped c t) k → Stop single (Recorded s) c t
+  stop-of : (c t : ℕ) (k : RunCounts) → run s q b .answer ≡ ran (stopped c t) k → Stop single (Recorded s) c t
   stop-of c t k e =
       let st : Starts s q b = (_, _, e) in
       let same : ran _ _ ≡ ran (stopped c t) k = sym (answer-course s q b _ (course-clear s q b (starts-screened s q b st))) ∙ e in
       evaluation-stop s (started-well s q b st) standard (plain (q .enforce)) q (sizes b) (q .runner) c t cc
 
   -- 01 lists the stops 17 to 22. W14's 36 is no stop of a plain run, whose conditions are yes or no.
-  pub stopped-by : (c t : ℕ) (k : Counts) → run s q b .answer ≡ ran (stopped c t) k → (17 ≤ c) × (c ≤ 22)
+  pub stopped-by : (c t : ℕ) (k : RunCounts) → run s q b .answer ≡ ran (stopped c t) k → (17 ≤ c) × (c ≤ 22)
   stopped-by c t k e = stop-single s c t (stop-of c t k e)
 
 -- ---- Where a run of a list of bytes is refused by 17, and what it posts
 module _ (s : List ℕ) (bytes : Bytes s) (q : Request) (b : Buffers) where
   -- 17 is told at a check, or at a post whose channel has a guard.
-  pub refused-by-17 : (t : ℕ) (k : Counts) → run s q b .answer ≡ ran (stopped 17 t) k → MayRefuse s t
+  pub refused-by-17 : (t : ℕ) (k : RunCounts) → run s q b .answer ≡ ran (stopped 17 t) k → MayRefuse s t
   refused-by-17 t k e = refusing s t (stop-of s q b 17 t k e)
 
   -- Every post is a channel of the sheet's version and a 16-bit number: "channel × 65,536 + number".
@@ -123,7 +124,7 @@ module _ (s : List ℕ) (bytes : Bytes s) (q : Request) (b : Buffers) where
       (evaluation-posts s bytes (started-well s q b st) (plain (q .enforce)) (q .runner) q (sizes b))
 
   -- "Version 1 posts on channel 0 without a guard": it is refused at checks alone, and its list holds 16-bit numbers.
-  pub version-1-refused : version s ≡ 1 → (t : ℕ) (k : Counts) → run s q b .answer ≡ ran (stopped 17 t) k → kindOf (kindByte s t) ≡ Check
+  pub version-1-refused : version s ≡ 1 → (t : ℕ) (k : RunCounts) → run s q b .answer ≡ ran (stopped 17 t) k → kindOf (kindByte s t) ≡ Check
   version-1-refused one t k e = go (refused-by-17 t k e)
     where
       go : MayRefuse s t → kindOf (kindByte s t) ≡ Check
@@ -151,11 +152,11 @@ plain-post X M depth at c st e u n k d r l h =
 -- ---- Which results are held
 -- 02, W10: "Sum and difference now also say whether the exact result was outside 0 to 65,535." For all numbers: one is not counted as held exactly if it is
 -- the exact result. A difference is that if it and the second number make the first.
-pub sum-held : (m n : ℕ) → (saturates sum m n ≡ false) ↔ (single .sum m n ≡ m + n)
-sum-held m n = (λ e. omega (arith, ltb-false 65535 (m + n) e), λ e. le-ltb 65535 (m + n) (omega arith))
+pub sum-saturates : (m n : ℕ) → (saturates sum m n ≡ false) ↔ (single .sum m n ≡ m + n)
+sum-saturates m n = (λ e. omega (arith, ltb-false maxNumber (m + n) e), λ e. le-ltb maxNumber (m + n) (omega arith))
 
-pub difference-held : (m n : ℕ) → (saturates difference m n ≡ false) ↔ (single .difference m n + n ≡ m)
-difference-held m n = (λ e. omega (arith, ltb-false m n e), λ e. le-ltb m n (omega arith))
+pub difference-saturates : (m n : ℕ) → (saturates difference m n ≡ false) ↔ (single .difference m n + n ≡ m)
+difference-saturates m n = (λ e. omega (arith, ltb-false m n e), λ e. le-ltb m n (omega arith))
 
 -- ---- What a run leaves
 -- Every buffer keeps its length, whatever becomes of the run: the posts made find their places in the lent list.
@@ -166,11 +167,11 @@ lengths-kept s q b =
     (evaluation-spends standard (plain (q .enforce)) (q .runner) s q (sizes b))
 
 -- How large the counts are that a run tells (Claims: Few). They are those of the evaluation.
-answer-counts : (s : List ℕ) (q : Request) (b : Buffers) (o : Outcome) (k : Counts) → run s q b .answer ≡ ran o k
+answer-counts : (s : List ℕ) (q : Request) (b : Buffers) (o : Outcome) (k : RunCounts) → run s q b .answer ≡ ran o k
     → counts q (sizes b) (left (evaluation (q .runner) s q (sizes b))) ≡ k
 answer-counts s q b o k e = ap (countsIn k) (sym (answer-course s q b _ (course-clear s q b (starts-screened s q b (o, k, e)))) ∙ e)
 
-pub counts-few : (s : List ℕ) (q : Request) (b : Buffers) (o : Outcome) (k : Counts) → run s q b .answer ≡ ran o k → Few k
+pub counts-few : (s : List ℕ) (q : Request) (b : Buffers) (o : Outcome) (k : RunCounts) → run s q b .answer ≡ ran o k → Few k
 counts-few s q b o k e =
     subst Few (answer-counts s q b o k e)
     (clear-few s q b (starts-screened s q b (o, k, e)) (left (evaluation (q .runner) s q (sizes b)))
@@ -202,12 +203,12 @@ posts-counted : (q : Request) (z : Sizes) (u : Budget) → counts q z u .posts �
 posts-counted q z (budget c d r l) = sym (length-reverse (l .posts))
 
 -- The list is that of the posts made, in order, and the count told is its length.
-pub run-leaves : (s : List ℕ) (q : Request) (b : Buffers) (o : Outcome) (k : Counts) → run s q b .answer ≡ ran o k
+pub run-leaves : (s : List ℕ) (q : Request) (b : Buffers) (o : Outcome) (k : RunCounts) → run s q b .answer ≡ ran o k
     → (k .posts ≡ length (postsMade (course s q (sizes b)))) × Leaves (q .runner) (postsMade (course s q (sizes b))) b (run s q b .buffers)
 unfolding run
 run-leaves s q b o k e =
     let x = evaluation (q .runner) s q (sizes b) in
     let goes : started x ≡ course s q (sizes b) = sym (course-clear s q b (starts-screened s q b (o, k, e))) in (
-      ap (λ (c : Counts). c .posts) (sym (answer-counts s q b o k e)) ∙ posts-counted q (sizes b) (left x) ∙ ap (λ (c : Course). length (postsMade c)) goes,
+      ap (λ (c : RunCounts). c .posts) (sym (answer-counts s q b o k e)) ∙ posts-counted q (sizes b) (left x) ∙ ap (λ (c : Course). length (postsMade c)) goes,
       subst (λ (c : Course). Leaves (q .runner) (postsMade c) b (buffersAfter (q .runner) b c)) goes (leaves (q .runner) b x),
     )

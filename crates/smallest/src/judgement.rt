@@ -11,7 +11,7 @@ use subtyping::known::Known;
 use typing::answer::Inferred;
 ghost use mathlib.Core.Path.{_≡_};
 ghost use Rattle.program.specs.Layout.{typesOf};
-ghost use Rattle.subtyping.specs.Known.{Judging, Testing, Answered};
+ghost use Rattle.subtyping.specs.Known.{KnownSheet, KnownSheetPrivilege, Answered};
 ghost use Rattle.rules.specs.Inference.{inferredModel};
 ghost use Rattle.rules.specs.Steps.{letrecStep, callStep, ifStep, testStep, binaryStep, resultOf};
 ghost use Rattle.typing.specs.Checking.{_next_};
@@ -29,7 +29,7 @@ fn letrec(f: TypeRecord, t: u16, j: Inferred, k: Inferred) -> Inferred
 
 // Of a call: the function's judgement and the argument's.
 fn call(s: &[u8], c: Counts, known: &mut Known, t: u16, i: Inferred, j: Inferred) -> Inferred
-    requires { ⌜ Judging (now s) c (now known) ⌝ }
+    requires { ⌜ KnownSheet (now s) c (now known) ⌝ }
     ensures { λ r. ⌜ Answered (typesOf (now (s .entry))) (inferredModel r)
         (inferredModel i next λ φ N. callStep (typesOf (now (s .entry))) t φ N (inferredModel j)) (now (known .exit)) ⌝ }
 {
@@ -49,7 +49,7 @@ fn branches(
     j: Inferred,
     k: Inferred,
 ) -> Inferred
-    requires { ⌜ Judging (now s) c (now known) ⌝ }
+    requires { ⌜ KnownSheet (now s) c (now known) ⌝ }
     ensures { λ r. ⌜ Answered (typesOf (now (s .entry))) (inferredModel r)
         (inferredModel i next λ σ N. inferredModel j next λ τ M. ifStep (typesOf (now (s .entry))) t σ N τ M (inferredModel k)) (now (known .exit)) ⌝ }
 {
@@ -68,7 +68,7 @@ fn branches(
 
 // Of a test of privilege p: the judgements of the branches.
 fn test(s: &[u8], c: Counts, known: &mut Known, p: u8, t: u16, i: Inferred, j: Inferred) -> Inferred
-    requires { ⌜ Testing (now s) c (now known) p ⌝ }
+    requires { ⌜ KnownSheetPrivilege (now s) c (now known) p ⌝ }
     ensures { λ r. ⌜ Answered (typesOf (now (s .entry))) (inferredModel r)
         (inferredModel i next λ τ N. testStep (typesOf (now (s .entry))) p t τ N (inferredModel j)) (now (known .exit)) ⌝ }
 {

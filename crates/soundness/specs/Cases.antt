@@ -14,7 +14,7 @@ use Rattle.typing.specs.Checking.{infer}
 use Rattle.typing.specs.Verdicts.{Verdict, accepted, rejected, verdict}
 use Rattle.semantics.specs.Meaning.{evalWith, apply, eval}
 use Rattle.semantics.specs.Access.{privs, addAuthorised}
-use Rattle.semantics.specs.Runs.{Runner, eager, lazy, Request, Buffers, Sizes, sizes, stack, course, ended, stopped, ground-num, Counts, Answer, ran, answerOf, postsMade, run}
+use Rattle.semantics.specs.Runs.{Runner, eager, lazy, Request, Buffers, Sizes, sizes, stack, course, ended, stopped, ground-num, RunCounts, Answer, ran, answerOf, postsMade, run}
 use Rattle.soundness.specs.Claims.{postsOf}
 use Rattle.soundness.specs.Laws.Runs.{posts-listed}
 
@@ -151,7 +151,7 @@ abbrev pub request : (start : List ℕ) (calls depth : ℕ) → Runner → Reque
 request start calls depth r = record { runner = r; enforce = true; start = start; calls = calls; depth = depth }
 
 -- where nothing was saturated
-abbrev pub counted : (calls cells posts : ℕ) → Counts
+abbrev pub counted : (calls cells posts : ℕ) → RunCounts
 counted c d p = record { calls = c; cells = d; posts = p; saturated = 0 }
 
 abbrev pub both : List ℕ → (Runner → Request) → Answer → List ℕ → List Case

@@ -8,7 +8,7 @@ use Rattle.privileges.specs.Sets.{has}
 use Rattle.program.specs.Layout.{authority}
 use Rattle.semantics.specs.Domains.{Domain}
 use Rattle.semantics.specs.Access.{chk}
-use Rattle.semantics.specs.Runs.{Request, Buffers, stack, ground-bool, ground-num, ended, stopped, AnswerOf, Answer, refused, ran, AfterOf, After}
+use Rattle.semantics.specs.Runs.{Request, Buffers, stack, ground-bool, ground-num, ended, stopped, Answer, refused, ran, AfterOf, After, postCount}
 use Rattle.semantics.specs.Recording.{Recorded}
 use Rattle.semantics.specs.Theorems.{Starts}
 
@@ -37,10 +37,6 @@ pub record TwoRuns (s : List ℕ) (x y : Request) (b d : Buffers) : Type 0 where
   pub second-starts : Starts s y d
 
 -- "The posts are the first entries of the lent list, as many as the posts made, in order."
-abbrev pub postCount : {D : Domain} → AnswerOf D → ℕ
-postCount (refused c p) = 0
-postCount (ran o k) = k .posts
-
 abbrev pub postsOf : {D : Domain} → AfterOf D → List ℕ
 postsOf a = take (postCount (a .answer)) (a .buffers .posts)
 

@@ -15,7 +15,7 @@ use Rattle.typing.specs.Checking.{infer}
 use Rattle.typing.specs.Verdicts.{accepted, verdict}
 use Rattle.semantics.specs.Meaning.{evalWith, apply, eval}
 use Rattle.semantics.specs.Access.{addAuthorised}
-use Rattle.semantics.specs.Runs.{Runner, Request, Buffers, sizes, course, ended, stopped, ground-bool, ground-num, Counts, ran}
+use Rattle.semantics.specs.Runs.{Runner, Request, Buffers, sizes, course, ended, stopped, ground-bool, ground-num, RunCounts, ran}
 use Rattle.soundness.specs.Cases.{Case, deciding, due, request, both, observed, observedBy, largest, as-due}
 
 -- ---- the sheets: principal 0, the types of the boolean, the number and of functions from numbers to numbers; and terms, whose bytes are fewer than 256
@@ -68,7 +68,7 @@ doubled =
 abbrev requestFor : (calls : ℕ) → Runner → Request
 requestFor calls = request [] calls maxDepth
 
-abbrev pub saturating : (calls cells saturated : ℕ) → Counts
+abbrev pub saturating : (calls cells saturated : ℕ) → RunCounts
 saturating c d n = record { calls = c; cells = d; posts = 0; saturated = n }
 
 unfoldable pub sums : List Case

@@ -1,4 +1,5 @@
 // The checking program: prints what is told of the sheet on standard input.
+use drafts::draft::DRAFT_BYTES;
 use libc::STDERR_FILENO;
 use libc::STDIN_FILENO;
 use libc::STDOUT_FILENO;
@@ -25,7 +26,7 @@ fn main() {
     let n = io::read_full(STDIN_FILENO, &mut sheet);
     let mut cells = [0u8; MAX_CELLS];
     let mut posts = [0u32; MAX_POSTS];
-    let mut text = [0u8; 224];
+    let mut text = [0u8; DRAFT_BYTES];
     let reported = report(&sheet[..n], &mut cells, &mut posts, &mut text);
     let Reported::Written(k) = reported else {
         return;

@@ -1,5 +1,5 @@
 -- Cells: what is read in the store and past its end, the walk from cell to cell, and a list that is filled whole. Assumes nothing.
-use mathlib.Core.Bool.{Bool, true, false}
+use mathlib.Core.Bool.{Bool, true, false, cond}
 use mathlib.Core.List.{List, _++_, append-nil}
 use mathlib.Core.Path.{_≡_, refl, sym, ap, _∙_}
 use Prim.Native.Nat.{ℕ, zero, suc, _+_, _-_, _*_, _/_, _<_, _≤_}
@@ -9,7 +9,7 @@ use lib.ListN.{getD, length, replicate, drop, drop-of-length-le}
 use lib.Dec.{ltb}
 use borrow.Author.Tests.{eq-eqb, ne-eqb, le-leb, lt-leb, le-ltb, lt-ltb, ltb-true, ltb-false}
 use Rattle.program.specs.Bytes.{word16}
-use Rattle.stores.specs.Words.{pick, stopWord}
+use Rattle.stores.specs.Words.{stopWord}
 use Rattle.stores.specs.Cells.{behindOf, walkOf, heldOf, lookOf, cellSet, madeWith, storeWith, Bound}
 
 module _ (cells : List ℕ) (e : ℕ) where
@@ -68,10 +68,10 @@ module _ (made w behind : ℕ) (l : List ℕ) where
 
 -- what a new cell, or none, says of the room
 module _ (made w behind : ℕ) (l : List ℕ) {r : ℕ} {l′ : List ℕ} (b : Bound made w behind l r l′) where
-  by-room : (c : Bool) → ltb made (length l / 8) ≡ c → (r ≡ pick c (made + 1) 0) × (l′ ≡ pick c (cellSet l made w behind) l)
+  by-room : (c : Bool) → ltb made (length l / 8) ≡ c → (r ≡ cond c (made + 1) 0) × (l′ ≡ cond c (cellSet l made w behind) l)
   unfolding madeWith storeWith
   by-room c e =
-      (b .made-is ∙ ap (λ (x : Bool). pick x (made + 1) 0) e, b .store-is ∙ ap (λ (x : Bool). pick x (cellSet l made w behind) l) e)
+      (b .made-is ∙ ap (λ (x : Bool). cond x (made + 1) 0) e, b .store-is ∙ ap (λ (x : Bool). cond x (cellSet l made w behind) l) e)
 
   pub bound-full : r ≡ 0 → (length l / 8 ≤ made) × (l′ ≡ l)
   bound-full z = go (ltb made (length l / 8)) refl

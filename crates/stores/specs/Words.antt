@@ -2,7 +2,7 @@
 -- function, whose environment is the number of a cell; a number that is known within limits has its lowest value as payload and its highest in the
 -- place of the environment, and a boolean that is not decided has the payload 2; a stop's sort is the papers' number of it and its payload the term
 -- that stops.
-use mathlib.Core.Bool.{Bool, true, false}
+use mathlib.Core.Bool.{Bool, cond}
 use Prim.Native.Nat.{ℕ, _+_, _*_, _/_, _%_}
 use lib.Dec.{ltb, eqb}
 use Rattle.stores.specs.declared.state.Value.the-variants.{Bool as VBool, Num, Fun}
@@ -10,12 +10,8 @@ use Rattle.stores.specs.declared.state.Stop.the-variants.{Check, Stuck, 
 use Rattle.stores.specs.declared.state.Out.{Out}
 use Rattle.stores.specs.declared.state.Out.the-variants.{Val, Stop as Stopped}
 
-abbrev pub pick : {A : Type 0} → Bool → A → A → A
-pick true a b = a
-pick false a b = b
-
 abbrev pub booleanWord : Bool → ℕ
-booleanWord b = pick b 65536 0
+booleanWord b = cond b 65536 0
 
 abbrev pub numberWord : ℕ → ℕ
 numberWord n = 1 + 65536 * n
@@ -24,7 +20,7 @@ abbrev pub intervalWord : (lowest highest : ℕ) → ℕ
 intervalWord l h = 1 + 65536 * l + 4294967296 * h
 
 abbrev pub undecidedWord : ℕ
-undecidedWord = 131072
+undecidedWord = 65536 * 2
 
 abbrev pub functionWord : (body env : ℕ) → ℕ
 functionWord body env = 2 + 65536 * body + 4294967296 * env
@@ -47,9 +43,9 @@ isStop w = ltb 2 (sortOf w)
 -- what a sort, a payload and an environment stand for
 unfoldable pub outBy : (sort payload env : ℕ) → Out
 outBy k n e =
-    pick (eqb k 0) (Val (VBool (ltb 0 n))) (pick (eqb k 1) (Val (Num n)) (pick (eqb k 2) (Val (Fun n e))
-    (pick (eqb k 17) (Stopped (Check n)) (pick (eqb k 18) (Stopped (Stuck n)) (pick (eqb k 19) (Stopped (OpenCalls n))
-    (pick (eqb k 20) (Stopped (Calls n)) (pick (eqb k 21) (Stopped (Cells n)) (pick (eqb k 22) (Stopped (Posts n)) (Stopped (Undecided n))))))))))
+    cond (eqb k 0) (Val (VBool (ltb 0 n))) (cond (eqb k 1) (Val (Num n)) (cond (eqb k 2) (Val (Fun n e))
+    (cond (eqb k 17) (Stopped (Check n)) (cond (eqb k 18) (Stopped (Stuck n)) (cond (eqb k 19) (Stopped (OpenCalls n))
+    (cond (eqb k 20) (Stopped (Calls n)) (cond (eqb k 21) (Stopped (Cells n)) (cond (eqb k 22) (Stopped (Posts n)) (Stopped (Undecided n))))))))))
 
 abbrev pub outOf : ℕ → Out
 outOf w = outBy (sortOf w) (payloadOf w) (envOf w)

@@ -3,8 +3,8 @@
 ghost use mathlib.Core.Path.{_≡_};
 ghost use Prim.Native.Nat.{_+_, _*_, _<_, _≤_};
 ghost use lib.ListN.{length};
-ghost use Rattle.program.specs.Bytes.{word16};
-ghost use Rattle.stores.specs.Cells.{behindOf, walkOf, heldOf, lookOf, set16, cellSet, nextCell, Bound, zerosLike};
+ghost use Rattle.program.specs.Bytes.{word16, withWord16};
+ghost use Rattle.stores.specs.Cells.{behindOf, walkOf, heldOf, lookOf, cellSet, nextCell, Bound, zerosLike};
 ghost use Rattle.stores.specs.Returns.{Returned};
 use crate::words;
 
@@ -17,7 +17,7 @@ fn get16(s: &[u8], i: usize) -> u16
 
 fn put16(s: &mut [u8], i: usize, n: u16)
     requires { ⌜ i + 1 < length (now s) ⌝ }
-    ensures { λ _. ⌜ now (s .exit) ≡ set16 (now (s .entry)) i n ⌝ }
+    ensures { λ _. ⌜ now (s .exit) ≡ withWord16 (now (s .entry)) i n ⌝ }
 {
     s[i] = (n / 256) as u8;
     s[i + 1] = (n % 256) as u8;

@@ -28,7 +28,7 @@ pub fn interval(lowest: u16, highest: u16) -> u64
 pub fn undecided() -> u64
     ensures { λ r. ⌜ r ≡ undecidedWord ⌝ }
 {
-    131072
+    65536 * 2
 }
 
 pub fn function(body: u16, env: u16) -> u64

@@ -16,10 +16,10 @@ use Rattle.privileges.specs.Laws.{has-none, has-insert}
 use Rattle.program.specs.Limits.{maxTypes}
 use Rattle.program.specs.Layout.{Types}
 use Rattle.typing.specs.Subtyping.{Subtype}
-use Rattle.subtyping.specs.Known.{wordOf, knows, noted, Known}
+use Rattle.subtyping.specs.Known.{wordOf, knows, withPair, Known}
 
-pub note-word : (l : List ℕ) (a b : ℕ) {w : ℕ} → w ≡ insert (b % 32) (getD l (wordOf a b) 0) → set l (wordOf a b) w ≡ noted l a b
-unfolding noted
+pub note-word : (l : List ℕ) (a b : ℕ) {w : ℕ} → w ≡ insert (b % 32) (getD l (wordOf a b) 0) → set l (wordOf a b) w ≡ withPair l a b
+unfolding withPair
 note-word l a b e = ap (set l (wordOf a b)) e
 
 -- an empty table knows nothing
@@ -40,8 +40,8 @@ module _ (T : Types) (l : List ℕ) (K : Known T l) (a b : ℕ) (ha : a < maxTyp
   word : ℕ
   word = insert (b % 32) (getD l (wordOf a b) 0)
 
-  noted-fits : (x y : ℕ) → x < maxTypes → y < maxTypes → knows (noted l a b) x y ≡ true → Subtype T x y
-  unfolding knows noted word
+  noted-fits : (x y : ℕ) → x < maxTypes → y < maxTypes → knows (withPair l a b) x y ≡ true → Subtype T x y
+  unfolding knows withPair word
   noted-fits x y hx hy k = go (ℕ-discrete (wordOf x y) (wordOf a b))
     where
       inside : wordOf a b < length l
@@ -58,6 +58,6 @@ module _ (T : Types) (l : List ℕ) (K : Known T l) (a b : ℕ) (ha : a < maxTyp
           (or-cases (eqb (y % 32) (b % 32)) (has (y % 32) (getD l (wordOf a b) 0))
           (sym (has-insert (y % 32) (b % 32) (getD l (wordOf a b) 0)) ∙ ap (has (y % 32)) (sym f) ∙ k))
 
-  pub known-noted : {l′ : List ℕ} → l′ ≡ noted l a b → Known T l′
-  unfolding noted word
+  pub known-noted : {l′ : List ℕ} → l′ ≡ withPair l a b → Known T l′
+  unfolding withPair word
   known-noted e = subst (Known T) (sym e) (record { long = length-set l (wordOf a b) word ∙ K .long; fits = noted-fits })

@@ -17,8 +17,8 @@ use Rattle.program.specs.Limits.{maxTypes}
 use Rattle.program.specs.Laws.Types.{Lower, function-type, lower-types}
 use Rattle.typing.specs.Subtyping.{subtypeIn, subtype, wider}
 use Rattle.typing.specs.Laws.Subtyping.{subtype-sound, subtype-complete}
-use Rattle.subtyping.specs.Internal.{Sheet}
-use Rattle.subtyping.specs.Known.{knows, noted, Known, Answered}
+use Rattle.accessors.specs.Internal.{FormedSheet}
+use Rattle.subtyping.specs.Known.{knows, withPair, Known, Answered}
 use Rattle.subtyping.specs.Laws.Records.{TypeParts, function-is, type-parts}
 use Rattle.subtyping.proofs.KnownLaws.{known-noted}
 
@@ -71,10 +71,10 @@ also-false true = refl
 also-false false = refl
 
 -- a function type is one of the sheet's, of which there are at most 256
-pub small : {s : List ℕ} {c : Counts} → Sheet s c → (t : ℕ) {u : Bool} → u ≡ (leb 2 t && ltb t (c .types)) → u ≡ true → t < maxTypes
+pub small : {s : List ℕ} {c : Counts} → FormedSheet s c → (t : ℕ) {u : Bool} → u ≡ (leb 2 t && ltb t (c .types)) → u ≡ true → t < maxTypes
 small {s} S t h e = omega (arith, function-type s (S .well-formed) t (sym (function-is S t h) ∙ e) .inside, S .well-formed .types-most)
 
-module _ {s : List ℕ} {c : Counts} (S : Sheet s c) (a b : ℕ) where
+module _ {s : List ℕ} {c : Counts} (S : FormedSheet s c) (a b : ℕ) where
   lower : Lower (typesOf s)
   lower = lower-types s (S .well-formed)
 
@@ -142,7 +142,7 @@ module _ {s : List ℕ} {c : Counts} (S : Sheet s c) (a b : ℕ) where
 
               -- a pair that is a subtype pair may be noted
               pub sub-noted : j ≡ true → {r : Bool} → r ≡ subtype (typesOf s) (f .res) (g .res) → r ≡ true → {l l′ : List ℕ} → Known (typesOf s) l
-                  → l′ ≡ noted l a b → Answered (typesOf s) true (subtype (typesOf s) a b) l′
+                  → l′ ≡ withPair l a b → Answered (typesOf s) true (subtype (typesOf s) a b) l′
               sub-noted e h t {l} K n =
                   let is : true ≡ subtype (typesOf s) a b = sym t ∙ sub-results e h in
                   record { is = is; known = known-noted (typesOf s) l K a b (small S a hu eu) (small S b hv ev) (subtype-sound (typesOf s) a b (sym is)) n }

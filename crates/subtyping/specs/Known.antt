@@ -9,7 +9,7 @@ use Rattle.program.specs.Limits.{maxTypes}
 use Rattle.program.specs.Layout.{Types, typesOf}
 use Rattle.program.specs.declared.records.Counts.{Counts}
 use Rattle.typing.specs.Subtyping.{Subtype}
-use Rattle.subtyping.specs.Internal.{Sheet}
+use Rattle.accessors.specs.Internal.{FormedSheet}
 
 -- two types of a table, which has at most 256
 pub record TypePair (a b : ℕ) : Type 0 where
@@ -22,8 +22,8 @@ wordOf a b = a * 8 + b / 32
 unfoldable pub knows : List ℕ → (a b : ℕ) → Bool
 knows l a b = has (b % 32) (getD l (wordOf a b) 0)
 
-unfoldable pub noted : List ℕ → (a b : ℕ) → List ℕ
-noted l a b = set l (wordOf a b) (insert (b % 32) (getD l (wordOf a b) 0))
+unfoldable pub withPair : List ℕ → (a b : ℕ) → List ℕ
+withPair l a b = set l (wordOf a b) (insert (b % 32) (getD l (wordOf a b) 0))
 
 -- what is known is so
 pub record Known (T : Types) (l : List ℕ) : Type 0 where
@@ -31,13 +31,13 @@ pub record Known (T : Types) (l : List ℕ) : Type 0 where
   pub fits : (a b : ℕ) → a < maxTypes → b < maxTypes → knows l a b ≡ true → Subtype T a b
 
 -- a well-formed sheet with its own counts, and what is known of its types
-pub record Judging (s : List ℕ) (c : Counts) (l : List ℕ) : Type 0 where
-  pub sheet : Sheet s c
+pub record KnownSheet (s : List ℕ) (c : Counts) (l : List ℕ) : Type 0 where
+  pub sheet : FormedSheet s c
   pub known : Known (typesOf s) l
 
 -- and a privilege
-pub record Testing (s : List ℕ) (c : Counts) (l : List ℕ) (p : ℕ) : Type 0 where
-  pub judging : Judging s c l
+pub record KnownSheetPrivilege (s : List ℕ) (c : Counts) (l : List ℕ) (p : ℕ) : Type 0 where
+  pub judging : KnownSheet s c l
   pub privilege : p < 32
 
 -- an answer as it is due, and what is known then

@@ -1,3 +1,2 @@
-pub mod Internal
 pub mod Known
 pub mod Laws

@@ -2,7 +2,7 @@
 // comparisons each time they meet, since each level has two pairs of parts.
 use program::limits::TYPE_PLACES;
 ghost use mathlib.Core.Path.{_≡_};
-ghost use Rattle.subtyping.specs.Known.{TypePair, knows as knowsOf, noted as notedOf};
+ghost use Rattle.subtyping.specs.Known.{TypePair, knows as knowsOf, withPair as notedOf};
 
 // A row of eight words for each type.
 pub const KNOWN_WORDS: usize = TYPE_PLACES * 8;

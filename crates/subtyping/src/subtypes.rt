@@ -10,7 +10,7 @@ ghost use lib.Dec.{leb, ltb};
 ghost use Rattle.program.specs.Layout.{typesOf};
 ghost use Rattle.typing.specs.Subtyping.{subtype as subtypeOf, wider as widerOf};
 ghost use Rattle.program.specs.Search.{foundOf};
-ghost use Rattle.subtyping.specs.Known.{Judging, Answered};
+ghost use Rattle.subtyping.specs.Known.{KnownSheet, Answered};
 
 // Whether t is a function type of a sheet with these counts.
 pub fn is_function(c: Counts, t: u16) -> bool
@@ -25,7 +25,7 @@ pub fn is_function(c: Counts, t: u16) -> bool
 // Whether a is a subtype of b: arguments are compared with the sides exchanged. Latent sets come first, as they cost least. A pair that is known is
 // not compared again.
 pub fn subtype(s: &[u8], c: Counts, known: &mut Known, a: u16, b: u16) -> bool
-    requires { ⌜ Judging (now s) c (now known) ⌝ }
+    requires { ⌜ KnownSheet (now s) c (now known) ⌝ }
     ensures { λ r. ⌜ Answered (typesOf (now (s .entry))) r (subtypeOf (typesOf (now (s .entry))) a b) (now (known .exit)) ⌝ }
 {
     if a == b {
@@ -57,7 +57,7 @@ pub fn subtype(s: &[u8], c: Counts, known: &mut Known, a: u16, b: u16) -> bool
 
 // The wider of two types, if one is a subtype of the other. Equal types, the common case, pass the first test at once.
 pub fn wider(s: &[u8], c: Counts, known: &mut Known, a: u16, b: u16) -> Found
-    requires { ⌜ Judging (now s) c (now known) ⌝ }
+    requires { ⌜ KnownSheet (now s) c (now known) ⌝ }
     ensures { λ r. ⌜ Answered (typesOf (now (s .entry))) (foundOf r) (widerOf (typesOf (now (s .entry))) a b) (now (known .exit)) ⌝ }
 {
     if subtype(s, c, known, a, b) {

@@ -7,6 +7,7 @@ use native.Mathlib.Decide.{ℕ-discrete}
 use native.Mathlib.Omega.{arith}
 use lib.Dec.{leb, ltb, eqb}
 use borrow.Author.Tests.{lt-leb}
+use Rattle.program.specs.Limits.{maxPrivilege}
 use Rattle.program.specs.Layout.{terms, kindByte, small, first, second, third}
 use Rattle.program.specs.Formats.{Part, unused, flag, anyNumber, privilege, principal, channel, functionType, child, bodyChild, Kind, Boolean, Number, Variable, Function, Letrec, Call, If, Check, Enable, Sign, Test, Sum, Difference, Less, Post, kindOf, format}
 use Rattle.program.specs.Decoding.{partOk, formatAt, termOk}
@@ -38,7 +39,7 @@ module _ (c : Counts) (t : ℕ) (r : TermRecord) where
   ]
 
   pub kinds-7-8 : {x : Shape} → 7 ≤ r .kind → r .kind < 9
-      → x ≡ shapeIf (leb (r .small) 31 && ltb (r .first) t && eqb (r .second) 0 && eqb (r .third) 0) (One (r .first)) → x ≡ shapeOf c t r
+      → x ≡ shapeIf (leb (r .small) maxPrivilege && ltb (r .first) t && eqb (r .second) 0 && eqb (r .third) 0) (One (r .first)) → x ≡ shapeOf c t r
   kinds-7-8 l h e = elim (ℕ-discrete (r .kind) 7) [ yes k ↦ at-kind 7 k e | no k ↦ at-kind 8 (omega arith) e ]
 
   pub kinds-11-13 : {x : Shape} → 11 ≤ r .kind → r .kind < 14

@@ -3,6 +3,7 @@ use mathlib.Core.Bool.{Bool, true, false, _&&_}
 use mathlib.Core.List.{List}
 use Prim.Native.Nat.{ℕ, _<_}
 use lib.Dec.{leb, ltb, eqb}
+use Rattle.program.specs.Limits.{maxPrivilege}
 use Rattle.program.specs.Layout.{terms, kindByte, first, second, third}
 use Rattle.program.specs.Formats.{Part, unused, flag, anyNumber, privilege, principal, channel, functionType, child, bodyChild}
 use Rattle.program.specs.Formats.{Kind, Boolean, Number, Variable, Function, Letrec, Call, If, Check, Enable, Sign, Test, Sum, Difference, Less, Post, kindOf, format}
@@ -23,7 +24,7 @@ abbrev pub partIn : Counts → (t : ℕ) → Part → (value : ℕ) → Bool
 partIn c t unused x = eqb x 0
 partIn c t flag x = leb x 1
 partIn c t anyNumber x = true
-partIn c t privilege x = leb x 31
+partIn c t privilege x = leb x maxPrivilege
 partIn c t principal x = ltb x (c .principals)
 partIn c t channel x = ltb x (c .channels)
 partIn c t functionType x = leb 2 x && ltb x (c .types)

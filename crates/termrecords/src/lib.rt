@@ -7,6 +7,7 @@ ghost use Rattle.accessors.specs.Internal.{Laid};
 ghost use Rattle.program.specs.Search.{foundOf};
 ghost use Rattle.termrecords.specs.Internal.{LaidTerm, shapeIf, shapeOf, shapeAt, isWrong};
 use accessors::table_term;
+use program::limits::MAX_PRIVILEGE;
 use program::records::Counts;
 use program::records::TermRecord;
 use program::search::Found;
@@ -54,12 +55,18 @@ fn shape_of(r: TermRecord, c: Counts, t: u16) -> Shape
             (x == 0) & (a < t) & (b < t) & (d < t),
             Shape::Three(a, b, d),
         ),
-        7..=8 => shape_if((x <= 31) & (a < t) & (b == 0) & (d == 0), Shape::One(a)),
+        7..=8 => shape_if(
+            (x <= MAX_PRIVILEGE) & (a < t) & (b == 0) & (d == 0),
+            Shape::One(a),
+        ),
         9 => shape_if(
             (x < c.principals) & (a < t) & (b == 0) & (d == 0),
             Shape::One(a),
         ),
-        10 => shape_if((x <= 31) & (a < t) & (b < t) & (d == 0), Shape::Two(a, b)),
+        10 => shape_if(
+            (x <= MAX_PRIVILEGE) & (a < t) & (b < t) & (d == 0),
+            Shape::Two(a, b),
+        ),
         11..=13 => shape_if((x == 0) & (a < t) & (b < t) & (d == 0), Shape::Two(a, b)),
         14 => shape_if(
             (x < c.channels) & (a < t) & (b == 0) & (d == 0),

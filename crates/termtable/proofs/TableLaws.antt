@@ -6,6 +6,7 @@ use native.Mathlib.Decide.{ℕ-discrete, decLt}
 use native.Mathlib.Omega.{arith}
 use lib.ListN.{getD, length, set, length-set}
 use lib.Seq.{getD-set-same, getD-set-other}
+use Rattle.program.specs.Limits.{maxTerms}
 use Rattle.program.specs.Layout.{terms}
 use Rattle.program.specs.Records.{CountsOf, noTerm, termRecord, authorityRecord, guardRecord}
 use Rattle.program.specs.Laws.Readable.{WellFormed}
@@ -54,7 +55,7 @@ module _ {s : List ℕ} {c : Counts} {t : ℕ} {x : TermRecord} (q : x ≡ termR
 -- the first n words are there, and the others are zero
 pub record Filled (s : List ℕ) (c : Counts) (words : List ℕ) (n : ℕ) : Type 0 where
   pub few : n ≤ c .terms
-  pub long : length words ≡ 1024
+  pub long : length words ≡ maxTerms
   pub done : (t : ℕ) → t < n → Holds s c t (getD words t 0)
   pub rest : (t : ℕ) → n ≤ t → getD words t 0 ≡ 0
 

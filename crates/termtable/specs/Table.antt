@@ -1,5 +1,6 @@
--- The term table of a sheet as words: the parts of a record from the lowest byte on. In the place of second and third a sign has its principal's set, and
--- a post the guard of its channel.
+-- The term table of a sheet as words: the parts of a record from the lowest byte on. Kind and small have a byte each; first, second and third have 16 bits and
+-- begin at bits 16, 32 and 48: 65536 is 2^16, 4294967296 is 2^32 and 281474976710656 is 2^48. In the place of second and third a sign has its principal's set,
+-- and a post the guard of its channel.
 use mathlib.Core.List.{List}
 use mathlib.Core.Path.{_≡_}
 use Prim.Native.Nat.{ℕ, _/_, _%_}
@@ -44,11 +45,6 @@ pub record Holds (s : List ℕ) (c : Counts) (t x : ℕ) : Type 0 where
   pub third-is : Plain (termRecord s c t .kind) → wordThird x ≡ termRecord s c t .third
   pub authority-is : termRecord s c t .kind ≡ 9 → wordAuthority x ≡ authorityRecord s (termRecord s c t .small)
   pub guard-is : termRecord s c t .kind ≡ 14 → wordGuard x ≡ guardRecord s c (termRecord s c t .small)
-
--- a well-formed sheet with its own counts
-pub record FormedSheet (s : List ℕ) (c : Counts) : Type 0 where
-  pub well-formed : WellFormed s
-  pub counts-are : CountsOf s c
 
 -- a table that is empty still
 pub record Empty (terms : List ℕ) : Type 0 where

@@ -1,5 +1,6 @@
 // The term table of a readable sheet as an array of words, decoded once a run: kind, small, first, second and third of a record from the lowest byte
-// on. In the place of second and third, which they do not use, a sign has the set that its principal may use, and a post the guard of its channel.
+// on; the last three begin at bits 16, 32 and 48. In the place of second and third, which they do not use, a sign has the set that its principal may use,
+// and a post the guard of its channel.
 ghost use mathlib.Core.Path.{_≡_};
 ghost use lib.ListN.{length, getD};
 ghost use Rattle.program.specs.Limits.{maxTerms};

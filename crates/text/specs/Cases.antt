@@ -75,7 +75,7 @@ unfolding printed decimal decimalIn hexadecimal verdict decoding screen refuseAt
 ends-true = refl
 
 -- 02, W10: "the program's run line closes with `held` and the count": 65535 + 1
-pub holds-sum : printed (sheetOf 0 32
+pub saturated-sum : printed (sheetOf 0 32
     (1 ∷ 0 ∷ 255 ∷ 255 ∷ 0 ∷ 0 ∷ 0 ∷ 0
     ∷ 1 ∷ 0 ∷ 0 ∷ 1 ∷ 0 ∷ 0 ∷ 0 ∷ 0
     ∷ 11 ∷ 0 ∷ 0 ∷ 0 ∷ 0 ∷ 1 ∷ 0 ∷ 0
@@ -83,10 +83,10 @@ pub holds-sum : printed (sheetOf 0 32
     ≡ ascii "terms 4\nneeds 00000000\ntype num\nend num 65535 calls 0 cells 0 posts 0 held 1\n"
 unfolding printed decimal decimalIn hexadecimal verdict decoding screen refuseAt infer subtype subtypeIn wider removeAuthorised course eval apply evalWith
     addAuthorised has meet union insert remove subset
-holds-sum = refl
+saturated-sum = refl
 
 -- and at a stop: 1 - 65535, then a check in the other operand
-pub holds-at-stop : printed (sheetOf 2 56
+pub saturated-at-stop : printed (sheetOf 2 56
     (1 ∷ 0 ∷ 0 ∷ 1 ∷ 0 ∷ 0 ∷ 0 ∷ 0
     ∷ 1 ∷ 0 ∷ 255 ∷ 255 ∷ 0 ∷ 0 ∷ 0 ∷ 0
     ∷ 12 ∷ 0 ∷ 0 ∷ 0 ∷ 0 ∷ 1 ∷ 0 ∷ 0
@@ -97,7 +97,7 @@ pub holds-at-stop : printed (sheetOf 2 56
     ≡ ascii "terms 7\nneeds 00000002\ntype num\nstop 17 at 4 calls 0 cells 0 posts 0 held 1\n"
 unfolding printed decimal decimalIn hexadecimal verdict decoding screen refuseAt infer subtype subtypeIn wider removeAuthorised course eval apply evalWith
     addAuthorised has meet union insert remove subset
-holds-at-stop = refl
+saturated-at-stop = refl
 
 -- "Empty file: 1."
 pub empty-file : printed [] ≡ ascii "refused 1 at 0\n"

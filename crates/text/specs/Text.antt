@@ -8,7 +8,7 @@ use lib.Dec.{ltb, eqb}
 use Rattle.program.specs.Limits.{maxCalls, maxDepth, maxCells, maxPosts}
 use Rattle.program.specs.Layout.{root}
 use Rattle.typing.specs.Verdicts.{Verdict, accepted, rejected, verdict}
-use Rattle.semantics.specs.Runs.{eager, Request, Sizes, course, ground-bool, ground-num, Outcome, ended, stopped, Counts, Answer, refused, ran, answerOf}
+use Rattle.semantics.specs.Runs.{eager, Request, Sizes, course, ground-bool, ground-num, Outcome, ended, stopped, RunCounts, Answer, refused, ran, answerOf}
 use Rattle.interp.specs.Answers.{requestOf}
 
 -- ---- characters and numbers
@@ -54,25 +54,25 @@ needsLine N = line (ascii "needs " ++ hexadecimal 8 N)
 abbrev pub typeLine : ℕ → List ℕ
 typeLine τ = line (ascii "type " ++ cond (eqb τ 0) (ascii "bool") (ascii "num"))
 
-abbrev pub acceptance : (terms type needs : ℕ) → List ℕ
-acceptance n τ N = termsLine n ++ needsLine N ++ typeLine τ
+abbrev pub acceptanceText : (terms type needs : ℕ) → List ℕ
+acceptanceText n τ N = termsLine n ++ needsLine N ++ typeLine τ
 
-abbrev pub at : ℕ → List ℕ
-at t = labelled " at " t
+abbrev pub placeText : ℕ → List ℕ
+placeText t = labelled " at " t
 
 -- "a boolean prints `bool 0` or `bool 1`, a stop `stop C at T` in place of `end num 7`, with the counts after it"
 abbrev pub outcomeText : Outcome → List ℕ
 outcomeText (ended (ground-bool b)) = ascii "end bool " ++ cond b (ascii "1") (ascii "0")
 outcomeText (ended (ground-num n)) = labelled "end num " n
-outcomeText (stopped c t) = labelled "stop " c ++ at t
+outcomeText (stopped c t) = labelled "stop " c ++ placeText t
 
 -- 02, W10: "the program's run line closes with `held` and the count"
-abbrev pub countsText : Counts → List ℕ
+abbrev pub countsText : RunCounts → List ℕ
 countsText k = labelled " calls " (k .calls) ++ labelled " cells " (k .cells) ++ labelled " posts " (k .posts) ++ labelled " held " (k .saturated)
 
 -- "A refusal prints one line, `refused C at T`."
-abbrev pub refusal : (cause place : ℕ) → List ℕ
-refusal c t = line (labelled "refused " c ++ at t)
+abbrev pub refusalText : (cause place : ℕ) → List ℕ
+refusalText c t = line (labelled "refused " c ++ placeText t)
 
 -- ---- the text
 
@@ -89,12 +89,12 @@ answer s = answerOf (root s) request eagerSizes (course s request eagerSizes)
 -- The run of an accepted sheet is never turned back (Theorems: accepted-runs).
 abbrev pub ofRun : (accepted : List ℕ) → Answer → List ℕ
 ofRun xs (ran o k) = xs ++ line (outcomeText o ++ countsText k)
-ofRun xs (refused c p) = refusal c p
+ofRun xs (refused c p) = refusalText c p
 
 -- A sheet that is refused is not run.
 abbrev pub ofVerdict : Verdict → (Unit {0} → Answer) → List ℕ
-ofVerdict (accepted n τ N) run = ofRun (acceptance n τ N) (run tt)
-ofVerdict (rejected c p) run = refusal c p
+ofVerdict (accepted n τ N) run = ofRun (acceptanceText n τ N) (run tt)
+ofVerdict (rejected c p) run = refusalText c p
 
 unfoldable pub printed : List ℕ → List ℕ
 printed s = ofVerdict (verdict s) λ _. answer s

@@ -18,10 +18,10 @@ use Rattle.program.specs.Decoding.{decodingConditions, decoding, Readable}
 use Rattle.program.specs.Laws.Screening.{screen-clear}
 use Rattle.program.specs.Laws.Longest.{cut-alike, longer-refused}
 use Rattle.typing.specs.Verdicts.{Verdict, accepted, rejected, verdict}
-use Rattle.typing.specs.Theorems.{acceptance as acceptance-theorem}
+use Rattle.typing.specs.Theorems.{acceptance}
 use Rattle.semantics.specs.Runs.{eager, startOk, buffersOk, limitsOk, runConditions, evaluation, settled, course, ground-bool, ground-num}
-use Rattle.semantics.specs.Runs.{Outcome, ended, stopped, Counts, Answer, refused, ran, answerOf}
-use Rattle.text.specs.Text.{ascii, digit, hexadecimal, decimalIn, decimal, line, labelled, typeLine, acceptance, at, outcomeText, countsText, refusal}
+use Rattle.semantics.specs.Runs.{Outcome, ended, stopped, RunCounts, Answer, refused, ran, answerOf}
+use Rattle.text.specs.Text.{ascii, digit, hexadecimal, decimalIn, decimal, line, labelled, typeLine, acceptanceText, placeText, outcomeText, countsText, refusalText}
 use Rattle.text.specs.Text.{request, eagerSizes, answer, ofRun, ofVerdict, printed}
 
 -- ---- the decimal digits of a number of 64 bits, however long
@@ -47,16 +47,16 @@ starts : (s : List ℕ) → Readable s → screen (runConditions s request eager
 unfolding decoding screen refuseAt
 starts s r = screen-clear (decodingConditions s) (unless 14 (startOk s request) ∷ unless 15 (buffersOk eager eagerSizes) ∷ unless 16 (limitsOk request) ∷ []) r
 
-pub accepted-runs : (s : List ℕ) (n τ N : ℕ) → verdict s ≡ accepted n τ N → (o : Outcome) × (k : Counts) × (answer s ≡ ran o k)
+pub accepted-runs : (s : List ℕ) (n τ N : ℕ) → verdict s ≡ accepted n τ N → (o : Outcome) × (k : RunCounts) × (answer s ≡ ran o k)
 unfolding course
 accepted-runs s n τ N e = (
   _,
   _,
-  λ i. answerOf (root s) request eagerSizes (settled (starts s (acceptance-theorem s n τ N e .readable) i) (λ _. evaluation eager s request eagerSizes)),
+  λ i. answerOf (root s) request eagerSizes (settled (starts s (acceptance s n τ N e .readable) i) (λ _. evaluation eager s request eagerSizes)),
 )
 
 -- ---- an input longer than any sheet
-unfit-printed : (s : List ℕ) (c p : ℕ) → decoding s ≡ found c p → printed s ≡ refusal c p
+unfit-printed : (s : List ℕ) (c p : ℕ) → decoding s ≡ found c p → printed s ≡ refusalText c p
 unfolding printed verdict
 unfit-printed s c p e = rw e
 
@@ -97,9 +97,9 @@ outcome-most : (o : Outcome) → length (outcomeText o) ≤ 49
 outcome-most (ended (ground-bool true)) = omega arith
 outcome-most (ended (ground-bool false)) = omega arith
 outcome-most (ended (ground-num n)) = omega (arith, decimal-most n)
-outcome-most (stopped c t) = omega (arith, decimal-most c, decimal-most t, length-append (decimal c) (at t))
+outcome-most (stopped c t) = omega (arith, decimal-most c, decimal-most t, length-append (decimal c) (placeText t))
 
-counts-most : (k : Counts) → length (countsText k) ≤ 107
+counts-most : (k : RunCounts) → length (countsText k) ≤ 107
 counts-most k =
     omega (
       arith,
@@ -112,17 +112,17 @@ counts-most k =
       length-append (decimal (k .calls) ++ labelled " cells " (k .cells) ++ labelled " posts " (k .posts)) (labelled " held " (k .saturated)),
     )
 
-refusal-most : (c t : ℕ) → length (refusal c t) ≤ 209
+refusal-most : (c t : ℕ) → length (refusalText c t) ≤ 209
 refusal-most c t =
     omega (
       arith,
       decimal-most c,
       decimal-most t,
-      length-append (decimal c) (at t),
-      length-append (decimal c ++ at t) (ascii "\n"),
+      length-append (decimal c) (placeText t),
+      length-append (decimal c ++ placeText t) (ascii "\n"),
     )
 
-acceptance-most : (n τ N : ℕ) → length (acceptance n τ N) ≤ 52
+acceptance-most : (n τ N : ℕ) → length (acceptanceText n τ N) ≤ 52
 acceptance-most n τ N =
     omega (
       arith,
@@ -148,7 +148,7 @@ run-most xs (ran o k) h =
     )
 
 verdict-most : (v : Verdict) (a : Answer) → length (ofVerdict v (λ _. a)) ≤ 209
-verdict-most (accepted n τ N) a = run-most (acceptance n τ N) a (acceptance-most n τ N)
+verdict-most (accepted n τ N) a = run-most (acceptanceText n τ N) a (acceptance-most n τ N)
 verdict-most (rejected c p) a = refusal-most c p
 
 pub text-most : (s : List ℕ) → length (printed s) ≤ 209

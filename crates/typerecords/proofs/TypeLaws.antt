@@ -10,7 +10,7 @@ use lib.ListN.{getD, length, set}
 use lib.Seq.{getD-set-same, getD-set-other}
 use borrow.Author.Tests.{ltb-true, leb-true, leb-false, lt-ltb, le-ltb, le-leb, lt-leb}
 use Rattle.privileges.specs.Booleans.{and-left, and-right}
-use Rattle.program.specs.Limits.{maxTypes}
+use Rattle.program.specs.Limits.{maxTypes, maxTypeDepth}
 use Rattle.program.specs.Tests.{also, orElse}
 use Rattle.program.specs.Bytes.{Bytes}
 use Rattle.program.specs.Layout.{principals, types, typeAt, typesOf}
@@ -111,7 +111,7 @@ module _ (s : List ℕ) (c : Counts) (L : Laid s c) (t : ℕ) (l : t < types s) 
     module _ (low : t < 2) {b : Bool} (g : b ≡ (eqb (r .kind) t && eqb (r .zero) 0 && eqb (r .arg) 0 && eqb (r .res) 0 && eqb (r .latent) 0)) where
       base-is : typeOk s t ≡ b
       base-is =
-          (λ i. cond (lt-ltb t 2 low i) (baseOk s t) (functionOk s t && shallow s 12 t && fresh s t t))
+          (λ i. cond (lt-ltb t 2 low i) (baseOk s t) (functionOk s t && shallow s maxTypeDepth t && fresh s t t))
           ∙ sym (g ∙ ap (λ (x : TypeRecord). eqb (x .kind) t && eqb (x .zero) 0 && eqb (x .arg) 0 && eqb (x .res) 0 && eqb (x .latent) 0) read)
 
       pub base-good : b ≡ true → Deep s t 0
@@ -124,17 +124,17 @@ module _ (s : List ℕ) (c : Counts) (L : Laid s c) (t : ℕ) (l : t < types s) 
       form-is : form ≡ functionOk s t
       form-is = g ∙ ap (λ (x : TypeRecord). eqb (x .kind) 2 && eqb (x .zero) 0 && ltb (x .arg) t && ltb (x .res) t) read
 
-      function-is : typeOk s t ≡ (form && shallow s 12 t && fresh s t t)
+      function-is : typeOk s t ≡ (form && shallow s maxTypeDepth t && fresh s t t)
       function-is =
-          (λ i. cond (le-ltb t 2 two i) (baseOk s t) (functionOk s t && shallow s 12 t && fresh s t t))
-          ∙ ap (λ (x : Bool). x && shallow s 12 t && fresh s t t) (sym form-is)
+          (λ i. cond (le-ltb t 2 two i) (baseOk s t) (functionOk s t && shallow s maxTypeDepth t && fresh s t t))
+          ∙ ap (λ (x : Bool). x && shallow s maxTypeDepth t && fresh s t t) (sym form-is)
 
       pub form-bad : form ≡ false → typeOk s t ≡ false
-      form-bad f = function-is ∙ ap (λ (x : Bool). x && shallow s 12 t && fresh s t t) f
+      form-bad f = function-is ∙ ap (λ (x : Bool). x && shallow s maxTypeDepth t && fresh s t t) f
 
       module _ {new : Bool} (en : new ≡ fresh s t t) where
         pub seen-bad : new ≡ false → typeOk s t ≡ false
-        seen-bad f = function-is ∙ last-false (form && shallow s 12 t) (fresh s t t) (sym en ∙ f)
+        seen-bad f = function-is ∙ last-false (form && shallow s maxTypeDepth t) (fresh s t t) (sym en ∙ f)
           where
             last-false : (a b : Bool) → b ≡ false → (a && b) ≡ false
             last-false true b h = h
@@ -163,8 +163,8 @@ module _ (s : List ℕ) (c : Counts) (L : Laid s c) (t : ℕ) (l : t < types s) 
                 (λ k. ap (shallow s k) (sym (ap (λ (x : TypeRecord). x .arg) read)) ∙ w .each (r .arg) arg-lower k)
                 (λ k. ap (shallow s k) (sym (ap (λ (x : TypeRecord). x .res) read)) ∙ w .each (r .res) res-lower k) mx
 
-            type-is : typeOk s t ≡ leb (m + 1) 12
-            type-is = function-is ∙ middle form (shallow s 12 t) (fresh s t t) fg (sym en ∙ ng) ∙ deep-is 12
+            type-is : typeOk s t ≡ leb (m + 1) maxTypeDepth
+            type-is = function-is ∙ middle form (shallow s maxTypeDepth t) (fresh s t t) fg (sym en ∙ ng) ∙ deep-is maxTypeDepth
               where
                 middle : (x y z : Bool) → x ≡ true → z ≡ true → (x && y && z) ≡ y
                 middle true true true p q = refl
@@ -172,11 +172,11 @@ module _ (s : List ℕ) (c : Counts) (L : Laid s c) (t : ℕ) (l : t < types s) 
                 middle true y false p q = absurd (false≢true q)
                 middle false y z p q = absurd (false≢true p)
 
-            pub depth-over : 12 ≤ m → typeOk s t ≡ false
-            depth-over h = type-is ∙ lt-leb (m + 1) 12 (omega arith)
+            pub depth-over : maxTypeDepth ≤ m → typeOk s t ≡ false
+            depth-over h = type-is ∙ lt-leb (m + 1) maxTypeDepth (omega arith)
 
-            pub depth-is : m < 12 → Deep s t (m + 1)
-            depth-is h = record { right = type-is ∙ le-leb (m + 1) 12 (omega arith); deep = deep-is }
+            pub depth-is : m < maxTypeDepth → Deep s t (m + 1)
+            depth-is h = record { right = type-is ∙ le-leb (m + 1) maxTypeDepth (omega arith); deep = deep-is }
 
 -- ---- the list of depths
 -- the types below t are right, and the list has their depths

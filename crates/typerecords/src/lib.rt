@@ -77,8 +77,8 @@ fn met(s: &[u8], i: usize, n: usize, eight: u64) -> bool
     false
 }
 
-// Whether no type before t has its record. The largest table has 32,640 pairs of records, so groups in which the eight bytes of t are not met are
-// passed; `differs` compares the rest.
+// Whether no type before t has its record. The largest table has 32,640 = 256 * 255 / 2 pairs of records, so groups in which the eight bytes of t are not
+// met are passed; `differs` compares the rest.
 fn is_fresh(s: &[u8], at: usize, t: u16) -> bool
     requires { ⌜ TableAt (now s) at t ⌝ }
     ensures { λ r. ⌜ r ≡ fresh (now (s .entry)) t t ⌝ }

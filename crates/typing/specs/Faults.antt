@@ -34,49 +34,49 @@ pub data Within (T : Types) (Δ : List ℕ) (m : ℕ) (d : Term) : (Γ : List �
 
 -- 02, W5: "A call whose function part isn't a function, an argument that doesn't fit, and branches of which neither fits the other". The term's number
 -- is `at`, and its children have types. "Fits" is 01's sentence, the relation, and not the algorithm's test.
-pub data Wrong (T : Types) (A : ℕ → ℕ) (Γ : List ℕ) (n : ℕ) : (cause at : ℕ) → Term → Type 0 where
+pub data Mismatch (T : Types) (A : ℕ → ℕ) (Γ : List ℕ) (n : ℕ) : (cause at : ℕ) → Term → Type 0 where
   not-a-function : {at φ N α M : ℕ} {f a : Term} → infer T A Γ n f ≡ typed φ N → infer T A Γ n a ≡ typed α M → T .isFun φ ≡ false
-      → Wrong T A Γ n 24 at (call at f a)
+      → Mismatch T A Γ n 24 at (call at f a)
   unfit-argument : {at φ N α M : ℕ} {f a : Term} → infer T A Γ n f ≡ typed φ N → infer T A Γ n a ≡ typed α M → T .isFun φ ≡ true
-      → (Subtype T α (T .arg φ) → ⊥) → Wrong T A Γ n 25 at (call at f a)
+      → (Subtype T α (T .arg φ) → ⊥) → Mismatch T A Γ n 25 at (call at f a)
   -- the condition is a boolean: "at one if 10 before 26"
   unfit-if : {at N τ M ρ K : ℕ} {c y o : Term} → infer T A Γ n c ≡ typed 0 N → infer T A Γ n y ≡ typed τ M → infer T A Γ n o ≡ typed ρ K
-      → (Subtype T τ ρ → ⊥) → (Subtype T ρ τ → ⊥) → Wrong T A Γ n 26 at (if at c y o)
+      → (Subtype T τ ρ → ⊥) → (Subtype T ρ τ → ⊥) → Mismatch T A Γ n 26 at (if at c y o)
   unfit-test : {at p τ N ρ M : ℕ} {y o : Term} → infer T A Γ n y ≡ typed τ N → infer T A Γ n o ≡ typed ρ M
-      → (Subtype T τ ρ → ⊥) → (Subtype T ρ τ → ⊥) → Wrong T A Γ n 26 at (test at p y o)
+      → (Subtype T τ ρ → ⊥) → (Subtype T ρ τ → ⊥) → Mismatch T A Γ n 26 at (test at p y o)
 
 -- "all other type faults stay 10": what else 01's rules ask of a term's types isn't so. The term's number is `at`, and its children have types. That a
 -- function and a recursive binder name a function's type is the reader's to ask, by 6.
-pub data Ten (T : Types) (A : ℕ → ℕ) (Γ : List ℕ) (n : ℕ) : (at : ℕ) → Term → Type 0 where
+pub data OtherTypeFault (T : Types) (A : ℕ → ℕ) (Γ : List ℕ) (n : ℕ) : (at : ℕ) → Term → Type 0 where
   -- "A body has exactly the result type"
   other-result : {at ty τ N : ℕ} {body : Term} → infer T A (T .arg ty ∷ Γ) n body ≡ typed τ N → (τ ≡ T .res ty → ⊥)
-      → Ten T A Γ n at (function at ty body)
+      → OtherTypeFault T A Γ n at (function at ty body)
   -- "Recursive binder: the body as for a function"
   other-letrec-result : {at ty τ N ρ M : ℕ} {body rest : Term} → infer T A (T .arg ty ∷ ty ∷ Γ) n body ≡ typed τ N
-      → infer T A (ty ∷ Γ) n rest ≡ typed ρ M → (τ ≡ T .res ty → ⊥) → Ten T A Γ n at (letrec at ty body rest)
+      → infer T A (ty ∷ Γ) n rest ≡ typed ρ M → (τ ≡ T .res ty → ⊥) → OtherTypeFault T A Γ n at (letrec at ty body rest)
   -- "If: boolean condition"; whatever the branches are
   not-a-boolean : {at σ N τ M ρ K : ℕ} {c y o : Term} → infer T A Γ n c ≡ typed σ N → infer T A Γ n y ≡ typed τ M → infer T A Γ n o ≡ typed ρ K
-      → (σ ≡ 0 → ⊥) → Ten T A Γ n at (if at c y o)
+      → (σ ≡ 0 → ⊥) → OtherTypeFault T A Γ n at (if at c y o)
   -- "Sum and difference: numbers give a number. Less: numbers give a boolean."
   left-not-a-number : {at τ N ρ M : ℕ} {op : Op} {a b : Term} → infer T A Γ n a ≡ typed τ N → infer T A Γ n b ≡ typed ρ M → (τ ≡ 1 → ⊥)
-      → Ten T A Γ n at (binary at op a b)
+      → OtherTypeFault T A Γ n at (binary at op a b)
   right-not-a-number : {at τ N ρ M : ℕ} {op : Op} {a b : Term} → infer T A Γ n a ≡ typed τ N → infer T A Γ n b ≡ typed ρ M → (ρ ≡ 1 → ⊥)
-      → Ten T A Γ n at (binary at op a b)
+      → OtherTypeFault T A Γ n at (binary at op a b)
   -- "Post: number to number."
-  posted-not-a-number : {at ch τ N : ℕ} {g : Option ℕ} {c : Term} → infer T A Γ n c ≡ typed τ N → (τ ≡ 1 → ⊥) → Ten T A Γ n at (post at ch g c)
+  posted-not-a-number : {at ch τ N : ℕ} {g : Option ℕ} {c : Term} → infer T A Γ n c ≡ typed τ N → (τ ≡ 1 → ⊥) → OtherTypeFault T A Γ n at (post at ch g c)
 
 -- The rules' other numbers: a variable past the bindings, needs of a sign and needs of a body. The term's number is `at`, and its children have types.
-pub data Beyond (T : Types) (A : ℕ → ℕ) (Γ : List ℕ) (n : ℕ) : (cause at : ℕ) → Term → Type 0 where
+pub data OtherFault (T : Types) (A : ℕ → ℕ) (Γ : List ℕ) (n : ℕ) : (cause at : ℕ) → Term → Type 0 where
   -- "variable: first, 0 for the nearest binding"; "9 variable past the bindings"
-  past-bindings : {at i : ℕ} → length Γ ≤ i → Beyond T A Γ n 9 at (variable at i)
+  past-bindings : {at i : ℕ} → length Γ ≤ i → OtherFault T A Γ n 9 at (variable at i)
   -- "Sign n: its child's type and needs, which lie in A(n)"; "11 needs of a sign"
-  sign-needs : {at m τ N : ℕ} {c : Term} → infer T A Γ m c ≡ typed τ N → (N ⊆ A m → ⊥) → Beyond T A Γ n 11 at (sign at m c)
+  sign-needs : {at m τ N : ℕ} {c : Term} → infer T A Γ m c ≡ typed τ N → (N ⊆ A m → ⊥) → OtherFault T A Γ n 11 at (sign at m c)
   -- "A body has exactly the result type; its needs lie in the latent set"; "12 needs of a body". Its type is right: "10 before 12"
   body-needs : {at ty N : ℕ} {body : Term} → infer T A (T .arg ty ∷ Γ) n body ≡ typed (T .res ty) N → (N ⊆ T .latent ty → ⊥)
-      → Beyond T A Γ n 12 at (function at ty body)
+      → OtherFault T A Γ n 12 at (function at ty body)
   -- "Recursive binder: the body as for a function"
   letrec-body-needs : {at ty N ρ M : ℕ} {body rest : Term} → infer T A (T .arg ty ∷ ty ∷ Γ) n body ≡ typed (T .res ty) N
-      → infer T A (ty ∷ Γ) n rest ≡ typed ρ M → (N ⊆ T .latent ty → ⊥) → Beyond T A Γ n 12 at (letrec at ty body rest)
+      → infer T A (ty ∷ Γ) n rest ≡ typed ρ M → (N ⊆ T .latent ty → ⊥) → OtherFault T A Γ n 12 at (letrec at ty body rest)
 
 -- some term in c, in the bindings and under the principal that it has there, is as `Is` says
 pub record SomePart (T : Types) (Is : List ℕ → ℕ → Term → Type 0) (Γ : List ℕ) (n : ℕ) (c : Term) : Type 0 where
@@ -87,13 +87,13 @@ pub record SomePart (T : Types) (Is : List ℕ → ℕ → Term → Type 0) (Γ 
   pub is : Is bindings principal part
 
 -- a fault of a term: some term in it is wrong as the fault's number says
-abbrev pub FaultyPart : Types → (ℕ → ℕ) → List ℕ → ℕ → Term → (cause at : ℕ) → Type 0
-FaultyPart T A Γ n c cause at = SomePart T (λ Δ m d. Wrong T A Δ m cause at d) Γ n c
+abbrev pub MismatchedPart : Types → (ℕ → ℕ) → List ℕ → ℕ → Term → (cause at : ℕ) → Type 0
+MismatchedPart T A Γ n c cause at = SomePart T (λ Δ m d. Mismatch T A Δ m cause at d) Γ n c
 
 -- and of 10
-abbrev pub TenPart : Types → (ℕ → ℕ) → List ℕ → ℕ → Term → (at : ℕ) → Type 0
-TenPart T A Γ n c at = SomePart T (λ Δ m d. Ten T A Δ m at d) Γ n c
+abbrev pub OtherTypeFaultyPart : Types → (ℕ → ℕ) → List ℕ → ℕ → Term → (at : ℕ) → Type 0
+OtherTypeFaultyPart T A Γ n c at = SomePart T (λ Δ m d. OtherTypeFault T A Δ m at d) Γ n c
 
 -- and of 9, 11 and 12
-abbrev pub BeyondPart : Types → (ℕ → ℕ) → List ℕ → ℕ → Term → (cause at : ℕ) → Type 0
-BeyondPart T A Γ n c cause at = SomePart T (λ Δ m d. Beyond T A Δ m cause at d) Γ n c
+abbrev pub OtherFaultyPart : Types → (ℕ → ℕ) → List ℕ → ℕ → Term → (cause at : ℕ) → Type 0
+OtherFaultyPart T A Γ n c cause at = SomePart T (λ Δ m d. OtherFault T A Δ m cause at d) Γ n c

@@ -387,9 +387,12 @@ fn one() -> bool {
     next(&mut start, &mut sheet, &mut cells, &mut posts, &mut frames)
 }
 
+// More vectors than are recorded.
+const MAX_VECTORS: u64 = 65536;
+
 // The loop counts its turns down, since nothing says that the input ends.
 fn main() {
-    let mut turns = 65536u64;
+    let mut turns = MAX_VECTORS;
     while 0 < turns && one() {
         turns -= 1;
     }

@@ -3,7 +3,7 @@
 
 use crate::best_time;
 use differential::ANSWER_NUMBERS;
-use differential::{Buffers, Entry, Implementation, Library, Query, Reference, Shipped};
+use differential::{Buffers, Entry, EraseCall, Implementation, Library, Query, Reference};
 use sheets::extremes::{deepest, many_checks, most_types, widest};
 use sheets::load::frame_sheet;
 use sheets::request::Request;
@@ -33,13 +33,13 @@ fn print_line(name: &str, sheet: &[u8]) {
     let judged = best_time(|| {
         Library::typecheck(sheet, &mut answer);
     });
-    let mut shipped = Shipped::fitting(&mut Rng::new(0), sheet);
+    let mut call = EraseCall::fitting(&mut Rng::new(0), sheet);
     let erased = best_time(|| {
-        shipped.ask::<Library>(sheet);
+        call.ask::<Library>(sheet);
     });
-    let lean = shipped.told().to_vec();
+    let lean = call.result().to_vec();
     let reference = best_time(|| {
-        shipped.ask::<Reference>(sheet);
+        call.ask::<Reference>(sheet);
     });
     let [run, run_lean] = [sheet, &lean].map(run_time);
     println!(

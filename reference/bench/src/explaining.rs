@@ -2,7 +2,7 @@
 //! costs to judge the sheet.
 
 use crate::best_time;
-use differential::{Implementation, Library, Reference, Why, ANSWER_NUMBERS};
+use differential::{ExplainCall, Implementation, Library, Reference, ANSWER_NUMBERS};
 use sheets::extremes::{costly_need, deep_calls, deep_need, NEEDED};
 use sheets::rng::Rng;
 
@@ -36,8 +36,8 @@ pub fn print() {
 
 /// Seconds for one explanation.
 fn time<I: Implementation>(sheet: &[u8]) -> f64 {
-    let mut why = Why::fitting(&mut Rng::new(0));
+    let mut call = ExplainCall::fitting(&mut Rng::new(0));
     best_time(|| {
-        why.ask::<I>(sheet, NEEDED.into());
+        call.ask::<I>(sheet, NEEDED.into());
     })
 }

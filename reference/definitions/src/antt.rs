@@ -70,12 +70,12 @@ fn row(sheet: &str, bytes: &[u8], row: &Row) -> String {
 }
 
 fn running(sheet: &str, run: &Running) -> String {
-    let (told, entries) = match run.answer {
+    let (outcome, entries) = match run.answer {
         Ok(Recorded { run, entries }) => (ran(run), entries),
         Err(refusal) => (refused(refusal), 0),
     };
     format!(
-        "running {sheet} {} {} {} (recordedAs (after {told} {}) {entries} {})",
+        "running {sheet} {} {} {} (recordedAs (after {outcome} {}) {entries} {})",
         request(&run.query),
         buffers(&run.before),
         list(&run.before.record),
@@ -85,12 +85,12 @@ fn running(sheet: &str, run: &Running) -> String {
 }
 
 fn ranging(sheet: &str, run: &Ranging) -> String {
-    let told = match run.answer {
+    let outcome = match run.answer {
         Ok(run) => ran_over_ranges(run),
         Err(refusal) => refused(refusal),
     };
     format!(
-        "ranging {sheet} {} {} {} (after {told} {})",
+        "ranging {sheet} {} {} {} (after {outcome} {})",
         list(&run.pairs),
         request(&run.query),
         buffers(&run.before),
@@ -245,7 +245,7 @@ mod tests {
     use sovzedal_reference::decode;
 
     #[test]
-    fn a_run_is_asked_and_answered() {
+    fn a_run_is_requested_and_answered() {
         let request = Request {
             posts: 2,
             cell_bytes: 20,
@@ -278,7 +278,7 @@ mod tests {
     }
 
     #[test]
-    fn a_run_over_ranges_is_asked_and_answered() {
+    fn a_run_over_ranges_is_requested_and_answered() {
         let answered = |tree, pairs: &[u16]| {
             let request = Request {
                 posts: 2,

@@ -53,8 +53,8 @@ pub fn named() -> Vec<Entry> {
         .map(|case| (case.sheet, case.request));
     smallest
         .chain(cases)
-        .map(|(sheet, request)| asked_in_all_ways(sheet, &shortened(request)))
-        .chain(recorded::all().into_iter().map(asked_with_records))
+        .map(|(sheet, request)| run_in_all_ways(sheet, &shortened(request)))
+        .chain(recorded::all().into_iter().map(run_with_records))
         .chain([limits_of_requests()])
         .chain(ranged::all().into_iter().map(ranged_case))
         .chain(searched_cases())
@@ -98,14 +98,14 @@ pub fn compared(seed: u64, count: usize) -> Vec<Compared> {
     pairs.map(Compared::answered).collect()
 }
 
-fn asked_in_all_ways(sheet: Vec<u8>, request: &Request) -> Entry {
+fn run_in_all_ways(sheet: Vec<u8>, request: &Request) -> Entry {
     let query = in_all_ways(request, SHORT_RECORD);
     Entry::answered(sheet, query)
 }
 
 /// With a record that is too short for the last entry of a run with checks in
 /// force, and with one that has room to spare.
-fn asked_with_records(case: recorded::Recorded) -> Entry {
+fn run_with_records(case: recorded::Recorded) -> Entry {
     let request = shortened(case.request);
     let entries = case.enforced.len().min(MAX_SHORT_CALLS as usize);
     let bytes = entries * ENTRY_BYTES;

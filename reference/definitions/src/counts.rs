@@ -62,8 +62,8 @@ impl Counts {
         entry.expect("what is counted is expected").1 += 1;
     }
 
-    fn add_if(&mut self, happened: bool, what: &'static str) {
-        if happened {
+    fn add_if(&mut self, condition: bool, what: &'static str) {
+        if condition {
             self.add(what);
         }
     }

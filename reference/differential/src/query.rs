@@ -40,19 +40,23 @@ impl Query<'_> {
             frames,
             answer,
         } = buffers;
-        let answer = answer.lent();
+        let answer = answer.contents_mut();
         match self.entry {
             Entry::Decode => I::decode(self.sheet, answer),
             Entry::Typecheck => I::typecheck(self.sheet, answer),
-            Entry::RunEager => {
-                I::run_eager(self.sheet, arguments, cells.lent(), posts.lent(), answer)
-            }
+            Entry::RunEager => I::run_eager(
+                self.sheet,
+                arguments,
+                cells.contents_mut(),
+                posts.contents_mut(),
+                answer,
+            ),
             Entry::RunLazy => I::run_lazy(
                 self.sheet,
                 arguments,
-                cells.lent(),
-                posts.lent(),
-                frames.lent(),
+                cells.contents_mut(),
+                posts.contents_mut(),
+                frames.contents_mut(),
                 answer,
             ),
         }
@@ -63,10 +67,10 @@ impl Query<'_> {
 /// equal if every number in and around the buffers is.
 #[derive(Clone, Debug, PartialEq, Eq)]
 pub struct Buffers {
-    pub cells: Lent<u8>,
-    pub posts: Lent<u32>,
-    pub frames: Lent<u32>,
-    pub answer: Lent<u32>,
+    pub cells: Margined<u8>,
+    pub posts: Margined<u32>,
+    pub frames: Margined<u32>,
+    pub answer: Margined<u32>,
 }
 
 impl Buffers {
@@ -74,12 +78,12 @@ impl Buffers {
     /// random. Those that the entry doesn't take are empty.
     pub fn random(rng: &mut Rng, entry: Entry, request: &Request, answer: usize) -> Self {
         let runs = matches!(entry, Entry::RunEager | Entry::RunLazy);
-        let length = |length, lent| if lent { length } else { 0 };
+        let length = |length, taken| if taken { length } else { 0 };
         Self {
-            cells: Lent::random(rng, length(request.cell_bytes, runs)),
-            posts: Lent::random(rng, length(request.posts, runs)),
-            frames: Lent::random(rng, length(request.frame_numbers, entry == Entry::RunLazy)),
-            answer: Lent::random(rng, answer),
+            cells: Margined::random(rng, length(request.cell_bytes, runs)),
+            posts: Margined::random(rng, length(request.posts, runs)),
+            frames: Margined::random(rng, length(request.frame_numbers, entry == Entry::RunLazy)),
+            answer: Margined::random(rng, answer),
         }
     }
 
@@ -91,11 +95,11 @@ impl Buffers {
 
 /// A lent buffer, with margins.
 #[derive(Clone, Debug, PartialEq, Eq)]
-pub struct Lent<T> {
+pub struct Margined<T> {
     with_margins: Vec<T>,
 }
 
-impl<T: FromBits> Lent<T> {
+impl<T: FromBits> Margined<T> {
     pub fn random(rng: &mut Rng, length: usize) -> Self {
         let mut with_margins = Vec::with_capacity(length + 2 * MARGIN + T::PER_WORD);
         while with_margins.len() < length + 2 * MARGIN {
@@ -106,9 +110,9 @@ impl<T: FromBits> Lent<T> {
     }
 }
 
-impl<T> Lent<T> {
+impl<T> Margined<T> {
     /// The part that is lent.
-    pub fn lent(&mut self) -> &mut [T] {
+    pub fn contents_mut(&mut self) -> &mut [T] {
         let end = self.with_margins.len() - MARGIN;
         &mut self.with_margins[MARGIN..end]
     }

@@ -38,9 +38,9 @@ impl<'a> Ranging<'a> {
             self.sheet,
             self.pairs,
             arguments,
-            cells.lent(),
-            posts.lent(),
-            answer.lent(),
+            cells.contents_mut(),
+            posts.contents_mut(),
+            answer.contents_mut(),
         )
     }
 

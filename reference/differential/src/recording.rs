@@ -1,7 +1,7 @@
 //! One run with a record, to be had of any implementation.
 
 use crate::implementation::{Implementation, RunArguments, ANSWER_NUMBERS, RECORD_NUMBERS};
-use crate::query::{Buffers, Entry, Lent, Query};
+use crate::query::{Buffers, Entry, Margined, Query};
 use sheets::rng::Rng;
 use sovzedal_reference::ENTRY_BYTES;
 
@@ -10,7 +10,7 @@ use sovzedal_reference::ENTRY_BYTES;
 #[derive(Clone, Debug, PartialEq, Eq)]
 pub struct Recording {
     pub buffers: Buffers,
-    pub record: Lent<u8>,
+    pub record: Margined<u8>,
 }
 
 impl Recording {
@@ -19,7 +19,7 @@ impl Recording {
     pub fn random(rng: &mut Rng, query: &Query, record: usize, answer: usize) -> Self {
         Self {
             buffers: Buffers::random(rng, query.entry, query.request, answer),
-            record: Lent::random(rng, record),
+            record: Margined::random(rng, record),
         }
     }
 
@@ -37,10 +37,14 @@ impl Recording {
             frames,
             answer,
         } = &mut self.buffers;
-        let (cells, posts, answer) = (cells.lent(), posts.lent(), answer.lent());
-        let record = self.record.lent();
+        let (cells, posts, answer) = (
+            cells.contents_mut(),
+            posts.contents_mut(),
+            answer.contents_mut(),
+        );
+        let record = self.record.contents_mut();
         if query.entry == Entry::RunLazy {
-            let frames = frames.lent();
+            let frames = frames.contents_mut();
             I::record_lazy(query.sheet, arguments, cells, posts, frames, record, answer)
         } else {
             I::record_eager(query.sheet, arguments, cells, posts, record, answer)
@@ -53,7 +57,7 @@ impl Recording {
     }
 
     /// The bytes of the entries told, and those past them.
-    pub fn told(&self) -> (&[u8], &[u8]) {
+    pub fn split_entries(&self) -> (&[u8], &[u8]) {
         let answer = self.answer().expect("the answer has room");
         let entries = answer[ANSWER_NUMBERS] as usize;
         self.record.contents().split_at(entries * ENTRY_BYTES)

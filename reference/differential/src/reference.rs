@@ -116,12 +116,12 @@ impl Implementation for Reference {
             return UNFIT;
         };
         let mut lines = Lines::from(&*state);
-        let lent = lines::Lent {
+        let buffers = lines::Buffers {
             store,
             cells,
             posts,
         };
-        let Some(Served { line, answer }) = lines.serve(lent) else {
+        let Some(Served { line, answer }) = lines.serve(buffers) else {
             *room = [0; SERVE_NUMBERS];
             return IDLE;
         };

@@ -2,7 +2,9 @@
 //! reference: they return the same, and every number in and around the answer
 //! is the same. The library's answers are also held against W12's sentences.
 
-use differential::{settings, Happened, Implementation, Lent, Library, Reference, ANSWER_NUMBERS};
+use differential::{
+    settings, Coverage, Implementation, Library, Margined, Reference, ANSWER_NUMBERS,
+};
 use sheets::hex;
 use sheets::pairs::{Made, Pair};
 use sheets::rng::Rng;
@@ -45,7 +47,7 @@ const EXPECTED: [&str; 25] = [
 
 #[test]
 fn both_compare_alike_and_as_the_sentences_say() {
-    let mut happened = Happened::default();
+    let mut coverage = Coverage::default();
     for batch in settings::batches(PAIRS) {
         for index in batch.items {
             let rng = &mut Rng::for_item(batch.seed.rotate_left(6), index);
@@ -53,11 +55,11 @@ fn both_compare_alike_and_as_the_sentences_say() {
                 pair: Pair::random(rng),
                 again: settings::again(batch.seed, index),
             };
-            asking.ask_both(rng, &mut happened);
+            asking.ask_both(rng, &mut coverage);
         }
     }
-    println!("{happened}");
-    let never = happened.never(EXPECTED.map(String::from));
+    println!("{coverage}");
+    let never = coverage.never(EXPECTED.map(String::from));
     assert!(
         !settings::are_whole() || never.is_empty(),
         "never happened: {never:?}"
@@ -89,7 +91,7 @@ struct Asking {
 }
 
 impl Asking {
-    fn ask_both(&self, rng: &mut Rng, happened: &mut Happened) {
+    fn ask_both(&self, rng: &mut Rng, coverage: &mut Coverage) {
         let lengths = [
             ANSWER_NUMBERS,
             ANSWER_NUMBERS,
@@ -98,22 +100,23 @@ impl Asking {
             ANSWER_NUMBERS - 1,
         ];
         let length = rng.pick(&lengths);
-        let before = Lent::random(rng, length);
+        let before = Margined::random(rng, length);
         let [mut library, mut reference] = [before.clone(), before.clone()];
-        let returned = Library::compare(&self.pair.unit, &self.pair.office, library.lent());
-        let expected = Reference::compare(&self.pair.unit, &self.pair.office, reference.lent());
+        let returned = Library::compare(&self.pair.unit, &self.pair.office, library.contents_mut());
+        let expected =
+            Reference::compare(&self.pair.unit, &self.pair.office, reference.contents_mut());
         let what = self.what();
         assert_eq!((returned, &library), (expected, &reference), "{what}");
         if length < ANSWER_NUMBERS {
             assert_eq!((returned, &library), (UNFIT, &before), "{what}");
-            happened.count("a short answer");
+            coverage.count("a short answer");
             return;
         }
-        happened.count_if(length > ANSWER_NUMBERS, "a longer answer");
+        coverage.count_if(length > ANSWER_NUMBERS, "a longer answer");
         let answer = library.contents()[..ANSWER_NUMBERS].try_into();
         let answer: [u32; ANSWER_NUMBERS] = answer.expect("a long enough answer");
         self.is_as_said(returned, answer, &what);
-        self.count(returned, answer, happened);
+        self.count(returned, answer, coverage);
     }
 
     /// W12's sentences, one by one.
@@ -152,51 +155,51 @@ impl Asking {
         }
     }
 
-    fn count(&self, returned: u32, answer: [u32; ANSWER_NUMBERS], happened: &mut Happened) {
+    fn count(&self, returned: u32, answer: [u32; ANSWER_NUMBERS], coverage: &mut Coverage) {
         let [unit, office] =
             [&self.pair.unit, &self.pair.office].map(|record| record.chunks(ENTRY_BYTES));
         let [unit, office] = [unit, office].map(|entries| entries.collect::<Vec<_>>());
         let number = answer[3] as usize;
         if returned == REFUSED {
-            self.count_refused(happened);
+            self.count_refused(coverage);
         } else if answer[2] == 1 {
-            happened.count_if(number == 0 && !unit.is_empty(), "fits, all there");
-            happened.count_if(number == 0 && unit.is_empty(), "both are empty");
-            happened.count_if(number > 0 && unit.is_empty(), "fits, the unit has nothing");
+            coverage.count_if(number == 0 && !unit.is_empty(), "fits, all there");
+            coverage.count_if(number == 0 && unit.is_empty(), "both are empty");
+            coverage.count_if(number > 0 && unit.is_empty(), "fits, the unit has nothing");
             if number > 0 && !unit.is_empty() {
                 let [first, last] = [unit.first() == office.first(), unit.last() == office.last()];
-                happened.count_if(!first, "fits, the first is missing");
-                happened.count_if(!last, "fits, the last is missing");
-                happened.count_if(first && last, "fits, some between are missing");
+                coverage.count_if(!first, "fits, the first is missing");
+                coverage.count_if(!last, "fits, the last is missing");
+                coverage.count_if(first && last, "fits, some between are missing");
             }
             let twice = (1..unit.len()).any(|later| unit[..later].contains(&unit[later]));
-            happened.count_if(twice, "fits, and the same entry twice");
+            coverage.count_if(twice, "fits, and the same entry twice");
         } else {
             let last = unit.len() - 1;
-            happened.count_if(number == 0, "diverges at the first");
-            happened.count_if(number == last, "diverges at the last");
-            happened.count_if(number > 0 && number < last, "diverges between");
+            coverage.count_if(number == 0, "diverges at the first");
+            coverage.count_if(number == last, "diverges at the last");
+            coverage.count_if(number > 0 && number < last, "diverges between");
             let later = unit[number + 1..]
                 .iter()
                 .any(|entry| office.contains(entry));
-            happened.count_if(later, "diverges, and later entries are there");
-            happened.count_if(office.is_empty(), "diverges, the office has nothing");
-            happened.count_if(
+            coverage.count_if(later, "diverges, and later entries are there");
+            coverage.count_if(office.is_empty(), "diverges, the office has nothing");
+            coverage.count_if(
                 unit.len() > office.len(),
                 "diverges, the unit has more entries",
             );
             match self.pair.made {
-                Made::Shuffled => happened.count("diverges by the order alone"),
-                Made::Changed(0) => happened.count("diverges by the high byte of a term"),
-                Made::Changed(1) => happened.count("diverges by the low byte of a term"),
-                Made::Changed(2) => happened.count("diverges by a privilege"),
-                Made::Changed(_) => happened.count("diverges by a decision"),
+                Made::Shuffled => coverage.count("diverges by the order alone"),
+                Made::Changed(0) => coverage.count("diverges by the high byte of a term"),
+                Made::Changed(1) => coverage.count("diverges by the low byte of a term"),
+                Made::Changed(2) => coverage.count("diverges by a privilege"),
+                Made::Changed(_) => coverage.count("diverges by a decision"),
                 _ => {}
             }
         }
     }
 
-    fn count_refused(&self, happened: &mut Happened) {
+    fn count_refused(&self, coverage: &mut Coverage) {
         let part = |record: &[u8]| !record.len().is_multiple_of(ENTRY_BYTES);
         let what = match (
             self.pair.made,
@@ -208,7 +211,7 @@ impl Asking {
             _ if marked(&self.pair.unit) => "34 for a byte in the unit's",
             _ => "34 for a byte in the office's",
         };
-        happened.count(what);
+        coverage.count(what);
         let [unit, office] =
             [&self.pair.unit, &self.pair.office].map(|record| record.first_chunk());
         let apart = |a: &[u8; ENTRY_BYTES], b: &[u8; ENTRY_BYTES]| a[..3] != b[..3];
@@ -216,7 +219,7 @@ impl Asking {
             .zip(office)
             .is_some_and(|(unit, office)| apart(unit, office));
         let only = self.pair.office.len() / ENTRY_BYTES == 1;
-        happened.count_if(first && only, "34 where the entries before would diverge");
+        coverage.count_if(first && only, "34 where the entries before would diverge");
     }
 
     fn what(&self) -> String {

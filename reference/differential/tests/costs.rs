@@ -1,7 +1,7 @@
 //! The library on the costliest sheets known: the same answers as the
 //! reference's, and within bounds that leave room for a busy machine.
 
-use differential::{Implementation, Library, Reference, Shipped, Why, ANSWER_NUMBERS};
+use differential::{EraseCall, ExplainCall, Implementation, Library, Reference, ANSWER_NUMBERS};
 use sheets::extremes::{costly_branches, costly_fault, costly_need, deep_calls, deep_need};
 use sheets::extremes::{late_fault, many_checks, most_types, widest, NEEDED};
 use sheets::rng::Rng;
@@ -112,14 +112,14 @@ fn find<I: Implementation>(sheet: &[u8]) -> (u32, [u32; ANSWER_NUMBERS]) {
     (I::piece(sheet, &mut answer), answer)
 }
 
-fn explain<I: Implementation>(sheet: &[u8]) -> (u32, Why) {
-    let mut why = Why::fitting(&mut Rng::new(0));
-    (why.ask::<I>(sheet, NEEDED.into()), why)
+fn explain<I: Implementation>(sheet: &[u8]) -> (u32, ExplainCall) {
+    let mut call = ExplainCall::fitting(&mut Rng::new(0));
+    (call.ask::<I>(sheet, NEEDED.into()), call)
 }
 
-fn erase<I: Implementation>(sheet: &[u8]) -> (u32, Shipped) {
-    let mut shipped = Shipped::fitting(&mut Rng::new(0), sheet);
-    (shipped.ask::<I>(sheet), shipped)
+fn erase<I: Implementation>(sheet: &[u8]) -> (u32, EraseCall) {
+    let mut call = EraseCall::fitting(&mut Rng::new(0), sheet);
+    (call.ask::<I>(sheet), call)
 }
 
 /// The shortest time of several.

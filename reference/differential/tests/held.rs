@@ -2,7 +2,7 @@
 //! implementation what they come to: the runners of both tell the number, the
 //! posts and how many results were held.
 
-use differential::{settings, Buffers, Entry, Happened, Implementation, Query};
+use differential::{settings, Buffers, Coverage, Entry, Implementation, Query};
 use differential::{Library, Reference, ANSWER_NUMBERS};
 use sheets::extremes::most_held;
 use sheets::hex;
@@ -31,7 +31,7 @@ const EXPECTED: [&str; 10] = [
 const ENOUGH: usize = 1_000;
 
 fn main() -> ExitCode {
-    let mut happened = Happened::default();
+    let mut coverage = Coverage::default();
     if let Err(difference) = the_most_that_are_known() {
         println!("{difference}");
         return ExitCode::FAILURE;
@@ -43,16 +43,16 @@ fn main() -> ExitCode {
             // Not the sheets that the other tests have had from this seed.
             let rng = &mut Rng::for_item(batch.seed.rotate_left(7), index);
             let sums = random(rng);
-            if let Err(difference) = told_by_all(rng, &sums) {
+            if let Err(difference) = compare_all(rng, &sums) {
                 println!("{difference}\nsheet {}", hex(&sums.sheet));
                 println!("again with {}", settings::again(batch.seed, index));
                 return ExitCode::FAILURE;
             }
-            count(&mut happened, &sums);
+            count(&mut coverage, &sums);
         }
     }
-    println!("{happened}");
-    let is_rare = |what: &&str| happened.times(what) < ENOUGH;
+    println!("{coverage}");
+    let is_rare = |what: &&str| coverage.times(what) < ENOUGH;
     let rare: Vec<&str> = EXPECTED.into_iter().filter(is_rare).collect();
     if settings::are_whole() && !rare.is_empty() {
         println!("fewer than {ENOUGH} sheets: {rare:?}");
@@ -62,21 +62,21 @@ fn main() -> ExitCode {
 }
 
 /// By each runner, with checks in force and passed over.
-fn told_by_all(rng: &mut Rng, sums: &Sums) -> Result<(), String> {
+fn compare_all(rng: &mut Rng, sums: &Sums) -> Result<(), String> {
     let held = sums.exact.iter().filter(|exact| exact.is_held()).count();
     let (posts, calls) = (sums.posts.len() as u32, sums.calls);
     let value = sums.value.into();
     let due = [0, 0, 1, value, calls, calls, posts, held as u32];
     for entry in [Entry::RunEager, Entry::RunLazy] {
         for enforce in [1, 0] {
-            told::<Library>(rng, sums, entry, enforce, due)?;
-            told::<Reference>(rng, sums, entry, enforce, due)?;
+            compare::<Library>(rng, sums, entry, enforce, due)?;
+            compare::<Reference>(rng, sums, entry, enforce, due)?;
         }
     }
     Ok(())
 }
 
-fn told<I: Implementation>(
+fn compare<I: Implementation>(
     rng: &mut Rng,
     sums: &Sums,
     entry: Entry,
@@ -130,9 +130,9 @@ fn the_most_that_are_known() -> Result<(), String> {
             query.of::<Reference>(&mut reference),
         ];
         if returned != [DONE; 2] || library.answer() != Some(&due) || library != reference {
-            let told = [library.answer(), reference.answer()];
+            let answers = [library.answer(), reference.answer()];
             return Err(format!(
-                "the most held, by {entry:?}: {returned:?}, {told:?}"
+                "the most held, by {entry:?}: {returned:?}, {answers:?}"
             ));
         }
     }
@@ -140,29 +140,29 @@ fn the_most_that_are_known() -> Result<(), String> {
 }
 
 /// Counts each thing once for a sheet.
-fn count(happened: &mut Happened, sums: &Sums) {
+fn count(coverage: &mut Coverage, sums: &Sums) {
     let has = |found: &dyn Fn(Exact) -> bool| sums.exact.iter().any(|&exact| found(exact));
     for (exact, what) in [
         (65_534, "a sum of 65,534"),
         (65_535, "a sum of 65,535"),
         (65_536, "a sum of 65,536"),
     ] {
-        happened.count_if(has(&|it| it == Exact::Sum(exact)), what);
+        coverage.count_if(has(&|it| it == Exact::Sum(exact)), what);
     }
     let more = has(&|it| matches!(it, Exact::Sum(65_537..)));
-    happened.count_if(more, "a sum of more");
+    coverage.count_if(more, "a sum of more");
     for (exact, what) in [
         (1, "a difference of 1"),
         (0, "a difference of 0"),
         (-1, "a difference of -1"),
     ] {
-        happened.count_if(has(&|it| it == Exact::Difference(exact)), what);
+        coverage.count_if(has(&|it| it == Exact::Difference(exact)), what);
     }
     let less = has(&|it| matches!(it, Exact::Difference(..=-2)));
-    happened.count_if(less, "a difference of less");
+    coverage.count_if(less, "a difference of less");
     match sums.exact.iter().filter(|exact| exact.is_held()).count() {
-        0 => happened.count("nothing held"),
+        0 => coverage.count("nothing held"),
         1 => {}
-        _ => happened.count("more than one held"),
+        _ => coverage.count("more than one held"),
     }
 }

@@ -3,7 +3,7 @@
 //! long as the privilege is needed, gets rid of that need and of no other, and
 //! could have left out none of the enables.
 
-use differential::{settings, Implementation, Library, Why, ANSWER_NUMBERS};
+use differential::{settings, ExplainCall, Implementation, Library, ANSWER_NUMBERS};
 use sheets::grow::accepted;
 use sheets::hex;
 use sheets::needy::needing_tree;
@@ -112,8 +112,8 @@ impl Author {
 
     fn is_left_with(&self, tree: &Tree, expected: u32) {
         let sheet = self.sheet(tree);
-        let told = needs(&sheet);
-        assert_eq!(told, Some(expected), "{}; {}", hex(&sheet), self.again);
+        let found = needs(&sheet);
+        assert_eq!(found, Some(expected), "{}; {}", hex(&sheet), self.again);
     }
 
     fn sheet(&self, tree: &Tree) -> Vec<u8> {
@@ -135,8 +135,8 @@ fn needs(sheet: &[u8]) -> Option<u32> {
 
 /// What the chain ends in, if the privilege is needed and the sheet accepted.
 fn cause(rng: &mut Rng, sheet: &[u8], privilege: u8) -> Option<usize> {
-    let mut why = Why::fitting(rng);
-    let returned = why.ask::<Library>(sheet, privilege.into());
-    let chain = (returned == DONE).then(|| why.told())?;
+    let mut call = ExplainCall::fitting(rng);
+    let returned = call.ask::<Library>(sheet, privilege.into());
+    let chain = (returned == DONE).then(|| call.result())?;
     chain.last().map(|&term| usize::from(term))
 }

@@ -16,7 +16,7 @@ use std::process::{Command, Stdio};
 const SHEETS: u64 = 400;
 
 #[test]
-fn sheets_made_by_hand_are_told_as_the_reference_tells_them() {
+fn sheets_made_by_hand_are_printed_as_by_the_reference() {
     for sheet in [Vec::new(), deepest(), widest(), longest(), most_held()] {
         assert_eq!(printed(&sheet), report(&sheet), "{}", hex(&sheet));
     }
@@ -40,7 +40,7 @@ fn a_byte_behind_the_longest_sheet_is_seen() {
 }
 
 #[test]
-fn random_sheets_are_told_as_the_reference_tells_them() {
+fn random_sheets_are_printed_as_by_the_reference() {
     for batch in settings::batches(SHEETS) {
         for index in batch.items {
             let rng = &mut Rng::for_item(batch.seed.rotate_left(33), index);

@@ -5,7 +5,7 @@
 //! sentence.
 
 use differential::ranging::holds;
-use differential::{settings, Buffers, Happened, Implementation, Library, Ranging, Reference};
+use differential::{settings, Buffers, Coverage, Implementation, Library, Ranging, Reference};
 use differential::{Entry, Query, ANSWER_NUMBERS};
 use sheets::extremes::{deepest, most_held, widest};
 use sheets::load::frame_sheet;
@@ -59,7 +59,7 @@ const EXPECTED: [&str; 22] = [
 
 #[test]
 fn both_answer_alike_and_hold_the_plain_runs() {
-    let mut happened = Happened::default();
+    let mut coverage = Coverage::default();
     for case in ranged::all() {
         let rng = &mut Rng::new(14);
         for _ in 0..20 {
@@ -70,7 +70,7 @@ fn both_answer_alike_and_hold_the_plain_runs() {
                 request: case.request.clone(),
                 again: case.name.to_string(),
             };
-            asking.ask_all(rng, &mut happened);
+            asking.ask_all(rng, &mut coverage);
         }
     }
     for batch in settings::batches(SHEETS) {
@@ -86,10 +86,10 @@ fn both_answer_alike_and_hold_the_plain_runs() {
                 request: random_request(rng, &sample.world),
                 again: settings::again(batch.seed, index),
             };
-            asking.ask_all(rng, &mut happened);
+            asking.ask_all(rng, &mut coverage);
         }
     }
-    println!("{happened}");
+    println!("{coverage}");
     let refusals = (1..=8).chain([31, 14, 15, 16, PAIRS]);
     let refusals = refusals.map(|cause| format!("refused, {cause}"));
     let stops = (17..=22).chain([UNDECIDED]);
@@ -98,7 +98,7 @@ fn both_answer_alike_and_hold_the_plain_runs() {
     let before = [8, 31, 14, 15, 16].map(|cause| format!("wrong pairs, {cause} before {PAIRS}"));
     let expected = EXPECTED.map(String::from).into_iter();
     let expected = expected.chain(refusals).chain(stops);
-    let never = happened.never(expected.chain(wrong).chain(before));
+    let never = coverage.never(expected.chain(wrong).chain(before));
     assert!(
         !settings::are_whole() || never.is_empty(),
         "never happened: {never:?}"
@@ -109,7 +109,7 @@ fn both_answer_alike_and_hold_the_plain_runs() {
 /// with some of them within limits, and with all of them unknown.
 #[test]
 fn the_largest_runs_are_alike() {
-    let mut happened = Happened::default();
+    let mut coverage = Coverage::default();
     let sheets = [deepest(), widest(), most_held(), frame_sheet(0)];
     for (index, sheet) in sheets.iter().enumerate() {
         let rng = &mut Rng::new(index as u64);
@@ -125,10 +125,10 @@ fn the_largest_runs_are_alike() {
                 request: Request::largest(),
                 again: format!("sheet {index}"),
             };
-            asking.ask_both(rng, 1, ANSWER_NUMBERS, &mut happened);
+            asking.ask_both(rng, 1, ANSWER_NUMBERS, &mut coverage);
         }
     }
-    println!("{happened}");
+    println!("{coverage}");
 }
 
 /// Right pairs, or wrong ones and what is wrong with them.
@@ -163,13 +163,13 @@ struct Asking<'a> {
 }
 
 /// A run's status, its answer and the posts made.
-struct Told {
+struct RunResult {
     status: u32,
     answer: [u32; ANSWER_NUMBERS],
     posts: Vec<u32>,
 }
 
-impl Told {
+impl RunResult {
     fn new(status: u32, buffers: &Buffers) -> Self {
         let answer = *buffers.answer().expect("the answer has room");
         let posts = buffers.posts.contents()[..answer[6] as usize].to_vec();
@@ -184,7 +184,7 @@ impl Told {
         self.answer[0]
     }
 
-    fn holds(&self, plain: &Told) -> bool {
+    fn holds(&self, plain: &RunResult) -> bool {
         holds(
             (self.status, &self.answer, &self.posts),
             (plain.status, &plain.answer, &plain.posts),
@@ -194,20 +194,20 @@ impl Told {
 
 impl Asking<'_> {
     /// With checks in force and passed over.
-    fn ask_all(&self, rng: &mut Rng, happened: &mut Happened) {
+    fn ask_all(&self, rng: &mut Rng, coverage: &mut Coverage) {
         let enforced = rng.pick(&[1, 1, 2, 256, u32::MAX]);
         let [enforced, skipped] = [enforced, 0].map(|enforce| {
             let answer = random_answer_length(rng);
-            let told = self.ask_both(rng, enforce, answer, happened)?;
-            self.count(&told, happened);
-            if told.status != REFUSED && told.cause() != UNDECIDED {
-                self.hold_plain_runs(rng, enforce, &told, happened);
+            let result = self.ask_both(rng, enforce, answer, coverage)?;
+            self.count(&result, coverage);
+            if result.status != REFUSED && result.cause() != UNDECIDED {
+                self.hold_plain_runs(rng, enforce, &result, coverage);
             }
-            self.count_undecided(rng, enforce, &told, happened);
-            Some(told)
+            self.count_undecided(rng, enforce, &result, coverage);
+            Some(result)
         });
         if let (Some(enforced), Some(skipped)) = (enforced, skipped) {
-            happened.count_if(
+            coverage.count_if(
                 enforced.cause() == 17 && skipped.cause() == UNDECIDED,
                 "36 with checks passed over, 17 in force",
             );
@@ -229,8 +229,8 @@ impl Asking<'_> {
         rng: &mut Rng,
         enforce: u32,
         answer: usize,
-        happened: &mut Happened,
-    ) -> Option<Told> {
+        coverage: &mut Coverage,
+    ) -> Option<RunResult> {
         let ranging = self.ranging(enforce);
         let before = ranging.buffers(rng, answer);
         let [mut library, mut reference] = [before.clone(), before.clone()];
@@ -251,10 +251,10 @@ impl Asking<'_> {
         );
         if answer < ANSWER_NUMBERS {
             assert!(returned == UNFIT && library == before, "{}", self.what());
-            happened.count("a short answer");
+            coverage.count("a short answer");
             return None;
         }
-        happened.count_if(answer > ANSWER_NUMBERS, "a longer answer");
+        coverage.count_if(answer > ANSWER_NUMBERS, "a longer answer");
         if returned == REFUSED {
             let untouched = Buffers {
                 answer: library.answer.clone(),
@@ -262,14 +262,14 @@ impl Asking<'_> {
             };
             assert!(library == untouched, "{}", self.what());
         }
-        Some(Told::new(returned, &library))
+        Some(RunResult::new(returned, &library))
     }
 
-    fn count(&self, told: &Told, happened: &mut Happened) {
-        let [cause, _, ty, value, calls, _, posts, held] = told.answer;
+    fn count(&self, result: &RunResult, coverage: &mut Coverage) {
+        let [cause, _, ty, value, calls, _, posts, held] = result.answer;
         assert_eq!(held, 0, "{}", self.what());
-        match told.status {
-            ENDED => happened.count(match (ty, value) {
+        match result.status {
+            ENDED => coverage.count(match (ty, value) {
                 (0, 0) => "ended in no",
                 (0, 1) => "ended in yes",
                 (0, 2) => "ended undecided",
@@ -277,34 +277,40 @@ impl Asking<'_> {
                 (1, _) if value & 0xFFFF == 65_535 => "ended in a range up to 65,535",
                 (1, _) if value >> 16 == 0 => "ended in a range from 0",
                 (1, _) => "ended in a range",
-                _ => panic!("{:?}, {}", told.answer, self.what()),
+                _ => panic!("{:?}, {}", result.answer, self.what()),
             }),
-            STOPPED => happened.count(format!("stopped, {cause}")),
-            _ => self.count_refused(cause, happened),
+            STOPPED => coverage.count(format!("stopped, {cause}")),
+            _ => self.count_refused(cause, coverage),
         }
         let wide = |post: &u32| post >> 16 < post & 0xFFFF;
-        happened.count_if(told.posts.iter().any(wide), "posts of ranges");
-        happened.count_if(cause == UNDECIDED && posts > 0, "36 after posts");
-        happened.count_if(cause == UNDECIDED && calls > 0, "36 after calls");
+        coverage.count_if(result.posts.iter().any(wide), "posts of ranges");
+        coverage.count_if(cause == UNDECIDED && posts > 0, "36 after posts");
+        coverage.count_if(cause == UNDECIDED && calls > 0, "36 after calls");
     }
 
     /// Wrong pairs are told last.
-    fn count_refused(&self, cause: u32, happened: &mut Happened) {
-        happened.count(format!("refused, {cause}"));
+    fn count_refused(&self, cause: u32, coverage: &mut Coverage) {
+        coverage.count(format!("refused, {cause}"));
         match (cause, self.wrong) {
-            (PAIRS, Some(wrong)) => happened.count(format!("{wrong:?}, {PAIRS}")),
-            (PAIRS, None) => happened.count("version 2 by right pairs, 35"),
-            (_, Some(_)) => happened.count(format!("wrong pairs, {cause} before {PAIRS}")),
+            (PAIRS, Some(wrong)) => coverage.count(format!("{wrong:?}, {PAIRS}")),
+            (PAIRS, None) => coverage.count("version 2 by right pairs, 35"),
+            (_, Some(_)) => coverage.count(format!("wrong pairs, {cause} before {PAIRS}")),
             (_, None) => {}
         }
     }
 
     /// An undecided if says nothing of the plain run, which may end or not.
-    fn count_undecided(&self, rng: &mut Rng, enforce: u32, told: &Told, happened: &mut Happened) {
-        if told.cause() == UNDECIDED {
+    fn count_undecided(
+        &self,
+        rng: &mut Rng,
+        enforce: u32,
+        result: &RunResult,
+        coverage: &mut Coverage,
+    ) {
+        if result.cause() == UNDECIDED {
             let ranging = self.ranging(enforce);
             let plain = run::<Reference>(rng, &ranging.plainly(self.sheet));
-            happened.count_if(plain.status == ENDED, "36 where the plain run ends");
+            coverage.count_if(plain.status == ENDED, "36 where the plain run ends");
         }
     }
 
@@ -312,7 +318,13 @@ impl Asking<'_> {
     /// treated alike, under the same allowances and buffers ends inside the
     /// answer or stops with the same cause and term, with as many posts, each
     /// inside its range, and equal calls and cells".
-    fn hold_plain_runs(&self, rng: &mut Rng, enforce: u32, told: &Told, happened: &mut Happened) {
+    fn hold_plain_runs(
+        &self,
+        rng: &mut Rng,
+        enforce: u32,
+        result: &RunResult,
+        coverage: &mut Coverage,
+    ) {
         let ranging = self.ranging(enforce);
         let (mut values, mut posts) = (BTreeSet::new(), BTreeSet::new());
         for _ in 0..CHOICES {
@@ -320,24 +332,24 @@ impl Asking<'_> {
             let chosen = ranges::with_numbers(self.sheet, &choice);
             let query = ranging.plainly(&chosen);
             let plain = run::<Library>(rng, &query);
-            let held = told.holds(&plain);
+            let held = result.holds(&plain);
             assert!(held, "enforce {enforce}, {choice:?}, {}", self.what());
-            let held = told.holds(&run::<Reference>(rng, &query));
+            let held = result.holds(&run::<Reference>(rng, &query));
             assert!(held, "enforce {enforce}, {choice:?}, {}", self.what());
             values.insert(plain.answer[3]);
             posts.insert(plain.posts);
         }
-        let [_, _, ty, value, ..] = told.answer;
-        happened.count_if(values.len() > 1, "plain runs that end apart");
-        let both = told.status == ENDED && ty == 0 && values.len() == 2;
-        happened.count_if(both, "plain runs that say yes and no");
-        happened.count_if(posts.len() > 1, "plain runs that post apart");
-        happened.count_if(told.status == STOPPED, "plain runs that are stopped");
+        let [_, _, ty, value, ..] = result.answer;
+        coverage.count_if(values.len() > 1, "plain runs that end apart");
+        let both = result.status == ENDED && ty == 0 && values.len() == 2;
+        coverage.count_if(both, "plain runs that say yes and no");
+        coverage.count_if(posts.len() > 1, "plain runs that post apart");
+        coverage.count_if(result.status == STOPPED, "plain runs that are stopped");
         let [lowest, highest] = [value >> 16, value & 0xFFFF];
         let reached = |end: u32| ty == 1 && lowest < highest && values.contains(&end);
-        happened.count_if(reached(lowest), "plain runs at the lowest of the answer");
-        happened.count_if(reached(highest), "plain runs at the highest of the answer");
-        happened.count_if(enforce == 0, "plain runs with checks passed over");
+        coverage.count_if(reached(lowest), "plain runs at the lowest of the answer");
+        coverage.count_if(reached(highest), "plain runs at the highest of the answer");
+        coverage.count_if(enforce == 0, "plain runs with checks passed over");
     }
 
     fn what(&self) -> String {
@@ -352,10 +364,10 @@ impl Asking<'_> {
 }
 
 /// A plain run in buffers of its own.
-fn run<I: Implementation>(rng: &mut Rng, query: &Query) -> Told {
+fn run<I: Implementation>(rng: &mut Rng, query: &Query) -> RunResult {
     let mut buffers = Buffers::random(rng, Entry::RunEager, query.request, ANSWER_NUMBERS);
     let status = query.of::<I>(&mut buffers);
-    Told::new(status, &buffers)
+    RunResult::new(status, &buffers)
 }
 
 /// Mostly just enough; sometimes too short, sometimes with a rest to keep.

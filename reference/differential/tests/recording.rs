@@ -3,7 +3,7 @@
 //! is the same. The library's records are also held against W12's sentences,
 //! and, with entries dropped, against one another.
 
-use differential::{settings, Buffers, Entry, Happened, Implementation, Library, Query};
+use differential::{settings, Buffers, Coverage, Entry, Implementation, Library, Query};
 use differential::{Recording, Reference, ANSWER_NUMBERS, RECORD_NUMBERS};
 use sheets::extremes::most_decisions;
 use sheets::generate::{sample, Sample};
@@ -65,7 +65,7 @@ const EXPECTED: [&str; 16] = [
 
 #[test]
 fn both_record_alike_and_as_the_sentences_say() {
-    let mut happened = Happened::default();
+    let mut coverage = Coverage::default();
     for case in recorded::all() {
         let rng = &mut Rng::new(12);
         for _ in 0..20 {
@@ -74,7 +74,7 @@ fn both_record_alike_and_as_the_sentences_say() {
                 request: case.request.clone(),
                 again: case.name.to_string(),
             };
-            asking.ask_all(rng, &mut happened);
+            asking.ask_all(rng, &mut coverage);
         }
     }
     for batch in settings::batches(SHEETS) {
@@ -87,14 +87,14 @@ fn both_record_alike_and_as_the_sentences_say() {
                 request: random_request(rng, &sample.world),
                 again: settings::again(batch.seed, index),
             };
-            asking.ask_all(rng, &mut happened);
+            asking.ask_all(rng, &mut coverage);
         }
     }
-    println!("{happened}");
+    println!("{coverage}");
     let of_each = [Entry::RunEager, Entry::RunLazy].into_iter();
     let of_each =
         of_each.flat_map(|entry| EXPECTED_OF_EACH.map(|what| format!("{entry:?}, {what}")));
-    let never = happened.never(of_each.chain(EXPECTED.map(String::from)));
+    let never = coverage.never(of_each.chain(EXPECTED.map(String::from)));
     assert!(
         !settings::are_whole() || never.is_empty(),
         "never happened: {never:?}"
@@ -123,7 +123,7 @@ fn the_longest_record_is_kept() {
     ];
     assert_eq!(returned, [0, 0]);
     assert!(library == reference);
-    let (unit, rest) = library.told();
+    let (unit, rest) = library.split_entries();
     assert_eq!(rest.len(), ENTRY_BYTES - 1);
     let mut answer = [7; ANSWER_NUMBERS];
     let returned = Library::compare(unit, &office, &mut answer);
@@ -158,12 +158,12 @@ struct Asking<'a> {
 
 impl Asking<'_> {
     /// By both runners, with checks in force and passed over.
-    fn ask_all(&self, rng: &mut Rng, happened: &mut Happened) {
+    fn ask_all(&self, rng: &mut Rng, coverage: &mut Coverage) {
         let enforced = rng.pick(&[1, 1, 2, 256, u32::MAX]);
         let [enforced, skipped] = [enforced, 0].map(|enforce| {
             let [eager, lazy] = [Entry::RunEager, Entry::RunLazy].map(|entry| {
                 let query = self.query(entry, enforce);
-                self.ask_both(rng, &query, happened);
+                self.ask_both(rng, &query, coverage);
                 self.complete(rng, &query)
             });
             // A lazy run may be refused for its frame store.
@@ -173,8 +173,8 @@ impl Asking<'_> {
             eager
         });
         if let (Some(enforced), Some(skipped)) = (enforced, skipped) {
-            self.hold(rng, &enforced, happened);
-            happened.count_if(
+            self.hold(rng, &enforced, coverage);
+            coverage.count_if(
                 skipped.len() < enforced.len(),
                 "fewer decisions with checks passed over",
             );
@@ -191,7 +191,7 @@ impl Asking<'_> {
     }
 
     /// One run with a record of any length.
-    fn ask_both(&self, rng: &mut Rng, query: &Query, happened: &mut Happened) {
+    fn ask_both(&self, rng: &mut Rng, query: &Query, coverage: &mut Coverage) {
         let length = random_record_length(rng);
         let answer = random_answer_length(rng);
         let before = Recording::random(rng, query, length, answer);
@@ -217,36 +217,36 @@ impl Asking<'_> {
         let of_each = |what: &str| format!("{:?}, {what}", query.entry);
         if answer < RECORD_NUMBERS {
             assert!(returned == UNFIT && library == before, "{}", self.what());
-            happened.count(of_each("a short answer"));
+            coverage.count(of_each("a short answer"));
             return;
         }
         if answer > RECORD_NUMBERS {
-            happened.count(of_each("a longer answer"));
+            coverage.count(of_each("a longer answer"));
         }
         self.is_the_plain_run(rng, query, returned, &library);
         if returned == REFUSED {
-            assert!(library.told().0.is_empty(), "{}", self.what());
+            assert!(library.split_entries().0.is_empty(), "{}", self.what());
             assert!(library.record == before.record, "{}", self.what());
-            happened.count(of_each("refused"));
+            coverage.count(of_each("refused"));
             return;
         }
-        self.is_a_beginning(rng, query, &library, &before, happened);
+        self.is_a_beginning(rng, query, &library, &before, coverage);
     }
 
     /// "Its answer is as without a record."
-    fn is_the_plain_run(&self, rng: &mut Rng, query: &Query, returned: u32, told: &Recording) {
+    fn is_the_plain_run(&self, rng: &mut Rng, query: &Query, returned: u32, recording: &Recording) {
         let mut plain = Buffers::random(rng, query.entry, query.request, ANSWER_NUMBERS);
         let plainly = query.of::<Library>(&mut plain);
-        let told = &told.buffers;
+        let buffers = &recording.buffers;
         assert_eq!(
-            (returned, told.answer()),
+            (returned, buffers.answer()),
             (plainly, plain.answer()),
             "{}",
             self.what()
         );
         let posts = plain.answer().map_or(0, |answer| answer[6] as usize);
         assert_eq!(
-            told.posts.contents()[..posts],
+            buffers.posts.contents()[..posts],
             plain.posts.contents()[..posts],
             "{}",
             self.what()
@@ -261,10 +261,10 @@ impl Asking<'_> {
         query: &Query,
         library: &Recording,
         before: &Recording,
-        happened: &mut Happened,
+        coverage: &mut Coverage,
     ) {
         let complete = self.complete(rng, query).expect("a run that isn't refused");
-        let (taken, rest) = library.told();
+        let (taken, rest) = library.split_entries();
         let length = taken.len() + rest.len();
         let room = length - length % ENTRY_BYTES;
         assert_eq!(taken.len(), room.min(complete.len()), "{}", self.what());
@@ -272,9 +272,9 @@ impl Asking<'_> {
         let untouched = &before.record.contents()[taken.len()..];
         assert_eq!(rest, untouched, "{}", self.what());
         let whole = taken.len() == complete.len();
-        count_length(query.entry, length, taken.len(), whole, happened);
+        count_length(query.entry, length, taken.len(), whole, coverage);
         let answer = library.answer().expect("the answer has room");
-        self.count_decisions(query, answer, &complete, whole, happened);
+        self.count_decisions(query, answer, &complete, whole, coverage);
     }
 
     /// All that a run decides, or `None` if it is refused.
@@ -285,7 +285,7 @@ impl Asking<'_> {
             if recording.ask::<Library>(query) == REFUSED {
                 return None;
             }
-            let (taken, rest) = recording.told();
+            let (taken, rest) = recording.split_entries();
             if !rest.is_empty() {
                 return Some(taken.to_vec());
             }
@@ -302,7 +302,7 @@ impl Asking<'_> {
         answer: &[u32; RECORD_NUMBERS],
         complete: &[u8],
         whole: bool,
-        happened: &mut Happened,
+        coverage: &mut Coverage,
     ) {
         let sheet = decode(self.sheet).expect("a readable sheet");
         let entries: Vec<&[u8]> = complete.chunks(ENTRY_BYTES).collect();
@@ -319,7 +319,7 @@ impl Asking<'_> {
                 0 => "passed over, ",
                 _ => "",
             };
-            happened.count(format!("{:?}, {over}a {kind}, {yes}", query.entry));
+            coverage.count(format!("{:?}, {over}a {kind}, {yes}", query.entry));
             assert!(query.enforce != 0 || kind == "test", "{}", self.what());
             if kind != "test" && yes == "no" {
                 assert_eq!(number + 1, entries.len(), "{}", self.what());
@@ -327,22 +327,22 @@ impl Asking<'_> {
             }
         }
         match answer[0] {
-            0 => happened.count("ended"),
-            cause => happened.count(format!("stopped, {cause}")),
+            0 => coverage.count("ended"),
+            cause => coverage.count(format!("stopped, {cause}")),
         }
         if answer[0] == 17 {
             let last = entries.last().expect("an entry");
             let term = u16::from_be_bytes([last[0], last[1]]);
             assert_eq!((answer[1], last[3]), (term.into(), 0), "{}", self.what());
-            happened.count_if(!whole, "17 that a full record does not tell");
+            coverage.count_if(!whole, "17 that a full record does not tell");
         }
-        happened.count_if(entries.is_empty(), "a run without decisions");
-        happened.count_if(entries.len() > 255, "more than 255 entries");
-        count_repeated(&entries, happened);
+        coverage.count_if(entries.is_empty(), "a run without decisions");
+        coverage.count_if(entries.len() > 255, "more than 255 entries");
+        count_repeated(&entries, coverage);
     }
 
     /// Drops entries of the complete record and holds the rest against it.
-    fn hold(&self, rng: &mut Rng, office: &[u8], happened: &mut Happened) {
+    fn hold(&self, rng: &mut Rng, office: &[u8], coverage: &mut Coverage) {
         let kept = rng.pick(&[0, 40, 80, 100]);
         let mut unit = Vec::new();
         let mut dropped = 0;
@@ -363,7 +363,7 @@ impl Asking<'_> {
             self.what()
         );
         if !office.is_empty() {
-            happened.count(match (dropped, unit.len()) {
+            coverage.count(match (dropped, unit.len()) {
                 (0, _) => "held against, nothing dropped",
                 (_, 0) => "held against, all dropped",
                 _ => "held against, some dropped",
@@ -392,18 +392,18 @@ fn decided(sheet: &Sheet, term: u16, privilege: u8) -> Option<&'static str> {
     (named.number() == privilege).then_some(kind)
 }
 
-fn count_repeated(entries: &[&[u8]], happened: &mut Happened) {
+fn count_repeated(entries: &[&[u8]], coverage: &mut Coverage) {
     let few = &entries[..entries.len().min(50)];
     let pairs = || (1..few.len()).flat_map(|later| (0..later).map(move |earlier| (earlier, later)));
     let twice = pairs().any(|(earlier, later)| few[earlier] == few[later]);
     let otherwise = pairs().any(|(earlier, later)| {
         few[earlier][..3] == few[later][..3] && few[earlier][3] != few[later][3]
     });
-    happened.count_if(twice, "a term decided twice");
-    happened.count_if(otherwise, "a term decided otherwise the second time");
+    coverage.count_if(twice, "a term decided twice");
+    coverage.count_if(otherwise, "a term decided otherwise the second time");
 }
 
-fn count_length(entry: Entry, length: usize, taken: usize, whole: bool, happened: &mut Happened) {
+fn count_length(entry: Entry, length: usize, taken: usize, whole: bool, coverage: &mut Coverage) {
     let full = length - taken < ENTRY_BYTES;
     let what = match (length, full, whole) {
         (0, ..) => "a record without bytes",
@@ -413,7 +413,7 @@ fn count_length(entry: Entry, length: usize, taken: usize, whole: bool, happened
         (_, true, false) => "a full record, bytes left over",
         (_, false, _) => "a record with room to spare",
     };
-    happened.count(format!("{entry:?}, {what}"));
+    coverage.count(format!("{entry:?}, {what}"));
 }
 
 fn random_record_length(rng: &mut Rng) -> usize {

@@ -2,7 +2,7 @@
 //! reference: each access returns the same, and every number in and around
 //! the block and every buffer is the same.
 
-use differential::{settings, Board, Happened, Lent, Library, Reference, ANSWER_NUMBERS};
+use differential::{settings, BlockCall, Coverage, Library, Margined, Reference, ANSWER_NUMBERS};
 use sheets::hex;
 use sheets::request::{MAX_CELL_BYTES, MAX_POSTS};
 use sheets::rng::Rng;
@@ -49,7 +49,7 @@ fn compare(seed: u64, index: u64, counts: &mut Counts) -> Result<(), String> {
     // Not the sheets that the other tests have had from this seed.
     let rng = &mut Rng::for_item(seed.rotate_left(1), index);
     let block = random_block(rng);
-    let mut boards = Boards::alike(Board::random(rng, &block));
+    let mut block_calls = BlockCalls::alike(BlockCall::random(rng, &block));
     let mut sheet = random_sheet(rng);
     if block != [0; BLOCK_BYTES] {
         counts.0.count("a block that no entry made");
@@ -58,19 +58,19 @@ fn compare(seed: u64, index: u64, counts: &mut Counts) -> Result<(), String> {
         if rng.percent(10) {
             sheet = random_sheet(rng);
         }
-        let before = boards.library.block.contents().to_vec();
-        let posts = boards.library.posts.contents().to_vec();
-        let lent = lend_and_access(rng, &mut boards, access, &sheet);
-        let (returned, other) = lent.map_err(|difference| {
+        let before = block_calls.library.block.contents().to_vec();
+        let posts = block_calls.library.posts.contents().to_vec();
+        let accessed = access_with_random_buffers(rng, &mut block_calls, access, &sheet);
+        let (returned, other) = accessed.map_err(|difference| {
             format!(
                 "the implementations differ\n{access:?} of {}\nsheet {}\n{difference}",
                 hex(&before),
                 hex(&sheet),
             )
         })?;
-        counts.count_access(access, returned, other, &before, &boards.library);
+        counts.count_access(access, returned, other, &before, &block_calls.library);
         if (returned, access) == (DONE, Access::RUN) {
-            counts.count_pages(other, &sheet, &posts, &boards.library);
+            counts.count_pages(other, &sheet, &posts, &block_calls.library);
             if other == Other::Nothing {
                 counts.count_held(&sheet, &before);
             }
@@ -90,34 +90,40 @@ enum Other {
 
 /// Makes one access. Now and then another block or buffer, of another
 /// length, is lent to it.
-fn lend_and_access(
+fn access_with_random_buffers(
     rng: &mut Rng,
-    boards: &mut Boards,
+    block_calls: &mut BlockCalls,
     access: Access,
     sheet: &[u8],
 ) -> Result<(u32, Other), String> {
     let answer = random_answer_length(rng);
-    boards.put(|board| &mut board.answer, Lent::random(rng, answer));
+    block_calls.put(
+        |block_call| &mut block_call.answer,
+        Margined::random(rng, answer),
+    );
     let (returned, other) = match rng.below(40) {
         0 => {
             let length = rng.pick(&[0, 1, BLOCK_BYTES - 1, BLOCK_BYTES + 1, 2 * BLOCK_BYTES]);
-            let block = Lent::random(rng, length);
-            let returned = boards.access_with(|board| &mut board.block, block, access, sheet);
+            let block = Margined::random(rng, length);
+            let returned =
+                block_calls.access_with(|block_call| &mut block_call.block, block, access, sheet);
             (returned, Other::Block)
         }
         1 | 2 => {
             let length = rng.pick(&[0, 8, MAX_CELL_BYTES - 1, MAX_CELL_BYTES + 1]);
-            let cells = Lent::random(rng, length);
-            let returned = boards.access_with(|board| &mut board.cells, cells, access, sheet);
+            let cells = Margined::random(rng, length);
+            let returned =
+                block_calls.access_with(|block_call| &mut block_call.cells, cells, access, sheet);
             (returned, Other::Cells)
         }
         3 | 4 => {
             let length = rng.pick(&[0, 1, MAX_POSTS - 1, MAX_POSTS + 1]);
-            let posts = Lent::random(rng, length);
-            let returned = boards.access_with(|board| &mut board.posts, posts, access, sheet);
+            let posts = Margined::random(rng, length);
+            let returned =
+                block_calls.access_with(|block_call| &mut block_call.posts, posts, access, sheet);
             (returned, Other::Posts)
         }
-        _ => (boards.access(access, sheet), Other::Nothing),
+        _ => (block_calls.access(access, sheet), Other::Nothing),
     };
     Ok((returned?, other))
 }
@@ -131,22 +137,22 @@ fn random_answer_length(rng: &mut Rng) -> usize {
     }
 }
 
-/// The board of each implementation, kept through a session.
-struct Boards {
-    library: Board,
-    reference: Board,
+/// The call of each implementation, kept through a session.
+struct BlockCalls {
+    library: BlockCall,
+    reference: BlockCall,
 }
 
-impl Boards {
-    fn alike(board: Board) -> Self {
+impl BlockCalls {
+    fn alike(block_call: BlockCall) -> Self {
         Self {
-            library: board.clone(),
-            reference: board,
+            library: block_call.clone(),
+            reference: block_call,
         }
     }
 
-    /// Puts the same part into both boards and gives what they had.
-    fn put<T: Clone>(&mut self, part: impl Fn(&mut Board) -> &mut T, new: T) -> [T; 2] {
+    /// Puts the same part into both calls and gives what they had.
+    fn put<T: Clone>(&mut self, part: impl Fn(&mut BlockCall) -> &mut T, new: T) -> [T; 2] {
         [
             mem::replace(part(&mut self.library), new.clone()),
             mem::replace(part(&mut self.reference), new),
@@ -182,7 +188,7 @@ impl Boards {
     /// The same with another part, for this access alone.
     fn access_with<T: Clone>(
         &mut self,
-        part: impl Fn(&mut Board) -> &mut T,
+        part: impl Fn(&mut BlockCall) -> &mut T,
         other: T,
         access: Access,
         sheet: &[u8],
@@ -196,7 +202,7 @@ impl Boards {
 }
 
 #[derive(Default)]
-struct Counts(Happened);
+struct Counts(Coverage);
 
 /// What has to happen, beside an end and each cause that a run can have.
 const EXPECTED: [&str; 20] = [
@@ -223,16 +229,16 @@ const EXPECTED: [&str; 20] = [
 ];
 
 impl Counts {
-    /// Counts an access by what it leaves on the board.
+    /// Counts an access by what it leaves in the call.
     fn count_access(
         &mut self,
         access: Access,
         returned: u32,
         other: Other,
         before: &[u8],
-        board: &Board,
+        block_call: &BlockCall,
     ) {
-        let answer = match board.answer.contents().first_chunk::<ANSWER_NUMBERS>() {
+        let answer = match block_call.answer.contents().first_chunk::<ANSWER_NUMBERS>() {
             None => return self.0.count("a short answer"),
             Some(_) if other == Other::Block => return self.0.count("a block of another length"),
             Some(answer) => answer,
@@ -250,7 +256,7 @@ impl Counts {
             (REFUSED, Access::Read { .. }) => self.0.count("23 at a read"),
             (REFUSED, Access::Write { .. }) => self.0.count("23 at a write"),
             (DONE, Access::Read { .. }) => self.0.count("a read"),
-            (DONE, Access::RUN) => self.count_run(other, before, board.block.contents()),
+            (DONE, Access::RUN) => self.count_run(other, before, block_call.block.contents()),
             (DONE, Access::Write { address: 0, .. }) => self.0.count("another command than 1"),
             (DONE, Access::Write { .. }) => self.0.count("a write that runs nothing"),
             _ => self.0.count(format!("{returned} returned")),
@@ -265,7 +271,7 @@ impl Counts {
             (0b010, cause) => format!("stopped by {cause:2}"),
             (0b100, 15) => format!("refused by 15, by {other:?}"),
             (0b100, cause) => format!("refused by {cause:2}"),
-            told => format!("told {told:?}"),
+            outcome => format!("told {outcome:?}"),
         });
         if before[1] & !OUTCOMES != 0 {
             self.0.count("a run where status has other bits");
@@ -283,9 +289,9 @@ impl Counts {
     }
 
     /// Counts what has to do with channels and guards in a run, by the list
-    /// of posts before it and by what it leaves on the board.
-    fn count_pages(&mut self, other: Other, sheet: &[u8], before: &[u32], board: &Board) {
-        let block = board.block.contents();
+    /// of posts before it and by what it leaves in the call.
+    fn count_pages(&mut self, other: Other, sheet: &[u8], before: &[u32], block_call: &BlockCall) {
+        let block = block_call.block.contents();
         let place = u16::from_be_bytes([block[10], block[11]]);
         match block[2] {
             31 if matches!(other, Other::Cells | Other::Posts) => {
@@ -298,7 +304,7 @@ impl Counts {
             }
             _ => {}
         }
-        let mut pairs = before.iter().zip(board.posts.contents());
+        let mut pairs = before.iter().zip(block_call.posts.contents());
         let on_another = pairs.any(|(old, new)| old != new && (1..16).contains(&(new >> 16)));
         self.0.count_if(on_another, "a post on a channel above 0");
     }

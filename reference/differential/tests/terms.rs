@@ -3,7 +3,9 @@
 //! number in and around the answer is the same. The library's answers are also
 //! held against its own type checker and its own smallest faulty piece.
 
-use differential::{settings, Happened, Implementation, Lent, Library, Reference, ANSWER_NUMBERS};
+use differential::{
+    settings, Coverage, Implementation, Library, Margined, Reference, ANSWER_NUMBERS,
+};
 use sheets::extremes::{deepest, late_fault, longest, widest};
 use sheets::faulty::faulty;
 use sheets::generate::sample;
@@ -54,8 +56,8 @@ const EXPECTED: [&str; 24] = [
 ];
 
 fn main() -> ExitCode {
-    let mut happened = Happened::default();
-    if let Err(difference) = compare_made_by_hand(&mut happened) {
+    let mut coverage = Coverage::default();
+    if let Err(difference) = compare_made_by_hand(&mut coverage) {
         println!("{difference}");
         return ExitCode::FAILURE;
     }
@@ -66,7 +68,7 @@ fn main() -> ExitCode {
             // Not the sheets that the other tests have had from this seed.
             let rng = &mut Rng::for_item(batch.seed.rotate_left(21), index);
             let sheet = random_sheet(rng);
-            if let Err(difference) = compare(rng, &sheet, &mut happened) {
+            if let Err(difference) = compare(rng, &sheet, &mut coverage) {
                 println!("{difference}");
                 println!("sheet {}", hex(&sheet));
                 println!("again with {}", settings::again(batch.seed, index));
@@ -74,8 +76,8 @@ fn main() -> ExitCode {
             }
         }
     }
-    println!("{happened}");
-    let never = happened.never(EXPECTED.map(String::from));
+    println!("{coverage}");
+    let never = coverage.never(EXPECTED.map(String::from));
     if settings::are_whole() && !never.is_empty() {
         println!("never happened: {never:?}");
         return ExitCode::FAILURE;
@@ -83,12 +85,12 @@ fn main() -> ExitCode {
     ExitCode::SUCCESS
 }
 
-fn compare_made_by_hand(happened: &mut Happened) -> Result<(), String> {
+fn compare_made_by_hand(coverage: &mut Coverage) -> Result<(), String> {
     let cases = pieces::all().into_iter().map(|case| case.sheet);
     let causes = smallest::all().into_iter().map(|case| case.sheet);
     let made = [deepest(), longest(), widest(), late_fault()];
     for sheet in cases.chain(causes).chain(made) {
-        compare(&mut Rng::new(0), &sheet, happened)
+        compare(&mut Rng::new(0), &sheet, coverage)
             .map_err(|difference| format!("{difference}\nsheet {}", hex(&sheet)))?;
     }
     Ok(())
@@ -103,25 +105,25 @@ fn random_sheet(rng: &mut Rng) -> Vec<u8> {
 }
 
 /// Puts all questions about one sheet to both implementations.
-fn compare(rng: &mut Rng, bytes: &[u8], happened: &mut Happened) -> Result<(), String> {
+fn compare(rng: &mut Rng, bytes: &[u8], coverage: &mut Coverage) -> Result<(), String> {
     let subject = Subject::new(bytes);
     for number in random_numbers(rng, subject.terms()) {
         let length = random_answer_length(rng);
-        let before = Lent::random(rng, length);
-        let (returned, told) = ask_both(bytes, number, before.clone())?;
-        let told_of = |what: String| format!("term {number}: {what}");
-        let Some(&answer) = told.contents().first_chunk() else {
-            if (returned, &told) != (UNFIT, &before) {
-                return Err(told_of(format!("{returned} of a short answer")));
+        let before = Margined::random(rng, length);
+        let (returned, buffer) = ask_both(bytes, number, before.clone())?;
+        let about = |what: String| format!("term {number}: {what}");
+        let Some(&answer) = buffer.contents().first_chunk() else {
+            if (returned, &buffer) != (UNFIT, &before) {
+                return Err(about(format!("{returned} of a short answer")));
             }
-            happened.count("a short answer");
+            coverage.count("a short answer");
             continue;
         };
-        happened.count_if(length > ANSWER_NUMBERS, "a longer answer");
-        let told = Answer { returned, answer };
+        coverage.count_if(length > ANSWER_NUMBERS, "a longer answer");
+        let result = Answer { returned, answer };
         subject
-            .is_as_said(number, told, happened)
-            .map_err(told_of)?;
+            .is_as_said(number, result, coverage)
+            .map_err(about)?;
     }
     Ok(())
 }
@@ -150,11 +152,15 @@ fn random_answer_length(rng: &mut Rng) -> usize {
 }
 
 /// Gives what both returned and wrote, or tells how they differ.
-fn ask_both(sheet: &[u8], number: u32, lent: Lent<u32>) -> Result<(u32, Lent<u32>), String> {
-    let (mut library, mut reference) = (lent.clone(), lent);
+fn ask_both(
+    sheet: &[u8],
+    number: u32,
+    buffer: Margined<u32>,
+) -> Result<(u32, Margined<u32>), String> {
+    let (mut library, mut reference) = (buffer.clone(), buffer);
     let returned = [
-        Library::term(sheet, number, library.lent()),
-        Reference::term(sheet, number, reference.lent()),
+        Library::term(sheet, number, library.contents_mut()),
+        Reference::term(sheet, number, reference.contents_mut()),
     ];
     if returned[0] == returned[1] && library == reference {
         return Ok((returned[0], library));
@@ -220,92 +226,107 @@ impl Subject {
     }
 
     /// Whether the library's answer fits what its other entries tell.
-    fn is_as_said(&self, number: u32, told: Answer, happened: &mut Happened) -> Result<(), String> {
+    fn is_as_said(
+        &self,
+        number: u32,
+        result: Answer,
+        coverage: &mut Coverage,
+    ) -> Result<(), String> {
         let expect = |holds: bool, what: &str| match holds {
             true => Ok(()),
-            false => Err(format!("{what}: {told:?}")),
+            false => Err(format!("{what}: {result:?}")),
         };
         let Some(sheet) = &self.sheet else {
-            happened.count("an unreadable sheet");
-            return expect(told == self.read, "the reader's refusal is another");
+            coverage.count("an unreadable sheet");
+            return expect(result == self.read, "the reader's refusal is another");
         };
         let (terms, root) = (self.terms() as u32, u32::from(sheet.root()));
         if number >= terms {
-            happened.count(match number {
+            coverage.count(match number {
                 _ if number == terms => "past the last: the next",
                 _ if (number & 0xFFFF) < terms => "past the last: the lowest bits are a term's",
                 _ => "past the last: another",
             });
-            return expect(told.is_refused_by(NO_TERM, 0), "there is no such term");
+            return expect(result.is_refused_by(NO_TERM, 0), "there is no such term");
         }
         if number == root {
-            self.is_the_verdict(told, happened)?;
+            self.is_the_verdict(result, coverage)?;
         }
         let is_piece = self.piece.answer[4] > 0 && self.piece.answer[3] == number;
         if is_piece {
-            happened.count("the smallest faulty piece");
+            coverage.count("the smallest faulty piece");
             let fault = self.piece.answer[2];
             expect(
-                told.is_refused_by(fault, number),
+                result.is_refused_by(fault, number),
                 "the piece's fault is another",
             )?;
         }
-        match told.returned {
-            DONE => self.is_typed(number as TermId, told, happened),
-            _ => self.is_faulty(number, told, happened),
+        match result.returned {
+            DONE => self.is_typed(number as TermId, result, coverage),
+            _ => self.is_faulty(number, result, coverage),
         }
     }
 
     /// The type checker's verdict is the root's judgement, but that 13 comes last.
-    fn is_the_verdict(&self, told: Answer, happened: &mut Happened) -> Result<(), String> {
-        happened.count("the root");
+    fn is_the_verdict(&self, result: Answer, coverage: &mut Coverage) -> Result<(), String> {
+        coverage.count("the root");
         let [cause, _, ty, _, _, _, _, needs] = self.judged.answer;
         let fits = match (self.judged.returned, cause) {
-            (DONE, _) => (told.answer[2], told.answer[7]) == (ty, needs) && told.returned == DONE,
-            (_, ROOT_TYPE) => {
-                happened.count("the root, refused by 13");
-                told.returned == DONE && told.answer[2] > 1
+            (DONE, _) => {
+                (result.answer[2], result.answer[7]) == (ty, needs) && result.returned == DONE
             }
-            _ => told == self.judged,
+            (_, ROOT_TYPE) => {
+                coverage.count("the root, refused by 13");
+                result.returned == DONE && result.answer[2] > 1
+            }
+            _ => result == self.judged,
         };
         match fits {
             true => Ok(()),
-            false => Err(format!("{:?} is the verdict: {told:?}", self.judged)),
+            false => Err(format!("{:?} is the verdict: {result:?}", self.judged)),
         }
     }
 
-    fn is_typed(&self, id: TermId, told: Answer, happened: &mut Happened) -> Result<(), String> {
-        let [cause, place, ty, principal, fourth, fifth, sixth, needs] = told.answer;
+    fn is_typed(&self, id: TermId, result: Answer, coverage: &mut Coverage) -> Result<(), String> {
+        let [cause, place, ty, principal, fourth, fifth, sixth, needs] = result.answer;
         let others = [cause, place, fourth, fifth, sixth];
         let signer = self.principals[usize::from(id)];
         if others != [0; 5] || principal != u32::from(signer) {
-            return Err(format!("under principal {signer}: {told:?}"));
+            return Err(format!("under principal {signer}: {result:?}"));
         }
         let is_accepted = self.judged.returned == DONE;
-        happened.count_if(is_accepted, "typed in an accepted sheet");
-        happened.count_if(!is_accepted, "typed in a refused sheet");
-        happened.count_if(ty > 1, "of a function type");
-        happened.count_if(needs != 0, "with needs");
-        happened.count_if(signer != 0, "under another principal than 0");
+        coverage.count_if(is_accepted, "typed in an accepted sheet");
+        coverage.count_if(!is_accepted, "typed in a refused sheet");
+        coverage.count_if(ty > 1, "of a function type");
+        coverage.count_if(needs != 0, "with needs");
+        coverage.count_if(signer != 0, "under another principal than 0");
         Ok(())
     }
 
     /// By 9 to 12 or 24 to 26, and only in a sheet that the type checker refuses
     /// by one of these.
-    fn is_faulty(&self, number: u32, told: Answer, happened: &mut Happened) -> Result<(), String> {
-        let [cause, place, ..] = told.answer;
+    fn is_faulty(
+        &self,
+        number: u32,
+        result: Answer,
+        coverage: &mut Coverage,
+    ) -> Result<(), String> {
+        let [cause, place, ..] = result.answer;
         let is_by_rules = |cause| matches!(cause, 9..=12 | 24..=26);
         let is_refused = self.judged.returned == REFUSED && is_by_rules(self.judged.answer[0]);
-        if !is_by_rules(cause) || place > number || !told.is_refused_by(cause, place) || !is_refused
+        if !is_by_rules(cause)
+            || place > number
+            || !result.is_refused_by(cause, place)
+            || !is_refused
         {
-            return Err(format!("{told:?}"));
+            return Err(format!("{result:?}"));
         }
-        happened.count(format!("refused by {cause}"));
-        happened.count(match place == number {
+        coverage.count(format!("refused by {cause}"));
+        coverage.count(match place == number {
             true => "a fault of its own",
             false => "a fault of one in it",
         });
-        happened.count_if(self.judged.answer[1] != place, "not the first fault");
+        coverage.count_if(self.judged.answer[1] != place, "not the first fault");
         Ok(())
     }
 }

@@ -3,7 +3,7 @@
 //! that the jobs of a line have their turns in the order they were added, each
 //! of them one, and within 4 × (j + 1) runs where j were before it.
 
-use differential::{settings, Library, Unit, ANSWER_NUMBERS};
+use differential::{settings, Library, LinesCall, ANSWER_NUMBERS};
 use sheets::cases::computing;
 use sheets::lines::{random_line, Job, Store, LINES, LIST, QUEUE_JOBS, STATE_NUMBERS};
 use sheets::records::{Format, Records, TermRecord, TypeRecord};
@@ -39,8 +39,8 @@ fn turns_are_as_promised() {
     }
     if settings::are_whole() {
         assert_eq!(seen.longest, [4, 8, 12, 16, 20, 24, 28, 32]);
-        assert!(seen.told.iter().all(|&times| times > 0), "{seen:?}");
-        assert!(seen.untold > 0 && seen.rejected > 0, "{seen:?}");
+        assert!(seen.reported.iter().all(|&times| times > 0), "{seen:?}");
+        assert!(seen.unreported > 0 && seen.rejected > 0, "{seen:?}");
     }
 }
 
@@ -82,9 +82,9 @@ struct Seen {
     /// The most runs that a job waited for its turn, by how many were before.
     longest: [usize; QUEUE_JOBS],
     /// Jobs that told their number, by the way.
-    told: [usize; WAYS],
+    reported: [usize; WAYS],
     /// Jobs that were refused by 15, 16 or 28 and could not tell it.
-    untold: usize,
+    unreported: usize,
     /// Jobs that no line took.
     rejected: usize,
 }
@@ -99,7 +99,7 @@ struct Ticket {
 
 struct Session<'a> {
     store: &'a Store,
-    unit: Unit,
+    lines_call: LinesCall,
     /// The tickets of each line, the oldest first.
     waiting: [VecDeque<Ticket>; LINES],
     added: usize,
@@ -113,7 +113,7 @@ impl<'a> Session<'a> {
     fn new(rng: &mut Rng, store: &'a Store, again: String) -> Self {
         Self {
             store,
-            unit: Unit::random(rng, &[0; STATE_NUMBERS], LIST),
+            lines_call: LinesCall::random(rng, &[0; STATE_NUMBERS], LIST),
             waiting: Default::default(),
             added: 0,
             posts: 0,
@@ -147,10 +147,10 @@ impl<'a> Session<'a> {
             length: sheet.len() as u64,
             calls: rng.pick(&[0, 1, MAX_CALLS, MAX_CALLS + 1]),
         };
-        let lent = rng.pick(&[sheet.end, self.store.bytes.len(), sheet.end - 1]);
-        let lent = &self.store.bytes[..lent];
-        let returned = self.unit.add::<Library>(line, job, lent);
-        let takes = sheet.end <= lent.len()
+        let length = rng.pick(&[sheet.end, self.store.bytes.len(), sheet.end - 1]);
+        let store = &self.store.bytes[..length];
+        let returned = self.lines_call.add::<Library>(line, job, store);
+        let takes = sheet.end <= store.len()
             && (line as usize) < LINES
             && self.waiting[line as usize].len() < QUEUE_JOBS;
         let expected = if takes { DONE } else { REFUSED };
@@ -171,33 +171,33 @@ impl<'a> Session<'a> {
 
     /// Serves a job, now and then with a shorter store or too long a list.
     fn serve(&mut self, rng: &mut Rng, seen: &mut Seen) {
-        let lent = match rng.below(20) {
+        let length = match rng.below(20) {
             0 => rng.below(self.store.bytes.len()),
             _ => self.store.bytes.len(),
         };
         let left = MAX_POSTS + usize::from(rng.percent(5));
         let place = self.posts;
         let returned = self
-            .unit
-            .serve::<Library>(&self.store.bytes[..lent], place + left);
+            .lines_call
+            .serve::<Library>(&self.store.bytes[..length], place + left);
         if returned == IDLE {
             let none = self.waiting.iter().all(VecDeque::is_empty);
             assert!(none, "a job is lost, {}", self.again);
             return;
         }
-        let answer = self.unit.answer.contents();
+        let answer = self.lines_call.answer.contents();
         self.posts += answer[6] as usize;
-        let told = self.told(returned, place);
+        let reported = self.reported(returned, place);
         let ticket = self.take_ticket(answer[ANSWER_NUMBERS] as usize, seen);
-        let Some((way, number)) = told else {
-            let shorter = lent < self.store.bytes.len();
+        let Some((way, number)) = reported else {
+            let shorter = length < self.store.bytes.len();
             let refused = shorter || left > MAX_POSTS || ticket.calls > MAX_CALLS;
             assert!(refused, "refused for nothing, {}", self.again);
-            seen.untold += 1;
+            seen.unreported += 1;
             return;
         };
         assert_eq!(number, ticket.number, "out of order, {}", self.again);
-        seen.told[way] += 1;
+        seen.reported[way] += 1;
     }
 
     /// The ticket of the job that has had its turn. The others have waited.
@@ -214,11 +214,11 @@ impl<'a> Session<'a> {
     }
 
     /// The number of the job that was served, and the way it was told.
-    fn told(&self, returned: u32, place: usize) -> Option<(usize, u32)> {
-        let answer = self.unit.answer.contents();
+    fn reported(&self, returned: u32, place: usize) -> Option<(usize, u32)> {
+        let answer = self.lines_call.answer.contents();
         match (returned, answer[0]) {
             (DONE, 0) => Some((0, answer[3])),
-            (STOPPED, 18) => Some((1, self.unit.posts.contents()[place])),
+            (STOPPED, 18) => Some((1, self.lines_call.posts.contents()[place])),
             (REFUSED, 6) => Some((2, answer[1])),
             (REFUSED, 15 | 16 | 28) => None,
             other => panic!("told {other:?}"),

@@ -24,16 +24,16 @@ const LONGEST_GENERATED: usize = 2_000;
 
 pub fn vectors() -> Vec<Vector> {
     let mut runs = Vec::new();
-    runs.extend(as_asked(cases::all()));
+    runs.extend(with_own_request(cases::all()));
     runs.extend(smallest_sheets());
     runs.extend(edges_of_requests());
     runs.extend(edges_of_sheets());
     runs.extend(generated());
     runs.extend(yes_branches());
-    runs.extend(as_asked(branches::all()));
-    runs.extend(as_asked(type_faults::all()));
-    runs.extend(as_asked(pages::all()));
-    runs.extend(as_asked(held::all()));
+    runs.extend(with_own_request(branches::all()));
+    runs.extend(with_own_request(type_faults::all()));
+    runs.extend(with_own_request(pages::all()));
+    runs.extend(with_own_request(held::all()));
     runs.extend(with_decisions());
     let drawn = (0..).zip(runs).map(|(index, run)| drawn(index, run));
     drawn.chain(with_pieces()).chain(over_ranges()).collect()
@@ -43,7 +43,7 @@ pub fn vectors() -> Vec<Vector> {
 type Run = (Vec<u8>, Request);
 
 /// Each with its own request.
-fn as_asked(cases: Vec<Case>) -> impl Iterator<Item = Run> {
+fn with_own_request(cases: Vec<Case>) -> impl Iterator<Item = Run> {
     cases.into_iter().map(|case| (case.sheet, case.request))
 }
 

@@ -40,19 +40,19 @@ fn line(name: &str, reply: Reply, more: &[u32]) -> String {
 
 /// With the sum of the bytes that are handed back.
 fn piece_line(sheet: &[u8]) -> String {
-    let told = piece(sheet);
-    let record = match &told {
+    let result = piece(sheet);
+    let record = match &result {
         Ok(Some(piece)) => piece.record_in(sheet).to_vec(),
         _ => Vec::new(),
     };
     let Checksum(sum) = Checksum::default().add(record);
-    line("piece", told.into(), &[sum])
+    line("piece", result.into(), &[sum])
 }
 
 /// The number of entries is the ninth of the answer.
-fn recorded_line(name: &str, told: Result<Recorded, Refusal>, Checksum(sum): Checksum) -> String {
-    let entries = told.map_or(0, |recorded| recorded.entries as u32);
-    let reply = told.map(|recorded| recorded.run).into();
+fn recorded_line(name: &str, result: Result<Recorded, Refusal>, Checksum(sum): Checksum) -> String {
+    let entries = result.map_or(0, |recorded| recorded.entries as u32);
+    let reply = result.map(|recorded| recorded.run).into();
     line(name, reply, &[entries, sum])
 }
 
@@ -70,7 +70,7 @@ fn eager(name: &str, vector: &Vector, checks: Checks) -> String {
 
 fn recorded_eager(name: &str, vector: &Vector, checks: Checks) -> String {
     let mut buffers = Buffers::filled(vector);
-    let told = record_eager(
+    let result = record_eager(
         &vector.sheet,
         &request(vector, checks),
         &mut buffers.cells,
@@ -78,7 +78,7 @@ fn recorded_eager(name: &str, vector: &Vector, checks: Checks) -> String {
         &mut buffers.record,
     );
     let checksum = Checksum::default().cells_and_posts(&buffers);
-    recorded_line(name, told, checksum.add(buffers.record))
+    recorded_line(name, result, checksum.add(buffers.record))
 }
 
 fn lazy(name: &str, vector: &Vector, checks: Checks) -> String {
@@ -97,7 +97,7 @@ fn lazy(name: &str, vector: &Vector, checks: Checks) -> String {
 
 fn recorded_lazy(name: &str, vector: &Vector, checks: Checks) -> String {
     let mut buffers = Buffers::filled(vector);
-    let told = record_lazy(
+    let result = record_lazy(
         &vector.sheet,
         &request(vector, checks),
         &mut buffers.cells,
@@ -107,7 +107,7 @@ fn recorded_lazy(name: &str, vector: &Vector, checks: Checks) -> String {
     );
     let checksum = Checksum::default().cells_and_posts(&buffers);
     let checksum = checksum.add(buffers.frames).add(buffers.record);
-    recorded_line(name, told, checksum)
+    recorded_line(name, result, checksum)
 }
 
 fn ranges(name: &str, vector: &Vector, checks: Checks) -> String {

@@ -6,7 +6,7 @@ use crate::records::{TypeRecord, CHANNELS, NUMBER, UNGUARDED};
 use crate::tree::*;
 
 /// The privilege that is asked about.
-pub const ASKED: u8 = 1;
+pub const PRIVILEGE: u8 = 1;
 /// Another one.
 pub const OTHER: u8 = 2;
 
@@ -35,20 +35,20 @@ pub struct Explained {
 }
 
 pub fn all() -> Vec<Explained> {
-    let able = 1 << ASKED | 1 << OTHER;
+    let able = 1 << PRIVILEGE | 1 << OTHER;
     let functions = [
         TypeRecord::function(NUMBER, NUMBER, 0),
-        TypeRecord::function(NUMBER, NUMBER, 1 << ASKED),
+        TypeRecord::function(NUMBER, NUMBER, 1 << PRIVILEGE),
         TypeRecord::function(NEEDY, NUMBER, 0),
         TypeRecord::function(NUMBER, NEEDY, 0),
     ];
-    let principals = [able, 0, 1 << ASKED];
+    let principals = [able, 0, 1 << PRIVILEGE];
     let explained = |(name, tree)| Explained {
         name,
         sheet: with_functions(&principals, &functions, sign(ABLE, tree)),
     };
     let mut guards = [UNGUARDED; CHANNELS];
-    guards[usize::from(PAGE)] = ASKED;
+    guards[usize::from(PAGE)] = PRIVILEGE;
     guards[usize::from(OTHER_PAGE)] = OTHER;
     let with_pages = |(name, tree)| Explained {
         name,
@@ -102,7 +102,7 @@ fn ways() -> Vec<(&'static str, Tree)> {
         ("sum, the second", sum(number(7), checked(8))),
         (
             "if, all three",
-            when(check(ASKED, boolean(true)), checked(7), checked(8)),
+            when(check(PRIVILEGE, boolean(true)), checked(7), checked(8)),
         ),
         (
             "if, both branches",
@@ -112,7 +112,10 @@ fn ways() -> Vec<(&'static str, Tree)> {
             "if, the no-branch",
             when(boolean(true), number(7), checked(8)),
         ),
-        ("call, both parts", call(check(ASKED, quiet()), checked(7))),
+        (
+            "call, both parts",
+            call(check(PRIVILEGE, quiet()), checked(7)),
+        ),
         ("call, the argument", call(quiet(), checked(7))),
         (
             "binder, the rest",
@@ -120,11 +123,15 @@ fn ways() -> Vec<(&'static str, Tree)> {
         ),
         (
             "test of it, both branches",
-            test(ASKED, checked(7), checked(8)),
+            test(PRIVILEGE, checked(7), checked(8)),
         ),
         (
             "test of it, twice",
-            test(ASKED, number(0), test(ASKED, checked(7), checked(8))),
+            test(
+                PRIVILEGE,
+                number(0),
+                test(PRIVILEGE, checked(7), checked(8)),
+            ),
         ),
         (
             "test of another, both branches",
@@ -151,10 +158,13 @@ fn ways() -> Vec<(&'static str, Tree)> {
 /// Terms that are a cause themselves, and others that look like one.
 fn causes_on_the_way() -> Vec<(&'static str, Tree)> {
     vec![
-        ("a check of a check", check(ASKED, checked(7))),
+        ("a check of a check", check(PRIVILEGE, checked(7))),
         ("a check of another around", check(OTHER, checked(7))),
         ("a call on a check", call(needy(), checked(7))),
-        ("a call of a check", call(check(ASKED, needy()), number(7))),
+        (
+            "a call of a check",
+            call(check(PRIVILEGE, needy()), number(7)),
+        ),
         (
             "a binder and a call of what it binds",
             letrec(NEEDY, needy_body(), call(variable(0), number(7))),
@@ -162,7 +172,7 @@ fn causes_on_the_way() -> Vec<(&'static str, Tree)> {
         ("a call on a call", call(quiet(), call(needy(), number(7)))),
         (
             "a call that is given what needs it",
-            call(takes_needy(), check(ASKED, needy())),
+            call(takes_needy(), check(PRIVILEGE, needy())),
         ),
     ]
 }
@@ -172,20 +182,23 @@ fn hidden() -> Vec<(&'static str, Tree)> {
     vec![
         ("a number", number(7)),
         ("a check of another", check(OTHER, number(7))),
-        ("an enable", enable(ASKED, checked(7))),
+        ("an enable", enable(PRIVILEGE, checked(7))),
         ("an enable of another", enable(OTHER, checked(7))),
         (
             "an enable beside a check",
-            sum(enable(ASKED, checked(7)), checked(8)),
+            sum(enable(PRIVILEGE, checked(7)), checked(8)),
         ),
-        ("the yes-branch", test(ASKED, checked(7), number(0))),
+        ("the yes-branch", test(PRIVILEGE, checked(7), number(0))),
         (
             "the yes-branch of another",
             test(OTHER, checked(7), number(0)),
         ),
         (
             "an enable in vain in the yes-branch",
-            sign(UNABLE, test(ASKED, enable(ASKED, checked(7)), number(0))),
+            sign(
+                UNABLE,
+                test(PRIVILEGE, enable(PRIVILEGE, checked(7)), number(0)),
+            ),
         ),
         (
             "a function that is given and not called",
@@ -209,36 +222,36 @@ fn guarded() -> Vec<(&'static str, Tree)> {
         ),
         ("a post to an open channel", post(checked(7))),
         ("a guarded post of a check", post_to(PAGE, checked(7))),
-        ("a check of a guarded post", check(ASKED, posted(7))),
+        ("a check of a guarded post", check(PRIVILEGE, posted(7))),
         (
             "a guarded post of a guarded post",
             post_to(PAGE, post_to(PAGE, number(7))),
         ),
         ("sum, both guarded", sum(posted(7), posted(8))),
         ("a guarded post beside a check", sum(checked(7), posted(8))),
-        ("an enable of a guarded post", enable(ASKED, posted(7))),
+        ("an enable of a guarded post", enable(PRIVILEGE, posted(7))),
         (
             "an enable of another of a guarded post",
             enable(OTHER, posted(7)),
         ),
         (
             "a guarded post in the yes-branch",
-            test(ASKED, posted(7), number(0)),
+            test(PRIVILEGE, posted(7), number(0)),
         ),
         (
             "a guarded post in the no-branch",
-            test(ASKED, posted(7), posted(8)),
+            test(PRIVILEGE, posted(7), posted(8)),
         ),
         ("only another guards", post_to(OTHER_PAGE, number(7))),
     ]
 }
 
 fn checked(value: u16) -> Tree {
-    check(ASKED, number(value))
+    check(PRIVILEGE, number(value))
 }
 
 fn needy_body() -> Tree {
-    sign(ABLE, check(ASKED, variable(0)))
+    sign(ABLE, check(PRIVILEGE, variable(0)))
 }
 
 fn needy() -> Tree {
@@ -258,5 +271,5 @@ fn gives_needy() -> Tree {
 }
 
 fn enabled_call() -> Tree {
-    enable(ASKED, call(needy(), variable(0)))
+    enable(PRIVILEGE, call(needy(), variable(0)))
 }

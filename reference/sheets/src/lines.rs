@@ -71,11 +71,12 @@ impl Store {
         }
     }
 
-    /// A job to add while the first `lent` bytes of the store are lent.
-    pub fn random_job(&self, rng: &mut Rng, lent: usize) -> Job {
+    /// A job to add while the first `store_length` bytes of the store
+    /// are lent.
+    pub fn random_job(&self, rng: &mut Rng, store_length: usize) -> Job {
         let (offset, length) = match rng.below(20) {
-            0 => past_or_at_the_end(rng, lent),
-            1 => wrapping(rng, lent),
+            0 => past_or_at_the_end(rng, store_length),
+            1 => wrapping(rng, store_length),
             2 => self.nearly_a_sheet(rng),
             _ => of_range(self.random_sheet(rng)),
         };
@@ -107,23 +108,23 @@ fn of_range(range: Range<usize>) -> (u64, u64) {
 }
 
 /// Parts that reach just to the end of what is lent, or just past it.
-fn past_or_at_the_end(rng: &mut Rng, lent: usize) -> (u64, u64) {
-    let lent = lent as u64;
-    let from = rng.between(0, lent as usize) as u64;
+fn past_or_at_the_end(rng: &mut Rng, store_length: usize) -> (u64, u64) {
+    let store_length = store_length as u64;
+    let from = rng.between(0, store_length as usize) as u64;
     rng.pick(&[
-        (lent, 0),
-        (lent, 1),
-        (lent + 1, 0),
-        (from, lent - from),
-        (from, lent - from + 1),
+        (store_length, 0),
+        (store_length, 1),
+        (store_length + 1, 0),
+        (from, store_length - from),
+        (from, store_length - from + 1),
     ])
 }
 
 /// Parts far outside, of which most are inside for a reader who adds up
 /// offset and length in 64 bits or sees the lowest 32 alone.
-fn wrapping(rng: &mut Rng, lent: usize) -> (u64, u64) {
+fn wrapping(rng: &mut Rng, store_length: usize) -> (u64, u64) {
     const BEYOND: u64 = 1 << 32;
-    let within = rng.between(0, lent) as u64;
+    let within = rng.between(0, store_length) as u64;
     rng.pick(&[
         (u64::MAX, 1),
         (1, u64::MAX),

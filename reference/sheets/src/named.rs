@@ -6,7 +6,7 @@ use crate::records::{TypeRecord, CHANNELS, NUMBER, UNGUARDED};
 use crate::tree::*;
 
 /// The privilege that is asked about.
-pub const ASKED: u8 = 1;
+pub const PRIVILEGE: u8 = 1;
 /// Another one.
 pub const OTHER: u8 = 2;
 
@@ -23,7 +23,7 @@ const NEEDY: u16 = 3;
 /// does and that has the number of the privilege. Nothing guards the rest.
 const PAGE: u8 = 2;
 const LAST_PAGE: u8 = 15;
-const OTHER_PAGE: u8 = ASKED;
+const OTHER_PAGE: u8 = PRIVILEGE;
 
 #[derive(Clone, Debug)]
 pub struct Named {
@@ -32,10 +32,14 @@ pub struct Named {
 }
 
 pub fn all() -> Vec<Named> {
-    let principals = [1 << ASKED | 1 << OTHER, 0];
-    let functions = [0, 1 << ASKED].map(|latent| TypeRecord::function(NUMBER, NUMBER, latent));
+    let principals = [1 << PRIVILEGE | 1 << OTHER, 0];
+    let functions = [0, 1 << PRIVILEGE].map(|latent| TypeRecord::function(NUMBER, NUMBER, latent));
     let mut guards = [UNGUARDED; CHANNELS];
-    for (page, guard) in [(PAGE, ASKED), (LAST_PAGE, ASKED), (OTHER_PAGE, OTHER)] {
+    for (page, guard) in [
+        (PAGE, PRIVILEGE),
+        (LAST_PAGE, PRIVILEGE),
+        (OTHER_PAGE, OTHER),
+    ] {
         guards[usize::from(page)] = guard;
     }
     let version_1 = |(name, tree)| Named {
@@ -57,13 +61,13 @@ fn checks_and_tests() -> Vec<(&'static str, Tree)> {
     vec![
         ("a check", checked(7)),
         ("a test", tested(7, 8)),
-        ("a check below an enable", enable(ASKED, checked(7))),
+        ("a check below an enable", enable(PRIVILEGE, checked(7))),
         ("two checks", sum(checked(7), checked(8))),
         ("a test before a check", sum(tested(7, 8), checked(9))),
-        ("a check in a test", test(ASKED, checked(7), number(8))),
+        ("a check in a test", test(PRIVILEGE, checked(7), number(8))),
         (
             "a check after others",
-            check(OTHER, check(ASKED, sum(number(7), number(8)))),
+            check(OTHER, check(PRIVILEGE, sum(number(7), number(8)))),
         ),
     ]
 }
@@ -75,7 +79,7 @@ fn out_of_reach() -> Vec<(&'static str, Tree)> {
             "a check in a body that nothing calls",
             letrec(
                 QUIET,
-                sign(ABLE, enable(ASKED, check(ASKED, variable(0)))),
+                sign(ABLE, enable(PRIVILEGE, check(PRIVILEGE, variable(0)))),
                 number(7),
             ),
         ),
@@ -94,13 +98,13 @@ fn others() -> Vec<(&'static str, Tree)> {
         (
             "an enable",
             sum(
-                enable(ASKED, test(OTHER, post(number(7)), number(8))),
+                enable(PRIVILEGE, test(OTHER, post(number(7)), number(8))),
                 number(9),
             ),
         ),
         (
             "an enable in vain",
-            sign(UNABLE, enable(ASKED, test(OTHER, number(7), number(8)))),
+            sign(UNABLE, enable(PRIVILEGE, test(OTHER, number(7), number(8)))),
         ),
         (
             "a need of it",
@@ -124,11 +128,11 @@ fn refused() -> Vec<(&'static str, Tree)> {
     vec![
         (
             "a check, no number",
-            sum(check(ASKED, boolean(true)), number(7)),
+            sum(check(PRIVILEGE, boolean(true)), number(7)),
         ),
         (
             "an enable, no number",
-            sum(enable(ASKED, boolean(true)), number(7)),
+            sum(enable(PRIVILEGE, boolean(true)), number(7)),
         ),
         ("a check by the unable", sign(UNABLE, checked(7))),
     ]
@@ -148,15 +152,18 @@ fn posts() -> Vec<(&'static str, Tree)> {
         ),
         ("a post to an open channel", post(number(7))),
         ("no post", number(7)),
-        ("an enable of no post", enable(ASKED, number(7))),
-        ("a guarded post below an enable", enable(ASKED, posted())),
+        ("an enable of no post", enable(PRIVILEGE, number(7))),
+        (
+            "a guarded post below an enable",
+            enable(PRIVILEGE, posted()),
+        ),
         ("a guarded post before a check", sum(posted(), checked(8))),
         ("a check before a guarded post", sum(checked(8), posted())),
         (
             "a guarded post in a body that nothing calls",
             letrec(
                 QUIET,
-                sign(ABLE, enable(ASKED, post_to(PAGE, variable(0)))),
+                sign(ABLE, enable(PRIVILEGE, post_to(PAGE, variable(0)))),
                 number(7),
             ),
         ),
@@ -164,9 +171,9 @@ fn posts() -> Vec<(&'static str, Tree)> {
 }
 
 fn checked(value: u16) -> Tree {
-    check(ASKED, number(value))
+    check(PRIVILEGE, number(value))
 }
 
 fn tested(yes: u16, no: u16) -> Tree {
-    test(ASKED, number(yes), number(no))
+    test(PRIVILEGE, number(yes), number(no))
 }

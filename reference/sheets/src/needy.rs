@@ -24,7 +24,7 @@ const HALF_ABLE: u8 = 1;
 /// A channel that nothing guards; in version 2, one that the asked privilege
 /// guards, and one that the other does.
 const OPEN: u8 = 0;
-const ASKED_PAGE: u8 = 1;
+const PAGE: u8 = 1;
 const OTHER_PAGE: u8 = 2;
 
 /// A sheet that needs the first privilege of its world, unless something on
@@ -66,7 +66,7 @@ fn world(rng: &mut Rng, query: u8, other: u8) -> World {
     types.extend([0, p, q, p | q].map(|latent| TypeRecord::function(NUMBER, NUMBER, latent)));
     types.push(TypeRecord::function(BOOL, NUMBER, 0));
     let mut guards = [UNGUARDED; CHANNELS];
-    guards[usize::from(ASKED_PAGE)] = query;
+    guards[usize::from(PAGE)] = query;
     guards[usize::from(OTHER_PAGE)] = other;
     World {
         privileges: vec![query, other],
@@ -108,7 +108,7 @@ impl Nest<'_> {
     /// In version 1 a check.
     fn needing_post(&mut self, tree: Tree) -> Tree {
         if self.has_pages {
-            post_to(ASKED_PAGE, tree)
+            post_to(PAGE, tree)
         } else {
             check(self.query, tree)
         }

@@ -173,11 +173,11 @@ impl Drawer<'_> {
         let is_less = left.value < right.value;
         let condition = less(left.tree, right.tree);
         let chosen = self.draw(levels);
-        let happened = (self.exact.len(), self.calls, self.posts.len());
+        let before = (self.exact.len(), self.calls, self.posts.len());
         let other = self.draw(levels);
-        self.exact.truncate(happened.0);
-        self.calls = happened.1;
-        self.posts.truncate(happened.2);
+        self.exact.truncate(before.0);
+        self.calls = before.1;
+        self.posts.truncate(before.2);
         let tree = match is_less {
             true => when(condition, chosen.tree, other.tree),
             false => when(condition, other.tree, chosen.tree),

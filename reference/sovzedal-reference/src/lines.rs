@@ -33,7 +33,7 @@ impl Job {
 
 /// What is lent to whoever serves a job. It may be another store, with other
 /// buffers, each time.
-pub struct Lent<'a> {
+pub struct Buffers<'a> {
     pub store: &'a [u8],
     pub cells: &'a mut [u8],
     pub posts: &'a mut [u32],
@@ -86,12 +86,12 @@ impl Lines {
     }
 
     /// Gives one job its turn, or tells that there is none.
-    pub fn serve(&mut self, lent: Lent) -> Option<Served> {
+    pub fn serve(&mut self, buffers: Buffers) -> Option<Served> {
         let mut in_turn = (self.turn..self.turn + LINES).map(|line| line % LINES);
         let line = in_turn.find(|&line| self.has_job(line))?;
         let job = self.queues[line].pop_front()?;
         self.turn = (line + 1) % LINES;
-        let answer = run(job, self.place, lent);
+        let answer = run(job, self.place, buffers);
         if let Ok(run) = answer {
             self.place += u64::from(run.posts);
         }
@@ -105,17 +105,17 @@ impl Lines {
 
 /// One whole run of the job. That more than 256 entries are left is 15 by the
 /// runner's own test: what is left is all that it is lent.
-fn run(job: Job, place: u64, lent: Lent) -> Result<Run, Refusal> {
-    let sheet = job.part(lent.store)?;
+fn run(job: Job, place: u64, buffers: Buffers) -> Result<Run, Refusal> {
+    let sheet = job.part(buffers.store)?;
     decode(sheet)?;
-    if lent.cells.len() != MAX_CELL_BYTES {
+    if buffers.cells.len() != MAX_CELL_BYTES {
         return Err(Cause::Buffers.anywhere());
     }
     let request = Request {
         calls: job.calls,
         ..Request::LARGEST
     };
-    run_eager(sheet, &request, lent.cells, rest(lent.posts, place))
+    run_eager(sheet, &request, buffers.cells, rest(buffers.posts, place))
 }
 
 /// What is left of a list: nothing if it is shorter than the place.

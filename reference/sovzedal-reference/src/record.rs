@@ -39,18 +39,18 @@ impl Entry {
 
 /// A record that a run fills. Bytes too few for an entry take none.
 pub(crate) struct Recorder<'a> {
-    lent: &'a mut [u8],
+    buffer: &'a mut [u8],
     entries: usize,
 }
 
 impl<'a> Recorder<'a> {
-    pub fn new(lent: &'a mut [u8]) -> Self {
-        Self { lent, entries: 0 }
+    pub fn new(buffer: &'a mut [u8]) -> Self {
+        Self { buffer, entries: 0 }
     }
 
     /// "A full record takes no more, and the run goes on."
     pub fn add(&mut self, entry: Entry) {
-        let mut places = self.lent.chunks_exact_mut(ENTRY_BYTES);
+        let mut places = self.buffer.chunks_exact_mut(ENTRY_BYTES);
         if let Some(place) = places.nth(self.entries) {
             place.copy_from_slice(&entry.to_bytes());
             self.entries += 1;

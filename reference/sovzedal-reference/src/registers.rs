@@ -72,14 +72,14 @@ impl Block {
 
     fn run(&mut self, loaded: Loaded) {
         let calls = u16::from_be_bytes([self.bytes[at::CALLS], self.bytes[CALLS_LOW]]);
-        let told = Told::from(answer(calls, loaded));
+        let registers = RunRegisters::from(answer(calls, loaded));
         self.bytes[at::COMMAND] = 0;
         self.bytes[at::STATUS] &= !(status::ENDED | status::STOPPED | status::REFUSED);
-        self.bytes[at::STATUS] |= told.status;
-        self.bytes[at::CAUSE] = told.cause;
-        self.put(at::VALUE, told.value);
-        self.put(at::CALLS_MADE, told.calls);
-        self.put(at::PLACE, told.place);
+        self.bytes[at::STATUS] |= registers.status;
+        self.bytes[at::CAUSE] = registers.cause;
+        self.put(at::VALUE, registers.value);
+        self.put(at::CALLS_MADE, registers.calls);
+        self.put(at::PLACE, registers.place);
     }
 
     fn put(&mut self, at: usize, number: u16) {
@@ -116,7 +116,7 @@ fn answer(calls: u16, loaded: Loaded) -> Result<Run, Refusal> {
 
 /// What a run's answer puts into the block. What has no meaning in it is zero.
 #[derive(Default)]
-struct Told {
+struct RunRegisters {
     status: u8,
     cause: u8,
     value: u16,
@@ -124,39 +124,39 @@ struct Told {
     place: u16,
 }
 
-impl From<Result<Run, Refusal>> for Told {
+impl From<Result<Run, Refusal>> for RunRegisters {
     fn from(answer: Result<Run, Refusal>) -> Self {
         match answer {
-            Ok(run) => Told {
+            Ok(run) => RunRegisters {
                 calls: run.calls as u16,
-                ..Told::from(run.outcome)
+                ..RunRegisters::from(run.outcome)
             },
-            Err(Refusal { cause, place }) => Told {
+            Err(Refusal { cause, place }) => RunRegisters {
                 status: status::REFUSED,
                 cause: cause.number() as u8,
                 place: place as u16,
-                ..Told::default()
+                ..RunRegisters::default()
             },
         }
     }
 }
 
-impl From<Outcome> for Told {
+impl From<Outcome> for RunRegisters {
     fn from(outcome: Outcome) -> Self {
         match outcome {
-            Outcome::End(value) => Told {
+            Outcome::End(value) => RunRegisters {
                 status: status::ENDED,
                 value: match value {
                     Plain::Bool(value) => u16::from(value),
                     Plain::Number(value) => value,
                 },
-                ..Told::default()
+                ..RunRegisters::default()
             },
-            Outcome::Stop(Stop { cause, term }) => Told {
+            Outcome::Stop(Stop { cause, term }) => RunRegisters {
                 status: status::STOPPED,
                 cause: cause.number() as u8,
                 place: term,
-                ..Told::default()
+                ..RunRegisters::default()
             },
         }
     }

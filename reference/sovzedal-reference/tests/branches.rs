@@ -75,7 +75,7 @@ fn branches_have_the_wider_type() {
         ("more than who signs may use", Err((Cause::SignNeeds, 10))),
         ("at the root", Err((Cause::RootType, 9))),
     ];
-    let told: Vec<_> = branches::all()
+    let verdicts: Vec<_> = branches::all()
         .iter()
         .map(|case| {
             let verdict = typecheck(&case.sheet)
@@ -84,7 +84,7 @@ fn branches_have_the_wider_type() {
             (case.name, verdict)
         })
         .collect();
-    assert_eq!(told, expected);
+    assert_eq!(verdicts, expected);
 }
 
 /// How the verdicts of before and after W4 compare.

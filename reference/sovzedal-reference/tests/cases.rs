@@ -196,11 +196,11 @@ fn what_a_test_takes_out_of_needs() {
         ("a function of both branches, called outside", Ok(ONE)),
         ("the body of a quiet function", Ok(0)),
     ];
-    let told: Vec<_> = yes_branch::all()
+    let verdicts: Vec<_> = yes_branch::all()
         .iter()
         .map(|case| (case.name, judged(&case.sheet)))
         .collect();
-    assert_eq!(told, expected);
+    assert_eq!(verdicts, expected);
 }
 
 fn judged(sheet: &[u8]) -> Result<u32, (Cause, u32)> {

@@ -50,13 +50,13 @@ fn what_is_left_of_a_record_fits() {
         (&[7, 7, 8], &[7, 8, 7, 8], 1),
     ];
     for (unit, office, missing) in cases {
-        let told = compare(&record(unit), &record(office));
-        assert_eq!(told, fits(missing), "{unit:?} in {office:?}");
+        let result = compare(&record(unit), &record(office));
+        assert_eq!(result, fits(missing), "{unit:?} in {office:?}");
     }
 }
 
 #[test]
-fn the_first_entry_up_to_which_they_do_not_occur_is_told() {
+fn the_first_entry_up_to_which_they_do_not_occur_is_reported() {
     let cases: [(&[u16], &[u16], usize); 6] = [
         (&[7], &[], 0),
         (&[6, 7, 8], &[7, 8], 0),
@@ -66,8 +66,8 @@ fn the_first_entry_up_to_which_they_do_not_occur_is_told() {
         (&[7, 9, 8], &[7, 8, 9, 7], 2),
     ];
     for (unit, office, entry) in cases {
-        let told = compare(&record(unit), &record(office));
-        assert_eq!(told, diverges(entry), "{unit:?} in {office:?}");
+        let result = compare(&record(unit), &record(office));
+        assert_eq!(result, diverges(entry), "{unit:?} in {office:?}");
     }
 }
 

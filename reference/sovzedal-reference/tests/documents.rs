@@ -4,13 +4,16 @@
 //! `include/sovzedal.h`. Where the repository is not around this workspace,
 //! there is nothing to compare.
 
+mod repository;
+
+use repository::{files_below, repository};
 use sheets::cases::computing;
 use sheets::extremes::longest;
 use sheets::ranges::{numbers_of, with_numbers};
 use sheets::smallest::{all, Smallest};
 use sheets::tree;
 use sovzedal_reference::infer_term;
-use sovzedal_reference::lines::{Job, Lent, Lines, STATE_NUMBERS};
+use sovzedal_reference::lines::{Buffers, Job, Lines, STATE_NUMBERS};
 use sovzedal_reference::registers::{at, status, Block, BLOCK_BYTES, RUN};
 use sovzedal_reference::{compare, decode, erase, explain, names, piece, report, run_eager};
 use sovzedal_reference::{record_lazy, run_ranges, typecheck, typecheck_by, Naming};
@@ -20,8 +23,8 @@ use sovzedal_reference::{
     CHAIN_TERMS, CHANNELS, ENTRY_BYTES, FRAME_NUMBERS, MAX_CALLS, MAX_CELL_BYTES, MAX_OPEN_CALLS,
     MAX_POSTS,
 };
-use std::path::{Path, PathBuf};
-use std::{env, fs};
+use std::fs;
+use std::path::Path;
 
 #[test]
 fn examples_print_what_is_shown() {
@@ -30,7 +33,7 @@ fn examples_print_what_is_shown() {
         return;
     }
     let shown = read(&directory.join("README.md"));
-    let sheets = hex_files(&directory);
+    let sheets = files_below(&directory, "hex");
     assert!(!sheets.is_empty(), "no examples");
     for path in sheets {
         let print = read(&path.with_extension("out"));
@@ -120,7 +123,7 @@ fn refusals_are_those_of_the_smallest_sheets() {
         let sheet = block(section, "hex").expect("a sheet");
         assert_eq!(bytes(sheet), case.sheet, "sheet for {cause}");
         let print = block(section, "text").expect("a print");
-        assert_eq!(told(&case), print, "print for {cause}");
+        assert_eq!(print_of(&case), print, "print for {cause}");
     }
 }
 
@@ -189,7 +192,7 @@ fn the_refusals_of_jobs_are_those_of_the_calls_shown() {
 /// Makes the calls shown, on new lines. The last one is refused, and no other.
 fn refused_in_the_end(calls: &str) -> Refusal {
     let mut lines = Lines::new();
-    let mut told = Ok(());
+    let mut result = Ok(());
     let mut times = 1;
     for call in calls.lines().map(str::trim) {
         if let Some(rest) = call.strip_prefix("for (int job = 0; job < ") {
@@ -198,12 +201,12 @@ fn refused_in_the_end(calls: &str) -> Refusal {
             continue;
         }
         for _ in 0..times {
-            assert_eq!(told, Ok(()), "refused before {call}");
-            told = make(&mut lines, call);
+            assert_eq!(result, Ok(()), "refused before {call}");
+            result = make(&mut lines, call);
         }
         times = 1;
     }
-    told.expect_err("a refusal")
+    result.expect_err("a refusal")
 }
 
 /// Makes a call as it stands in C, of which the numbers are the arguments that
@@ -225,12 +228,12 @@ fn make(lines: &mut Lines, call: &str) -> Result<(), Refusal> {
             lines.add(line as u32, job, &vec![0; store])
         }
         ("serve", &[STATE_NUMBERS, store, cells, posts, 9]) => {
-            let lent = Lent {
+            let buffers = Buffers {
                 store: &vec![0; store],
                 cells: &mut vec![0; cells],
                 posts: &mut vec![0; posts],
             };
-            let served = lines.serve(lent).expect("a job");
+            let served = lines.serve(buffers).expect("a job");
             served.answer.map(|_| ())
         }
         _ => panic!("{call}"),
@@ -585,9 +588,9 @@ fn are_judgements_of<'a>(sheet: &[u8], lines: impl Iterator<Item = &'a str>) {
 /// A cause is also told by a word, which the header has.
 fn is_judgement_of(sheet: &[u8], number: u32, printed: &str) {
     let (begin, end) = match infer_term(sheet, number) {
-        Ok(told) => {
-            let principal = told.principal.unwrap_or(0);
-            let (ty, needs) = (told.ty, told.needs.bits());
+        Ok(inferred) => {
+            let principal = inferred.principal.unwrap_or(0);
+            let (ty, needs) = (inferred.ty, inferred.needs.bits());
             let begin = format!("type {ty}, needs {needs:08X}, principal {principal}");
             (begin, String::new())
         }
@@ -613,32 +616,32 @@ fn the_draft_has_the_piece_shown() {
     let mut draft = bytes(&read(&directory.join("draft.hex")));
     let shown = read(&directory.join("README.md"));
     let print = block(section(&shown, "Pieces").expect("a section"), "text").expect("a print");
-    let told = piece(&draft).expect("a readable sheet").expect("a piece");
+    let found = piece(&draft).expect("a readable sheet").expect("a piece");
     let first = typecheck(&draft).expect_err("a refusal");
     let begin = format!(
         "refused, {} (needs of a body) at {}\n\
          smallest faulty piece: {} (argument) at {}, terms {}\n",
         first.cause.number(),
         first.place,
-        told.fault.number(),
-        told.term,
-        told.count
+        found.fault.number(),
+        found.term,
+        found.count
     );
     let mut lines = print.strip_prefix(&begin).expect(&begin).lines();
-    for line in lines.by_ref().take(told.count) {
+    for line in lines.by_ref().take(found.count) {
         let (number, rest) = line.trim_start().split_once(": ").expect("a term");
         let (_, rest) = rest.split_once(", ").expect("its kind");
         let (record, judgement) = rest.split_once(": ").expect("its record");
         let number: TermId = number.parse().expect("a number");
-        let below = 8 * usize::from(told.term - number);
-        let place = told.record.start - below..told.record.end - below;
+        let below = 8 * usize::from(found.term - number);
+        let place = found.record.start - below..found.record.end - below;
         assert_eq!(bytes(record), draft[place], "the record of {number}");
         is_judgement_of(&draft, number.into(), judgement);
     }
     are_judgements_of(&draft, lines);
     the_gate_asks_for_the_print_of("Pieces");
 
-    let record = |number: TermId| told.record.start - 8 * usize::from(told.term - number);
+    let record = |number: TermId| found.record.start - 8 * usize::from(found.term - number);
     let mends = [
         (record(38), 0x0D, 0x0B, Some((34, 6, 10))),
         (record(31), 0x0B, 0x0D, Some((18, 9, 12))),
@@ -647,9 +650,9 @@ fn the_draft_has_the_piece_shown() {
     for (place, old, new, next) in mends {
         assert_eq!(draft[place], old);
         draft[place] = new;
-        let told = piece(&draft).expect("a readable sheet");
-        let told = told.map(|it| (it.term, it.count, it.fault.number()));
-        assert_eq!(told, next);
+        let found = piece(&draft).expect("a readable sheet");
+        let found = found.map(|it| (it.term, it.count, it.fault.number()));
+        assert_eq!(found, next);
     }
     let mended = report(&draft);
     assert!(mended.contains("\nneeds 00000000\n"), "{mended}");
@@ -697,16 +700,16 @@ fn the_release_is_withdrawn_from_the_sheets_shown() {
     let shown = read(&directory.join("README.md"));
     let section = section(&shown, "Withdrawing").expect("a section");
     let print = block(section, "text").expect("a print");
-    let told = print.lines().filter(|line| !line.starts_with(' '));
-    for line in told {
-        let (path, told) = line.split_once(": ").expect("a file");
+    let lines = print.lines().filter(|line| !line.starts_with(' '));
+    for line in lines {
+        let (path, printed) = line.split_once(": ").expect("a file");
         let name = path.strip_prefix("examples/").expect("an example");
         let naming = names(&sheet(name), 0).expect("a readable sheet");
         let expected = match naming {
             Naming::Unnamed => "no term names it".to_string(),
             Naming::By(term) => format!("term {term} names it"),
         };
-        assert_eq!(told, expected, "{name}");
+        assert_eq!(printed, expected, "{name}");
     }
     the_gate_asks_for_the_print_of("Withdrawing");
 
@@ -757,7 +760,7 @@ fn the_frame_is_recorded_as_shown() {
         let sheet = bytes(&read(&directory.join(name)));
         let (mut cells, mut posts) = (vec![0; MAX_CELL_BYTES], [0; MAX_POSTS]);
         let (mut frames, mut record) = (vec![0; FRAME_NUMBERS], vec![0; 4_000]);
-        let told = record_lazy(
+        let result = record_lazy(
             &sheet,
             &Request::LARGEST,
             &mut cells,
@@ -765,9 +768,9 @@ fn the_frame_is_recorded_as_shown() {
             &mut frames,
             &mut record,
         );
-        let told = told.expect("a run that starts");
-        record.truncate(told.entries * ENTRY_BYTES);
-        (told.run.outcome, record)
+        let result = result.expect("a run that starts");
+        record.truncate(result.entries * ENTRY_BYTES);
+        (result.run.outcome, record)
     };
     let (outcome, office) = recorded("frame.hex");
     let Outcome::End(Plain::Number(value)) = outcome else {
@@ -822,13 +825,13 @@ fn the_records_are_compared_as_shown() {
     let mut cut = records[1].clone();
     cut.pop();
     records.push(cut);
-    let told = records.iter().map(|unit| match compare(unit, &office) {
+    let results = records.iter().map(|unit| match compare(unit, &office) {
         Ok(Comparison::Fits { missing }) => format!("fits, {missing} missing"),
         Ok(Comparison::Diverges { entry }) => format!("does not fit from entry {entry} on"),
         Err(refusal) => format!("refused, {}", refusal.cause.number()),
     });
-    let told = told.zip(&records);
-    let told = told.map(|(told, unit)| format!("{} bytes: {told}", unit.len()));
+    let results = results.zip(&records);
+    let results = results.map(|(result, unit)| format!("{} bytes: {result}", unit.len()));
     let shown = read(&directory.join("README.md"));
     let print = block(section(&shown, "Records").expect("a section"), "text").expect("a print");
     let printed = print.lines().map(|line| {
@@ -836,7 +839,7 @@ fn the_records_are_compared_as_shown() {
         rest.to_string()
     });
     assert_eq!(
-        told.collect::<Vec<String>>(),
+        results.collect::<Vec<String>>(),
         printed.collect::<Vec<String>>()
     );
     the_gate_asks_for_the_print_of("Records");
@@ -888,9 +891,9 @@ fn the_runs_over_ranges_are_those_of_the_calls_shown() {
 /// A run with the largest allowances and buffers, and its posts.
 fn over_ranges(sheet: &[u8], pairs: &[u16]) -> (Result<RangeRun, Refusal>, Vec<u32>) {
     let (mut cells, mut posts) = (vec![0; MAX_CELL_BYTES], vec![0; MAX_POSTS]);
-    let told = run_ranges(sheet, pairs, &Request::LARGEST, &mut cells, &mut posts);
-    posts.truncate(told.map_or(0, |run| run.posts as usize));
-    (told, posts)
+    let result = run_ranges(sheet, pairs, &Request::LARGEST, &mut cells, &mut posts);
+    posts.truncate(result.map_or(0, |run| run.posts as usize));
+    (result, posts)
 }
 
 /// The number of an undecided end.
@@ -951,8 +954,8 @@ fn graded(sheet: &[u8], limits: &str) -> String {
     }
     let pairs = lowest.iter().zip(&highest);
     let pairs: Vec<u16> = pairs.flat_map(|(&low, &high)| [low, high]).collect();
-    let (told, posts) = over_ranges(sheet, &pairs);
-    let mut print = told_in_full("within limits", told.into(), &posts, |range| {
+    let (result, posts) = over_ranges(sheet, &pairs);
+    let mut print = outcome_line("within limits", result.into(), &posts, |range| {
         match (range >> 16, range & 0xFFFF) {
             (low, high) if low == high => low.to_string(),
             (low, high) => format!("{low} to {high}"),
@@ -961,15 +964,15 @@ fn graded(sheet: &[u8], limits: &str) -> String {
     for (name, numbers) in [("all lowest", lowest), ("all highest", highest)] {
         let (mut cells, mut posts) = (vec![0; MAX_CELL_BYTES], vec![0; MAX_POSTS]);
         let chosen = with_numbers(sheet, &numbers);
-        let told = run_eager(&chosen, &Request::LARGEST, &mut cells, &mut posts);
-        posts.truncate(told.map_or(0, |run| run.posts as usize));
-        print += &told_in_full(name, told.into(), &posts, |number| number.to_string());
+        let result = run_eager(&chosen, &Request::LARGEST, &mut cells, &mut posts);
+        posts.truncate(result.map_or(0, |run| run.posts as usize));
+        print += &outcome_line(name, result.into(), &posts, |number| number.to_string());
     }
     print
 }
 
 /// A line of that example, for an end in a number or a stop by 36.
-fn told_in_full(name: &str, reply: Reply, posts: &[u32], number: fn(u32) -> String) -> String {
+fn outcome_line(name: &str, reply: Reply, posts: &[u32], number: fn(u32) -> String) -> String {
     let [cause, place, _, value, calls, cells, ..] = reply.answer;
     let outcome = match cause {
         0 => format!("ended in {}", number(value)),
@@ -1027,12 +1030,6 @@ fn the_gate_asks_for_the_print_of(word: &str) {
     }
 }
 
-/// Asked when the test runs: a path compiled in would outlive a move.
-fn repository() -> PathBuf {
-    let package = env::var_os("CARGO_MANIFEST_DIR").expect("cargo sets it");
-    Path::new(&package).join("../..")
-}
-
 fn header() -> Option<String> {
     let path = repository().join("include/sovzedal.h");
     path.exists().then(|| read(&path))
@@ -1040,14 +1037,6 @@ fn header() -> Option<String> {
 
 fn read(path: &Path) -> String {
     fs::read_to_string(path).unwrap_or_else(|error| panic!("{}: {error}", path.display()))
-}
-
-fn hex_files(directory: &Path) -> Vec<PathBuf> {
-    fs::read_dir(directory)
-        .expect("the examples")
-        .map(|entry| entry.expect("an example").path())
-        .filter(|path| path.extension().is_some_and(|extension| extension == "hex"))
-        .collect()
 }
 
 /// The section whose heading begins with this word.
@@ -1081,7 +1070,7 @@ fn bytes(text: &str) -> Vec<u8> {
 
 /// The program's print or, for a request that it never makes and a stop that
 /// no accepted sheet has, the run in the same words.
-fn told(case: &Smallest) -> String {
+fn print_of(case: &Smallest) -> String {
     match case.cause {
         14..=16 | 18 => run(case),
         _ => report(&case.sheet),

@@ -72,9 +72,9 @@ fn refusals_come_in_their_order() {
         assert_eq!(erase(&sheet), Err(NO_LEAN_FORM), "{name}");
     }
     for case in smallest::all() {
-        let told = erase(&case.sheet).map(|_| ());
+        let result = erase(&case.sheet).map(|_| ());
         let judged = typecheck(&case.sheet).map(|_| ());
-        assert_eq!(told, judged, "{}", case.cause);
+        assert_eq!(result, judged, "{}", case.cause);
     }
     let refused_with_test = sign(0, test(1, check(1, number(7)), check(1, number(8))));
     let sheet = cases::plain(&[0], refused_with_test);

@@ -2,7 +2,7 @@
 //! is none, and what is refused first.
 
 use sheets::cases::{posting, posting_without_enable};
-use sheets::explained::{self, ASKED};
+use sheets::explained::{self, PRIVILEGE};
 use sheets::generate::sample;
 use sheets::needy::needing;
 use sheets::records::{Format, Records, TypeRecord};
@@ -76,14 +76,17 @@ fn each_case_has_its_chain() {
         ("a guarded post in the no-branch", &[5, 4, 3]),
         ("only another guards", &[]),
     ];
-    let told: Vec<(&str, Vec<u16>)> = explained::all()
+    let results: Vec<(&str, Vec<u16>)> = explained::all()
         .iter()
         .map(|case| {
-            let explanation = explain(&case.sheet, ASKED.into()).expect(case.name);
+            let explanation = explain(&case.sheet, PRIVILEGE.into()).expect(case.name);
             (case.name, explanation.terms().to_vec())
         })
         .collect();
-    assert_eq!(told, expected.map(|(name, chain)| (name, chain.to_vec())));
+    assert_eq!(
+        results,
+        expected.map(|(name, chain)| (name, chain.to_vec()))
+    );
 }
 
 /// "Where several children qualify the lowest position is followed": the
@@ -110,7 +113,7 @@ fn the_first_child_may_have_the_higher_number() {
 
 /// "If the privilege isn't needed the answer says so, and only then."
 #[test]
-fn not_needed_is_told_exactly_if_it_is_not_among_the_needs() {
+fn not_needed_is_reported_exactly_if_it_is_not_among_the_needs() {
     let mut counts = [0; 2];
     for index in 0..SHEETS {
         let rng = &mut Rng::for_item(SEED, index);
@@ -143,13 +146,13 @@ fn refusals_come_in_their_order() {
     for case in smallest::all() {
         let judged = typecheck(&case.sheet);
         for privilege in [0, 31, 32, 255, 256, 1 << 31, u32::MAX] {
-            let told = explain(&case.sheet, privilege).map(|_| ());
+            let result = explain(&case.sheet, privilege).map(|_| ());
             let expected = match judged {
                 Err(refusal) => Err(refusal),
                 Ok(_) if privilege > 31 => Err(NO_PRIVILEGE),
                 Ok(_) => Ok(()),
             };
-            assert_eq!(told, expected, "{}, privilege {privilege}", case.cause);
+            assert_eq!(result, expected, "{}, privilege {privilege}", case.cause);
         }
     }
     assert_eq!(

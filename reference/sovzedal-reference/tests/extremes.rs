@@ -127,14 +127,14 @@ fn the_most_decisions_are_some_four_million() {
     assert_eq!(decode(&sheet).unwrap().terms.len(), 1_024);
     let mut record = vec![0; 1 << 24];
     let (mut cells, mut posts) = (vec![0; 1 << 16], []);
-    let told = record_eager(
+    let recorded = record_eager(
         &sheet,
         &Request::LARGEST,
         &mut cells,
         &mut posts,
         &mut record,
     );
-    let told = told.unwrap();
-    assert_eq!(told.run.calls, 4_095);
-    assert_eq!(told.entries, 909 * 4_095);
+    let recorded = recorded.unwrap();
+    assert_eq!(recorded.run.calls, 4_095);
+    assert_eq!(recorded.entries, 909 * 4_095);
 }

@@ -12,11 +12,11 @@ const SEED: u64 = 2;
 fn grown_sheets_are_accepted_or_too_large() {
     for index in 0..SHEETS {
         let sample = accepted_sample(&mut Rng::for_item(SEED, index));
-        let told = typecheck(&sample.bytes).err().map(|refusal| refusal.cause);
+        let cause = typecheck(&sample.bytes).err().map(|refusal| refusal.cause);
         let too_large = matches!(
-            told,
+            cause,
             Some(Cause::WrongLength | Cause::TypeRecord | Cause::Nesting)
         );
-        assert!(told.is_none() || too_large, "item {index}: {told:?}");
+        assert!(cause.is_none() || too_large, "item {index}: {cause:?}");
     }
 }

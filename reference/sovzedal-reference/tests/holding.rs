@@ -27,16 +27,16 @@ fn run(sheet: &[u8], query: &Query, checks: Checks) -> Result<Run, Refusal> {
 
 /// An end's value or a stop's cause, and how many results were held.
 #[derive(Clone, Copy, Debug, PartialEq, Eq)]
-enum Told {
+enum Summary {
     Number(u16, u32),
     Bool(bool, u32),
     Stop(u32, u32),
     Refused(u32),
 }
 
-use Told::*;
+use Summary::*;
 
-fn told(run: Result<Run, Refusal>) -> Told {
+fn summary(run: Result<Run, Refusal>) -> Summary {
     match run {
         Ok(Run { outcome, held, .. }) => match outcome {
             Outcome::End(Plain::Number(value)) => Number(value, held),
@@ -96,7 +96,7 @@ fn the_exact_result_is_past_a_limit_or_not() {
         .iter()
         .map(|case| {
             let run = run(&case.sheet, &case.request, Checks::Enforced);
-            (case.name, told(run))
+            (case.name, summary(run))
         })
         .collect();
     assert_eq!(all, expected);
@@ -110,8 +110,8 @@ fn checks_passed_over() {
         let enforced = run(&case.sheet, &case.request, Checks::Enforced);
         let skipped = run(&case.sheet, &case.request, Checks::Skipped);
         match case.name {
-            "a check after a held sum" => assert_eq!(told(skipped), Number(65_535, 2)),
-            "a check around a held sum" => assert_eq!(told(skipped), Number(65_535, 1)),
+            "a check after a held sum" => assert_eq!(summary(skipped), Number(65_535, 2)),
+            "a check around a held sum" => assert_eq!(summary(skipped), Number(65_535, 1)),
             name => assert_eq!(enforced, skipped, "{name}"),
         }
     }
@@ -120,7 +120,7 @@ fn checks_passed_over() {
 /// "ends and stops carry that count beside the calls": entry 7 of the answer,
 /// and the end of the program's line.
 #[test]
-fn where_the_count_is_told() {
+fn where_the_count_is_reported() {
     for case in held::all() {
         let run = run(&case.sheet, &case.request, Checks::Enforced);
         let reply = Reply::from(run);

@@ -179,7 +179,7 @@ fn a_binder_is_judged_after_its_rest() {
 }
 
 #[test]
-fn a_bodys_type_is_told_before_its_needs() {
+fn a_bodys_type_is_reported_before_its_needs() {
     let both = function(QUIET, sign(0, check(1, boolean(true))));
     assert_eq!(refused(both), (Cause::TypeMismatch, 3));
     let needs_alone = function(QUIET, sign(0, check(1, number(1))));

@@ -3,7 +3,7 @@
 use sheets::cases::{asking_for_1, computing, endless, posting, posting_without_enable};
 use sheets::smallest;
 use sheets::tree::*;
-use sovzedal_reference::lines::{at, Job, Lent, Lines, Served, State, LINES, STATE_NUMBERS};
+use sovzedal_reference::lines::{at, Buffers, Job, Lines, Served, State, LINES, STATE_NUMBERS};
 use sovzedal_reference::{run_eager, Cause, Outcome, Plain, Refusal, Request, Run, Stop};
 use sovzedal_reference::{MAX_CALLS, MAX_CELL_BYTES, MAX_POSTS};
 
@@ -58,7 +58,7 @@ impl Unit {
     }
 
     fn serve(&mut self) -> Option<Served> {
-        self.lines.serve(Lent {
+        self.lines.serve(Buffers {
             store: &self.store,
             cells: &mut self.cells,
             posts: &mut self.posts,
@@ -170,7 +170,7 @@ fn a_job_is_a_part_of_the_store() {
 }
 
 #[test]
-fn the_store_is_lent_anew_each_time() {
+fn the_store_is_passed_anew_each_time() {
     // What is in it when the job is served is run.
     let mut unit = Unit::new();
     unit.queue(0, &ending(1));
@@ -409,7 +409,7 @@ fn fifteen_is_tested_on_what_is_left() {
 }
 
 #[test]
-fn a_refused_job_uses_up_its_turn_and_its_number_is_told() {
+fn a_refused_job_uses_up_its_turn_and_its_number_is_reported() {
     let refused = [
         (smallest(1), Cause::CutShort, 0),
         (smallest(5), Cause::TypeRecord, 1),
@@ -464,7 +464,7 @@ fn a_job_is_28_if_the_store_is_shorter_when_it_is_served() {
 
 #[test]
 fn refusals_of_a_job_have_their_order() {
-    let told = |sheet: &[u8], store: usize, cells: usize, posts: usize, calls: u32| {
+    let cause_of = |sheet: &[u8], store: usize, cells: usize, posts: usize, calls: u32| {
         let mut unit = Unit::new();
         let part = unit.keep(sheet);
         unit.add(0, part, calls).unwrap();
@@ -476,14 +476,14 @@ fn refusals_of_a_job_have_their_order() {
     // First by 28, then by the sheet, the buffers and the allowance.
     for cause in 2..=8 {
         let sheet = smallest(cause);
-        assert_eq!(told(&sheet, sheet.len() - 1, 8, 257, 4_097), 28);
-        assert_eq!(told(&sheet, sheet.len(), 8, 257, 4_097), cause);
+        assert_eq!(cause_of(&sheet, sheet.len() - 1, 8, 257, 4_097), 28);
+        assert_eq!(cause_of(&sheet, sheet.len(), 8, 257, 4_097), cause);
     }
-    assert_eq!(told(&[], 0, 8, 257, 4_097), 1);
+    assert_eq!(cause_of(&[], 0, 8, 257, 4_097), 1);
     let sheet = ending(1);
-    assert_eq!(told(&sheet, sheet.len(), 8, 256, 4_097), 15);
-    assert_eq!(told(&sheet, sheet.len(), 65_536, 257, 4_097), 15);
-    assert_eq!(told(&sheet, sheet.len(), 65_536, 256, 4_097), 16);
+    assert_eq!(cause_of(&sheet, sheet.len(), 8, 256, 4_097), 15);
+    assert_eq!(cause_of(&sheet, sheet.len(), 65_536, 257, 4_097), 15);
+    assert_eq!(cause_of(&sheet, sheet.len(), 65_536, 256, 4_097), 16);
 }
 
 #[test]

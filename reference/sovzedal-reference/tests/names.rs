@@ -1,13 +1,18 @@
 //! The names in the documents exist. In the tables of `docs/ARCHITECTURE.md`
 //! each definition and theorem is made in the file that is given for it, and
 //! each function in its module; what is defined has code or a theorem, and
-//! each crate has a row. Where the repository is not around this workspace,
-//! there is nothing to compare.
+//! each crate has a row. The names that the templates of the definitions' rows
+//! import exist too, and every link of a document leads to a file and to a
+//! heading of it. Where the repository is not around this workspace, there is
+//! nothing to compare.
 
+mod repository;
+
+use repository::{files_below, repository};
 use std::collections::BTreeMap;
 use std::fmt::Debug;
+use std::fs;
 use std::path::{Path, PathBuf};
-use std::{env, fs};
 
 /// The documents whose paths `crate::module::item` are looked up.
 const DOCUMENTS: [&str; 4] = [
@@ -95,6 +100,27 @@ fn each_crate_has_a_row() {
     }
 }
 
+#[test]
+fn names_in_templates_exist() {
+    let templates = files(&repository().join("reference/definitions/templates"));
+    let imports: Vec<Import> = templates.iter().flat_map(|text| imports(text)).collect();
+    let around = repository().join("crates").exists();
+    assert!(!around || imports.len() > 20, "imports: {}", imports.len());
+    let imports = imports.iter().filter(|_| around);
+    none("not found", imports.flat_map(Import::missing));
+}
+
+#[test]
+fn links_lead_somewhere() {
+    let around = repository().join("crates").exists();
+    let documents = files_below(&repository(), "md");
+    let documents = documents.iter().filter(|_| around);
+    none(
+        "leads nowhere",
+        documents.flat_map(|path| broken_links(path)),
+    );
+}
+
 /// The rows of all tables of `docs/ARCHITECTURE.md`.
 fn architecture() -> Vec<Row> {
     let text = document("docs/ARCHITECTURE.md");
@@ -174,6 +200,73 @@ fn without_notes(cell: &str) -> String {
         }
     }
     kept
+}
+
+/// A line `use Rattle.crate.specs.File.{names}`.
+struct Import<'a> {
+    crate_name: &'a str,
+    file: &'a str,
+    names: &'a str,
+}
+
+impl Import<'_> {
+    fn missing(&self) -> Vec<String> {
+        missing_in(&format!(
+            "{}/{}: {}",
+            self.crate_name, self.file, self.names
+        ))
+    }
+}
+
+/// What a text imports from crates of the repository. The library that the
+/// rows themselves are in has a mark in its name, and no folder.
+fn imports(text: &str) -> impl Iterator<Item = Import<'_>> {
+    let lines = text.lines().filter_map(|line| {
+        let (crate_name, rest) = line.strip_prefix("use Rattle·")?.split_once(".specs.")?;
+        let (file, names) = rest.strip_suffix('}')?.split_once(".{")?;
+        Some(Import {
+            crate_name,
+            file,
+            names,
+        })
+    });
+    lines.filter(|import| !import.crate_name.contains('·'))
+}
+
+/// The links of a document to a file that is not there, or to a heading that
+/// its document does not have.
+fn broken_links(path: &Path) -> Vec<String> {
+    let text = fs::read_to_string(path).expect("a text");
+    let folder = path.parent().expect("a folder");
+    let links = text.split("](").skip(1);
+    let links = links.filter_map(|rest| rest.split_once(')').map(|(link, _)| link));
+    let leads = |link: &&str| {
+        let (file, heading) = link.split_once('#').unwrap_or((link, ""));
+        let target = match file {
+            "" => path.to_owned(),
+            file => folder.join(file),
+        };
+        target.exists() && (heading.is_empty() || has_heading(&target, heading))
+    };
+    let broken = links.filter(|link| !leads(link));
+    broken
+        .map(|link| format!("{}: {link}", path.display()))
+        .collect()
+}
+
+/// Whether a document has the heading that is linked to by this word: lower
+/// case, hyphens for blanks, and no other marks.
+fn has_heading(path: &Path, word: &str) -> bool {
+    let text = fs::read_to_string(path).expect("a text");
+    let mut headings = text.lines().filter(|line| line.starts_with('#'));
+    headings.any(|line| {
+        let heading = line.trim_start_matches('#').trim().to_lowercase();
+        let kept = heading
+            .chars()
+            .filter(|&c| c.is_alphanumeric() || "-_ ".contains(c));
+        kept.map(|c| if c == ' ' { '-' } else { c })
+            .eq(word.chars())
+    })
 }
 
 /// The names of a list: the first word of each of its items.
@@ -303,10 +396,4 @@ fn document(name: &str) -> String {
     }
     let text = fs::read_to_string(repository().join(name));
     text.unwrap_or_else(|error| panic!("{name}: {error}"))
-}
-
-/// Asked when the test runs: a path compiled in would outlive a move.
-fn repository() -> PathBuf {
-    let package = env::var_os("CARGO_MANIFEST_DIR").expect("cargo sets it");
-    Path::new(&package).join("../..")
 }

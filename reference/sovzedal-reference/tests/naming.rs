@@ -2,7 +2,7 @@
 //! refused, and that a privilege which none names plays no part in a run.
 
 use sheets::cases::posting;
-use sheets::named::{self, ABLE, ASKED, OTHER, UNABLE};
+use sheets::named::{self, ABLE, OTHER, PRIVILEGE, UNABLE};
 use sheets::quiet::quiet;
 use sheets::rng::Rng;
 use sheets::{hex, smallest};
@@ -60,19 +60,19 @@ const EXPECTED: [(&str, Option<u16>); 31] = [
 
 #[test]
 fn each_case_has_its_lowest_term() {
-    let told: Vec<(&str, Option<u16>)> = named::all()
+    let results: Vec<(&str, Option<u16>)> = named::all()
         .iter()
         .map(|case| {
-            let naming = names(&case.sheet, ASKED.into()).expect(case.name);
+            let naming = names(&case.sheet, PRIVILEGE.into()).expect(case.name);
             (case.name, term(naming))
         })
         .collect();
-    assert_eq!(told, EXPECTED);
+    assert_eq!(results, EXPECTED);
 }
 
 /// "For a readable sheet, accepted or not".
 #[test]
-fn sheets_that_the_rules_refuse_are_asked_too() {
+fn sheets_that_the_rules_refuse_are_queried_too() {
     let cases = named::all();
     let refused = cases.iter().filter(|case| typecheck(&case.sheet).is_err());
     let refused: Vec<&str> = refused.map(|case| case.name).collect();
@@ -91,14 +91,14 @@ fn refusals_come_in_their_order() {
     for case in smallest::all() {
         let read = decode(&case.sheet).map(|_| ());
         for privilege in [0, 31, 32, 255, 256, 1 << 31, u32::MAX] {
-            let told = names(&case.sheet, privilege).map(|_| ());
+            let result = names(&case.sheet, privilege).map(|_| ());
             let expected = match read {
                 Err(refusal) => Err(refusal),
                 Ok(()) if privilege > 31 => Err(NO_PRIVILEGE),
                 Ok(()) => Ok(()),
             };
-            assert_eq!(told, expected, "{}, privilege {privilege}", case.cause);
-            causes.extend(told.err().map(|refusal| refusal.cause.number()));
+            assert_eq!(result, expected, "{}, privilege {privilege}", case.cause);
+            causes.extend(result.err().map(|refusal| refusal.cause.number()));
         }
     }
     assert_eq!(causes, (1..=8).chain([30, 31]).collect());
@@ -118,7 +118,7 @@ fn a_privilege_above_31_is_not_taken_for_another() {
 /// it is the same. Frames are innermost first.
 fn pairs() -> Vec<[Vec<u32>; 2]> {
     let (able, unable) = (u32::from(ABLE), u32::from(UNABLE));
-    let (query, other) = (1 << ASKED, 1 << OTHER);
+    let (query, other) = (1 << PRIVILEGE, 1 << OTHER);
     vec![
         [vec![], vec![able, query]],
         [vec![able, other], vec![able, query | other]],
@@ -138,7 +138,7 @@ fn pairs() -> Vec<[Vec<u32>; 2]> {
 fn a_privilege_that_none_names_plays_no_part() {
     let mut differing = Vec::new();
     for case in named::all() {
-        let naming = names(&case.sheet, ASKED.into()).expect(case.name);
+        let naming = names(&case.sheet, PRIVILEGE.into()).expect(case.name);
         let plays_a_part = pairs().iter().any(|starts| {
             let [one, other] = starts.each_ref().map(|start| runs(&case.sheet, start));
             one != other

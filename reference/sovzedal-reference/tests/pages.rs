@@ -10,7 +10,7 @@ use sheets::rng::Rng;
 use sheets::spoil::spoil_one;
 use sheets::tree::*;
 use sheets::world::World;
-use sovzedal_reference::lines::{Job, Lent, Lines};
+use sovzedal_reference::lines::{Buffers, Job, Lines};
 use sovzedal_reference::registers::{at, status, Block, Loaded, RUN};
 use sovzedal_reference::{decode, report, run_eager, run_lazy, typecheck};
 use sovzedal_reference::{Cause, Checks, Outcome, Plain, Refusal, Request, Run, Set, Stop};
@@ -24,9 +24,9 @@ const MAX_NESTING: usize = 32;
 const SHEETS: u64 = 10_000;
 const SEED: u64 = 8;
 
-type Told = (Cause, u32);
+type CauseAndPlace = (Cause, u32);
 
-fn told(refusal: Refusal) -> Told {
+fn cause_and_place(refusal: Refusal) -> CauseAndPlace {
     (refusal.cause, refusal.place)
 }
 
@@ -69,14 +69,14 @@ fn how_sheets_are_read() {
     let cases = pages::reading();
     let read = cases
         .iter()
-        .map(|case| (case.name, decode(&case.sheet).err().map(told)));
+        .map(|case| (case.name, decode(&case.sheet).err().map(cause_and_place)));
     assert_eq!(read.collect::<Vec<_>>(), expected);
 }
 
 /// The judge and the runs tell what the reader does, and a run that is turned
 /// back leaves its buffers.
 #[test]
-fn what_cannot_be_read_is_told_alike() {
+fn what_cannot_be_read_is_refused_alike() {
     for case in pages::reading() {
         let Err(refusal) = decode(&case.sheet) else {
             continue;
@@ -98,7 +98,7 @@ fn every_prefix_is_cut_short() {
     let case = &pages::posting()[0];
     for length in 0..case.sheet.len() {
         let refusal = decode(&case.sheet[..length]).expect_err("a fault");
-        assert_eq!(told(refusal), (Cause::CutShort, 0), "{length}");
+        assert_eq!(cause_and_place(refusal), (Cause::CutShort, 0), "{length}");
     }
 }
 
@@ -149,7 +149,7 @@ fn what_a_guard_adds_to_needs() {
     let cases = pages::posting();
     let judged = cases.iter().map(|case| {
         let needs = typecheck(&case.sheet).map(|verdict| verdict.needs.bits());
-        (case.name, needs.map_err(told))
+        (case.name, needs.map_err(cause_and_place))
     });
     assert_eq!(judged.collect::<Vec<_>>(), expected);
 }
@@ -204,11 +204,11 @@ fn what_a_guard_lets_pass() {
         ),
     ];
     let cases = pages::posting();
-    let told = cases.iter().map(|case| {
+    let results = cases.iter().map(|case| {
         let (run, posts) = run(&case.sheet, &case.request, Checks::Enforced);
         (case.name, run.outcome, posts)
     });
-    assert_eq!(told.collect::<Vec<_>>(), expected);
+    assert_eq!(results.collect::<Vec<_>>(), expected);
 }
 
 /// Checks and guards are passed over together: nothing is refused, and the
@@ -242,7 +242,7 @@ fn last_channel(name: &str) -> u8 {
 }
 
 #[test]
-fn the_guard_is_asked_before_a_place() {
+fn the_guard_is_checked_before_a_place() {
     let expected = [
         ("the guard before a place", stop(Cause::RefusedCheck, 1), 0),
         ("no place for a guarded post", stop(Cause::NoPost, 1), 0),
@@ -254,11 +254,11 @@ fn the_guard_is_asked_before_a_place() {
         ),
     ];
     let cases = pages::without_a_place();
-    let told = cases.iter().map(|case| {
+    let results = cases.iter().map(|case| {
         let (run, _) = run(&case.sheet, &case.request, Checks::Enforced);
         (case.name, run.outcome, run.posts)
     });
-    assert_eq!(told.collect::<Vec<_>>(), expected);
+    assert_eq!(results.collect::<Vec<_>>(), expected);
     // Passed over, a guard leaves the place to be missed.
     let (skipped, _) = run(&cases[0].sheet, &cases[0].request, Checks::Skipped);
     assert_eq!(skipped.outcome, stop(Cause::NoPost, 1));
@@ -331,13 +331,13 @@ fn lines_have_guarded_sheets_run() {
     }
     let (mut cells, mut posts) = (vec![9; MAX_CELL_BYTES], [9; 4]);
     let mut serve = || {
-        let lent = Lent {
+        let buffers = Buffers {
             store: &store,
             cells: &mut cells,
             posts: &mut posts,
         };
-        let answer = lines.serve(lent).expect("a job").answer;
-        answer.map(|run| run.outcome).map_err(told)
+        let answer = lines.serve(buffers).expect("a job").answer;
+        answer.map(|run| run.outcome).map_err(cause_and_place)
     };
     assert_eq!(serve(), Ok(end(7)));
     assert_eq!(serve(), Ok(end(5)));
@@ -442,9 +442,9 @@ fn version_1_has_no_guard() {
         assert_eq!(typecheck(one), typecheck(&two), "item {index}");
         let query = Query::random_admissible(rng, vec![]);
         for checks in [Checks::Enforced, Checks::Skipped] {
-            let (told, posts) = run(one, &query, checks);
+            let (result, posts) = run(one, &query, checks);
             assert!(posts.iter().all(|&entry| entry < 65_536));
-            assert_eq!((told, posts), run(&two, &query, checks), "item {index}");
+            assert_eq!((result, posts), run(&two, &query, checks), "item {index}");
         }
         compared += 1;
     }

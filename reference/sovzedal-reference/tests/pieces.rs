@@ -17,14 +17,14 @@ const RECORD: usize = 8;
 /// Of each case what the judge tells, cause and place, and of the piece the
 /// term, the count of terms and the fault. Terms are numbered from the leaves up
 /// and from left to right.
-type Told = (
+type CaseResult = (
     &'static str,
     Option<(u32, u32)>,
     Option<(TermId, usize, u32)>,
 );
 
 #[rustfmt::skip]
-const EXPECTED: [Told; 47] = [
+const EXPECTED: [CaseResult; 47] = [
     ("9", Some((9, 1)), Some((1, 1, 9))),
     ("10 of an operand", Some((10, 3)), Some((3, 3, 10))),
     ("10 of a condition", Some((10, 3)), Some((3, 4, 10))),
@@ -76,17 +76,17 @@ const EXPECTED: [Told; 47] = [
 
 #[test]
 fn each_case_has_its_piece() {
-    let told: Vec<Told> = pieces::all()
+    let results: Vec<CaseResult> = pieces::all()
         .iter()
         .map(|case| {
             let judged = typecheck(&case.sheet).err();
             let judged = judged.map(|refusal| (refusal.cause.number(), refusal.place));
-            let told = piece(&case.sheet).expect(case.name);
-            let told = told.map(|it| (it.term, it.count, it.fault.number()));
-            (case.name, judged, told)
+            let found = piece(&case.sheet).expect(case.name);
+            let found = found.map(|it| (it.term, it.count, it.fault.number()));
+            (case.name, judged, found)
         })
         .collect();
-    assert_eq!(told, EXPECTED);
+    assert_eq!(results, EXPECTED);
 }
 
 /// "An unreadable sheet gets the reader's refusal; any other has 'no piece'",
@@ -97,9 +97,9 @@ fn refusals_are_the_readers_alone() {
     let mut with_piece = BTreeSet::new();
     for case in smallest::all() {
         let read = decode(&case.sheet).map(|_| ());
-        let told = piece(&case.sheet);
-        assert_eq!(told.clone().map(|_| ()), read, "{}", case.cause);
-        match told {
+        let found = piece(&case.sheet);
+        assert_eq!(found.clone().map(|_| ()), read, "{}", case.cause);
+        match found {
             Err(refusal) => {
                 refused.insert(refusal.cause.number());
             }
@@ -139,11 +139,11 @@ fn the_record_is_in_the_sheet() {
 
 /// The largest numbers that are told.
 #[test]
-fn a_late_fault_is_told_by_its_offset() {
+fn a_late_fault_is_reported_by_its_offset() {
     let sheet = late_fault();
-    let told = piece(&sheet).expect("a readable sheet").expect("a piece");
-    assert_eq!((told.term, told.count), (1_022, 1_023));
-    let reply = Reply::from(Some(told));
+    let found = piece(&sheet).expect("a readable sheet").expect("a piece");
+    assert_eq!((found.term, found.count), (1_022, 1_023));
+    let reply = Reply::from(Some(found));
     assert_eq!(reply.answer, [0, 0, 10, 1_022, 1_023, 10_878, 8, 0]);
 }
 
@@ -157,21 +157,21 @@ fn nothing_is_judged_but_where_it_stands() {
         let Ok(sheet) = decode(&bytes) else {
             continue;
         };
-        let told = piece(&bytes).expect("a readable sheet");
-        assert_eq!(told.is_some(), is_by_rules(&bytes), "{}", hex(&bytes));
-        let (Some(told), Err(first)) = (told, typecheck(&bytes)) else {
+        let found = piece(&bytes).expect("a readable sheet");
+        assert_eq!(found.is_some(), is_by_rules(&bytes), "{}", hex(&bytes));
+        let (Some(found), Err(first)) = (found, typecheck(&bytes)) else {
             continue;
         };
         let first_is = (count(&sheet, first.place as TermId), first.place as TermId);
-        let told_is = (told.count, told.term);
-        assert_eq!(told.count, count(&sheet, told.term));
-        assert!(told_is <= first_is, "{}", hex(&bytes));
+        let found_is = (found.count, found.term);
+        assert_eq!(found.count, count(&sheet, found.term));
+        assert!(found_is <= first_is, "{}", hex(&bytes));
         counts[0] += 1;
-        counts[1] += usize::from(told_is.0 < first_is.0);
-        counts[2] += usize::from(told_is.0 == first_is.0 && told_is.1 < first_is.1);
-        counts[3] += usize::from(told_is == first_is);
+        counts[1] += usize::from(found_is.0 < first_is.0);
+        counts[2] += usize::from(found_is.0 == first_is.0 && found_is.1 < first_is.1);
+        counts[3] += usize::from(found_is == first_is);
         // The first fault is its term's own, too.
-        assert!(told_is != first_is || told.fault == first.cause);
+        assert!(found_is != first_is || found.fault == first.cause);
     }
     let [refused, smaller, lower, first] = counts;
     assert!(

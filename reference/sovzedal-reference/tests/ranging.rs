@@ -23,7 +23,7 @@ const POST: u32 = 0xA5A5_A5A5;
 /// An answer with the buffers as it left them.
 #[derive(Clone, Debug, PartialEq, Eq)]
 struct Left<R> {
-    told: Result<R, Refusal>,
+    result: Result<R, Refusal>,
     cells: Vec<u8>,
     posts: Vec<u32>,
 }
@@ -40,8 +40,12 @@ fn left<R>(
         checks,
     };
     let (mut cells, mut posts) = (vec![CELL; query.cell_bytes], vec![POST; query.posts]);
-    let told = run(&request, &mut cells, &mut posts);
-    Left { told, cells, posts }
+    let result = run(&request, &mut cells, &mut posts);
+    Left {
+        result,
+        cells,
+        posts,
+    }
 }
 
 fn over_ranges(sheet: &[u8], pairs: &[u16], query: &Query, checks: Checks) -> Left<RangeRun> {
@@ -73,20 +77,20 @@ fn drawn() -> impl Iterator<Item = (Vec<u8>, Vec<u16>, Query, Rng)> {
 
 /// What is told, in short.
 #[derive(Clone, Copy, Debug, PartialEq, Eq)]
-enum Told {
+enum Summary {
     Number(u16, u16),
     Bool(Truth),
     Stop(u32, u16),
     Refused(u32),
 }
 
-use Told::{Number, Refused, Stop};
+use Summary::{Number, Refused, Stop};
 
-fn told(run: Result<RangeRun, Refusal>) -> Told {
+fn summary(run: Result<RangeRun, Refusal>) -> Summary {
     match run {
         Ok(run) => match run.outcome {
             Outcome::End(Plain::Number(range)) => Number(range.lowest, range.highest),
-            Outcome::End(Plain::Bool(truth)) => Told::Bool(truth),
+            Outcome::End(Plain::Bool(truth)) => Summary::Bool(truth),
             Outcome::Stop(stop) => Stop(stop.cause.number(), stop.term),
         },
         Err(refusal) => Refused(refusal.cause.number()),
@@ -95,9 +99,9 @@ fn told(run: Result<RangeRun, Refusal>) -> Told {
 
 #[test]
 fn each_case_has_its_answer() {
-    const YES: Told = Told::Bool(Truth::Yes);
-    const NO: Told = Told::Bool(Truth::No);
-    const UNDECIDED: Told = Told::Bool(Truth::Undecided);
+    const YES: Summary = Summary::Bool(Truth::Yes);
+    const NO: Summary = Summary::Bool(Truth::No);
+    const UNDECIDED: Summary = Summary::Bool(Truth::Undecided);
     let expected = [
         ("a number", Number(3, 9)),
         ("a number as it is written", Number(7, 7)),
@@ -190,7 +194,7 @@ fn each_case_has_its_answer() {
         .iter()
         .map(|case| {
             let left = over_ranges(&case.sheet, &case.pairs, &case.request, Checks::Enforced);
-            (case.name, told(left.told))
+            (case.name, summary(left.result))
         })
         .collect();
     assert_eq!(all, expected);
@@ -204,7 +208,7 @@ fn posts_and_counts_of_the_cases() {
         let all = ranged::all();
         let case = all.iter().find(|case| case.name == name).expect(name);
         let left = over_ranges(&case.sheet, &case.pairs, &case.request, Checks::Enforced);
-        let run = left.told.expect("a run that starts");
+        let run = left.result.expect("a run that starts");
         assert!(left.cells.iter().all(|&byte| byte == 0));
         assert!(left.posts[run.posts as usize..]
             .iter()
@@ -235,7 +239,7 @@ fn checks_passed_over() {
         let [enforced, skipped] = [Checks::Enforced, Checks::Skipped]
             .map(|checks| over_ranges(&case.sheet, &case.pairs, &case.request, checks));
         if case.name == "a refused check" {
-            assert_eq!(told(skipped.told), Number(3, 9));
+            assert_eq!(summary(skipped.result), Number(3, 9));
             assert_eq!(skipped.posts[0], 3 * 65_536 + 9);
         } else {
             assert_eq!(enforced, skipped, "{}", case.name);
@@ -250,17 +254,17 @@ fn answers_by_their_numbers() {
     for case in ranged::all() {
         let left = over_ranges(&case.sheet, &case.pairs, &case.request, Checks::Enforced);
         let counts = left
-            .told
+            .result
             .map_or([0; 4], |run| [run.calls, run.cells, run.posts, 0]);
-        let (status, first) = match told(left.told) {
+        let (status, first) = match summary(left.result) {
             Number(lowest, highest) => (0, [0, 0, 1, u32::from(lowest) << 16 | u32::from(highest)]),
-            Told::Bool(Truth::No) => (0, [0, 0, 0, 0]),
-            Told::Bool(Truth::Yes) => (0, [0, 0, 0, 1]),
-            Told::Bool(Truth::Undecided) => (0, [0, 0, 0, 2]),
+            Summary::Bool(Truth::No) => (0, [0, 0, 0, 0]),
+            Summary::Bool(Truth::Yes) => (0, [0, 0, 0, 1]),
+            Summary::Bool(Truth::Undecided) => (0, [0, 0, 0, 2]),
             Stop(cause, term) => (1, [cause, term.into(), 0, 0]),
-            Refused(cause) => (2, [cause, left.told.unwrap_err().place, 0, 0]),
+            Refused(cause) => (2, [cause, left.result.unwrap_err().place, 0, 0]),
         };
-        let reply = Reply::from(left.told);
+        let reply = Reply::from(left.result);
         assert_eq!(reply.status, status, "{}", case.name);
         assert_eq!(reply.answer[..4], first, "{}", case.name);
         assert_eq!(reply.answer[4..], counts, "{}", case.name);
@@ -345,7 +349,7 @@ fn plain_runs_are_inside_the_answer() {
     for (sheet, pairs, query, mut rng) in cases.chain(drawn()) {
         for checks in [Checks::Enforced, Checks::Skipped] {
             let answer = over_ranges(&sheet, &pairs, &query, checks);
-            let Ok(run) = answer.told else {
+            let Ok(run) = answer.result else {
                 continue;
             };
             if matches!(run.outcome, Outcome::Stop(stop) if stop.cause == Cause::Undecided) {
@@ -356,13 +360,13 @@ fn plain_runs_are_inside_the_answer() {
                 let choice = ranges::random_choice(&mut rng, &pairs);
                 let chosen = ranges::with_numbers(&sheet, &choice);
                 let plain = plainly(&chosen, &query, checks);
-                let told = plain.told.expect("a run that starts");
+                let plain_run = plain.result.expect("a run that starts");
                 assert!(
                     is_inside(&plain, &answer),
                     "{} {pairs:?} {choice:?}",
                     hex(&sheet)
                 );
-                ends.push(told.outcome);
+                ends.push(plain_run.outcome);
             }
             match run.outcome {
                 Outcome::End(_) => ended += 1,
@@ -378,7 +382,7 @@ fn plain_runs_are_inside_the_answer() {
 }
 
 fn is_inside(plain: &Left<Run>, answer: &Left<RangeRun>) -> bool {
-    let (Ok(run), Ok(over)) = (plain.told, answer.told) else {
+    let (Ok(run), Ok(over)) = (plain.result, answer.result) else {
         return false;
     };
     let outcome = match (run.outcome, over.outcome) {
@@ -412,7 +416,7 @@ fn single_numbers_give_the_plain_run() {
         let pairs: Vec<u16> = numbers.iter().flat_map(|&number| [number; 2]).collect();
         let over = over_ranges(&sheet, &pairs, &query, Checks::Enforced);
         let plain = plainly(&sheet, &query, Checks::Enforced);
-        let (run, expected) = match (over.told, plain.told) {
+        let (run, expected) = match (over.result, plain.result) {
             (Ok(run), Ok(expected)) => (run, expected),
             (Err(refusal), Ok(_)) if refusal.cause == Cause::Ranges => {
                 assert!(decode(&sheet).unwrap().guards.is_some());
@@ -499,13 +503,13 @@ fn wrong_pairs_come_last() {
                 continue;
             };
             let over = over_ranges(&sheet, &pairs, &query, Checks::Enforced);
-            let Err(refusal) = over.told else {
-                assert!(wrong.is_none() && plain.told.is_ok(), "{}", hex(&sheet));
+            let Err(refusal) = over.result else {
+                assert!(wrong.is_none() && plain.result.is_ok(), "{}", hex(&sheet));
                 continue;
             };
             assert!(over.cells.iter().all(|&byte| byte == CELL));
             assert!(over.posts.iter().all(|&post| post == POST));
-            if let Err(first) = plain.told {
+            if let Err(first) = plain.result {
                 assert_eq!(refusal, first, "{}", hex(&sheet));
                 before += 1;
                 continue;

@@ -6,7 +6,7 @@ use sheets::records::{field, Format, Records, TermRecord, TypeRecord, NUMBER};
 use sheets::tree::*;
 use sovzedal_reference::{decode, Cause, Refusal};
 
-fn told(bytes: &[u8]) -> (Cause, u32) {
+fn refusal(bytes: &[u8]) -> (Cause, u32) {
     let Refusal { cause, place } = decode(bytes).expect_err("a fault");
     (cause, place)
 }
@@ -29,7 +29,7 @@ fn readable() -> Records {
 }
 
 /// What is told of a term record that stands before an innocent root.
-fn told_of_term(kind: u8, small: u8, parts: [u16; 3]) -> Option<(Cause, u32)> {
+fn refusal_of_term(kind: u8, small: u8, parts: [u16; 3]) -> Option<(Cause, u32)> {
     let leaf = number(1).assemble()[0];
     let record = TermRecord { kind, small, parts };
     let root = sign(0, number(0)).assemble()[1];
@@ -41,50 +41,50 @@ fn told_of_term(kind: u8, small: u8, parts: [u16; 3]) -> Option<(Cause, u32)> {
 
 #[test]
 fn a_header_is_whole_before_its_tag_is_looked_at() {
-    assert_eq!(told(&[9, 0]), (Cause::CutShort, 0));
-    assert_eq!(told(&[9, 0, 0]), (Cause::WrongTag, 0));
+    assert_eq!(refusal(&[9, 0]), (Cause::CutShort, 0));
+    assert_eq!(refusal(&[9, 0, 0]), (Cause::WrongTag, 0));
 }
 
 #[test]
 fn a_length_is_right_before_its_content_is_looked_for() {
-    assert_eq!(told(&[1, 0, 3]), (Cause::WrongLength, 0));
-    assert_eq!(told(&[1, 0, 2]), (Cause::CutShort, 0));
-    assert_eq!(told(&[1, 0, 2, 0]), (Cause::CutShort, 0));
+    assert_eq!(refusal(&[1, 0, 3]), (Cause::WrongLength, 0));
+    assert_eq!(refusal(&[1, 0, 2]), (Cause::CutShort, 0));
+    assert_eq!(refusal(&[1, 0, 2, 0]), (Cause::CutShort, 0));
 }
 
 #[test]
 fn the_version_is_right_before_the_next_header() {
-    assert_eq!(told(&[1, 0, 2, 0, 3]), (Cause::WrongVersion, 0));
-    assert_eq!(told(&[1, 0, 2, 0, 2]), (Cause::CutShort, 0));
-    assert_eq!(told(&[1, 0, 2, 0, 1]), (Cause::CutShort, 0));
+    assert_eq!(refusal(&[1, 0, 2, 0, 3]), (Cause::WrongVersion, 0));
+    assert_eq!(refusal(&[1, 0, 2, 0, 2]), (Cause::CutShort, 0));
+    assert_eq!(refusal(&[1, 0, 2, 0, 1]), (Cause::CutShort, 0));
 }
 
 #[test]
 fn lengths_of_tables() {
     let version = field(1, &[0, 1]);
-    let told_of =
-        |tag, length: usize| told(&[&version[..], &field(tag, &vec![0; length])].concat());
+    let refusal_of =
+        |tag, length: usize| refusal(&[&version[..], &field(tag, &vec![0; length])].concat());
     for length in [0, 3, 5, 132] {
-        assert_eq!(told_of(2, length), (Cause::WrongLength, 0), "{length}");
+        assert_eq!(refusal_of(2, length), (Cause::WrongLength, 0), "{length}");
     }
-    assert_eq!(told_of(2, 128), (Cause::CutShort, 0));
-    assert_eq!(told_of(3, 20), (Cause::WrongTag, 0));
+    assert_eq!(refusal_of(2, 128), (Cause::CutShort, 0));
+    assert_eq!(refusal_of(3, 20), (Cause::WrongTag, 0));
 }
 
 #[test]
 fn counts_of_types_and_terms() {
     let mut records = readable();
     records.types.truncate(1);
-    assert_eq!(told(&records.to_bytes()), (Cause::WrongLength, 0));
+    assert_eq!(refusal(&records.to_bytes()), (Cause::WrongLength, 0));
 
     let mut records = readable();
     records.types.resize(257, TypeRecord::number());
-    assert_eq!(told(&records.to_bytes()), (Cause::WrongLength, 0));
+    assert_eq!(refusal(&records.to_bytes()), (Cause::WrongLength, 0));
 
     for terms in [0, 1025] {
         let records = tables(vec![TermRecord::default(); terms]);
         assert_eq!(
-            told(&records.to_bytes()),
+            refusal(&records.to_bytes()),
             (Cause::WrongLength, 0),
             "{terms}"
         );
@@ -96,50 +96,50 @@ fn bytes_after_the_end_come_before_records() {
     let mut records = readable();
     records.types[0].kind = 7;
     let mut bytes = records.to_bytes();
-    assert_eq!(told(&bytes), (Cause::TypeRecord, 0));
+    assert_eq!(refusal(&bytes), (Cause::TypeRecord, 0));
     bytes.push(0);
-    assert_eq!(told(&bytes), (Cause::WrongTag, 0));
+    assert_eq!(refusal(&bytes), (Cause::WrongTag, 0));
 }
 
 #[test]
 fn every_prefix_is_cut_short() {
     let bytes = posting(2);
     for length in 0..bytes.len() {
-        assert_eq!(told(&bytes[..length]), (Cause::CutShort, 0), "{length}");
+        assert_eq!(refusal(&bytes[..length]), (Cause::CutShort, 0), "{length}");
     }
 }
 
 #[test]
 fn type_records() {
-    let told_of = |record| {
+    let refusal_of = |record| {
         let mut records = readable();
         records.types.push(record);
-        let told = decode(&records.to_bytes()).err();
-        told.map(|refusal| (refusal.cause, refusal.place))
+        let result = decode(&records.to_bytes()).err();
+        result.map(|refusal| (refusal.cause, refusal.place))
     };
     let fault = Some((Cause::TypeRecord, 3));
     let function = TypeRecord::function;
-    assert_eq!(told_of(function(2, 2, u32::MAX)), None);
-    assert_eq!(told_of(function(3, 1, 0)), fault);
-    assert_eq!(told_of(function(1, 4, 0)), fault);
-    assert_eq!(told_of(TypeRecord::bool()), fault);
+    assert_eq!(refusal_of(function(2, 2, u32::MAX)), None);
+    assert_eq!(refusal_of(function(3, 1, 0)), fault);
+    assert_eq!(refusal_of(function(1, 4, 0)), fault);
+    assert_eq!(refusal_of(TypeRecord::bool()), fault);
     assert_eq!(
-        told_of(TypeRecord {
+        refusal_of(TypeRecord {
             kind: 3,
             ..function(0, 0, 0)
         }),
         fault
     );
     assert_eq!(
-        told_of(TypeRecord {
+        refusal_of(TypeRecord {
             zero: 1,
             ..function(0, 0, 0)
         }),
         fault
     );
     // Of two equal types the later is at fault.
-    assert_eq!(told_of(function(NUMBER, NUMBER, 0)), fault);
-    assert_eq!(told_of(function(NUMBER, NUMBER, 1)), None);
+    assert_eq!(refusal_of(function(NUMBER, NUMBER, 0)), fault);
+    assert_eq!(refusal_of(function(NUMBER, NUMBER, 1)), None);
 }
 
 #[test]
@@ -147,11 +147,14 @@ fn the_first_two_types_are_fixed() {
     for (place, latent) in [(0, 1), (1, 1)] {
         let mut records = readable();
         records.types[place].latent = latent;
-        assert_eq!(told(&records.to_bytes()), (Cause::TypeRecord, place as u32));
+        assert_eq!(
+            refusal(&records.to_bytes()),
+            (Cause::TypeRecord, place as u32)
+        );
     }
     let mut records = readable();
     records.types.swap(0, 1);
-    assert_eq!(told(&records.to_bytes()), (Cause::TypeRecord, 0));
+    assert_eq!(refusal(&records.to_bytes()), (Cause::TypeRecord, 0));
 }
 
 #[test]
@@ -179,7 +182,7 @@ fn parts_out_of_range() {
         (15, 0, [0, 0, 0]),
     ] {
         assert_eq!(
-            told_of_term(kind, small, parts),
+            refusal_of_term(kind, small, parts),
             fault,
             "kind {kind}, {small}, {parts:?}"
         );
@@ -196,13 +199,13 @@ fn parts_in_range_leave_only_the_shape_at_fault() {
         (6, 0, [0, 0, 0]),
         (4, 0, [2, 0, 1]),
     ] {
-        let told = told_of_term(kind, small, parts).map(|(cause, _)| cause);
-        assert_eq!(told, shape, "kind {kind}, {small}, {parts:?}");
+        let cause = refusal_of_term(kind, small, parts).map(|(cause, _)| cause);
+        assert_eq!(cause, shape, "kind {kind}, {small}, {parts:?}");
     }
 }
 
 #[test]
-fn the_lowest_fault_of_the_shape_is_told() {
+fn the_lowest_fault_of_the_shape_is_reported() {
     // An unsigned body below a term without a parent, and the other way.
     let leaf = number(1).assemble()[0];
     let unsigned = TermRecord {
@@ -216,15 +219,15 @@ fn the_lowest_fault_of_the_shape_is_told() {
         parts: [child, 0, 0],
     };
     let body_first = tables(vec![leaf, unsigned, leaf, root(1)]);
-    assert_eq!(told(&body_first.to_bytes()), (Cause::Shape, 1));
+    assert_eq!(refusal(&body_first.to_bytes()), (Cause::Shape, 1));
     let orphan_first = tables(vec![leaf, leaf, unsigned, root(2)]);
-    assert_eq!(told(&orphan_first.to_bytes()), (Cause::Shape, 1));
+    assert_eq!(refusal(&orphan_first.to_bytes()), (Cause::Shape, 1));
 }
 
 #[test]
 fn an_unsigned_root() {
     let records = tables(post(number(1)).assemble());
-    assert_eq!(told(&records.to_bytes()), (Cause::Shape, 1));
+    assert_eq!(refusal(&records.to_bytes()), (Cause::Shape, 1));
 }
 
 #[test]
@@ -232,5 +235,5 @@ fn nesting_tells_the_lowest_number_too_deep() {
     let deep = (0..32).fold(number(0), |inner, _| post(inner));
     // The right branch is too deep; its lowest term has number 1.
     let bytes = computing(sum(number(3), deep));
-    assert_eq!(told(&bytes), (Cause::Nesting, 1));
+    assert_eq!(refusal(&bytes), (Cause::Nesting, 1));
 }

@@ -35,7 +35,7 @@ fn record(
     let mut cells = vec![0; query.cell_bytes];
     let mut posts = vec![0; query.posts];
     let mut record = vec![BEFORE; length];
-    let told = match runner {
+    let result = match runner {
         Runner::Eager => record_eager(sheet, &request, &mut cells, &mut posts, &mut record),
         Runner::Lazy => {
             let mut frames = vec![0; FRAME_NUMBERS];
@@ -49,7 +49,7 @@ fn record(
             )
         }
     };
-    (told, record)
+    (result, record)
 }
 
 fn request(query: &Query, checks: Checks) -> Request<'_> {
@@ -103,11 +103,11 @@ fn each_case_has_its_record() {
             };
             let whole = bytes(decisions);
             for length in 0..whole.len() + 2 * ENTRY_BYTES {
-                let (told, left) = record(runner, &case.sheet, &case.request, checks, length);
-                let told = told.expect(case.name);
+                let (result, left) = record(runner, &case.sheet, &case.request, checks, length);
+                let result = result.expect(case.name);
                 let entries = decisions.len().min(length / ENTRY_BYTES);
                 assert_eq!(
-                    told.entries, entries,
+                    result.entries, entries,
                     "{}, {runner:?} {checks:?}",
                     case.name
                 );
@@ -127,7 +127,7 @@ fn a_record_changes_nothing_else() {
     let smallest = smallest.map(|case| (case.sheet, Query::largest()));
     for (sheet, query) in smallest.chain(drawn()) {
         for (runner, checks) in WAYS {
-            let (told, left) = record(runner, &sheet, &query, checks, 64);
+            let (result, left) = record(runner, &sheet, &query, checks, 64);
             let request = request(&query, checks);
             let mut cells = vec![0; query.cell_bytes];
             let mut posts = vec![0; query.posts];
@@ -138,12 +138,12 @@ fn a_record_changes_nothing_else() {
                     run_lazy(&sheet, &request, &mut cells, &mut posts, &mut frames)
                 }
             };
-            assert_eq!(told.map(|told| told.run), plain, "{}", hex(&sheet));
-            if told.is_err() {
+            assert_eq!(result.map(|result| result.run), plain, "{}", hex(&sheet));
+            if result.is_err() {
                 assert_eq!(left, [BEFORE; 64]);
                 refused += 1;
             }
-            recorded += usize::from(told.is_ok_and(|told| told.entries > 0));
+            recorded += usize::from(result.is_ok_and(|result| result.entries > 0));
         }
     }
     assert!(
@@ -191,15 +191,15 @@ fn the_last_entry_of_a_refused_check_is_its_no() {
     let mut refused = 0;
     for (sheet, query) in drawn() {
         for runner in [Runner::Eager, Runner::Lazy] {
-            let (told, left) = record(runner, &sheet, &query, Checks::Enforced, AMPLE);
-            let Ok(told) = told else {
+            let (result, left) = record(runner, &sheet, &query, Checks::Enforced, AMPLE);
+            let Ok(result) = result else {
                 continue;
             };
-            let Outcome::Stop(stop) = told.run.outcome else {
+            let Outcome::Stop(stop) = result.run.outcome else {
                 continue;
             };
             if stop.cause == Cause::RefusedCheck {
-                let entries = left[..told.entries * ENTRY_BYTES].chunks(ENTRY_BYTES);
+                let entries = left[..result.entries * ENTRY_BYTES].chunks(ENTRY_BYTES);
                 let last = entries.last().expect("an entry");
                 assert_eq!(last[..2], stop.term.to_be_bytes(), "{}", hex(&sheet));
                 assert_eq!(last[3], 0, "{}", hex(&sheet));

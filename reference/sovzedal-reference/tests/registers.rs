@@ -82,9 +82,9 @@ fn having_run(sheet: &[u8], calls: u16) -> Unit {
 }
 
 /// Status, cause, value, calls made and place.
-type Told = (u8, u8, u16, u16, u16);
+type RunRegisters = (u8, u8, u16, u16, u16);
 
-fn told(unit: &Unit) -> Told {
+fn run_registers(unit: &Unit) -> RunRegisters {
     (
         unit.get(at::STATUS),
         unit.get(at::CAUSE),
@@ -105,8 +105,8 @@ fn cause(sheet: &[u8], calls: u16, cells: usize, posts: usize) -> u8 {
 }
 
 /// Sheets with an end, a stop and a refusal, each with what has a meaning in
-/// its answer: `told` of them with an allowance of 4,096.
-fn one_of_each() -> [(Vec<u8>, Told); 3] {
+/// its answer: `run_registers` of them with an allowance of 4,096.
+fn one_of_each() -> [(Vec<u8>, RunRegisters); 3] {
     [
         (identity_of_5(), (status::ENDED, 0, 5, 1, 0)),
         (endless(), (status::STOPPED, 19, 0, 100, 2)),
@@ -143,7 +143,10 @@ fn registers_of_an_end() {
 fn a_boolean_is_0_or_1() {
     for value in [false, true] {
         let unit = having_run(&computing(boolean(value)), 0);
-        assert_eq!(told(&unit), (status::ENDED, 0, u16::from(value), 0, 0));
+        assert_eq!(
+            run_registers(&unit),
+            (status::ENDED, 0, u16::from(value), 0, 0)
+        );
     }
 }
 
@@ -182,21 +185,21 @@ fn registers_of_a_refusal() {
 #[test]
 fn calls_made_take_two_bytes() {
     let unit = having_run(&smallest(20), 0x0203);
-    assert_eq!(told(&unit), (status::STOPPED, 20, 0, 0x0203, 9));
+    assert_eq!(run_registers(&unit), (status::STOPPED, 20, 0, 0x0203, 9));
 }
 
 #[test]
 fn checks_are_in_force_and_the_stack_is_empty() {
     let unit = having_run(&posting_without_enable(), 0);
-    assert_eq!(told(&unit), (status::STOPPED, 17, 0, 0, 2));
+    assert_eq!(run_registers(&unit), (status::STOPPED, 17, 0, 0, 2));
     let unit = having_run(&asking_for_1(), 0);
-    assert_eq!(told(&unit), (status::ENDED, 0, 0, 0, 0));
+    assert_eq!(run_registers(&unit), (status::ENDED, 0, 0, 0, 0));
 }
 
 #[test]
 fn a_hundred_calls_may_be_open() {
     let unit = having_run(&endless(), 4_096);
-    assert_eq!(told(&unit), (status::STOPPED, 19, 0, 100, 2));
+    assert_eq!(run_registers(&unit), (status::STOPPED, 19, 0, 100, 2));
 }
 
 #[test]
@@ -206,7 +209,7 @@ fn the_allowance_has_its_highest_byte_first() {
         unit.set(at::CALLS, high);
         unit.set(at::CALLS + 1, low);
         unit.run(&endless());
-        told(&unit)
+        run_registers(&unit)
     };
     assert_eq!(calls(0, 0), (status::STOPPED, 20, 0, 0, 6));
     assert_eq!(calls(0, 1), (status::STOPPED, 20, 0, 1, 2));
@@ -218,7 +221,7 @@ fn the_allowance_has_its_highest_byte_first() {
 }
 
 #[test]
-fn the_largest_buffers_are_asked_for() {
+fn the_largest_buffers_are_required() {
     let sheet = computing(number(1));
     let of = |cells, posts| cause(&sheet, 0, cells, posts);
     assert_eq!(of(65_536, 256), 0);
@@ -233,8 +236,8 @@ fn the_largest_buffers_are_asked_for() {
 #[test]
 fn buffers_come_after_the_sheet_and_before_the_allowance() {
     for number in 1..=8 {
-        let told = cause(&smallest(number), 5_000, 8, 3);
-        assert_eq!(usize::from(told), number);
+        let result = cause(&smallest(number), 5_000, 8, 3);
+        assert_eq!(usize::from(result), number);
     }
     let sheet = computing(number(1));
     assert_eq!(cause(&sheet, 5_000, 8, 256), 15);
@@ -271,13 +274,13 @@ fn what_has_no_meaning_becomes_zero() {
         for (sheet_before, _) in one_of_each() {
             let mut unit = having_run(&sheet_before, 4_096);
             unit.run(&sheet);
-            assert_eq!(told(&unit), expected);
+            assert_eq!(run_registers(&unit), expected);
         }
         let mut unit = Unit::with([0xA5; 16]);
         unit.allow(4_096);
         unit.block.bytes[at::STATUS] = 0;
         unit.run(&sheet);
-        assert_eq!(told(&unit), expected);
+        assert_eq!(run_registers(&unit), expected);
     }
 }
 
@@ -442,7 +445,7 @@ fn an_address_above_15_is_23() {
 fn buffers_are_left_as_by_any_run() {
     let mut unit = Unit::new();
     unit.run(&computing(sum(post(number(4)), post(boolean(true)))));
-    assert_eq!(told(&unit).0, status::STOPPED);
+    assert_eq!(run_registers(&unit).0, status::STOPPED);
     assert_eq!(unit.cells, [0; 65_536]);
     assert_eq!(unit.posts[0], 4);
     assert_eq!(unit.posts[1..], [7; 255]);
@@ -452,15 +455,15 @@ fn buffers_are_left_as_by_any_run() {
 fn refusals_leave_the_buffers() {
     let untouched = (vec![7; 65_536], vec![7; 256]);
     let unit = having_run(&posting(ONE), 4_097);
-    assert_eq!(told(&unit).1, 16);
+    assert_eq!(run_registers(&unit).1, 16);
     assert_eq!((unit.cells, unit.posts), untouched);
     let unit = having_run(&posting(ONE)[..77], 4_096);
-    assert_eq!(told(&unit).1, 1);
+    assert_eq!(run_registers(&unit).1, 1);
     assert_eq!((unit.cells, unit.posts), untouched);
     let mut unit = Unit::new();
     unit.posts.truncate(255);
     unit.run(&posting(ONE));
-    assert_eq!(told(&unit).1, 15);
+    assert_eq!(run_registers(&unit).1, 15);
     assert_eq!((unit.cells, unit.posts), (untouched.0, vec![7; 255]));
 }
 
@@ -542,13 +545,19 @@ fn has_run(before: &Unit, after: &Unit, sheet: &[u8]) {
         open_calls: MAX_OPEN_CALLS,
         checks: Checks::Enforced,
     };
-    let mut lent = before.clone();
-    let run = run_eager(sheet, &request, &mut lent.cells, &mut lent.posts);
-    assert_eq!((&after.cells, &after.posts), (&lent.cells, &lent.posts));
+    let mut buffers = before.clone();
+    let run = run_eager(sheet, &request, &mut buffers.cells, &mut buffers.posts);
+    assert_eq!(
+        (&after.cells, &after.posts),
+        (&buffers.cells, &buffers.posts)
+    );
 
     let Reply { status, answer } = run.into();
     let [cause, place, _, value, calls, ..] = answer.map(|number| number as u16);
     let status = before.get(at::STATUS) & !OUTCOMES | 1 << status;
-    assert_eq!(told(after), (status, cause as u8, value, calls, place));
+    assert_eq!(
+        run_registers(after),
+        (status, cause as u8, value, calls, place)
+    );
     assert_eq!(after.get(at::COMMAND), 0);
 }

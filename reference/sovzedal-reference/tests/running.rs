@@ -105,18 +105,18 @@ fn runs_leave_posts_and_zeroed_stores() {
 
 #[test]
 fn stuck_terms() {
-    let told = |tree| stop(largest(&sheet(tree)));
+    let stop_of = |tree| stop(largest(&sheet(tree)));
     let stuck_at = |term| Some((Cause::Stuck, term));
-    assert_eq!(told(variable(0)), stuck_at(0));
-    assert_eq!(told(when(number(1), number(2), number(3))), stuck_at(3));
-    assert_eq!(told(post(boolean(true))), stuck_at(1));
-    assert_eq!(told(less(number(1), boolean(true))), stuck_at(2));
+    assert_eq!(stop_of(variable(0)), stuck_at(0));
+    assert_eq!(stop_of(when(number(1), number(2), number(3))), stuck_at(3));
+    assert_eq!(stop_of(post(boolean(true))), stuck_at(1));
+    assert_eq!(stop_of(less(number(1), boolean(true))), stuck_at(2));
     // Operands are looked at when all have a value.
-    assert_eq!(told(sum(boolean(true), variable(9))), stuck_at(1));
-    assert_eq!(told(call(number(1), variable(9))), stuck_at(1));
+    assert_eq!(stop_of(sum(boolean(true), variable(9))), stuck_at(1));
+    assert_eq!(stop_of(call(number(1), variable(9))), stuck_at(1));
     // A root that gives a function.
     assert_eq!(
-        told(function(FIRST_FUNCTION, sign(0, variable(0)))),
+        stop_of(function(FIRST_FUNCTION, sign(0, variable(0)))),
         stuck_at(3)
     );
 }
@@ -134,7 +134,7 @@ fn a_stuck_call_comes_before_the_allowances() {
 
 #[test]
 fn allowances_of_a_call_in_order() {
-    let told = |calls, open_calls, cells| {
+    let cause = |calls, open_calls, cells| {
         let request = Request {
             calls,
             open_calls,
@@ -144,11 +144,11 @@ fn allowances_of_a_call_in_order() {
         assert_eq!((run.calls, run.cells) == (0, 0), stop(run).is_some());
         stop(run).map(|(cause, _)| cause)
     };
-    assert_eq!(told(0, 0, 0), Some(Cause::TooManyOpenCalls));
-    assert_eq!(told(0, 1, 0), Some(Cause::CallsSpent));
-    assert_eq!(told(1, 1, 0), Some(Cause::NoCell));
-    assert_eq!(told(1, 1, 7), Some(Cause::NoCell));
-    assert_eq!(told(1, 1, 8), None);
+    assert_eq!(cause(0, 0, 0), Some(Cause::TooManyOpenCalls));
+    assert_eq!(cause(0, 1, 0), Some(Cause::CallsSpent));
+    assert_eq!(cause(1, 1, 0), Some(Cause::NoCell));
+    assert_eq!(cause(1, 1, 7), Some(Cause::NoCell));
+    assert_eq!(cause(1, 1, 8), None);
 }
 
 #[test]

@@ -6,11 +6,16 @@ use sovzedal_reference::{run_eager, typecheck, Checks, Outcome, Request};
 #[test]
 fn each_sheet_reaches_its_cause() {
     for case in all() {
-        assert_eq!(told(&case), case.cause, "smallest sheet for {}", case.cause);
+        assert_eq!(
+            cause_of(&case),
+            case.cause,
+            "smallest sheet for {}",
+            case.cause
+        );
     }
 }
 
-fn told(case: &Smallest) -> u32 {
+fn cause_of(case: &Smallest) -> u32 {
     if let 1..=13 | 24..=26 | 31 = case.cause {
         return typecheck(&case.sheet).unwrap_err().cause.number();
     }

@@ -15,10 +15,10 @@ fn terms_of_an_accepted_sheet_are_typed() {
         };
         accepted_sheets += 1;
         for id in 0..=accepted.sheet.root() {
-            let told = infer_term(&case.sheet, id.into()).expect("a type");
+            let inferred = infer_term(&case.sheet, id.into()).expect("a type");
             let judged = accepted.judgement(id);
-            assert_eq!((told.ty, told.needs), (judged.ty, judged.needs));
-            assert_eq!(told.principal.is_none(), id == accepted.sheet.root());
+            assert_eq!((inferred.ty, inferred.needs), (judged.ty, judged.needs));
+            assert_eq!(inferred.principal.is_none(), id == accepted.sheet.root());
         }
         let root = infer_term(&case.sheet, accepted.sheet.root().into()).expect("a type");
         let verdict = typecheck(&case.sheet).expect("accepted");
@@ -31,25 +31,25 @@ fn terms_of_an_accepted_sheet_are_typed() {
 /// 13 is told of no term.
 #[test]
 fn a_piece_is_refused_where_it_stands() {
-    let mut pieces_told = 0;
+    let mut pieces_found = 0;
     for case in pieces::all() {
         let sheet = decode(&case.sheet).expect("readable");
-        let Some(told) = piece(&case.sheet).expect("readable") else {
+        let Some(found) = piece(&case.sheet).expect("readable") else {
             let root = infer_term(&case.sheet, sheet.root().into());
             assert!(root.is_ok(), "{root:?}");
             continue;
         };
-        pieces_told += 1;
+        pieces_found += 1;
         let fault = Refusal {
-            cause: told.fault,
-            place: told.term.into(),
+            cause: found.fault,
+            place: found.term.into(),
         };
-        assert_eq!(infer_term(&case.sheet, told.term.into()), Err(fault));
-        for child in sheet.term(told.term).children() {
+        assert_eq!(infer_term(&case.sheet, found.term.into()), Err(fault));
+        for child in sheet.term(found.term).children() {
             assert!(infer_term(&case.sheet, child.into()).is_ok());
         }
     }
-    assert!(pieces_told > 3);
+    assert!(pieces_found > 3);
 }
 
 /// A term is under the principal of the nearest sign around it.
@@ -62,8 +62,8 @@ fn the_nearest_sign_tells_the_principal() {
             let Term::Sign { principal, inner } = sheet.term(id) else {
                 continue;
             };
-            if let Ok(told) = infer_term(&case.sheet, inner.into()) {
-                assert_eq!(told.principal, Some(principal));
+            if let Ok(inferred) = infer_term(&case.sheet, inner.into()) {
+                assert_eq!(inferred.principal, Some(principal));
                 signs += 1;
             }
         }

@@ -45,14 +45,14 @@ fn each_fault_has_its_number() {
         ("25 before the needs of a sign", Cause::Argument, 10),
         ("26 before the root", Cause::Branches, 8),
     ];
-    let told: Vec<_> = type_faults::all()
+    let results: Vec<_> = type_faults::all()
         .iter()
         .map(|case| {
             let Refusal { cause, place } = typecheck(&case.sheet).expect_err(case.name);
             (case.name, cause, place)
         })
         .collect();
-    assert_eq!(told, expected);
+    assert_eq!(results, expected);
 }
 
 #[test]
@@ -63,23 +63,23 @@ fn only_the_number_is_new() {
     for (index, sheet) in named.chain(drawn).enumerate() {
         let before = typecheck_by(Rules::BeforeW5, &sheet);
         let today = typecheck(&sheet);
-        let Err(told) = today else {
+        let Err(refusal) = today else {
             assert_eq!(today, before, "sheet {index}");
             continue;
         };
-        *counts.entry(told.cause.number()).or_default() += 1;
-        if !is_new(told.cause) {
+        *counts.entry(refusal.cause.number()).or_default() += 1;
+        if !is_new(refusal.cause) {
             assert_eq!(today, before, "sheet {index}");
             continue;
         }
         let bare = Refusal {
             cause: Cause::TypeMismatch,
-            ..told
+            ..refusal
         };
         assert_eq!(before, Err(bare), "sheet {index}");
         let read = decode(&sheet).expect("a readable sheet");
-        let term = read.term(told.place as u16);
-        assert!(can_have(term, told.cause), "sheet {index}: {told:?}");
+        let term = read.term(refusal.place as u16);
+        assert!(can_have(term, refusal.cause), "sheet {index}: {refusal:?}");
     }
     // Else the sheets that are drawn say little about the numbers.
     for cause in [10, 24, 25, 26] {

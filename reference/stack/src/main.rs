@@ -8,8 +8,8 @@
 mod paint;
 
 use differential::{
-    Board, Buffers, Entry, Implementation, Library, Query, Ranging, Recording, Reference, Shipped,
-    Unit, Why, ANSWER_NUMBERS, RECORD_NUMBERS,
+    BlockCall, Buffers, Entry, EraseCall, ExplainCall, Implementation, Library, LinesCall, Query,
+    Ranging, Recording, Reference, ANSWER_NUMBERS, RECORD_NUMBERS,
 };
 use sheets::extremes::{costly_branches, costly_fault, costly_need, deep_calls, deep_need};
 use sheets::extremes::{
@@ -238,38 +238,38 @@ fn used_over_ranges<I: Implementation>(sheet: &[u8], open_calls: u32) -> usize {
 fn used_by_block<I: Implementation>(sheet: &[u8]) -> usize {
     let mut block = [0; BLOCK_BYTES];
     block[4] = 0x10;
-    let mut board = Board::random(&mut Rng::new(0), &block);
+    let mut call = BlockCall::random(&mut Rng::new(0), &block);
     paint::stack_used(|| {
-        board.access::<I>(Access::RUN, sheet);
+        call.access::<I>(Access::RUN, sheet);
     })
 }
 
 /// The turn of a job that is the sheet, on the empty stack, with 4,096 calls
 /// allowed.
 fn used_by_job<I: Implementation>(sheet: &[u8]) -> usize {
-    let mut unit = Unit::random(&mut Rng::new(0), &[0; STATE_NUMBERS], MAX_POSTS);
+    let mut call = LinesCall::random(&mut Rng::new(0), &[0; STATE_NUMBERS], MAX_POSTS);
     let job = Job {
         offset: 0,
         length: sheet.len() as u64,
         calls: MAX_CALLS,
     };
-    unit.add::<I>(0, job, sheet);
+    call.add::<I>(0, job, sheet);
     paint::stack_used(|| {
-        unit.serve::<I>(sheet, MAX_POSTS);
+        call.serve::<I>(sheet, MAX_POSTS);
     })
 }
 
 fn used_to_explain<I: Implementation>(sheet: &[u8]) -> usize {
-    let mut why = Why::fitting(&mut Rng::new(0));
+    let mut call = ExplainCall::fitting(&mut Rng::new(0));
     paint::stack_used(|| {
-        why.ask::<I>(sheet, NEEDED.into());
+        call.ask::<I>(sheet, NEEDED.into());
     })
 }
 
 fn used_to_erase<I: Implementation>(sheet: &[u8]) -> usize {
-    let mut shipped = Shipped::fitting(&mut Rng::new(0), sheet);
+    let mut call = EraseCall::fitting(&mut Rng::new(0), sheet);
     paint::stack_used(|| {
-        shipped.ask::<I>(sheet);
+        call.ask::<I>(sheet);
     })
 }
 

@@ -2,7 +2,7 @@
 
 use crate::html::{escape, type_text};
 use crate::kinds;
-use crate::library::{Refusal, Told};
+use crate::library::{Refusal, TermAnswer};
 use crate::listing::{refused, Mark};
 use crate::reading::Reading;
 use crate::show::mark_of;
@@ -87,17 +87,17 @@ impl Boxes<'_> {
     }
 
     fn judged(&self, term: usize) -> String {
-        match self.reading.told(term) {
-            Told::Judged { ty, .. } => {
+        match self.reading.answer(term) {
+            TermAnswer::Judged { ty, .. } => {
                 format!(
                     "<span class=\"type\">{}</span>",
                     type_text(&self.reading.types.short(ty as usize))
                 )
             }
-            Told::Refused(refusal) => {
+            TermAnswer::Refused(refusal) => {
                 format!("<span class=\"type\">{}</span>", refused(refusal, term))
             }
-            Told::Nothing => String::new(),
+            TermAnswer::Nothing => String::new(),
         }
     }
 

@@ -172,7 +172,7 @@ fn by_the_rules(reading: &Reading, cause: u32, place: usize) -> Option<String> {
     };
     match cause {
         9 => at.variable(),
-        10 => at.asked_type(),
+        10 => at.type_mismatch(),
         11 => at.sign_needs(),
         12 => at.body_needs(),
         13 => Some(format!(
@@ -222,7 +222,7 @@ impl At<'_> {
         ))
     }
 
-    fn asked_type(&self) -> Option<String> {
+    fn type_mismatch(&self) -> Option<String> {
         let first = self.child_type(0)?;
         Some(match self.term.kind {
             kinds::IF => format!("its condition is of type {first}"),
@@ -260,22 +260,22 @@ impl At<'_> {
     }
 
     fn not_granted(&self) -> Option<String> {
-        let asked = match self.term.kind {
+        let privilege = match self.term.kind {
             kinds::POST => self.reading.sheet.guard(self.term.small)?,
             _ => self.term.small,
         };
         Some(format!(
             "{} is not granted here",
-            self.reading.names.privilege_in_words(asked.into())
+            self.reading.names.privilege_in_words(privilege.into())
         ))
     }
 
     fn argument(&self) -> Option<String> {
         let called = self.reading.ty(self.reading.child(self.place, 0)?)?;
-        let asked = self.reading.sheet.types.get(called)?.argument;
-        let asked = self.reading.types.short(asked.into());
+        let expected = self.reading.sheet.types.get(called)?.argument;
+        let expected = self.reading.types.short(expected.into());
         Some(format!(
-            "the function takes {asked}, and the argument is of type {}",
+            "the function takes {expected}, and the argument is of type {}",
             self.child_type(1)?
         ))
     }

@@ -302,7 +302,7 @@ impl Run {
         mut posts: Vec<u32>,
         mut record: Vec<u8>,
     ) -> Result<Self, Refusal> {
-        let told = Refusal {
+        let refusal = Refusal {
             cause: answer[0],
             place: answer[1],
         };
@@ -311,8 +311,8 @@ impl Run {
                 ty: answer[2],
                 value: answer[3],
             },
-            STOPPED => Outcome::Stop(told),
-            _ => return Err(told),
+            STOPPED => Outcome::Stop(refusal),
+            _ => return Err(refusal),
         };
         posts.truncate(answer[6] as usize);
         let recorded = answer
@@ -438,7 +438,7 @@ pub fn piece(sheet: &[u8]) -> Option<Piece> {
 
 /// What the library says of one term in its place.
 #[derive(Clone, Copy, Debug, PartialEq, Eq)]
-pub enum Told {
+pub enum TermAnswer {
     Judged {
         ty: u32,
         needs: u32,
@@ -449,7 +449,7 @@ pub enum Told {
     Nothing,
 }
 
-pub fn term(sheet: &[u8], term: u32) -> Told {
+pub fn term(sheet: &[u8], term: u32) -> TermAnswer {
     let mut answer = [0; ANSWER];
     let status = unsafe {
         c::sovzedal_term(
@@ -461,11 +461,11 @@ pub fn term(sheet: &[u8], term: u32) -> Told {
         )
     };
     match answered(status, answer) {
-        Ok(answer) => Told::Judged {
+        Ok(answer) => TermAnswer::Judged {
             ty: answer[2],
             needs: answer[7],
         },
-        Err(refusal) if matches!(refusal.cause, 9..=12 | 24..=26) => Told::Refused(refusal),
-        Err(_) => Told::Nothing,
+        Err(refusal) if matches!(refusal.cause, 9..=12 | 24..=26) => TermAnswer::Refused(refusal),
+        Err(_) => TermAnswer::Nothing,
     }
 }

@@ -1,7 +1,7 @@
 //! Terms as lines of text, indented as the tree goes.
 
 use crate::columns;
-use crate::library::{Refusal, Told};
+use crate::library::{Refusal, TermAnswer};
 use crate::reading::Reading;
 use crate::show::counted;
 use crate::tree::Tree;
@@ -105,8 +105,8 @@ fn row(reading: &Reading, tree: &Tree, term: usize) -> Vec<String> {
 
 /// Type and needs.
 fn judged(reading: &Reading, term: usize) -> [String; 2] {
-    match reading.told(term) {
-        Told::Judged { ty, needs } => {
+    match reading.answer(term) {
+        TermAnswer::Judged { ty, needs } => {
             let needs = if needs == 0 {
                 String::new()
             } else {
@@ -114,8 +114,8 @@ fn judged(reading: &Reading, term: usize) -> [String; 2] {
             };
             [reading.types.short(ty as usize), needs]
         }
-        Told::Refused(refusal) => [refused(refusal, term).to_string(), String::new()],
-        Told::Nothing => [String::new(), String::new()],
+        TermAnswer::Refused(refusal) => [refused(refusal, term).to_string(), String::new()],
+        TermAnswer::Nothing => [String::new(), String::new()],
     }
 }
 

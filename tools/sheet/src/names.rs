@@ -206,7 +206,7 @@ mod tests {
     }
 
     #[test]
-    fn faults_are_told_with_their_lines() {
+    fn faults_are_reported_with_their_lines() {
         let faulty = [
             "privilege 32 stamp",
             "privilege stamp",

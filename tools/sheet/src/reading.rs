@@ -2,7 +2,7 @@
 
 use crate::causes;
 use crate::kinds;
-use crate::library::{self, Refusal, Told, Verdict};
+use crate::library::{self, Refusal, TermAnswer, Verdict};
 use crate::names::Names;
 use crate::sheet::{Sheet, TermRecord};
 use crate::tree::{Binding, Tree};
@@ -16,7 +16,7 @@ pub struct Reading<'a> {
     /// The terms as a tree, if the library could read them.
     pub tree: Option<Tree>,
     /// What the library says of each term.
-    told: Vec<Told>,
+    answers: Vec<TermAnswer>,
     /// Over ranges, the lowest and highest of each number of the sheet, in the order of the terms.
     pub pairs: &'a [u16],
 }
@@ -29,7 +29,7 @@ impl<'a> Reading<'a> {
         let readable = verdict.map_or_else(|refusal| causes::is_tree(refusal.cause), |_| true);
         let tree = if readable { Tree::of(&sheet) } else { None };
         let judged = if tree.is_some() { sheet.terms.len() } else { 0 };
-        let told = (0..judged as u32)
+        let answers = (0..judged as u32)
             .map(|term| library::term(bytes, term))
             .collect();
         Self {
@@ -38,7 +38,7 @@ impl<'a> Reading<'a> {
             types,
             verdict,
             tree,
-            told,
+            answers,
             pairs: &[],
         }
     }
@@ -48,29 +48,34 @@ impl<'a> Reading<'a> {
         Self { pairs, ..self }
     }
 
-    pub fn told(&self, term: usize) -> Told {
-        self.told.get(term).copied().unwrap_or(Told::Nothing)
+    pub fn answer(&self, term: usize) -> TermAnswer {
+        self.answers
+            .get(term)
+            .copied()
+            .unwrap_or(TermAnswer::Nothing)
     }
 
     /// The needs of a term, if the library tells them.
     pub fn needs(&self, term: usize) -> Option<u32> {
-        match self.told(term) {
-            Told::Judged { needs, .. } => Some(needs),
+        match self.answer(term) {
+            TermAnswer::Judged { needs, .. } => Some(needs),
             _ => None,
         }
     }
 
     /// The type of a term, if the library tells it.
     pub fn ty(&self, term: usize) -> Option<usize> {
-        match self.told(term) {
-            Told::Judged { ty, .. } => Some(ty as usize),
+        match self.answer(term) {
+            TermAnswer::Judged { ty, .. } => Some(ty as usize),
             _ => None,
         }
     }
 
     /// Whether the library tells the type and needs of single terms: not of a sheet that it refuses for a guard.
     pub fn tells_terms(&self) -> bool {
-        self.told.iter().any(|told| *told != Told::Nothing)
+        self.answers
+            .iter()
+            .any(|answer| *answer != TermAnswer::Nothing)
     }
 
     /// The number of a term's child.

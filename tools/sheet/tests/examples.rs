@@ -82,12 +82,12 @@ fn compare_runs(path: &str, words: &[&str]) {
         _ => panic!("{path}: {words:?}"),
     };
     let last = text.lines().last().expect("counts");
-    let told: Vec<&str> = last
+    let shown: Vec<&str> = last
         .split(", ")
         .map(|count| count.split(' ').next().unwrap())
         .collect();
     let printed: Vec<&str> = counts.iter().skip(1).step_by(2).copied().collect();
-    assert_eq!(told, printed, "{path}");
+    assert_eq!(shown, printed, "{path}");
 }
 
 #[test]

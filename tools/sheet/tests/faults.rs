@@ -35,7 +35,7 @@ fn records() -> Records {
 }
 
 /// The cause and place, and what is said beyond the sentence for the cause.
-fn told(sheet: &[u8]) -> (String, String) {
+fn refusal(sheet: &[u8]) -> (String, String) {
     let text = ask(&["check", "-"], sheet).text();
     let lines: Vec<&str> = text.lines().collect();
     let heading = lines[0].strip_prefix("refused: ").expect("a refusal");
@@ -43,10 +43,10 @@ fn told(sheet: &[u8]) -> (String, String) {
     (heading.into(), detail.trim_start().into())
 }
 
-fn is_told(change: impl FnOnce(&mut Records), heading: &str, detail: &str) {
+fn assert_refusal(change: impl FnOnce(&mut Records), heading: &str, detail: &str) {
     let mut records = records();
     change(&mut records);
-    let (cause, said) = told(&records.to_bytes());
+    let (cause, said) = refusal(&records.to_bytes());
     assert_eq!(cause, heading);
     let (said, record) = said.split_once("; its record, at byte ").expect("a record");
     assert_eq!(said, detail);
@@ -63,7 +63,7 @@ fn the_sheet_itself_is_accepted() {
 fn the_part_of_a_term_is_named() {
     let at = |term: usize, change: fn(&mut TermRecord), detail: &str| {
         let heading = format!("6, term record, at term {term}");
-        is_told(|records| change(&mut records.terms[term]), &heading, detail);
+        assert_refusal(|records| change(&mut records.terms[term]), &heading, detail);
     };
     at(
         0,
@@ -121,7 +121,7 @@ fn the_part_of_a_term_is_named() {
         |term| term.parts[0] = 65_535,
         "its part 'first', the child, is term 65535, and must be a lower term than 7, its own",
     );
-    is_told(
+    assert_refusal(
         |records| {
             records.format = Format::version_2(&[UNGUARDED; CHANNELS]);
             records.terms[4].small = 16;
@@ -129,7 +129,7 @@ fn the_part_of_a_term_is_named() {
         "6, term record, at term 4",
         "its part 'small' is 16, and a channel is 0 to 15",
     );
-    is_told(
+    assert_refusal(
         |records| {
             records.types.truncate(2);
         },
@@ -142,7 +142,7 @@ fn the_part_of_a_term_is_named() {
 fn the_part_of_a_type_is_named() {
     let at = |ty: usize, change: fn(&mut TypeRecord), detail: &str| {
         let heading = format!("5, type record, at type {ty}");
-        is_told(|records| change(&mut records.types[ty]), &heading, detail);
+        assert_refusal(|records| change(&mut records.types[ty]), &heading, detail);
     };
     at(
         0,
@@ -175,12 +175,12 @@ fn the_part_of_a_type_is_named() {
         |ty| ty.result = 300,
         "its result is type 300, and must be a lower type than 2, its own",
     );
-    is_told(
+    assert_refusal(
         |records| records.types.push(TypeRecord::function(1, 1, 0)),
         "5, type record, at type 3",
         "type 2 has the same record",
     );
-    is_told(
+    assert_refusal(
         |records| {
             records
                 .types
@@ -192,7 +192,7 @@ fn the_part_of_a_type_is_named() {
 }
 
 #[test]
-fn the_lengths_of_a_field_are_told() {
+fn the_lengths_of_a_field_are_reported() {
     let fields: [(&[u8], &str); 5] = [
         (
             &[1, 0, 3],
@@ -227,7 +227,7 @@ fn the_lengths_of_a_field_are_told() {
         let at = detail.split(' ').nth(2).expect("a place");
         let mut sheet = bytes[..at.parse().expect("a number")].to_vec();
         sheet.extend(header);
-        assert_eq!(told(&sheet), ("4, length".into(), detail.into()));
+        assert_eq!(refusal(&sheet), ("4, length".into(), detail.into()));
     }
 }
 

@@ -59,7 +59,7 @@ fn random_sheets() {
 
 /// No two of 32 principals have line and tint alike, and the next has another line.
 #[test]
-fn principals_are_told_apart() {
+fn principals_are_distinguished() {
     let page = ask(&["show", "--html", "-"], &longest()).text();
     let part = |line: &str, name: &str| {
         let (_, rest) = line.split_once(name).expect("a style");

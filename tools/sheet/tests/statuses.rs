@@ -88,7 +88,7 @@ fn a_file_that_cannot_be_read_is_2_and_named() {
     fs::write(&odd, "01 0\n# end\n").unwrap();
     let names = files.join("names");
     fs::write(&names, "privilege 0 stamp\nprivilege 0 seal\n").unwrap();
-    let told = |words: &[&str]| {
+    let errors_of = |words: &[&str]| {
         let said = ask(words, b"");
         assert_eq!((said.status, said.output.len()), (2, 0), "{words:?}");
         said.errors
@@ -98,16 +98,19 @@ fn a_file_that_cannot_be_read_is_2_and_named() {
         odd.to_str().unwrap(),
         names.to_str().unwrap(),
     );
-    assert!(told(&["show", "missing"]).starts_with("sheet show: missing: No such file"));
-    assert!(told(&["show", files.to_str().unwrap()]).contains("Is a directory"));
-    assert!(told(&["check", text]).ends_with("text.hex: line 2: 'g' is no hexadecimal digit\n"));
-    assert!(told(&["build", odd, "-o", "-"])
-        .ends_with("odd.hex: line 1: the last byte has one digit of two\n"));
+    assert!(errors_of(&["show", "missing"]).starts_with("sheet show: missing: No such file"));
+    assert!(errors_of(&["show", files.to_str().unwrap()]).contains("Is a directory"));
     assert!(
-        told(&["show", "--names", names, text]).ends_with("names: line 2: 0 has a name already\n")
+        errors_of(&["check", text]).ends_with("text.hex: line 2: 'g' is no hexadecimal digit\n")
     );
-    assert!(told(&["lean", &example("hello.hex"), "-o", "missing/out"])
-        .contains("missing/out: No such file"));
+    assert!(errors_of(&["build", odd, "-o", "-"])
+        .ends_with("odd.hex: line 1: the last byte has one digit of two\n"));
+    assert!(errors_of(&["show", "--names", names, text])
+        .ends_with("names: line 2: 0 has a name already\n"));
+    assert!(
+        errors_of(&["lean", &example("hello.hex"), "-o", "missing/out"])
+            .contains("missing/out: No such file")
+    );
 }
 
 #[test]

@@ -1,4 +1,5 @@
--- So many numbers are zero, and the others as they were, until all are zero. The numbers that are left fall, since each turn clears one.
+-- The first i numbers are zero, and the others as they were, until all are zero. What falls is length - i, the numbers that are left, since each turn clears
+-- one.
 use native.Mathlib.Omega.{arith}
 use borrow.Author.Needs.{needs}
 use mathlib.Core.Path.{refl, ap, _∙_}

@@ -1,5 +1,5 @@
--- Each turn passes one frame, from the innermost on, so that the rest decides as the whole. The numbers that are left fall by two, a
--- frame's.
+-- Each turn passes one frame, from the innermost on, so that the rest decides as the whole. What falls is d, the numbers that are left, by two each turn,
+-- since a frame has two.
 use native.Mathlib.Omega.{arith}
 use borrow.Author.Needs.{needs}
 use mathlib.Core.Path.{refl, _∙_}

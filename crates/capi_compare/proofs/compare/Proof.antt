@@ -1,5 +1,5 @@
 -- `compare` returns 3 and leaves the list as it was where a record is longer than 2^32 - 1 bytes (long-unit, long-office) or the list shorter than eight
--- (few-numbers). Else the number of the answer is one of entries and fits into 32 bits (told), and `put` leaves the reply (given).
+-- (few-numbers). Else the number of the answer is one of entries and fits into 32 bits (few-entries), and `put` leaves the reply (given).
 use borrow.Author.Needs.{needs}
 use Rattle.capi_compare.proofs.EntryLaws.{long-unit, long-office, few-numbers, few-entries, given}
 use Rattle.capi_compare.proofs.compare.Statement.{statement}

@@ -1,4 +1,5 @@
--- `of_explained` gives the reply of each case: how many terms the chain has, or the refusal as the numbers of `of_reader` and `of_fault` tell it.
+-- `of_explained` gives the reply of each case: how many terms the chain has, 0 where the privilege is not needed, or the refusal: 30, or as the numbers of
+-- `of_reader` and `of_fault` tell it.
 use native.Mathlib.Omega.{arith}
 use borrow.Author.Needs.{needs}
 use mathlib.Core.Path.{refl, subst}

@@ -1,4 +1,5 @@
--- `of_named` gives the reply of each case: the lowest term that names the privilege, or the refusal as the numbers of `of_reader` tell it.
+-- `of_named` gives the reply of each case: the lowest term that names the privilege, that none does, or the refusal: 30, or as the numbers of `of_reader`
+-- tell it.
 use mathlib.Core.Path.{refl}
 use borrow.Author.Needs.{needs}
 use Rattle.replies.specs.Laws.{by, refused-as}

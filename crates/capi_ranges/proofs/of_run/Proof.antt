@@ -1,12 +1,12 @@
--- By case: a refused run as the cause and place that `of_refusal` tells (refused-as), any other as its outcome and counts, of which the precondition says
--- that they are few and that none is of saturated results.
+-- `of_run` gives the reply that `rangeReply` says, by case: a refused run as the cause and place that `of_refusal` tells (refused-as), any other as its
+-- outcome and counts, of which the precondition says that they are few and that none is of saturated results.
 use borrow.Author.Needs.{needs}
 use mathlib.Core.Path.{subst}
 use Rattle.ranges.specs.Answers.{rangeModel}
 use Rattle.ranges.specs.declared.answer.RangeRun.{RangeRun}
 use Rattle.replies.specs.Laws.{by, refused-as}
 use Rattle.capi_ranges.specs.Entries.{rangeReply}
-use Rattle.capi_ranges.specs.Internal.{ReplyFits}
+use Rattle.capi_ranges.specs.Internal.{RangeReplyFits}
 use Rattle.capi_ranges.proofs.of_run.Statement.{statement}
 use Rattle.capi_ranges.proofs.of_run.Tie as tie
 
@@ -23,7 +23,7 @@ enum-known-x-2 : tie.Need-enum-known-x-2
 enum-known-x-2 c = search needs
 
 of-outcome-requires : tie.Need-of-outcome-requires
-of-outcome-requires c κs = subst ReplyFits (c .before .x2 .given .1) (c .before .before .before .pre)
+of-outcome-requires c κs = subst RangeReplyFits (c .before .x2 .given .1) (c .before .before .before .pre)
 
 returns : tie.Need-returns
 returns c = by (λ (r : RangeRun). rangeReply (rangeModel r)) (c .before .before .before .x .given .1)

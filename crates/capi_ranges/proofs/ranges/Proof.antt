@@ -1,4 +1,5 @@
--- 3 where the list is shorter than eight (short-answer). Else the buffers are as the run leaves them, and the list holds the reply to its answer (given).
+-- `ranges` returns 3 and leaves everything as it was where the list is shorter than eight (short-answer). Else the buffers are as the run leaves them, and
+-- the list holds the reply to its answer (given).
 use borrow.Author.Needs.{needs}
 use mathlib.Core.List.{[]}
 use mathlib.Core.Path.{ap}

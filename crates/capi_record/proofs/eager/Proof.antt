@@ -1,4 +1,5 @@
--- 3 where the list is shorter than nine (short-answer). Else buffers and record are as the run leaves them, and `put_nine` leaves the nine numbers (nine-written).
+-- `eager` returns 3 and leaves everything as it was where the list is shorter than nine (short-answer). Else buffers and record are as the run leaves them,
+-- and `put_nine` leaves the nine numbers (nine-written).
 use borrow.Author.Needs.{needs}
 use mathlib.Core.List.{[]}
 use Rattle.semantics.specs.Runs.{eager}

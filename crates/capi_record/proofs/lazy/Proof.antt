@@ -1,4 +1,5 @@
--- 3 where the list is shorter than nine (short-answer). Else buffers and record are as the run leaves them, and `put_nine` leaves the nine numbers (nine-written).
+-- `lazy` returns 3 and leaves everything as it was where the list is shorter than nine (short-answer). Else buffers and record are as the run leaves them,
+-- and `put_nine` leaves the nine numbers (nine-written).
 use borrow.Author.Needs.{needs}
 use Rattle.semantics.specs.Runs.{lazy}
 use Rattle.interp.specs.Answers.{requestOf, buffersOf}

@@ -1,5 +1,5 @@
--- `term` returns 3 and leaves a list shorter than eight as it was (short-answer). In any other list `put` leaves the reply of `of_judged` (given), which is the
--- definition's, since `judging::judge` tells what the definition tells.
+-- `term` returns 3 and leaves a list shorter than eight as it was (short-answer). In any other list `put` leaves the reply of `of_judged` (given), which is
+-- the definition's, since `judging::judgement` tells what the definition tells.
 use mathlib.Core.Path.{_∙_, ap}
 use borrow.Author.Needs.{needs}
 use Rattle.replies.specs.Laws.{short-answer, given}

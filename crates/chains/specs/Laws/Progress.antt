@@ -106,8 +106,8 @@ module _ (T : Types) (A : ℕ → ℕ) (p : ℕ) where
   explainedIf Γ n (variable at i) f = variable-traced at (bound Γ i)
   explainedIf Γ n (function at ty body) f = next-traced (infer T A (T .arg ty ∷ Γ) n body) _ λ τ N e.
       body-traced at ty τ N λ _. typed-traced (none-has p)
-  explainedIf Γ n (letrec at ty body rest) f = next-traced (infer T A (T .arg ty ∷ ty ∷ Γ) n body) _ λ τ N e. next-traced (infer T A (ty ∷ Γ) n rest) _ λ ρ M e′.
-      body-traced at ty τ N λ _. typed-traced λ h.
+  explainedIf Γ n (letrec at ty body rest) f = next-traced (infer T A (T .arg ty ∷ ty ∷ Γ) n body) _ λ τ N e.
+      next-traced (infer T A (ty ∷ Γ) n rest) _ λ ρ M e′. body-traced at ty τ N λ _. typed-traced λ h.
       ⊎-elim (λ m. absurd (true≢false (sym m ∙ f))) (λ m. later (here e′ m)) (union-has p (T .latent ty) M h)
   explainedIf Γ n (call at t a) f = next-traced (infer T A Γ n t) _ λ φ N e. next-traced (infer T A Γ n a) _ λ α M e′.
       require-traced (T .isFun φ) 24 at λ _. require-traced (subtype T α (T .arg φ)) 25 at λ _. typed-traced λ h.

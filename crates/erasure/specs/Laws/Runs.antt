@@ -6,7 +6,7 @@ use Prim.Native.Nat.{ℕ, zero, suc}
 use Rattle.program.specs.Terms.{Op, sum, difference, less, Term}
 use Rattle.semantics.specs.Domains.{standard}
 use Rattle.semantics.specs.Values.{Value, bool, num, closure, Env, empty, bind, lookup, entered, Budget, budget, Result, ends, stops}
-use Rattle.semantics.specs.Meaning.{Control, plain, _then_, choose, found, branch, operate, compute, appendPost, postValue, takeCell, beginCall, tooDeep, enter, Application, evalWith, apply, eval}
+use Rattle.semantics.specs.Meaning.{Control, plain, _then_, choose, variableValue, branch, operate, compute, appendPost, postValue, takeCell, beginCall, tooDeep, enter, Application, evalWith, apply, eval}
 use Rattle.erasure.specs.Laws.Erases.{Erases, e-boolean, e-number, e-variable, e-function, e-letrec, e-call, e-if, e-check, e-enable, e-sign, e-binary, e-post}
 
 mutual
@@ -35,7 +35,8 @@ module _ (ρ ν : ℕ → ℕ) where
   erased-choose true y y′ n n′ u hy hn = hy
   erased-choose false y y′ n n′ u hy hn = hn
 
-  erased-found : {e e′ : Env} → ErasesEnv ρ ν e e′ → (i at : ℕ) (u : Budget) → ErasesResult ρ ν (found at (lookup e i) u) (found (ν at) (lookup e′ i) u)
+  erased-found : {e e′ : Env} → ErasesEnv ρ ν e e′ → (i at : ℕ) (u : Budget)
+      → ErasesResult ρ ν (variableValue at (lookup e i) u) (variableValue (ν at) (lookup e′ i) u)
   erased-found env-empty i at u = r-stops
   erased-found (env-bind v e) zero at u = r-ends v
   erased-found (env-bind v e) (suc i) at u = erased-found e i at u

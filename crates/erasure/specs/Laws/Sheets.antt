@@ -21,7 +21,7 @@ use Rattle.semantics.specs.Domains.{standard}
 use Rattle.semantics.specs.Values.{empty, emptyLog, Budget, budget, Result}
 use Rattle.semantics.specs.Meaning.{Control, plain, eval}
 use Rattle.semantics.specs.Access.{eagerControl, lazyControl}
-use Rattle.semantics.specs.Runs.{Runner, eager, lazy, Request, Buffers, sizes, stack, known, buffersOk, limitsOk, initial, evaluation, started, ran, outcome, left, counts, answerOf, stopped, inOrder, buffersAfter, run}
+use Rattle.semantics.specs.Runs.{Runner, eager, lazy, Request, Buffers, sizes, stack, principalsKnown, buffersOk, limitsOk, initial, evaluation, started, ran, outcome, left, counts, answerOf, stopped, inOrder, buffersAfter, run}
 use Rattle.semantics.specs.Theorems.{Starts, starts-exactly, course-clear, run-course, starts-screened}
 use Rattle.soundness.specs.Claims.{GrantsSet, Comparable}
 use Rattle.soundness.specs.Laws.Runs.{posts-listed, removed}
@@ -63,7 +63,7 @@ module _ (s s′ : List ℕ) (ρ ν : ℕ → ℕ) (L : Leaner s s′ ρ ν) whe
   -- ---- a run of the second is refused where one of the first is
   abbrev callers : (principals : ℕ) → Request → Buffers → List Condition
   callers count q b =
-      unless 14 (leb (length (q .start)) maxStart && eqb (length (q .start) % 2) 0 && known count (stack (q .start)))
+      unless 14 (leb (length (q .start)) maxStart && eqb (length (q .start) % 2) 0 && principalsKnown count (stack (q .start)))
       ∷ unless 15 (buffersOk (q .runner) (sizes b)) ∷ unless 16 (limitsOk q) ∷ []
 
   pub starts-alike : Readable s → (q : Request) (b : Buffers) → Starts s q b ↔ Starts s′ q b

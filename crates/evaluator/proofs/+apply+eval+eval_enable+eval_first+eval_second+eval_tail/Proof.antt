@@ -1,8 +1,9 @@
--- The evaluator's functions give and leave what the interpreter's clause for their shape says; each answer cites the law of its shape (ShapeLaws)
--- and puts together what its calls gave (ContractLaws). `start` is a function's entry, `at-X` the place where X was bound last.
+-- The evaluator's functions give and leave what the interpreter's clause for their shape says; each answer cites the law of its shape (ShapeLaws) and puts
+-- together what its calls gave (ContractLaws). `start` is a function's entry, `at-X` the place where X was bound last.
 --
--- What falls is `workLeft`: the calls left, then the term's number. A child has a lower number and does not raise the calls left, the function of a
--- shape stands one step below `eval` and that of a second operand two, and a body begins with one call less.
+-- What falls is `workLeft`: the calls left, then the term's number. A child has a lower number and does not raise the calls left, the function of a shape
+-- stands one step below `eval` and that of a second operand two; `apply` has no term and stands below them all, and the body that it evaluates begins with
+-- one call less.
 use native.Mathlib.Omega.{arith}
 use borrow.Author.Needs.{needs}
 use mathlib.Core.Logic.{inl, inr, ⊎-elim}

@@ -1,4 +1,5 @@
--- A sheet that the reader refuses has that for its verdict, and one that is read has its counts.
+-- `explain` answers what `explanation` says: the reader's refusal is the verdict and is told (unreadable-is, unreadable-explained), and a sheet that is read
+-- has its own counts, as `explain_readable` requires (readable-counted).
 use borrow.Author.Needs.{needs}
 use Rattle.checker.proofs.VerdictLaws.{unreadable-is, readable-counted}
 use Rattle.explain.proofs.EntryLaws.{unreadable-explained}

@@ -1,4 +1,5 @@
--- By the type checker's verdict; the needs that it accepts the sheet with are those of the root.
+-- `explain_readable` answers what `explanation` says, by the verdict: a refusal is told (refused-unreadable, refused-fault), and the needs that a sheet is
+-- accepted with are the root's (accepted-needs), as `explain_needs` requires.
 use borrow.Author.Needs.{needs}
 use Rattle.checker.proofs.VerdictLaws.{sheet-of}
 use Rattle.explain.proofs.EntryLaws.{refused-unreadable, refused-fault, accepted-explained, accepted-needs}

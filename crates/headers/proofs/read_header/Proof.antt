@@ -1,11 +1,13 @@
 -- A law for each way out: a field's fault, where those before it are right; what follows the terms and should not; and the counts of right fields.
--- A field begins where the one before ends, at most at 10,894 = 8 + 4 * 32 + 3 + 10 * 256 + 3 + 8 * 1024, below the 16,384 that `read_field` requires.
+-- A field begins where the one before ends, at most at 10,894 = 8 + 4 * 32 + 3 + 10 * 256 + 3 + 8 * 1024, below the longest sheet's 10,913, as `read_field`
+-- requires.
 use native.Mathlib.Omega.{arith}
 use borrow.Author.Needs.{needs}
 use Rattle.headers.proofs.FieldLaws.{is-fault, is-records, is-version, version-fault, fault-2, fault-3, fault-4, end-as, after-terms, fault-end, laid}
 use Rattle.headers.specs.Internal.{endConditions}
 use Rattle.headers.proofs.read_header.Statement.{statement}
 use Rattle.headers.proofs.read_header.Tie as tie
+use Rattle.program.specs.Limits.{maxPrincipals, maxTypes, maxTerms}
 
 read-version-requires : tie.Need-read-version-requires
 read-version-requires c κs = search needs
@@ -36,7 +38,7 @@ returns-2 c =
     let at-read-version = at-n .before .before in
     let start = at-read-version .before .before in
     fault-2 (start .args .s .now) (is-version (start .args .s .now) (at-n .n .given .1) (at-read-version .read-version .ensures))
-    (is-fault (start .args .s .now) 5 2 4 1 32 (c .before .f2 .given .1) (c .before .before .before .read-field .ensures))
+    (is-fault (start .args .s .now) 5 2 4 1 maxPrincipals (c .before .f2 .given .1) (c .before .before .before .read-field .ensures))
 
 cast-types-at : tie.Need-cast-types-at
 cast-types-at c = search needs
@@ -50,7 +52,7 @@ add-types-at c = search needs
 read-field-requires-2 : tie.Need-read-field-requires-2
 read-field-requires-2 c κs =
     let start = c .before .before .before .before .before .before .before .before .before in
-    omega (arith, (is-records (start .args .s .now) 5 2 4 1 32 (c .before .n2 .given .1) (c .before .before .before .read-field .ensures)) .most-are)
+    omega (arith, (is-records (start .args .s .now) 5 2 4 1 maxPrincipals (c .before .n2 .given .1) (c .before .before .before .read-field .ensures)) .most-are)
 
 enum-known-n-3 : tie.Need-enum-known-n-3
 enum-known-n-3 c = search needs
@@ -66,8 +68,8 @@ returns-3 c =
     let at-read-version = at-n .before .before in
     let start = at-read-version .before .before in
     fault-3 (start .args .s .now) (is-version (start .args .s .now) (at-n .n .given .1) (at-read-version .read-version .ensures))
-    (is-records (start .args .s .now) 5 2 4 1 32 (at-n2 .n2 .given .1) (at-read-field .read-field .ensures))
-    (is-fault (start .args .s .now) _ 3 10 2 256 (c .before .f3 .given .1) (c .before .before .before .read-field2 .ensures))
+    (is-records (start .args .s .now) 5 2 4 1 maxPrincipals (at-n2 .n2 .given .1) (at-read-field .read-field .ensures))
+    (is-fault (start .args .s .now) _ 3 10 2 maxTypes (c .before .f3 .given .1) (c .before .before .before .read-field2 .ensures))
 
 add-terms-at : tie.Need-add-terms-at
 add-terms-at c = search needs
@@ -88,8 +90,8 @@ read-field-requires-3 c κs =
     let start = at-read-field .before .before .before .before .before .before in
     omega (
       arith,
-      (is-records (start .args .s .now) 5 2 4 1 32 (at-n2 .n2 .given .1) (at-read-field .read-field .ensures)) .most-are,
-      (is-records (start .args .s .now) _ 3 10 2 256 (c .before .n3 .given .1) (c .before .before .before .read-field2 .ensures)) .most-are,
+      (is-records (start .args .s .now) 5 2 4 1 maxPrincipals (at-n2 .n2 .given .1) (at-read-field .read-field .ensures)) .most-are,
+      (is-records (start .args .s .now) _ 3 10 2 maxTypes (c .before .n3 .given .1) (c .before .before .before .read-field2 .ensures)) .most-are,
     )
 
 enum-known-n-4 : tie.Need-enum-known-n-4
@@ -108,9 +110,9 @@ returns-4 c =
     let at-read-version = at-n .before .before in
     let start = at-read-version .before .before in
     fault-4 (start .args .s .now) (is-version (start .args .s .now) (at-n .n .given .1) (at-read-version .read-version .ensures))
-    (is-records (start .args .s .now) 5 2 4 1 32 (at-n2 .n2 .given .1) (at-read-field .read-field .ensures))
-    (is-records (start .args .s .now) _ 3 10 2 256 (at-n3 .n3 .given .1) (at-read-field2 .read-field2 .ensures))
-    (is-fault (start .args .s .now) _ 4 8 1 1024 (c .before .f4 .given .1) (c .before .before .before .read-field3 .ensures))
+    (is-records (start .args .s .now) 5 2 4 1 maxPrincipals (at-n2 .n2 .given .1) (at-read-field .read-field .ensures))
+    (is-records (start .args .s .now) _ 3 10 2 maxTypes (at-n3 .n3 .given .1) (at-read-field2 .read-field2 .ensures))
+    (is-fault (start .args .s .now) _ 4 8 1 maxTerms (c .before .f4 .given .1) (c .before .before .before .read-field3 .ensures))
 
 add-read-end : tie.Need-add-read-end
 add-read-end c = search needs
@@ -133,10 +135,11 @@ read-end-requires c κs =
     let at-n = at-read-field .before .before in
     let at-read-version = at-n .before .before in
     let start = at-read-version .before .before in
-    let version = is-version (start .args .s .now) (at-n .n .given .1) (at-read-version .read-version .ensures) in let second = is-records
-    (start .args .s .now) 5 2 4 1 32 (at-n2 .n2 .given .1) (at-read-field .read-field .ensures) in let third = is-records (start .args .s .now) _ 3 10 2 256
-    (at-n3 .n3 .given .1) (at-read-field2 .read-field2 .ensures) in let fourth = is-records (start .args .s .now) _ 4 8 1 1024 (c .before .n4 .given .1)
-    (c .before .before .before .read-field3 .ensures) in after-terms (start .args .s .now) version second third fourth
+    let version = is-version (start .args .s .now) (at-n .n .given .1) (at-read-version .read-version .ensures) in
+    let second = is-records (start .args .s .now) 5 2 4 1 maxPrincipals (at-n2 .n2 .given .1) (at-read-field .read-field .ensures) in
+    let third = is-records (start .args .s .now) _ 3 10 2 maxTypes (at-n3 .n3 .given .1) (at-read-field2 .read-field2 .ensures) in
+    let fourth = is-records (start .args .s .now) _ 4 8 1 maxTerms (c .before .n4 .given .1) (c .before .before .before .read-field3 .ensures) in
+    after-terms (start .args .s .now) version second third fourth
 
 enum-told : tie.Need-enum-told
 enum-told c = search needs
@@ -146,7 +149,7 @@ cast-t31 c =
     let at-n2 = c .before .before .before .before .before .before .before .before .before .before .before .before in
     let at-read-field = at-n2 .before .before in
     let start = at-read-field .before .before .before .before .before .before in
-    omega (arith, (is-records (start .args .s .now) 5 2 4 1 32 (at-n2 .n2 .given .1) (at-read-field .read-field .ensures)) .most-are)
+    omega (arith, (is-records (start .args .s .now) 5 2 4 1 maxPrincipals (at-n2 .n2 .given .1) (at-read-field .read-field .ensures)) .most-are)
 
 enum-known-f-5 : tie.Need-enum-known-f-5
 enum-known-f-5 c = search needs
@@ -163,9 +166,9 @@ returns-5 c =
     let at-read-version = at-n .before .before in
     let start = at-read-version .before .before in
     laid (start .args .s .now) (is-version (start .args .s .now) (at-n .n .given .1) (at-read-version .read-version .ensures))
-    (is-records (start .args .s .now) 5 2 4 1 32 (at-n2 .n2 .given .1) (at-read-field .read-field .ensures))
-    (is-records (start .args .s .now) _ 3 10 2 256 (at-n3 .n3 .given .1) (at-read-field2 .read-field2 .ensures))
-    (is-records (start .args .s .now) _ 4 8 1 1024 (at-n4 .n4 .given .1) (at-read-field3 .read-field3 .ensures))
+    (is-records (start .args .s .now) 5 2 4 1 maxPrincipals (at-n2 .n2 .given .1) (at-read-field .read-field .ensures))
+    (is-records (start .args .s .now) _ 3 10 2 maxTypes (at-n3 .n3 .given .1) (at-read-field2 .read-field2 .ensures))
+    (is-records (start .args .s .now) _ 4 8 1 maxTerms (at-n4 .n4 .given .1) (at-read-field3 .read-field3 .ensures))
     (end-as (endConditions (start .args .s .now)) (c .enum-told .given .1) (c .before .before .read-end .ensures))
 
 returns-6 : tie.Need-returns-6
@@ -180,9 +183,9 @@ returns-6 c =
     let at-read-version = at-n .before .before in
     let start = at-read-version .before .before in
     fault-end (start .args .s .now) (is-version (start .args .s .now) (at-n .n .given .1) (at-read-version .read-version .ensures))
-    (is-records (start .args .s .now) 5 2 4 1 32 (at-n2 .n2 .given .1) (at-read-field .read-field .ensures))
-    (is-records (start .args .s .now) _ 3 10 2 256 (at-n3 .n3 .given .1) (at-read-field2 .read-field2 .ensures))
-    (is-records (start .args .s .now) _ 4 8 1 1024 (at-n4 .n4 .given .1) (at-read-field3 .read-field3 .ensures))
+    (is-records (start .args .s .now) 5 2 4 1 maxPrincipals (at-n2 .n2 .given .1) (at-read-field .read-field .ensures))
+    (is-records (start .args .s .now) _ 3 10 2 maxTypes (at-n3 .n3 .given .1) (at-read-field2 .read-field2 .ensures))
+    (is-records (start .args .s .now) _ 4 8 1 maxTerms (at-n4 .n4 .given .1) (at-read-field3 .read-field3 .ensures))
     (end-as (endConditions (start .args .s .now)) (c .before .f5 .given .1) (c .before .before .before .read-end .ensures))
 
 pub read-header-spec : {M : Type 1} → statement M

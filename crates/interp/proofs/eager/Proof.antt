@@ -19,7 +19,7 @@ mode-of-requires c κs = search needs
 evaluate-requires : tie.Need-evaluate-requires
 evaluate-requires c κs =
     let start = c .before .before .before .before .before .before .before .before .before .before .before in
-    record { well-formed = start .pre .well-formed; counts-are = start .pre .counts-are }
+    record { well-formed = start .pre .well-formed; counts = start .pre .counts }
 
 same-length : tie.Need-same-length
 same-length c = search needs

@@ -12,18 +12,18 @@ use Rattle.interp.proofs.evaluate.Tie as tie
 sub-root : tie.Need-sub-root
 sub-root c =
     let start = c .before .before .before .before .before .before in
-    omega (arith, start .pre .counts-are .terms-are, start .pre .well-formed .terms-least)
+    omega (arith, start .pre .counts .terms-are, start .pre .well-formed .terms-least)
 
 decode-terms-requires : tie.Need-decode-terms-requires
 decode-terms-requires c κs =
     let start = c .before .before .before .before .before .before .before in
-    record { well-formed = start .pre .well-formed; counts = start .pre .counts-are; empty = empty-table _ refl }
+    record { well-formed = start .pre .well-formed; counts = start .pre .counts; empty = empty-table _ refl }
 
 evaluate-words-requires : tie.Need-evaluate-words-requires
 evaluate-words-requires c κs =
     let at-decode-terms = c .before .before .before .before .before in
     let start = at-decode-terms .before .before .before .before .before .before .before .before in
-    table-of (start .pre .well-formed) (start .pre .counts-are) (at-decode-terms .decode-terms .ensures)
+    table-of (start .pre .well-formed) (start .pre .counts) (at-decode-terms .decode-terms .ensures)
 
 out-of-requires : tie.Need-out-of-requires
 out-of-requires c κs = search needs

@@ -20,7 +20,7 @@ mode-of-requires c κs = search needs
 evaluate-requires : tie.Need-evaluate-requires
 evaluate-requires c κs =
     let start = c .before .before .before .before .before .before .before .before .before .before .before .before .before .before .before in
-    record { well-formed = start .pre .well-formed; counts-are = start .pre .counts-are }
+    record { well-formed = start .pre .well-formed; counts = start .pre .counts }
 
 clear-frames-requires : tie.Need-clear-frames-requires
 clear-frames-requires c κs = search needs

@@ -1,4 +1,4 @@
--- The run with a record of no bytes, without the number of its entries.
+-- `run_lazy` answers and leaves what the definition's run does: it is the run with a record of no bytes, without the number of its entries (plain-after).
 use borrow.Author.Needs.{needs}
 use Rattle.interp.proofs.RunLaws.{plain-after}
 use Rattle.interp.proofs.run_lazy.Statement.{statement}

@@ -4,31 +4,14 @@ use mathlib.Core.List.{List}
 use mathlib.Core.Path.{_≡_, refl, sym, ap, _∙_}
 use Prim.Native.Nat.{ℕ, zero, suc, _+_, _*_, _/_, _%_, _<_, _≤_}
 use native.Mathlib.Decide.{decLt, ℕ-discrete}
-use native.Mathlib.Nat.{div-add-mod'}
 use native.Mathlib.Omega.{arith}
-use lib.ListN.{length, set, length-set}
+use lib.ListN.{length, set}
 use lib.Seq.{getD-set-same, getD-set-other, set-out}
-use Rattle.program.specs.Bytes.{byte, word16, Bytes}
+use Rattle.program.specs.Bytes.{byte, word16, withWord16, Bytes}
+use Rattle.program.specs.Laws.Bytes.{word-length, word-other, word-there}
 use Rattle.program.specs.Layout.{termField, terms, termAt, first, second, third}
 use Rattle.intervals.specs.Pairs.{isNumber}
-use Rattle.intervals.specs.Choosing.{withWord16, withNumbersBelow, withNumbers}
-
--- ---- one number's bytes
-word-length : (s : List ℕ) (i n : ℕ) → length (withWord16 s i n) ≡ length s
-word-length s i n = length-set (set s i (n / 256)) (i + 1) (n % 256) ∙ length-set s i (n / 256)
-
-word-other : (s : List ℕ) (i n j : ℕ) → (j ≡ i → ⊥) → (j ≡ i + 1 → ⊥) → byte (withWord16 s i n) j ≡ byte s j
-word-other s i n j a b = getD-set-other (set s i (n / 256)) (i + 1) j (n % 256) 0 b ∙ getD-set-other s i j (n / 256) 0 a
-
-word-high : (s : List ℕ) (i n : ℕ) → i < length s → byte (withWord16 s i n) i ≡ n / 256
-word-high s i n h = getD-set-other (set s i (n / 256)) (i + 1) i (n % 256) 0 (λ e. omega (arith, e)) ∙ getD-set-same s i (n / 256) 0 h
-
-word-low : (s : List ℕ) (i n : ℕ) → i + 1 < length s → byte (withWord16 s i n) (i + 1) ≡ n % 256
-word-low s i n h = getD-set-same (set s i (n / 256)) (i + 1) (n % 256) 0 (omega (arith, length-set s i (n / 256)))
-
--- a number is read as it is written
-word-there : (s : List ℕ) (i n : ℕ) → i + 1 < length s → word16 (withWord16 s i n) i ≡ n
-word-there s i n h = (λ k. word-high s i n (omega arith) k * 256 + word-low s i n h k) ∙ div-add-mod' n 256
+use Rattle.intervals.specs.Choosing.{withNumbersBelow, withNumbers}
 
 -- bytes stay bytes
 bytes-set : (l : List ℕ) (i x : ℕ) → Bytes l → x < 256 → Bytes (set l i x)
@@ -41,6 +24,7 @@ bytes-set l i x b h = record { below = λ j. elim (ℕ-discrete j i) [ yes e ↦
     ]
 
 word-bytes : (s : List ℕ) (i n : ℕ) → Bytes s → n < 65536 → Bytes (withWord16 s i n)
+unfolding withWord16
 word-bytes s i n b h = bytes-set (set s i (n / 256)) (i + 1) (n % 256) (bytes-set s i (n / 256) b (omega arith)) (omega arith)
 
 -- places in the records of terms; b is where the first record begins

@@ -23,7 +23,7 @@ use Rattle.program.specs.Laws.Trees.{Below, below, parts, root-lower}
 use Rattle.semantics.specs.Values.{Result, ends}
 use Rattle.semantics.specs.Meaning.{plain}
 use Rattle.semantics.specs.Access.{lazyControl, eagerControl}
-use Rattle.semantics.specs.Runs.{Runner, eager, lazy, Request, Buffers, Sizes, sizes, stack, known, startOk, buffersOk, limitsOk, runConditions, initial, evaluationOver, evaluation, started, stopped, ran, counts, buffersAfter, afterCourse}
+use Rattle.semantics.specs.Runs.{Runner, eager, lazy, Request, Buffers, Sizes, sizes, stack, principalsKnown, startOk, buffersOk, limitsOk, runConditions, initial, evaluationOver, evaluation, started, stopped, ran, counts, buffersAfter, afterCourse}
 use Rattle.intervals.specs.Pairs.{isNumber}
 use Rattle.intervals.specs.Claims.{chosen}
 use Rattle.intervals.specs.Choosing.{withNumbers}
@@ -99,19 +99,19 @@ module _ (ρ : ℕ → ℕ) (s : List ℕ) where
   same-run-conditions q z =
       let a = alike ρ s in
       λ i. same-conditions s new a i
-      ++ unless 14 (leb (length (q .start)) maxStart && eqb (length (q .start) % 2) 0 && known (same-principals s new a i) (stack (q .start)))
+      ++ unless 14 (leb (length (q .start)) maxStart && eqb (length (q .start) % 2) 0 && principalsKnown (same-principals s new a i) (stack (q .start)))
       ∷ unless 15 (buffersOk (q .runner) z) ∷ unless 16 (limitsOk q) ∷ []
 
-  pub start-known : (q : Request) (z : Sizes) → screen (runConditions s q z) ≡ clear → known (principals s) (stack (q .start)) ≡ true
+  pub start-known : (q : Request) (z : Sizes) → screen (runConditions s q z) ≡ clear → principalsKnown (principals s) (stack (q .start)) ≡ true
   start-known q z e =
       let n = none-append (decodingConditions s) _ (clear-none (runConditions s q z) e) .1 in
       let ok : startOk s q ≡ true = unless-none 14 (startOk s q) (none-cons n .0) in
-      and-right (leb (length (q .start)) maxStart && eqb (length (q .start) % 2) 0) (known (principals s) (stack (q .start))) ok
+      and-right (leb (length (q .start)) maxStart && eqb (length (q .start) % 2) 0) (principalsKnown (principals s) (stack (q .start))) ok
 
   same-rights : (n : ℕ) → n < principals s → authority s n ≡ authority new n
   same-rights n h = sym (same-authority s new (alike ρ s) n h)
 
-  pub evaluation-replaced : WellFormed s → (q : Request) (z : Sizes) → known (principals s) (stack (q .start)) ≡ true → (r : Runner)
+  pub evaluation-replaced : WellFormed s → (q : Request) (z : Sizes) → principalsKnown (principals s) (stack (q .start)) ≡ true → (r : Runner)
       → ReplacedResult ρ (principals s) (evaluationOver (chosen (λ at n. ρ at)) (plain (q .enforce)) r s q z) (evaluation r new q z)
   evaluation-replaced w q z k eager =
       runs-replaced ρ (principals s) (eagerControl (authority s)) (eagerControl (authority new))

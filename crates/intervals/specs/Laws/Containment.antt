@@ -10,7 +10,7 @@ use Rattle.program.specs.Terms.{Op, sum, difference, less, Term, boolean, numbe
 use Rattle.traces.specs.Traces.{Event}
 use Rattle.semantics.specs.Domains.{saturates, postEntry, Interpretation}
 use Rattle.semantics.specs.Values.{ValueOf, Value, bool, num, closure, EnvOf, Env, empty, bind, lookup, entered, Log, Budget, budget, ResultOf, Result, ends, stops}
-use Rattle.semantics.specs.Meaning.{Control, Mode, _then_, choose, found, branch, operate, countSaturated, compute, appendPost, note, postValue, takeCell, beginCall, tooDeep, enter, passes, guardPasses, eventIf, listsChecks, Application, evalWith, apply, eval}
+use Rattle.semantics.specs.Meaning.{Control, Mode, _then_, choose, variableValue, branch, operate, countSaturated, compute, appendPost, note, postValue, takeCell, beginCall, tooDeep, enter, passes, guardPasses, eventIf, listsChecks, Application, evalWith, apply, eval}
 use Rattle.intervals.specs.Intervals.{Interval, rangeEntry, intervals}
 use Rattle.intervals.specs.Claims.{Inside, chosen, InsidePosts, next-post}
 use Rattle.intervals.specs.Laws.Arithmetic.{Agrees, agrees-known, agrees-none, sum-inside, difference-inside, less-agrees}
@@ -74,7 +74,7 @@ module _ (L : ℕ → Interval) (ρ : (at n : ℕ) → ℕ) where
   inside-choose false y n y′ n′ u u′ hy hn = hn
 
   inside-found : {e : EnvOf intervals} {e′ : Env} → InsideEnv e e′ → (i at : ℕ) {u u′ : Budget} → InsideBudget u u′
-      → InsideResult (found at (lookup e i) u) (found at (lookup e′ i) u′)
+      → InsideResult (variableValue at (lookup e i) u) (variableValue at (lookup e′ i) u′)
   inside-found env-empty i at b = r-stops b
   inside-found (env-bind v e) zero at b = r-ends v b
   inside-found (env-bind v e) (suc i) at b = inside-found e i at b

@@ -9,7 +9,7 @@ use native.Mathlib.Omega.{arith}
 use lib.Dec.{leb, ltb, eqb}
 use borrow.Author.Tests.{ltb-true, ltb-false, le-ltb, eqb-true}
 use Rattle.privileges.specs.Booleans.{and-left, and-right}
-use Rattle.program.specs.Limits.{maxPrincipals, maxTypes, maxTerms, maxChannels, noGuard, maxTypeDepth, maxNesting}
+use Rattle.program.specs.Limits.{maxPrincipals, maxTypes, maxTerms, maxChannels, noGuard, maxTypeDepth, maxNesting, maxPrivilege}
 use Rattle.program.specs.Tests.{also, orElse}
 use Rattle.program.specs.Bytes.{byte, word16, word32}
 use Rattle.program.specs.Layout.{version, hasGuards, principals, authority, typeField, types, typeAt, termField, terms, termAt, guardField, guardAt, sheetEnd, channels, guardByte, guardIn, guardOf, root, kindByte, small, first, second, third, typesOf}
@@ -294,7 +294,7 @@ module _ (s s′ : List ℕ) (a : Alike s s′) where
 
   -- ---- 31
   same-guard : (c : ℕ) → guardOk s′ c ≡ guardOk s c
-  same-guard c = λ i. leb (same-guardByte c i) 31 || eqb (same-guardByte c i) noGuard
+  same-guard c = λ i. leb (same-guardByte c i) maxPrivilege || eqb (same-guardByte c i) noGuard
 
   -- ---- all of them
   found-5 : lowest (typeOk s′) 0 (types s′) ≡ lowest (typeOk s) 0 (types s)

@@ -12,9 +12,9 @@ use Rattle.privileges.specs.Booleans.{and-left, and-right, and-both}
 use Rattle.program.specs.Terms.{Op, sum, difference, less, Term, boolean, number, variable, function, letrec, call, if, check, enable, sign, test, binary, post}
 use Rattle.semantics.specs.Domains.{Interpretation, standard}
 use Rattle.semantics.specs.Values.{Value, bool, num, closure, Env, empty, bind, lookup, entered, Budget, budget, Result, ends, stops}
-use Rattle.semantics.specs.Meaning.{Control, plain, _then_, choose, found, branch, operate, compute, appendPost, postValue, takeCell, beginCall, tooDeep, enter, passes, guardPasses, Application, evalWith, apply, eval}
+use Rattle.semantics.specs.Meaning.{Control, plain, _then_, choose, variableValue, branch, operate, compute, appendPost, postValue, takeCell, beginCall, tooDeep, enter, passes, guardPasses, Application, evalWith, apply, eval}
 use Rattle.semantics.specs.Access.{Frame, frame, chk, privs, enableFirst, lazyControl, Rights, rights, addAuthorised, eagerControl}
-use Rattle.semantics.specs.Runs.{known}
+use Rattle.semantics.specs.Runs.{principalsKnown}
 use Rattle.intervals.specs.Claims.{chosen}
 
 -- the second has the number chosen in each number term; signs are of principals below a count
@@ -73,38 +73,38 @@ module _ (count : ℕ) (A B : ℕ → ℕ) (same : (n : ℕ) → n < count → A
     same-grants = λ r t e p. λ i. has p (e .0 i .granted);
   }
 
-  privs-same : (fs : List Frame) → known count fs ≡ true → privs A fs ≡ privs B fs
+  privs-same : (fs : List Frame) → principalsKnown count fs ≡ true → privs A fs ≡ privs B fs
   privs-same [] h = refl
   privs-same (f ∷ fs) h =
       let low : f .principal < count = ltb-true (f .principal) count (search (h, and-left)) in
-      let rest : known count fs ≡ true = search (h, and-right) in
+      let rest : principalsKnown count fs ≡ true = search (h, and-right) in
       λ i. meet (same (f .principal) low i) (union (f .enabled) (privs-same fs rest i))
 
   -- from a start stack of known principals
-  pub eager-start : (fs : List Frame) → known count fs ≡ true → 0 < count → eager-agrees .related (rights 0 (privs A fs)) (rights 0 (privs B fs))
+  pub eager-start : (fs : List Frame) → principalsKnown count fs ≡ true → 0 < count → eager-agrees .related (rights 0 (privs A fs)) (rights 0 (privs B fs))
   unfolding eager-agrees
   eager-start fs h l = ((λ i. rights 0 (privs-same fs h i)), l)
 
-  chk-same : (fs : List Frame) → known count fs ≡ true → (p : ℕ) → chk A fs p ≡ chk B fs p
+  chk-same : (fs : List Frame) → principalsKnown count fs ≡ true → (p : ℕ) → chk A fs p ≡ chk B fs p
   chk-same [] h p = refl
   chk-same (f ∷ fs) h p =
       let low : f .principal < count = ltb-true (f .principal) count (search (h, and-left)) in
-      let rest : known count fs ≡ true = search (h, and-right) in
+      let rest : principalsKnown count fs ≡ true = search (h, and-right) in
       λ i. has p (same (f .principal) low i) && (has p (f .enabled) || chk-same fs rest p i)
 
-  known-enabled : (p : ℕ) (fs : List Frame) → known count fs ≡ true → known count (enableFirst p fs) ≡ true
+  known-enabled : (p : ℕ) (fs : List Frame) → principalsKnown count fs ≡ true → principalsKnown count (enableFirst p fs) ≡ true
   known-enabled p [] h = h
   known-enabled p (f ∷ fs) h = h
 
   pub lazy-agrees : Agreeing count (lazyControl A) (lazyControl B)
   lazy-agrees = record {
-    related = λ (fs gs : List Frame). (fs ≡ gs) × (known count gs ≡ true);
+    related = λ (fs gs : List Frame). (fs ≡ gs) × (principalsKnown count gs ≡ true);
     on-sign = λ n h fs gs e. ((λ i. frame n 0 ∷ e .0 i), and-both (lt-ltb n count h) (e .1));
     on-enable = λ p fs gs e. ((λ i. enableFirst p (e .0 i)), known-enabled p gs (e .1));
     same-grants = λ fs gs e p. (λ i. chk A (e .0 i) p) ∙ chk-same gs (e .1) p;
   }
 
-  pub lazy-start : (fs : List Frame) → known count fs ≡ true → lazy-agrees .related fs fs
+  pub lazy-start : (fs : List Frame) → principalsKnown count fs ≡ true → lazy-agrees .related fs fs
   unfolding lazy-agrees
   lazy-start fs h = (refl, h)
 
@@ -132,7 +132,7 @@ module _ (ρ : ℕ → ℕ) (count : ℕ) where
       go true = hy
       go false = hn
 
-  replaced-found : {e e′ : Env} → ReplacedEnv ρ count e e′ → (i at : ℕ) (u : Budget) → Like (found at (lookup e i) u) (found at (lookup e′ i) u)
+  replaced-found : {e e′ : Env} → ReplacedEnv ρ count e e′ → (i at : ℕ) (u : Budget) → Like (variableValue at (lookup e i) u) (variableValue at (lookup e′ i) u)
   replaced-found env-empty i at u = r-stops
   replaced-found (env-bind v e) zero at u = r-ends v
   replaced-found (env-bind v e) (suc i) at u = replaced-found e i at u

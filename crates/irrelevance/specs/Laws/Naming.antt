@@ -6,6 +6,7 @@ use mathlib.Core.Path.{_≡_, refl, sym, ap, _∙_}
 use Prim.Native.Nat.{ℕ}
 use native.Mathlib.Omega.{arith}
 use borrow.Author.Tests.{leb-true, le-leb, not-true, not-false}
+use Rattle.program.specs.Limits.{maxPrivilege}
 use Rattle.program.specs.Layout.{terms}
 use Rattle.program.specs.Screening.{Screening, clear, found, none-end, none-next, screen, unlessFound}
 use Rattle.program.specs.Decoding.{decodingConditions, decoding}
@@ -60,12 +61,12 @@ module _ (s : List ℕ) (p : ℕ) where
   unfolding decoding
   clear-answerable e =
       let n = none-append (decodingConditions s) _ (clear-none (namingConditions s p) e) in
-      record { readable = none-clear (n .0); privilege = leb-true p 31 (unless-none 30 _ (none-cons (n .1) .0)) }
+      record { readable = none-clear (n .0); privilege = leb-true p maxPrivilege (unless-none 30 _ (none-cons (n .1) .0)) }
 
   pub answerable-clear : Answerable s p → screen (namingConditions s p) ≡ clear
   unfolding decoding
   answerable-clear a =
-      none-clear (append-none (clear-none (decodingConditions s) (a .readable)) (none-next (none-unless 30 (le-leb p 31 (a .privilege))) none-end))
+      none-clear (append-none (clear-none (decodingConditions s) (a .readable)) (none-next (none-unless 30 (le-leb p maxPrivilege (a .privilege))) none-end))
 
   -- ---- the answer
   pub answerable-naming : Answerable s p → naming s p ≡ namingOf (firstNaming s p)

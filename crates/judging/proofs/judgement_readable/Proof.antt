@@ -1,27 +1,23 @@
 -- The term is sought from the root, without bindings. Where it is not found there is none with that number (absent-judged), and else it is judged at its place
 -- (present-judged).
-use mathlib.Core.Path.{refl}
-use borrow.Author.Needs.{needs}
 use borrow.Author.Tests.{not-true, not-false}
 use Rattle.judging.proofs.JudgementLaws.{root-searchable, absent-judged, present-judged}
 use Rattle.judging.proofs.judgement_readable.Statement.{statement}
 use Rattle.judging.proofs.judgement_readable.Tie as tie
+use Rattle.checker.proofs.VerdictLaws.{some-terms}
 
-sub-present : tie.Need-sub-present
-sub-present c = search needs
-
-present-requires : tie.Need-present-requires
-present-requires c κs = search needs
+root-requires : tie.Need-root-requires
+root-requires c κs = some-terms (c .before .pre)
 
 find-requires : tie.Need-find-requires
-find-requires c κs = root-searchable (c .before .before .before .pre) _ refl (c .present .ensures)
+find-requires c κs = root-searchable (c .before .before .pre) (c .root .ensures)
 
 returns : tie.Need-returns
 returns c =
     let at-find = c .before .before in
-    let at-present = at-find .before in
-    let start = at-present .before .before .before in
-    absent-judged (start .pre) _ refl (at-present .present .ensures) (start .args .term) (at-find .find .ensures) (not-true _ (c .if1 .taken))
+    let at-root = at-find .before in
+    let start = at-root .before .before in
+    absent-judged (start .pre) (at-root .root .ensures) (start .args .term) (at-find .find .ensures) (not-true _ (c .if1 .taken))
 
 judgement-at-requires : tie.Need-judgement-at-requires
 judgement-at-requires c κs =
@@ -32,12 +28,10 @@ returns-2 : tie.Need-returns-2
 returns-2 c =
     let at-if1 = c .before .before in
     let at-find = at-if1 .before .before in
-    let at-present = at-find .before in
-    let start = at-present .before .before .before in
-    present-judged (start .pre) _ refl (at-present .present .ensures) (start .args .term) (at-find .find .ensures) (not-false _ (at-if1 .if1 .left))
+    let at-root = at-find .before in
+    let start = at-root .before .before in
+    present-judged (start .pre) (at-root .root .ensures) (start .args .term) (at-find .find .ensures) (not-false _ (at-if1 .if1 .left))
     (c .judgement-at .ensures)
 
 pub judgement-readable-spec : {M : Type 1} → statement M
-judgement-readable-spec =
-    tie.close
-    (tie.spec sub-present present-requires find-requires returns judgement-at-requires returns-2)
+judgement-readable-spec = tie.close (tie.spec root-requires find-requires returns judgement-at-requires returns-2)

@@ -1,4 +1,5 @@
--- A sheet that the reader refuses has that for its verdict, and one that is read has its counts.
+-- `erase` answers and leaves what `erasure` says: the reader's refusal is the verdict and is told (unreadable-is, unreadable-erasure), and a sheet that is
+-- read has its own counts, as `erase_readable` requires (readable-counted).
 use borrow.Author.Needs.{needs}
 use Rattle.checker.proofs.VerdictLaws.{unreadable-is, readable-counted}
 use Rattle.lean.proofs.EntryLaws.{unreadable-erasure}

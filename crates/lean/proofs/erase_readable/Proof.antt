@@ -1,4 +1,5 @@
--- By the type checker's verdict.
+-- `erase_readable` answers and leaves what `erasure` says, by the verdict: a refusal is told and leaves the buffer (refused-unreadable, refused-fault), and
+-- an accepted sheet is as `erase_accepted` says (accepted-erasure).
 use borrow.Author.Needs.{needs}
 use Rattle.checker.proofs.VerdictLaws.{sheet-of}
 use Rattle.lean.proofs.EntryLaws.{refused-unreadable, refused-fault, accepted-erasure}

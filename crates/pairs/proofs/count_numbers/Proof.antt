@@ -3,7 +3,7 @@ use native.Mathlib.Omega.{arith}
 use mathlib.Core.Logic.{⊎-elim}
 use mathlib.Core.Path.{refl, sym, _∙_}
 use Prim.Native.Nat.{_-_}
-use Rattle.program.specs.Layout.{terms as termsOf}
+use Rattle.program.specs.Layout.{terms as termCount}
 use Rattle.pairs.proofs.PairLaws.{CountedBelow, counted-yes, counted-no, counted-all, counted-most}
 use Rattle.pairs.proofs.count_numbers.Statement.{statement}
 use Rattle.pairs.proofs.count_numbers.Tie as tie
@@ -22,8 +22,8 @@ is-number-requires c κs =
     let start = c .before .before .before in
     record {
       well-formed = start .pre .well-formed;
-      counts-are = start .pre .counts-are;
-      inside = omega (arith, c .loop-test .taken, start .pre .counts-are .terms-are);
+      counts = start .pre .counts;
+      inside = omega (arith, c .loop-test .taken, start .pre .counts .terms-are);
     }
 
 add-n : tie.Need-add-n Inv-loop μ-loop
@@ -35,19 +35,19 @@ add-n c =
       at-loop .loop .inv .count-is,
       counted-most (start .args .s .now) (at-loop .loop .t),
       c .before .before .loop-test .taken,
-      start .pre .counts-are .terms-are,
+      start .pre .counts .terms-are,
       start .pre .well-formed .terms-most,
     )
 
 add-t : tie.Need-add-t Inv-loop μ-loop
 add-t c =
     let start = c .before .before .before .before .before in
-    omega (arith, start .pre .counts-are .terms-are, start .pre .well-formed .terms-most)
+    omega (arith, start .pre .counts .terms-are, start .pre .well-formed .terms-most)
 
 loop-less : tie.Need-loop-less Inv-loop μ-loop
 loop-less c =
     let start = c .before .before .before .before .before in
-    omega (arith, start .pre .counts-are .terms-are, start .pre .well-formed .terms-most)
+    omega (arith, start .pre .counts .terms-are, start .pre .well-formed .terms-most)
 
 loop-again : tie.Need-loop-again Inv-loop μ-loop
 loop-again c =
@@ -66,8 +66,8 @@ returns : tie.Need-returns Inv-loop μ-loop
 returns c =
     let at-loop = c .before in
     let start = at-loop .before .before in
-    counted-all (start .args .s .now) (at-loop .loop .t) (termsOf (start .args .s .now)) (at-loop .loop .inv .count-is)
-    (omega (arith, at-loop .loop .inv .below, c .loop-test .left, start .pre .counts-are .terms-are))
+    counted-all (start .args .s .now) (at-loop .loop .t) (termCount (start .args .s .now)) (at-loop .loop .inv .count-is)
+    (omega (arith, at-loop .loop .inv .below, c .loop-test .left, start .pre .counts .terms-are))
 
 pub count-numbers-spec : {M : Type 1} → statement M
 count-numbers-spec =

@@ -1,4 +1,4 @@
--- The record that is read is that of the term.
+-- A term is a number if its kind is 1; the record that is read is the term's (number-by).
 use borrow.Author.Needs.{needs}
 use Rattle.pairs.proofs.PairLaws.{number-by}
 use Rattle.pairs.proofs.is_number.Statement.{statement}

@@ -5,7 +5,7 @@ use borrow.Author.Needs.{needs}
 use mathlib.Core.Logic.{⊎-elim}
 use mathlib.Core.Path.{refl, sym, _∙_}
 use Prim.Native.Nat.{_-_, _*_, _+_}
-use Rattle.program.specs.Layout.{terms as termsOf}
+use Rattle.program.specs.Layout.{terms as termCount}
 use Rattle.intervals.specs.Laws.Pairs.{counted-below}
 use Rattle.pairs.proofs.PairLaws.{LaidBelow, counted-yes, counted-no, counted-most, laid-none, laid-other, laid-pair, laid-all}
 use Rattle.pairs.proofs.lay_pairs.Statement.{statement}
@@ -27,9 +27,9 @@ is-number-requires c κs =
     let start = c .before .before .before .before in
     record {
       well-formed = start .pre .well-formed;
-      counts-are = start .pre .counts-are;
+      counts = start .pre .counts;
       inside = omega
-          (arith, c .loop-test .taken, start .pre .counts-are .terms-are);
+          (arith, c .loop-test .taken, start .pre .counts .terms-are);
     }
 
 mul-lowest : tie.Need-mul-lowest Inv-loop μ-loop
@@ -41,7 +41,7 @@ mul-lowest c =
       at-loop .loop .inv .below,
       at-loop .loop .inv .count-is,
       counted-most (start .args .s .now) (at-loop .loop .t),
-      start .pre .counts-are .terms-are,
+      start .pre .counts .terms-are,
       start .pre .well-formed .terms-most,
     )
 
@@ -54,7 +54,7 @@ mul-lowest-2 c =
       at-loop .loop .inv .below,
       at-loop .loop .inv .count-is,
       counted-most (start .args .s .now) (at-loop .loop .t),
-      start .pre .counts-are .terms-are,
+      start .pre .counts .terms-are,
       start .pre .well-formed .terms-most,
     )
 
@@ -66,8 +66,8 @@ shared-slice-read-lowest c =
       arith,
       at-loop .loop .inv .count-is,
       start .pre .enough,
-      counted-below (start .args .s .now) (at-loop .loop .t) (termsOf (start .args .s .now))
-          (omega (arith, c .before .before .before .loop-test .taken, start .pre .counts-are .terms-are))
+      counted-below (start .args .s .now) (at-loop .loop .t) (termCount (start .args .s .now))
+          (omega (arith, c .before .before .before .loop-test .taken, start .pre .counts .terms-are))
           (sym (c .before .before .is-number .ensures) ∙ c .before .if1 .taken),
     )
 
@@ -80,7 +80,7 @@ mul-highest c =
       at-loop .loop .inv .below,
       at-loop .loop .inv .count-is,
       counted-most (start .args .s .now) (at-loop .loop .t),
-      start .pre .counts-are .terms-are,
+      start .pre .counts .terms-are,
       start .pre .well-formed .terms-most,
     )
 
@@ -93,7 +93,7 @@ add-highest c =
       at-loop .loop .inv .below,
       at-loop .loop .inv .count-is,
       counted-most (start .args .s .now) (at-loop .loop .t),
-      start .pre .counts-are .terms-are,
+      start .pre .counts .terms-are,
       start .pre .well-formed .terms-most,
     )
 
@@ -106,7 +106,7 @@ mul-highest-2 c =
       at-loop .loop .inv .below,
       at-loop .loop .inv .count-is,
       counted-most (start .args .s .now) (at-loop .loop .t),
-      start .pre .counts-are .terms-are,
+      start .pre .counts .terms-are,
       start .pre .well-formed .terms-most,
     )
 
@@ -119,8 +119,8 @@ shared-slice-read-highest c =
       arith,
       at-loop .loop .inv .count-is,
       start .pre .enough,
-      counted-below (start .args .s .now) (at-loop .loop .t) (termsOf (start .args .s .now))
-          (omega (arith, at-loop-test .loop-test .taken, start .pre .counts-are .terms-are))
+      counted-below (start .args .s .now) (at-loop .loop .t) (termCount (start .args .s .now))
+          (omega (arith, at-loop-test .loop-test .taken, start .pre .counts .terms-are))
           (sym (c .before .before .before .is-number .ensures) ∙ c .before .before .if1 .taken),
     )
 
@@ -136,7 +136,7 @@ cast-terms c =
       at-loop .loop .inv .below,
       at-loop .loop .inv .count-is,
       counted-most (start .args .s .now) (at-loop .loop .t),
-      start .pre .counts-are .terms-are,
+      start .pre .counts .terms-are,
       start .pre .well-formed .terms-most,
     )
 
@@ -149,7 +149,7 @@ mul-terms c =
       at-loop .loop .inv .below,
       at-loop .loop .inv .count-is,
       counted-most (start .args .s .now) (at-loop .loop .t),
-      start .pre .counts-are .terms-are,
+      start .pre .counts .terms-are,
       start .pre .well-formed .terms-most,
     )
 
@@ -157,7 +157,7 @@ element-write-terms : tie.Need-element-write-terms Inv-loop μ-loop
 element-write-terms c =
     let at-loop-test = c .before .before .before .before .before in
     let start = at-loop-test .before .before .before .before in
-    omega (arith, at-loop-test .loop-test .taken, start .pre .counts-are .terms-are, start .pre .well-formed .terms-most)
+    omega (arith, at-loop-test .loop-test .taken, start .pre .counts .terms-are, start .pre .well-formed .terms-most)
 
 add-n : tie.Need-add-n Inv-loop μ-loop
 add-n c =
@@ -168,7 +168,7 @@ add-n c =
       at-loop .loop .inv .below,
       at-loop .loop .inv .count-is,
       counted-most (start .args .s .now) (at-loop .loop .t),
-      start .pre .counts-are .terms-are,
+      start .pre .counts .terms-are,
       start .pre .well-formed .terms-most,
     )
 
@@ -181,7 +181,7 @@ add-t c =
       at-loop .loop .inv .below,
       at-loop .loop .inv .count-is,
       counted-most (start .args .s .now) (at-loop .loop .t),
-      start .pre .counts-are .terms-are,
+      start .pre .counts .terms-are,
       start .pre .well-formed .terms-most,
     )
 
@@ -194,7 +194,7 @@ loop-less c =
       at-loop .loop .inv .below,
       at-loop .loop .inv .count-is,
       counted-most (start .args .s .now) (at-loop .loop .t),
-      start .pre .counts-are .terms-are,
+      start .pre .counts .terms-are,
       start .pre .well-formed .terms-most,
     )
 
@@ -211,7 +211,7 @@ loop-again c =
           (c .if1 .came);
       laid = ⊎-elim (λ w. laid-pair (at-loop .loop .inv .laid)
           (omega
-          (arith, c .before .before .loop-test .taken, start .pre .counts-are .terms-are, start .pre .well-formed .terms-most, start .pre .decoded .long))
+          (arith, c .before .before .loop-test .taken, start .pre .counts .terms-are, start .pre .well-formed .terms-most, start .pre .decoded .long))
           (sym (w .0 .taken) ∙ at-is-number .is-number .ensures) (at-loop .loop .inv .count-is) (omega (arith, w .1 .given (2 * at-loop .loop .n)))
           (omega (arith, w .2 .given (2 * at-loop .loop .n + 1))) (w .3 .ensures) (w .4))
           (λ w. laid-other (at-loop .loop .inv .laid) (sym (w .0 .left) ∙ at-is-number .is-number .ensures) (w .1)) (c .if1 .came);
@@ -221,8 +221,9 @@ returns : tie.Need-returns Inv-loop μ-loop
 returns c =
     let at-loop = c .before in
     let start = at-loop .before .before .before in
-    laid-all (start .args .s .now) (start .args .pairs .now) (start .args .terms .now) (at-loop .loop .terms) (at-loop .loop .t) (termsOf (start .args .s .now))
-    (at-loop .loop .inv .laid) (omega (arith, at-loop .loop .inv .below, c .loop-test .left, start .pre .counts-are .terms-are))
+    laid-all (start .args .s .now) (start .args .pairs .now) (start .args .terms .now) (at-loop .loop .terms) (at-loop .loop .t)
+    (termCount (start .args .s .now))
+    (at-loop .loop .inv .laid) (omega (arith, at-loop .loop .inv .below, c .loop-test .left, start .pre .counts .terms-are))
 
 pub lay-pairs-spec : {M : Type 1} → statement M
 lay-pairs-spec =

@@ -5,15 +5,13 @@ use Rattle.subtyping.proofs.KnownLaws.{known-none}
 use Rattle.piece.proofs.LocateLaws.{root-visitable, nothing-located, smallest-located}
 use Rattle.piece.proofs.locate_readable.Statement.{statement}
 use Rattle.piece.proofs.locate_readable.Tie as tie
+use Rattle.checker.proofs.VerdictLaws.{some-terms}
 
-sub-present : tie.Need-sub-present
-sub-present c = search needs
-
-present-requires : tie.Need-present-requires
-present-requires c κs = search needs
+root-requires : tie.Need-root-requires
+root-requires c κs = some-terms (c .before .before .pre)
 
 visit-requires : tie.Need-visit-requires
-visit-requires c κs = root-visitable (c .before .before .before .before .pre) _ refl (c .before .present .ensures) (known-none _ _ refl)
+visit-requires c κs = root-visitable (c .before .before .before .pre) (c .root .ensures) (known-none _ _ refl)
 
 enum-told : tie.Need-enum-told
 enum-told c = search needs
@@ -23,6 +21,15 @@ nowhere-requires c κs = search needs
 
 enum-known-x : tie.Need-enum-known-x
 enum-known-x c = search needs
+
+cast-t14 : tie.Need-cast-t14
+cast-t14 c = search needs
+
+mul-t15 : tie.Need-mul-t15
+mul-t15 c = search needs
+
+add-t16 : tie.Need-add-t16
+add-t16 c = search needs
 
 cast-t17 : tie.Need-cast-t17
 cast-t17 c = search needs
@@ -42,47 +49,37 @@ mul-t21 c = search needs
 add-t22 : tie.Need-add-t22
 add-t22 c = search needs
 
-cast-t23 : tie.Need-cast-t23
-cast-t23 c = search needs
-
-mul-t24 : tie.Need-mul-t24
-mul-t24 c = search needs
-
-add-t25 : tie.Need-add-t25
-add-t25 c = search needs
-
 returns : tie.Need-returns
 returns c =
     let at-visit = c .before .before .before in
-    let at-present = at-visit .before .before in
-    let start = at-present .before .before .before in
-    nothing-located (start .pre) _ refl (at-present .present .ensures) (at-visit .visit .ensures) (c .before .before .match .keys1) (c .nowhere .ensures)
+    let at-root = at-visit .before in
+    let start = at-root .before .before .before in
+    nothing-located (start .pre) (at-root .root .ensures) (at-visit .visit .ensures) (c .before .before .match .keys1) (c .nowhere .ensures)
 
 returns-2 : tie.Need-returns-2
 returns-2 c =
     let at-visit = c .before .before .before .before .before in
-    let at-present = at-visit .before .before in
-    let start = at-present .before .before .before in
-    smallest-located (start .pre) _ refl (at-present .present .ensures) (at-visit .visit .ensures) (c .before .before .before .x .given .1)
+    let at-root = at-visit .before in
+    let start = at-root .before .before .before in
+    smallest-located (start .pre) (at-root .root .ensures) (at-visit .visit .ensures) (c .before .before .before .x .given .1)
 
 pub locate-readable-spec : {M : Type 1} → statement M
 locate-readable-spec =
     tie.close
     (tie.spec
-    sub-present
-    present-requires
+    root-requires
     visit-requires
     enum-told
     nowhere-requires
     enum-known-x
+    cast-t14
+    mul-t15
+    add-t16
     cast-t17
     mul-t18
     add-t19
     cast-t20
     mul-t21
     add-t22
-    cast-t23
-    mul-t24
-    add-t25
     returns
     returns-2)

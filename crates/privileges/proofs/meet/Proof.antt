@@ -1,4 +1,4 @@
--- The operation on words is the definition's.
+-- `&` on words is the definition's meet: a privilege is in it if both sets have it.
 use borrow.Author.Needs.{needs}
 use Rattle.privileges.specs.Sets.{meet}
 use Rattle.privileges.proofs.meet.Statement.{statement}

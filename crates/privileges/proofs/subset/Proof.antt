@@ -1,4 +1,4 @@
--- The operation on words is the definition's.
+-- The test is the definition's: all of a is in b exactly if what the two have in common is a.
 use borrow.Author.Needs.{needs}
 use Rattle.privileges.specs.Sets.{subset}
 use Rattle.privileges.proofs.subset.Statement.{statement}

@@ -1,4 +1,4 @@
--- The operation on words is the definition's.
+-- `|` on words is the definition's union: a privilege is in it if one of the sets has it.
 use borrow.Author.Needs.{needs}
 use Rattle.privileges.specs.Sets.{union}
 use Rattle.privileges.proofs.union.Statement.{statement}

@@ -7,7 +7,7 @@ use Prim.Native.Nat.{ℕ, zero, suc, _<_, _≤_}
 use native.Mathlib.Omega.{arith}
 use lib.Dec.{leb, ltb, eqb}
 use borrow.Author.Tests.{ltb-true, leb-true, eqb-true, le-ltb, ne-eqb}
-use Rattle.program.specs.Limits.{maxChannels, noGuard}
+use Rattle.program.specs.Limits.{maxChannels, noGuard, maxPrivilege}
 use Rattle.program.specs.Bytes.{byte}
 use Rattle.program.specs.Layout.{version, hasGuards, terms, termAt, guardField, guardAt, sheetEnd, channels, guardByte, guardIn, guardOf, root, kindByte, small, first, second, third}
 use Rattle.program.specs.Formats.{Part, unused, channel, Kind, Boolean, Number, Variable, Function, Letrec, Call, If, Check, Enable, Sign, Test, Sum, Difference, Less, Post, kindOf, format}
@@ -35,12 +35,12 @@ pub channel-below : (s : List ℕ) → WellFormed s → (t : ℕ) → t < terms 
 channel-below s w t l e = omega (arith, channel-in s w t l e, channels-most s)
 
 -- "a privilege 0 to 31, or 255 for none"
-pub guard-low : (x : ℕ) → (leb x 31 || eqb x noGuard) ≡ true → (p : ℕ) → guardIn x ≡ some p → (p ≡ x) × (p < 32)
-guard-low x h p e = go (leb x 31) refl (eqb x noGuard) refl h e
+pub guard-low : (x : ℕ) → (leb x maxPrivilege || eqb x noGuard) ≡ true → (p : ℕ) → guardIn x ≡ some p → (p ≡ x) × (p < 32)
+guard-low x h p e = go (leb x maxPrivilege) refl (eqb x noGuard) refl h e
   where
-    go : (a : Bool) → leb x 31 ≡ a → (b : Bool) → eqb x noGuard ≡ b → (a || b) ≡ true → cond b none (some x) ≡ some p → (p ≡ x) × (p < 32)
+    go : (a : Bool) → leb x maxPrivilege ≡ a → (b : Bool) → eqb x noGuard ≡ b → (a || b) ≡ true → cond b none (some x) ≡ some p → (p ≡ x) × (p < 32)
     go a ea true eb h e = absurd (Option·none-ne-some p e)
-    go true ea false eb h e = let q : x ≡ p = Option·some-injective x p e in (sym q, omega (arith, leb-true x 31 ea, q))
+    go true ea false eb h e = let q : x ≡ p = Option·some-injective x p e in (sym q, omega (arith, leb-true x maxPrivilege ea, q))
     go false ea false eb h e = absurd (false≢true h)
 
 pub guard-below : (s : List ℕ) → WellFormed s → (c : ℕ) → c < maxChannels → (p : ℕ) → guardOf s c ≡ some p → p < 32
@@ -76,7 +76,8 @@ without-guards s one =
       no-field = λ i. cond (h i) (field s (guardField s) 5 (holds maxChannels 1 1)) [];
       terms-last = λ i. cond (h i) (guardAt s maxChannels) (guardField s);
       small-unused = λ t x. (λ i. ltb x (cond (h i) maxChannels 1)) ∙ zero-below-one x;
-      no-fault = λ i. lowest (λ c. leb (cond (h i) (byte s (guardAt s c)) noGuard) 31 || eqb (cond (h i) (byte s (guardAt s c)) noGuard) noGuard) 0 maxChannels;
+      no-fault = λ i.
+          lowest (λ c. leb (cond (h i) (byte s (guardAt s c)) noGuard) maxPrivilege || eqb (cond (h i) (byte s (guardAt s c)) noGuard) noGuard) 0 maxChannels;
       one-channel = λ i. cond (h i) maxChannels 1;
       none-guarded = λ c i. guardIn (cond (h i) (byte s (guardAt s c)) noGuard);
     }

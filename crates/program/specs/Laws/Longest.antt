@@ -79,7 +79,7 @@ module _ (s r : List ℕ) (s-long : maxSheet < length s) (r-long : maxSheet < le
       → screen ((cond b (field s g 5 (holds maxChannels 1 1)) [] ++ unless 2 (eqb (cond b (g + 3 + maxChannels) g) (length s)) ∷ []) ++ xs)
       ≡ screen ((cond c (field r h 5 (holds maxChannels 1 1)) [] ++ unless 2 (eqb (cond c (h + 3 + maxChannels) h) (length r)) ∷ []) ++ ys)
   guards-alike g h xs ys e l true true z =
-      field-alike g h 5 16 1 1 _ _ e (omega arith) (λ n c. omega arith) λ _ _. end-alike _ _ xs ys (omega arith) (omega arith)
+      field-alike g h 5 maxChannels 1 1 _ _ e (omega arith) (λ n c. omega arith) λ _ _. end-alike _ _ xs ys (omega arith) (omega arith)
   guards-alike g h xs ys e l false false z = end-alike _ _ xs ys (omega arith) (omega arith)
   guards-alike g h xs ys e l true false z = absurd (true≢false z)
   guards-alike g h xs ys e l false true z = absurd (false≢true z)

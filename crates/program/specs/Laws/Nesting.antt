@@ -77,13 +77,14 @@ nested-lt s k t w h = go (decLt k maxNesting)
   where
     go : Dec (k < maxNesting) → k < maxNesting
     go (yes l) = l
-    go (no n) = absurd (true≢false (sym (nested-add s (k - 32) 32 t w) ∙ ap (λ (m : ℕ). nestedIn s m t) {x = k - 32 + 32} {y = k} (omega arith) ∙ h))
+    go (no n) = absurd (true≢false (sym (nested-add s (k - maxNesting) maxNesting t w)
+        ∙ ap (λ (m : ℕ). nestedIn s m t) {x = k - maxNesting + maxNesting} {y = k} (omega arith) ∙ h))
 
 counts-self : (y : ℕ) → counts child y y ≡ 1
 counts-self y = ap (λ (e : Bool). cond e 1 0) (eq-eqb y y refl)
 
 max-le-of : (a b k : ℕ) → suc a + k ≤ maxNesting → suc b + k ≤ maxNesting → suc (max a b) + k ≤ maxNesting
-max-le-of a b k h g = let m : max a b ≤ 31 - k = max-le (omega arith) (omega arith) in omega arith
+max-le-of a b k h g = let m : max a b ≤ maxNesting - 1 - k = max-le (omega arith) (omega arith) in omega arith
 
 module _ (s : List ℕ) (w : WellFormed s) where
   -- a child is one deeper

@@ -13,19 +13,19 @@ use Rattle.ranges.proofs.evaluate.Tie as tie
 sub-root : tie.Need-sub-root
 sub-root c =
     let start = c .before .before .before .before .before .before in
-    omega (arith, start .pre .cleared .counts-are .terms-are, start .pre .cleared .well-formed .terms-least)
+    omega (arith, start .pre .cleared .counts .terms-are, start .pre .cleared .well-formed .terms-least)
 
 decode-terms-requires : tie.Need-decode-terms-requires
 decode-terms-requires c κs =
     let start = c .before .before .before .before .before .before .before in
-    record { well-formed = start .pre .cleared .well-formed; counts = start .pre .cleared .counts-are; empty = empty-table _ refl }
+    record { well-formed = start .pre .cleared .well-formed; counts = start .pre .cleared .counts; empty = empty-table _ refl }
 
 lay-pairs-requires : tie.Need-lay-pairs-requires
 lay-pairs-requires c κs =
     let start = c .before .before .before .before .before .before .before .before .before in
     record {
       well-formed = start .pre .cleared .well-formed;
-      counts-are = start .pre .cleared .counts-are;
+      counts = start .pre .cleared .counts;
       decoded = c .before .decode-terms .ensures;
       enough = pairs-enough
           (start .args .s .now) (start .args .pairs .now) (start .pre .pairs-ok);
@@ -50,7 +50,7 @@ evaluate-words-requires c κs =
     let at-lay-pairs = c .before .before .before .before .before .before .before in
     let at-decode-terms = at-lay-pairs .before .before in
     let start = at-decode-terms .before .before .before .before .before .before .before .before in
-    laid-table (start .pre .cleared .well-formed) (start .pre .cleared .counts-are) (at-decode-terms .decode-terms .ensures) (at-lay-pairs .lay-pairs .ensures)
+    laid-table (start .pre .cleared .well-formed) (start .pre .cleared .counts) (at-decode-terms .decode-terms .ensures) (at-lay-pairs .lay-pairs .ensures)
 
 outcome-of-requires : tie.Need-outcome-of-requires
 outcome-of-requires c κs = search needs
@@ -71,7 +71,7 @@ returns c =
     let start = at-decode-terms .before .before .before .before .before .before .before .before in
     ranges-after (start .args .s .now) (start .args .pairs .now) (start .args .start .now) (start .args .enforce) (start .args .cells .now)
     (start .args .posts .now) (start .args .calls) (start .args .depth) (start .pre .cleared) (start .pre .pairs-ok) (0 ∷ []) [] (c .outcome-of .result)
-    (interval-table (start .pre .cleared .well-formed) (start .pre .cleared .counts-are) (at-decode-terms .decode-terms .ensures)
+    (interval-table (start .pre .cleared .well-formed) (start .pre .cleared .counts) (at-decode-terms .decode-terms .ensures)
     (at-lay-pairs .lay-pairs .ensures))
     (at-start-access .start-access .ensures) (at-interval-mode .interval-mode .ensures) (at-evaluate-words .evaluate-words .ensures) (c .outcome-of .ensures)
 

@@ -9,7 +9,7 @@ use Rattle.ranges.proofs.run_admitted.Tie as tie
 pairs-ok-requires : tie.Need-pairs-ok-requires
 pairs-ok-requires c κs =
     let start = c .before .before .before .before .before in
-    record { well-formed = start .pre .well-formed; counts-are = start .pre .counts-are }
+    record { well-formed = start .pre .well-formed; counts = start .pre .counts }
 
 returns : tie.Need-returns
 returns c =

@@ -1,19 +1,19 @@
 -- How words stand for the numbers and truth values of a domain. What the interpreter does to words by its mode is what the domain does to them.
-use mathlib.Core.Bool.{Bool, false}
+use mathlib.Core.Bool.{Bool, false, cond}
 use mathlib.Core.Path.{_≡_}
 use Prim.Native.Nat.{ℕ, _<_}
 use Rattle.program.specs.Terms.{Op, sum, difference, less}
 use Rattle.semantics.specs.Domains.{Domain}
 use Rattle.semantics.specs.Runs.{ground-bool, ground-num, OutcomeOf, ended, stopped}
 use Rattle.stores.specs.declared.state.Stop.{Stop}
-use Rattle.stores.specs.Words.{pick, booleanWord, sortOf, payloadOf}
+use Rattle.stores.specs.Words.{booleanWord, sortOf, payloadOf}
 use Rattle.access.specs.Access.{intervalMode}
 use Rattle.stores.specs.Stops.{stopCause, stopPlace}
 use Rattle.termtable.specs.Table.{wordSmall}
 use Rattle.machine.specs.Steps.{numbersResult, saturatesOf, listedAs}
 use Rattle.refinement.specs.Claims.{decidedBy}
 
--- a word of three parts, with its sort
+-- a word of three parts of 16 bits each, and so below 2^48, with its sort
 pub record Word (sort w : ℕ) : Type 0 where
   pub sort-is : sortOf w ≡ sort
   pub small : w < 281474976710656
@@ -26,7 +26,7 @@ kindNumber less = 13
 
 -- whether the result of an operation on two words of numbers is counted as saturated
 abbrev pub numbersSaturate : (mode kind a b : ℕ) → Bool
-numbersSaturate mode k a b = pick (intervalMode mode) false (saturatesOf k (payloadOf a) (payloadOf b))
+numbersSaturate mode k a b = cond (intervalMode mode) false (saturatesOf k (payloadOf a) (payloadOf b))
 
 pub record Coding (D : Domain) (mode : ℕ) : Type 1 where
   pub Number : (word : ℕ) → D .Number → Type 0

@@ -9,41 +9,40 @@ use native.Mathlib.Numerals.{add-one}
 use lib.ListN.{getD, length, set, length-set}
 use lib.Seq.{getD-set-same, getD-set-other}
 use borrow.Author.Tests.{le-leb}
-use Rattle.program.specs.Limits.{frameNumbers}
+use Rattle.program.specs.Limits.{frameNumbers, maxFrames}
 use Rattle.privileges.specs.Sets.{has, meet, insert}
 use Rattle.semantics.specs.Access.{Frame, frame, chk, enableFirst, lazyControl, Rights, rights, addAuthorised, eagerControl}
-use Rattle.stores.specs.Words.{pick}
 use Rattle.access.specs.Access.{pairOf, lowOf, highOf, enforced, lazyMode, walkGrants, framesGrant, grantedOf, signAccess, signFrames, lastOf, enableAccess, enableFrames, enabledNow, restoreFrames}
 use Rattle.refinement.specs.Laws.Relation.{Fixed, Kept}
 use Rattle.refinement.specs.Laws.Steps.{Models}
 
 -- ---- what each style does, at a number whose low half is known
 module _ (mode : ℕ) (b : Bool) (style : lazyMode mode ≡ b) (acc low : ℕ) (used : lowOf acc ≡ low) where
-  granted-by : (f : List ℕ) (p : ℕ) → grantedOf mode acc f p ≡ pick b (framesGrant f low p) (has p (highOf acc))
+  granted-by : (f : List ℕ) (p : ℕ) → grantedOf mode acc f p ≡ cond b (framesGrant f low p) (has p (highOf acc))
   unfolding grantedOf
-  granted-by f p = λ i. pick (style i) (framesGrant f (used i) p) (has p (highOf acc))
+  granted-by f p = λ i. cond (style i) (framesGrant f (used i) p) (has p (highOf acc))
 
-  sign-access : (may : ℕ) → signAccess mode acc may ≡ pick b (low + 2) (pairOf may (meet (highOf acc) may))
+  sign-access : (may : ℕ) → signAccess mode acc may ≡ cond b (low + 2) (pairOf may (meet (highOf acc) may))
   unfolding signAccess
-  sign-access may = λ i. pick (style i) (used i + 2) (pairOf may (meet (highOf acc) may))
+  sign-access may = λ i. cond (style i) (used i + 2) (pairOf may (meet (highOf acc) may))
 
-  sign-frames : (f : List ℕ) (may : ℕ) → signFrames mode acc f may ≡ pick b (set (set f low may) (low + 1) 0) f
+  sign-frames : (f : List ℕ) (may : ℕ) → signFrames mode acc f may ≡ cond b (set (set f low may) (low + 1) 0) f
   unfolding signFrames
-  sign-frames f may = λ i. pick (style i) (set (set f (used i) may) (used i + 1) 0) f
+  sign-frames f may = λ i. cond (style i) (set (set f (used i) may) (used i + 1) 0) f
 
-  enable-access : (p : ℕ) → enableAccess mode acc p ≡ pick b acc (pick (has p low) (pairOf low (insert p (highOf acc))) acc)
+  enable-access : (p : ℕ) → enableAccess mode acc p ≡ cond b acc (cond (has p low) (pairOf low (insert p (highOf acc))) acc)
   unfolding enableAccess
-  enable-access p = λ i. pick (style i) acc (pick (has p (used i)) (pairOf (used i) (insert p (highOf acc))) acc)
+  enable-access p = λ i. cond (style i) acc (cond (has p (used i)) (pairOf (used i) (insert p (highOf acc))) acc)
 
-  enable-frames : (f : List ℕ) (p : ℕ) → enableFrames mode acc f p ≡ pick b (set f (lastOf low) (insert p (getD f (lastOf low) 0))) f
+  enable-frames : (f : List ℕ) (p : ℕ) → enableFrames mode acc f p ≡ cond b (set f (lastOf low) (insert p (getD f (lastOf low) 0))) f
   unfolding enableFrames
-  enable-frames f p = λ i. pick (style i) (set f (lastOf (used i)) (insert p (getD f (lastOf (used i)) 0))) f
+  enable-frames f p = λ i. cond (style i) (set f (lastOf (used i)) (insert p (getD f (lastOf (used i)) 0))) f
 
-  restore-frames : (f g : List ℕ) → restoreFrames mode acc g (enabledNow mode acc f) ≡ pick b (set g (lastOf low) (getD f (lastOf low) 0)) g
+  restore-frames : (f g : List ℕ) → restoreFrames mode acc g (enabledNow mode acc f) ≡ cond b (set g (lastOf low) (getD f (lastOf low) 0)) g
   unfolding restoreFrames enabledNow
-  restore-frames f g = (λ i. pick (style i) (set g (lastOf (used i)) (pick (style i) (getD f (lastOf (used i)) 0) 0)) g) ∙ same b
+  restore-frames f g = (λ i. cond (style i) (set g (lastOf (used i)) (cond (style i) (getD f (lastOf (used i)) 0) 0)) g) ∙ same b
     where
-      same : (b : Bool) → pick b (set g (lastOf low) (pick b (getD f (lastOf low) 0) 0)) g ≡ pick b (set g (lastOf low) (getD f (lastOf low) 0)) g
+      same : (b : Bool) → cond b (set g (lastOf low) (cond b (getD f (lastOf low) 0) 0)) g ≡ cond b (set g (lastOf low) (getD f (lastOf low) 0)) g
       same true = refl
       same false = refl
 
@@ -63,7 +62,7 @@ module _ (z : Fixed) (style : lazyMode (z .mode) ≡ false) where
       subst (EagerMode (z .may) _) (sym (enable-access (z .mode) false style acc (z .may (a .signer)) (h .signing) p)) (go (has p (z .may (a .signer))))
     where
       go : (c : Bool) → EagerMode (z .may) (rights (a .signer) (cond c (insert p (a .granted)) (a .granted)))
-          (pick c (pairOf (z .may (a .signer)) (insert p (highOf acc))) acc)
+          (cond c (pairOf (z .may (a .signer)) (insert p (highOf acc))) acc)
       go true =
           pair-mode (z .may) (a .signer) (z .may (a .signer)) (insert p (highOf acc)) (insert p (a .granted)) refl (omega (arith, h .signing))
           (λ i. insert p (h .granting i))
@@ -94,6 +93,10 @@ pub data Frames (A : ℕ → ℕ) (f : List ℕ) : (d : ℕ) → List Frame → 
   no-frames : Frames A f 0 []
   a-frame : {d : ℕ} {x : Frame} {xs : List Frame} → getD f (d * 2) 0 ≡ A (x .principal) → getD f (d * 2 + 1) 0 ≡ x .enabled → Frames A f d xs
       → Frames A f (suc d) (x ∷ xs)
+
+-- the store has room for every frame
+pub frames-fit : frameNumbers ≡ 2 * maxFrames
+frames-fit = refl
 
 pub record LazyMode (A : ℕ → ℕ) (a : List Frame) (acc d : ℕ) (f : List ℕ) : Type 0 where
   pub used : lowOf acc ≡ d * 2
@@ -127,7 +130,7 @@ enable-kept (suc d) f g v l k = subst (λ at. Kept (suc d) (set f at v) g → Ke
       ];
     }
 
-granted-step : (a b c : Bool) → pick a (pick b true c) false ≡ (a && (b || c))
+granted-step : (a b c : Bool) → cond a (cond b true c) false ≡ (a && (b || c))
 granted-step true true c = refl
 granted-step true false c = refl
 granted-step false b c = refl
@@ -165,10 +168,10 @@ module _ (A : ℕ → ℕ) (f : List ℕ) where
 
   frames-grant : (p : ℕ) {d : ℕ} {xs : List Frame} → Frames A f d xs → d * 2 ≤ length f → framesGrant f (d * 2) p ≡ chk A xs p
   unfolding framesGrant
-  frames-grant p {d} h l = (λ i. pick (le-leb (d * 2) (length f) l i) (walkGrants f (d * 2) p) false) ∙ frames-walk p h
+  frames-grant p {d} h l = (λ i. cond (le-leb (d * 2) (length f) l i) (walkGrants f (d * 2) p) false) ∙ frames-walk p h
 
 module _ (z : Fixed) (style : lazyMode (z .mode) ≡ true) where
-  lazy-signed : (a : List Frame) (acc d : ℕ) (f : List ℕ) (n may : ℕ) → LazyMode (z .may) a acc d f → may ≡ z .may n → d < 3248
+  lazy-signed : (a : List Frame) (acc d : ℕ) (f : List ℕ) (n may : ℕ) → LazyMode (z .may) a acc d f → may ≡ z .may n → d < maxFrames
       → LazyMode (z .may) (frame n 0 ∷ a) (signAccess (z .mode) acc may) (d + 1) (signFrames (z .mode) acc f may)
   lazy-signed a acc d f n may h e l =
       subst (λ x. LazyMode (z .may) (frame n 0 ∷ a) x (d + 1) (signFrames (z .mode) acc f may))
@@ -180,7 +183,7 @@ module _ (z : Fixed) (style : lazyMode (z .mode) ≡ true) where
         frames = frames-sign (z .may) f n may d a e (omega (arith, h .long)) (h .frames);
       })
 
-  lazy-enabled : (a : List Frame) (acc d : ℕ) (f : List ℕ) (p : ℕ) → LazyMode (z .may) a acc d f → d ≤ 3248
+  lazy-enabled : (a : List Frame) (acc d : ℕ) (f : List ℕ) (p : ℕ) → LazyMode (z .may) a acc d f → d ≤ maxFrames
       → LazyMode (z .may) (enableFirst p a) (enableAccess (z .mode) acc p) d (enableFrames (z .mode) acc f p)
   lazy-enabled a acc d f p h l =
       subst (λ x. LazyMode (z .may) (enableFirst p a) x d (enableFrames (z .mode) acc f p)) (sym (enable-access (z .mode) true style acc (d * 2) (h .used) p))

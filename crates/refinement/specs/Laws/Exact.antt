@@ -1,5 +1,5 @@
 -- How words stand for plain numbers and booleans: a number is a word's payload, and the payload of a boolean is 0 or 1.
-use mathlib.Core.Bool.{Bool, true, false}
+use mathlib.Core.Bool.{Bool, true, false, cond}
 use mathlib.Core.Option.{some}
 use mathlib.Core.List.{List}
 use mathlib.Core.Path.{_≡_, refl, sym, ap, _∙_, subst}
@@ -7,6 +7,7 @@ use Prim.Native.Nat.{ℕ, _+_, _-_, _<_, min}
 use native.Mathlib.Omega.{arith}
 use lib.Dec.{ltb}
 use lib.ListN.{getD}
+use Rattle.program.specs.Limits.{maxNumber}
 use Rattle.program.specs.Terms.{Op, sum, difference, less}
 use Rattle.program.specs.Records.{CountsOf}
 use Rattle.program.specs.Laws.Readable.{WellFormed}
@@ -17,7 +18,7 @@ use Rattle.semantics.specs.Runs.{ground-bool, ended}
 use Rattle.stores.specs.declared.state.Stop.{Stop}
 use Rattle.stores.specs.declared.state.Stop.the-variants.{Check, Stuck, OpenCalls, Calls, Cells, Posts, Undecided}
 use Rattle.stores.specs.declared.state.Out.the-variants.{Stop as Stopped}
-use Rattle.stores.specs.Words.{pick, booleanWord, numberWord, intervalWord, payloadOf, envOf, outBy, outOf}
+use Rattle.stores.specs.Words.{booleanWord, numberWord, intervalWord, payloadOf, envOf, outBy, outOf}
 use Rattle.access.specs.Access.{intervalMode}
 use Rattle.stores.specs.Stops.{stopCause, stopPlace}
 use Rattle.termtable.specs.Table.{wordSmall, wordFirst, wordSecond, Decoded}
@@ -32,7 +33,7 @@ pub record ExactNumber (w n : ℕ) : Type 0 where
 
 pub record ExactTruth (w : ℕ) (b : Bool) : Type 0 where
   pub word : Word 0 w
-  pub payload-is : payloadOf w ≡ pick b 1 0
+  pub payload-is : payloadOf w ≡ cond b 1 0
 
 number-exact : (k n : ℕ) → k < 65536 → k ≡ n → ExactNumber (numberWord k) n
 number-exact k n h e = record { word = record { sort-is = omega arith; small = omega arith }; number-is = omega arith }
@@ -45,11 +46,11 @@ pub truth-exact : (b : Bool) → ExactTruth (booleanWord b) b
 truth-exact true = record { word = record { sort-is = refl; small = omega arith }; payload-is = refl }
 truth-exact false = record { word = record { sort-is = refl; small = omega arith }; payload-is = refl }
 
-pub decide-exact : (b : Bool) → decidedBy (pick b 1 0) ≡ some b
+pub decide-exact : (b : Bool) → decidedBy (cond b 1 0) ≡ some b
 decide-exact true = refl
 decide-exact false = refl
 
-positive-exact : (b : Bool) → ltb 0 (pick b 1 0) ≡ b
+positive-exact : (b : Bool) → ltb 0 (cond b 1 0) ≡ b
 positive-exact true = refl
 positive-exact false = refl
 
@@ -62,14 +63,14 @@ saturates-exact less a b = refl
 module _ (mode : ℕ) (plain : intervalMode mode ≡ false) where
   result-exact : (k v w : ℕ) → numbersResult mode k v w ≡ resultOf k (payloadOf v) (payloadOf w)
   unfolding numbersResult
-  result-exact k v w = λ i. pick (plain i) (intervalResult k (payloadOf v) (envOf v) (payloadOf w) (envOf w)) (resultOf k (payloadOf v) (payloadOf w))
+  result-exact k v w = λ i. cond (plain i) (intervalResult k (payloadOf v) (envOf v) (payloadOf w) (envOf w)) (resultOf k (payloadOf v) (payloadOf w))
 
   module _ {v w m n : ℕ} (p : ExactNumber v m) (q : ExactNumber w n) where
-    pub sum-exact : ExactNumber (numbersResult mode 11 v w) (min 65535 (m + n))
+    pub sum-exact : ExactNumber (numbersResult mode 11 v w) (min maxNumber (m + n))
     unfolding resultOf
     sum-exact =
-        subst (λ r. ExactNumber r (min 65535 (m + n))) (sym (result-exact 11 v w))
-        (number-exact (min (payloadOf v + payloadOf w) 65535) (min 65535 (m + n)) (omega arith) (omega (arith, p .number-is, q .number-is)))
+        subst (λ r. ExactNumber r (min maxNumber (m + n))) (sym (result-exact 11 v w))
+        (number-exact (min (payloadOf v + payloadOf w) maxNumber) (min maxNumber (m + n)) (omega arith) (omega (arith, p .number-is, q .number-is)))
 
     pub difference-exact : ExactNumber (numbersResult mode 12 v w) (m - n)
     unfolding resultOf
@@ -85,11 +86,11 @@ module _ (mode : ℕ) (plain : intervalMode mode ≡ false) where
         (truth-exact (ltb (payloadOf v) (payloadOf w))))
 
     pub counted-exact : (op : Op) → numbersSaturate mode (kindNumber op) v w ≡ saturates op m n
-    counted-exact op = (λ i. pick (plain i) false (saturatesOf (kindNumber op) (p .number-is i) (q .number-is i))) ∙ saturates-exact op m n
+    counted-exact op = (λ i. cond (plain i) false (saturatesOf (kindNumber op) (p .number-is i) (q .number-is i))) ∙ saturates-exact op m n
 
   pub entry-exact : (x : ℕ) {w n : ℕ} → ExactNumber w n → listedAs mode x w ≡ postEntry (wordSmall x) n
   unfolding listedAs
-  entry-exact x {w} h = λ i. pick (plain i) (entryOf (payloadOf w) (envOf w)) (entryOf (wordSmall x) (h .number-is i))
+  entry-exact x {w} h = λ i. cond (plain i) (entryOf (payloadOf w) (envOf w)) (entryOf (wordSmall x) (h .number-is i))
 
   unfoldable pub exactCoding : Coding single mode
   exactCoding = record {

@@ -8,6 +8,7 @@ use Prim.Native.Nat.{ℕ, _+_, _-_, _<_, min}
 use native.Mathlib.Omega.{arith}
 use lib.Dec.{leb, ltb}
 use lib.ListN.{getD}
+use Rattle.program.specs.Limits.{maxNumber}
 use Rattle.program.specs.Terms.{Op}
 use Rattle.program.specs.declared.records.Counts.{Counts}
 use Rattle.semantics.specs.Runs.{ended, ground-bool, stopped}
@@ -15,7 +16,7 @@ use Rattle.intervals.specs.Intervals.{Interval, sumOf, differenceOf, lessOf, ra
 use Rattle.intervals.specs.Pairs.{pairOf, ranged}
 use Rattle.stores.specs.declared.state.Stop.{Stop}
 use Rattle.stores.specs.declared.state.Stop.the-variants.{Check, Stuck, OpenCalls, Calls, Cells, Posts, Undecided}
-use Rattle.stores.specs.Words.{pick, booleanWord, intervalWord, undecidedWord, payloadOf, envOf, outBy}
+use Rattle.stores.specs.Words.{booleanWord, intervalWord, undecidedWord, payloadOf, envOf, outBy}
 use Rattle.access.specs.Access.{intervalMode}
 use Rattle.stores.specs.Stops.{stopCause, stopPlace}
 use Rattle.termtable.specs.Table.{wordSmall, wordFirst, wordSecond}
@@ -45,25 +46,25 @@ truth-range true = record { word = record { sort-is = refl; small = omega arith 
 truth-range false = record { word = record { sort-is = refl; small = omega arith }; decided-is = refl }
 
 -- what two tests come to
-tests-range : (p q : Bool) → RangeTruth (pick p (booleanWord true) (pick q (booleanWord false) undecidedWord)) (cond p (some true) (cond q (some false) none))
+tests-range : (p q : Bool) → RangeTruth (cond p (booleanWord true) (cond q (booleanWord false) undecidedWord)) (cond p (some true) (cond q (some false) none))
 tests-range true q = truth-range true
 tests-range false true = truth-range false
 tests-range false false = record { word = record { sort-is = refl; small = omega arith }; decided-is = refl }
 
-sum-same : (a b m n : ℕ) → a ≡ m → b ≡ n → min (a + b) 65535 ≡ min 65535 (m + n)
+sum-same : (a b m n : ℕ) → a ≡ m → b ≡ n → min (a + b) maxNumber ≡ min maxNumber (m + n)
 sum-same a b m n p q = omega arith
 
 module _ (mode : ℕ) (ranges : intervalMode mode ≡ true) where
   result-range : (k v w : ℕ) → numbersResult mode k v w ≡ intervalResult k (payloadOf v) (envOf v) (payloadOf w) (envOf w)
   unfolding numbersResult
-  result-range k v w = λ i. pick (ranges i) (intervalResult k (payloadOf v) (envOf v) (payloadOf w) (envOf w)) (resultOf k (payloadOf v) (payloadOf w))
+  result-range k v w = λ i. cond (ranges i) (intervalResult k (payloadOf v) (envOf v) (payloadOf w) (envOf w)) (resultOf k (payloadOf v) (payloadOf w))
 
   module _ {v w : ℕ} {m n : Interval} (p : RangeNumber v m) (q : RangeNumber w n) where
     pub sum-range : RangeNumber (numbersResult mode 11 v w) (sumOf m n)
     unfolding intervalResult
     sum-range =
         subst (λ r. RangeNumber r (sumOf m n)) (sym (result-range 11 v w))
-        (number-range (min (payloadOf v + payloadOf w) 65535) (min (envOf v + envOf w) 65535) (sumOf m n) (omega arith) (omega arith)
+        (number-range (min (payloadOf v + payloadOf w) maxNumber) (min (envOf v + envOf w) maxNumber) (sumOf m n) (omega arith) (omega arith)
         (sum-same (payloadOf v) (payloadOf w) (m .low) (n .low) (p .lowest-is) (q .lowest-is))
         (sum-same (envOf v) (envOf w) (m .high) (n .high) (p .highest-is) (q .highest-is)))
 
@@ -83,11 +84,11 @@ module _ (mode : ℕ) (ranges : intervalMode mode ≡ true) where
         (tests-range (ltb (envOf v) (payloadOf w)) (leb (envOf w) (payloadOf v))))
 
   pub counted-range : (op : Op) (v w : ℕ) → numbersSaturate mode (kindNumber op) v w ≡ false
-  counted-range op v w = λ i. pick (ranges i) false (saturatesOf (kindNumber op) (payloadOf v) (payloadOf w))
+  counted-range op v w = λ i. cond (ranges i) false (saturatesOf (kindNumber op) (payloadOf v) (payloadOf w))
 
   pub entry-range : (x : ℕ) {w : ℕ} {n : Interval} → RangeNumber w n → listedAs mode x w ≡ rangeEntry n
   unfolding listedAs
-  entry-range x {w} h = λ i. pick (ranges i) (entryOf (h .lowest-is i) (h .highest-is i)) (entryOf (wordSmall x) (payloadOf w))
+  entry-range x {w} h = λ i. cond (ranges i) (entryOf (h .lowest-is i) (h .highest-is i)) (entryOf (wordSmall x) (payloadOf w))
 
   unfoldable pub rangeCoding : Coding intervals mode
   rangeCoding = record {

@@ -1,5 +1,5 @@
 -- How the interpreter's words, cells, counters and outcomes stand for the meaning's values, environments, budgets and results.
-use mathlib.Core.Bool.{Bool, true, false}
+use mathlib.Core.Bool.{Bool, true, false, cond}
 use mathlib.Core.Path.{_≡_, refl, sym, _∙_, subst}
 use mathlib.Core.List.{List, [], _∷_, reverse}
 use Prim.Native.Nat.{ℕ, _+_, _*_, _/_, _<_, _≤_}
@@ -17,7 +17,7 @@ use Rattle.semantics.specs.Values.{ValueOf, bool, num, closure, EnvOf, empty, b
 use Rattle.semantics.specs.Meaning.{_then_}
 use Rattle.stores.specs.declared.state.Stop.{Stop}
 use Rattle.stores.specs.declared.state.Stop.the-variants.{Check, Stuck, OpenCalls, Calls, Cells, Posts, Undecided}
-use Rattle.stores.specs.Words.{pick, intervalWord, functionWord, stopWord, sortOf, payloadOf, envOf, isStop}
+use Rattle.stores.specs.Words.{intervalWord, functionWord, stopWord, sortOf, payloadOf, envOf, isStop}
 use Rattle.termtable.specs.Table.{wordKind, wordSmall, wordFirst, wordSecond, wordThird, wordAuthority, wordGuard}
 use Rattle.stores.specs.Cells.{behindOf, heldOf}
 use Rattle.machine.specs.Steps.{cellsMade, wrapped}
@@ -258,7 +258,7 @@ module _ (z : Fixed) where
       → Meets depth st₀ (andThen d k) (o then q)
   unfolding andThen
   meets-then {depth} {st₀} k q (valued {w = w} {x = x} {st = st} {o = o} r t l) h =
-      subst (λ b. Meets depth st₀ (pick b (doneOf w st) (k w st)) (q x o)) (sym (le-ltb 2 (sortOf w) (rep-low r))) (meets-later l (h _ _ _ _ r t l))
+      subst (λ b. Meets depth st₀ (cond b (doneOf w st) (k w st)) (q x o)) (sym (le-ltb 2 (sortOf w) (rep-low r))) (meets-later l (h _ _ _ _ r t l))
   meets-then {depth} {st₀} k q (halted {st = st} {o = o} x i t l) h =
       let w : ℕ = stopWord (stopCause x) (stopPlace x) in
-      subst (λ b. Meets depth st₀ (pick b (doneOf w st) (k w st)) (stops (stopCause x) (stopPlace x) o)) (sym (stop-stops x)) (halted x i t l)
+      subst (λ b. Meets depth st₀ (cond b (doneOf w st) (k w st)) (stops (stopCause x) (stopPlace x) o)) (sym (stop-stops x)) (halted x i t l)

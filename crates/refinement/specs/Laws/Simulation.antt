@@ -1,5 +1,5 @@
 -- The interpreter's evaluation of a term does as the meaning's, term by term and call by call.
-use mathlib.Core.Bool.{Bool, true, false}
+use mathlib.Core.Bool.{Bool, true, false, cond}
 use mathlib.Core.Path.{_≡_, refl, sym, ap, _∙_, subst}
 use mathlib.Core.List.{List}
 use Prim.Native.Nat.{ℕ, zero, suc, _+_, _*_, _<_, _≤_, max}
@@ -8,12 +8,13 @@ use native.Mathlib.Decide.{ℕ-discrete}
 use lib.Dec.{ltb, eqb}
 use lib.ListN.{getD}
 use borrow.Author.Tests.{eq-eqb, ne-eqb}
+use Rattle.program.specs.Limits.{maxFrames, maxNesting}
 use Rattle.program.specs.Terms.{Op, sum, difference, less, Term}
 use Rattle.program.specs.Laws.Nesting.{height}
 use Rattle.semantics.specs.Values.{bool, num, closure, lookup, Budget, ends}
-use Rattle.semantics.specs.Meaning.{Control, traced, Evaluation, Application, found, tooDeep, evalWith, apply, eval}
+use Rattle.semantics.specs.Meaning.{Control, traced, Evaluation, Application, variableValue, tooDeep, evalWith, apply, eval}
 use Rattle.stores.specs.declared.state.Stop.the-variants.{Stuck, OpenCalls}
-use Rattle.stores.specs.Words.{pick, booleanWord, intervalWord, functionWord, stopWord, payloadOf}
+use Rattle.stores.specs.Words.{booleanWord, intervalWord, functionWord, stopWord, payloadOf}
 use Rattle.termtable.specs.Table.{wordKind, wordSmall, wordFirst, wordSecond, wordAuthority}
 use Rattle.stores.specs.Cells.{lookOf}
 use Rattle.machine.specs.Steps.{cellsMade}
@@ -23,11 +24,11 @@ use Rattle.refinement.specs.Laws.Relation.{Fixed, Value, Balances, sortF
 use Rattle.refinement.specs.Laws.Steps.{look-finds, few-cells, Models, Sim, SimApply, meets-end, meets-stop, meets-found, sim-less, sim-same, sim-call, sim-binary, sim-if, sim-post, sim-test, sim-check, sim-sign, sim-enable, sim-letrec, begin-meets}
 
 leaf-is : (cells : List ℕ) (t x env k : ℕ) → wordKind x ≡ k → leafOf cells t x env
-    ≡ pick (eqb k 0) (booleanWord (ltb 0 (wordSmall x)))
-    (pick (eqb k 1) (intervalWord (wordFirst x) (wordSecond x)) (pick (eqb k 2) (lookOf cells t env (wordFirst x)) (functionWord (wordSecond x) env)))
+    ≡ cond (eqb k 0) (booleanWord (ltb 0 (wordSmall x)))
+    (cond (eqb k 1) (intervalWord (wordFirst x) (wordSecond x)) (cond (eqb k 2) (lookOf cells t env (wordFirst x)) (functionWord (wordSecond x) env)))
 unfolding leafOf
-leaf-is cells t x env k e = λ i. pick (eqb (e i) 0) (booleanWord (ltb 0 (wordSmall x)))
-    (pick (eqb (e i) 1) (intervalWord (wordFirst x) (wordSecond x)) (pick (eqb (e i) 2) (lookOf cells t env (wordFirst x)) (functionWord (wordSecond x) env)))
+leaf-is cells t x env k e = λ i. cond (eqb (e i) 0) (booleanWord (ltb 0 (wordSmall x)))
+    (cond (eqb (e i) 1) (intervalWord (wordFirst x) (wordSecond x)) (cond (eqb (e i) 2) (lookOf cells t env (wordFirst x)) (functionWord (wordSecond x) env)))
 
 binary-shape : (op : Op) → shapeOf (kindNumber op) ≡ binary
 unfolding shapeOf
@@ -37,7 +38,7 @@ binary-shape less = refl
 
 -- a call of a word of this sort, where x is a function's
 abbrev applied : (t : ℕ) → State → (x : Done) (sort : ℕ) → Done
-applied t st x k = pick (eqb k 2) x (doneOf (stopWord 18 t) st)
+applied t st x k = cond (eqb k 2) x (doneOf (stopWord 18 t) st)
 
 module _ (terms : List ℕ) (f : Applier) where
   -- a term's run, whatever bound it is under
@@ -45,9 +46,9 @@ module _ (terms : List ℕ) (f : Applier) where
   unfolding below
   below-step zero t h env acc st = absurd (omega arith)
   below-step (suc n) t h env acc st = elim (ℕ-discrete t n) [
-    | yes e ↦ (λ i. pick (eq-eqb t n e i) (step terms (below terms f n) f t env acc st) (below terms f n t env acc st))
+    | yes e ↦ (λ i. cond (eq-eqb t n e i) (step terms (below terms f n) f t env acc st) (below terms f n t env acc st))
         ∙ (λ i. step terms (below terms f (sym e i)) f t env acc st)
-    | no g ↦ (λ i. pick (ne-eqb t n g i) (step terms (below terms f n) f t env acc st) (below terms f n t env acc st)) ∙ below-step n t (omega arith) env acc st
+    | no g ↦ (λ i. cond (ne-eqb t n g i) (step terms (below terms f n) f t env acc st) (below terms f n t env acc st)) ∙ below-step n t (omega arith) env acc st
   ]
 
   step-is : (t : ℕ) (x : Shape) → shapeOf (wordKind (getD terms t 0)) ≡ x → (env acc : ℕ) (st : State)
@@ -87,10 +88,10 @@ module _ (z : Fixed) (X : Control) (enforce : Bool) (R : X .State → (acc depth
         subst (λ i. Meets z d st (doneOf i st) (ends (num n) o)) (sym (leaf-is (st .cells) t x env 1 k)) (meets-end z (rep-num e) y);
   }
 
-  leaf-variable : (h t x : ℕ) → t < 65536 → wordKind x ≡ 2 → Does h (leaf t x) (λ a E o. found t (lookup E (wordFirst x)) o)
+  leaf-variable : (h t x : ℕ) → t < 65536 → wordKind x ≡ 2 → Does h (leaf t x) (λ a E o. variableValue t (lookup E (wordFirst x)) o)
   leaf-variable h t x i k = record {
     go = λ env E acc d a st o w r v y.
-        subst (λ i. Meets z d st (doneOf i st) (found t (lookup E (wordFirst x)) o)) (sym (leaf-is (st .cells) t x env 2 k))
+        subst (λ i. Meets z d st (doneOf i st) (variableValue t (lookup E (wordFirst x)) o)) (sym (leaf-is (st .cells) t x env 2 k))
         (meets-found z t i (look-finds z (st .cells) (cellsMade (st .n)) t v (wordFirst x)) y);
   }
 
@@ -107,7 +108,7 @@ module _ (z : Fixed) (X : Control) (enforce : Bool) (R : X .State → (acc depth
     lift : (h k : ℕ) {p : Runs} {P : Evaluation (z .interpretation) X} → h ≤ k → Does (g + h) p P → Does (g + k) p P
     lift h k {p} {P} l s = sim-less z X enforce R ctl (g + h) (g + k) p P (omega arith) s
 
-    pub sim : {t : ℕ} {x : Term} → Stands z t x → (n : ℕ) → t < n → t < 65536 → height x ≤ 32
+    pub sim : {t : ℕ} {x : Term} → Stands z t x → (n : ℕ) → t < n → t < 65536 → height x ≤ maxNesting
         → Does (g + height x) (under f n t) (evalWith (z .interpretation) X (traced enforce) F x)
     unfolding evalWith shapeOf
     sim (on-boolean {t = t} {b = b} k e) n l i s = at-step (g + 1) f _ n t 0 _ l k refl (leaf-boolean (g + 1) t (wordAt z t) b k e)
@@ -178,7 +179,7 @@ module _ (z : Fixed) (X : Control) (enforce : Bool) (R : X .State → (acc depth
     bodyOf k x = evalWith (z .interpretation) X (traced enforce) (apply (z .interpretation) X (traced enforce) k) x
 
     module _ (k h : ℕ) (hk : (b : ℕ) (x : Term) → b < 65536 → Body z b x → Does h (bodies k b) (bodyOf k x))
-        (w : ℕ) (v : Value z) (acc : ℕ) (a : X .State) (l : d + h ≤ 3248) (r : R a acc d (st .frames)) (rx : RepAt z st w v) where
+        (w : ℕ) (v : Value z) (acc : ℕ) (a : X .State) (l : d + h ≤ maxFrames) (r : R a acc d (st .frames)) (rx : RepAt z st w v) where
       enter-meets : {x : Value z} → RepAt z st u x
           → Meets z d st (applied t st (begin (bodies k) t u w acc st) (sortFor x)) (apply (z .interpretation) X (traced enforce) (suc k) t x v a o)
       unfolding apply
@@ -191,7 +192,7 @@ module _ (z : Fixed) (X : Control) (enforce : Bool) (R : X .State → (acc depth
           begin-meets z X enforce R ctl (bodies k) t u w acc st i h ty true x E v (bodyOf k x)
           (hk (payloadOf u) x (omega arith) b) d a l r (rep-rec j b p q g e) rx y
 
-  apply-does : (k h : ℕ) → SimApply z X R (32 * k + h) (applyAt (z .terms) k) (apply (z .interpretation) X (traced enforce) k)
+  apply-does : (k h : ℕ) → SimApply z X R (maxNesting * k + h) (applyAt (z .terms) k) (apply (z .interpretation) X (traced enforce) k)
   unfolding applyAt apply
   apply-does zero h = record {
     go = λ t i u x w y acc d a st o l r ru rx b.
@@ -201,16 +202,16 @@ module _ (z : Fixed) (X : Control) (enforce : Bool) (R : X .State → (acc depth
     go = λ t i u x w y acc d a st o l r ru rx b.
         subst (λ s. Meets z d st (applied t st (begin (bodies k) t u w acc st) s) (apply (z .interpretation) X (traced enforce) (suc k) t x y a o))
         (sym (rep-word z ru .sort-is))
-        (enter-meets t i u d st o b k (32 * k + 32)
-        (λ c e j q. sim-less z X enforce R ctl (32 * k + height e) (32 * k + 32) _ _ (omega (arith, q .shallow))
-        (sim (32 * k) (applyAt (z .terms) k) (apply (z .interpretation) X (traced enforce) k) (apply-does k) (q .stands) 65536 j j (q .shallow)))
+        (enter-meets t i u d st o b k (maxNesting * k + maxNesting)
+        (λ c e j q. sim-less z X enforce R ctl (maxNesting * k + height e) (maxNesting * k + maxNesting) _ _ (omega (arith, q .shallow))
+        (sim (maxNesting * k) (applyAt (z .terms) k) (apply (z .interpretation) X (traced enforce) k) (apply-does k) (q .stands) 65536 j j (q .shallow)))
         w y acc a (omega arith) r rx ru);
   }
 
   -- a term, with k open calls left: each call and the term itself signs at most 32 times
-  pub eval-does : (k : ℕ) {t : ℕ} {x : Term} → Stands z t x → t < 65536 → height x ≤ 32
-      → Does (32 * k + 32) (evalAt (z .terms) k t) (eval (z .interpretation) X (traced enforce) k x)
+  pub eval-does : (k : ℕ) {t : ℕ} {x : Term} → Stands z t x → t < 65536 → height x ≤ maxNesting
+      → Does (maxNesting * k + maxNesting) (evalAt (z .terms) k t) (eval (z .interpretation) X (traced enforce) k x)
   unfolding evalAt eval
   eval-does k {t} {x} h i s =
-      sim-less z X enforce R ctl (32 * k + height x) (32 * k + 32) _ _ (omega arith)
-      (sim (32 * k) (applyAt (z .terms) k) (apply (z .interpretation) X (traced enforce) k) (apply-does k) h 65536 i i s)
+      sim-less z X enforce R ctl (maxNesting * k + height x) (maxNesting * k + maxNesting) _ _ (omega arith)
+      (sim (maxNesting * k) (applyAt (z .terms) k) (apply (z .interpretation) X (traced enforce) k) (apply-does k) h 65536 i i s)

@@ -10,16 +10,16 @@ use lib.Dec.{ltb, eqb}
 use lib.ListN.{length, set, length-take}
 use lib.Seq.{getD-set-other}
 use borrow.Author.Tests.{ne-eqb, lt-ltb, le-ltb}
-use Rattle.program.specs.Limits.{noGuard}
+use Rattle.program.specs.Limits.{noGuard, maxFrames}
 use Rattle.program.specs.Layout.{guardIn}
 use Rattle.program.specs.Terms.{Op, sum, difference, less, Term}
 use Rattle.traces.specs.Traces.{Event, eventBytes, recorded}
 use Rattle.semantics.specs.Values.{num, closure, bind, lookup, entered, Log, logPost, logSaturated, logDecision, Budget, budget, ends, stops}
-use Rattle.semantics.specs.Meaning.{Control, Evaluation, Application, _then_, choose, found, decided, branch, operate, countSaturated, compute, appendPost, note, postValue, takeCell, beginCall, passes, guardPasses, eventIf}
+use Rattle.semantics.specs.Meaning.{Control, Evaluation, Application, _then_, choose, variableValue, decided, branch, operate, countSaturated, compute, appendPost, note, postValue, takeCell, beginCall, passes, guardPasses, eventIf}
 use Rattle.semantics.specs.Recording.{withEntries}
 use Rattle.stores.specs.declared.state.Stop.{Stop}
 use Rattle.stores.specs.declared.state.Stop.the-variants.{Check, Stuck, Calls, Cells, Posts, Undecided}
-use Rattle.stores.specs.Words.{pick, functionWord, stopWord, sortOf, payloadOf, envOf}
+use Rattle.stores.specs.Words.{functionWord, stopWord, sortOf, payloadOf, envOf}
 use Rattle.stores.specs.Cells.{behindOf, walkOf, heldOf, lookOf, cellSet}
 use Rattle.access.specs.Access.{enforced, grantedOf, allowedOf, signAccess, signFrames, enableAccess, enableFrames, enabledNow, restoreFrames}
 use Rattle.termtable.specs.Table.{wordSmall, wordGuard}
@@ -39,11 +39,11 @@ walk-zero cells (suc i) = walk-zero cells i
 
 look-zero : (cells : List ℕ) (t i : ℕ) → lookOf cells t 0 i ≡ stopWord 18 t
 unfolding lookOf
-look-zero cells t i = λ z. pick (eqb (walk-zero cells i z) 0) (stopWord 18 t) (heldOf cells (walkOf cells 0 i))
+look-zero cells t i = λ z. cond (eqb (walk-zero cells i z) 0) (stopWord 18 t) (heldOf cells (walkOf cells 0 i))
 
 look-first : (cells : List ℕ) (t e : ℕ) → 1 ≤ e → lookOf cells t e 0 ≡ heldOf cells e
 unfolding lookOf walkOf
-look-first cells t e h = λ z. pick (ne-eqb e 0 (λ q. omega arith) z) (stopWord 18 t) (heldOf cells e)
+look-first cells t e h = λ z. cond (ne-eqb e 0 (λ q. omega arith) z) (stopWord 18 t) (heldOf cells e)
 
 look-next : (cells : List ℕ) (t e i : ℕ) → lookOf cells t (behindOf cells e) i ≡ lookOf cells t e (suc i)
 unfolding lookOf walkOf
@@ -110,6 +110,7 @@ module _ (z : Fixed) where
   mode-is : {st : State} {o : Budget} → Balances z st o → modeOf (st .n) ≡ z .mode
   mode-is (balance h) = λ i. modeOf (h .counters i)
 
+  -- a cell has eight of at most 65,536 bytes
   pub few-cells : {st : State} {o : Budget} → Balances z st o → cellsMade (st .n) ≤ 8192
   few-cells (balance h) = omega (arith, made-is h, h .cells, h .most)
 
@@ -160,16 +161,16 @@ module _ (z : Fixed) where
   meets-end {depth} {st} r h = valued r h (later-refl depth st)
 
   pub meets-found : {depth : ℕ} {st : State} {o : Budget} {w : ℕ} {x : Option (Value z)} (t : ℕ) → t < 65536 → Finds (st .cells) (cellsMade (st .n)) t w x
-      → Balances z st o → Meets z depth st (doneOf w st) (found t x o)
+      → Balances z st o → Meets z depth st (doneOf w st) (variableValue t x o)
   meets-found t i (finds-some r) h = meets-end r h
   meets-found t i finds-none h = meets-stop (Stuck t) i h
 
   -- a test, both ways
   meets-pick : {depth : ℕ} {st : State} {o : Budget} (b c : Bool) → b ≡ c → (p q : Done) (P Q : Budget → Result z) → Meets z depth st p (P o)
-      → Meets z depth st q (Q o) → Meets z depth st (pick b p q) (choose c P Q o)
-  meets-pick {depth} {st} {o} b c e p q P Q hp hq = subst (λ x. Meets z depth st (pick x p q) (choose c P Q o)) (sym e) (go c)
+      → Meets z depth st q (Q o) → Meets z depth st (cond b p q) (choose c P Q o)
+  meets-pick {depth} {st} {o} b c e p q P Q hp hq = subst (λ x. Meets z depth st (cond x p q) (choose c P Q o)) (sym e) (go c)
     where
-      go : (x : Bool) → Meets z depth st (pick x p q) (choose x P Q o)
+      go : (x : Bool) → Meets z depth st (cond x p q) (choose x P Q o)
       go true = hp
       go false = hq
 
@@ -182,7 +183,7 @@ module _ (z : Fixed) where
 
   -- and its result counted, where it is saturated
   abbrev counted : Bool → State → State
-  counted over st = storeOf (pick over (countIn (st .n)) (st .n)) (st .cells) (st .posts) (st .frames) (st .noted)
+  counted over st = storeOf (cond over (countIn (st .n)) (st .n)) (st .cells) (st .posts) (st .frames) (st .noted)
 
   counted-tally : {st : State} {c m d r : ℕ} {log : Log} → Balance z st c m d r log → Balance z (counted true st) c m d r (logSaturated true log)
   counted-tally {c = c} {m = m} {log = log} h =
@@ -213,9 +214,9 @@ module _ (z : Fixed) where
         subst (λ k. Meets z depth st (by (eqb k 0) (eqb (payloadOf w) 2) (ltb 0 (payloadOf w))) (branch t x P Q o)) (sym (rep-word z r .sort-is)) (go r)
       where
         by : (boolean undecided yes : Bool) → Done
-        by a u b = pick a (pick u (doneOf (stopWord 36 t) st) (pick b p q)) (doneOf (stopWord 18 t) st)
+        by a u b = cond a (cond u (doneOf (stopWord 36 t) st) (cond b p q)) (doneOf (stopWord 18 t) st)
 
-        goes-on : (u b : Bool) → Meets z depth st (by true u b) (decided t (pick u none (some b)) P Q o)
+        goes-on : (u b : Bool) → Meets z depth st (by true u b) (decided t (cond u none (some b)) P Q o)
         goes-on true b = meets-stop (Undecided t) i h
         goes-on false b = meets-pick b b refl p q P Q hp hq
 
@@ -236,8 +237,8 @@ module _ (z : Fixed) where
         (subst (λ k. Meets z depth st (by (z .mode) (sortFor x) k) (compute t op x y o)) (sym (rep-word z u .sort-is)) (go r u)))
       where
         by : (mode j k : ℕ) → Done
-        by n j k = doneOf (pick (eqb j 1) (pick (eqb k 1) (numbersResult n (kindNumber op) v w) (stopWord 18 t)) (stopWord 18 t))
-            (counted (pick (eqb j 1) (pick (eqb k 1) (numbersSaturate n (kindNumber op) v w) false) false) st)
+        by n j k = doneOf (cond (eqb j 1) (cond (eqb k 1) (numbersResult n (kindNumber op) v w) (stopWord 18 t)) (stopWord 18 t))
+            (counted (cond (eqb j 1) (cond (eqb k 1) (numbersSaturate n (kindNumber op) v w) false) false) st)
 
         go : {x y : Value z} → RepAt z st v x → RepAt z st w y → Meets z depth st (by (z .mode) (sortFor x) (sortFor y)) (compute t op x y o)
         go (rep-bool e) u = meets-stop (Stuck t) i h
@@ -289,14 +290,14 @@ module _ (z : Fixed) where
           let room : ltb (entriesMade (st .n)) (length (st .noted) / 4) ≡ true =
           lt-ltb (entriesMade (st .n)) (length (st .noted) / 4) (omega (arith, entries-are h, noted-long h, many)) in
           record {
-            counters = (λ i. pick (room i) (set (st .n) 5 (entriesMade (st .n) + 1)) (st .n))
+            counters = (λ i. cond (room i) (set (st .n) 5 (entriesMade (st .n) + 1)) (st .n))
                 ∙ (λ i. set (h .counters i) 5 (entriesMade (h .counters i) + 1)) ∙ (λ i. made (sym (entry-more t ds e l) i))
                 ∙ (λ i. made (length (recorded (length t) (behind i))));
             cells = h .cells;
             most = h .most;
             room = h .room;
             list = h .list;
-            noted-is = (λ i. pick (room i) (overwrite (4 * entriesMade (st .n)) (eventBytes e) (st .noted)) (st .noted))
+            noted-is = (λ i. cond (room i) (overwrite (4 * entriesMade (st .n)) (eventBytes e) (st .noted)) (st .noted))
                 ∙ (λ i. overwrite (4 * entries-are h i) (eventBytes e) (h .noted-is i)) ∙ entry-made t ds e l ∙ (λ i. recordOf t (behind i));
           }
       go (no g) =
@@ -305,12 +306,12 @@ module _ (z : Fixed) where
           let same : recorded (length t) ds ≡ recorded (length t) (reverse (e ∷ log .decisions)) =
           sym (full t ds e (omega (arith, g))) ∙ (λ i. recorded (length t) (behind i)) in
           record {
-            counters = (λ i. pick (no-room i) (set (st .n) 5 (entriesMade (st .n) + 1)) (st .n)) ∙ h .counters ∙ (λ i. made (length (same i)));
+            counters = (λ i. cond (no-room i) (set (st .n) 5 (entriesMade (st .n) + 1)) (st .n)) ∙ h .counters ∙ (λ i. made (length (same i)));
             cells = h .cells;
             most = h .most;
             room = h .room;
             list = h .list;
-            noted-is = (λ i. pick (no-room i) (overwrite (4 * entriesMade (st .n)) (eventBytes e) (st .noted)) (st .noted)) ∙ h .noted-is
+            noted-is = (λ i. cond (no-room i) (overwrite (4 * entriesMade (st .n)) (eventBytes e) (st .noted)) (st .noted)) ∙ h .noted-is
                 ∙ (λ i. withEntries (same i) t);
           }
 
@@ -338,8 +339,8 @@ module _ (z : Fixed) where
         storeOf (set (st .n) 2 (postsMade (st .n) + 1)) (st .cells) (set (st .posts) (postsMade (st .n)) (listedAs (z .mode) x w)) (st .frames) (st .noted)
 
     abbrev postBy : (cause : ℕ) → Done
-    postBy c = doneOf (pick (eqb c 0) w (stopWord c t))
-        (storeOf (pick (eqb c 0) (posted .n) (st .n)) (st .cells) (pick (eqb c 0) (posted .posts) (st .posts)) (st .frames) (st .noted))
+    postBy c = doneOf (cond (eqb c 0) w (stopWord c t))
+        (storeOf (cond (eqb c 0) (posted .n) (st .n)) (st .cells) (cond (eqb c 0) (posted .posts) (st .posts)) (st .frames) (st .noted))
 
     abbrev room : Bool
     room = ltb (postsMade (st .n)) (length (st .posts))
@@ -385,14 +386,14 @@ module _ (z : Fixed) where
   -- the same from the state before the guard is noted, if the word is a number's
   module _ (st : State) (t x acc w : ℕ) where
     abbrev guardedBy : (sort : ℕ) → State
-    guardedBy k = withEntry (pick (eqb k 1) (numberDecides (modeOf (st .n)) x) false) t (wordGuard x) acc st
+    guardedBy k = withEntry (cond (eqb k 1) (numberDecides (modeOf (st .n)) x) false) t (wordGuard x) acc st
 
     -- noting an entry makes no post
     posts-kept : (b : Bool) → postsMade (st .n) ≡ postsMade (withEntry b t (wordGuard x) acc st .n)
     unfolding noteCounters
-    posts-kept b = go (pick b (ltb (entriesMade (st .n)) (length (st .noted) / 4)) false)
+    posts-kept b = go (cond b (ltb (entriesMade (st .n)) (length (st .noted) / 4)) false)
       where
-        go : (y : Bool) → postsMade (st .n) ≡ postsMade (pick y (set (st .n) 5 (entriesMade (st .n) + 1)) (st .n))
+        go : (y : Bool) → postsMade (st .n) ≡ postsMade (cond y (set (st .n) 5 (entriesMade (st .n) + 1)) (st .n))
         go true = sym (getD-set-other (st .n) 5 2 (entriesMade (st .n) + 1) 0 (λ e. omega (arith, e)))
         go false = refl
 
@@ -404,12 +405,12 @@ module _ (z : Fixed) where
         ∙ (λ i. by (guardedBy k) (z .mode) (made i) (causeOf (eqb k 1) g (ltb (made i) (length (st .posts)))))
       where
         by : State → (mode made cause : ℕ) → Done
-        by u n m c = doneOf (pick (eqb c 0) w (stopWord c t))
-            (storeOf (pick (eqb c 0) (set (u .n) 2 (postsMade (u .n) + 1)) (u .n)) (st .cells)
-            (pick (eqb c 0) (set (st .posts) m (listedAs n x w)) (st .posts)) (st .frames) (u .noted))
+        by u n m c = doneOf (cond (eqb c 0) w (stopWord c t))
+            (storeOf (cond (eqb c 0) (set (u .n) 2 (postsMade (u .n) + 1)) (u .n)) (st .cells)
+            (cond (eqb c 0) (set (st .posts) m (listedAs n x w)) (st .posts)) (st .frames) (u .noted))
 
         made : postsMade (st .n) ≡ postsMade (guardedBy k .n)
-        made = posts-kept (pick (eqb k 1) (numberDecides (modeOf (st .n)) x) false)
+        made = posts-kept (cond (eqb k 1) (numberDecides (modeOf (st .n)) x) false)
 
     meets-post : (g : Bool) (n : Option Event) {depth : ℕ} {o : Budget} {y : Value z} → guardPassed (modeOf (st .n)) acc (st .frames) (wordGuard x) ≡ g
         → Notes st (guardedBy 1) (note n o) → t < 65536
@@ -426,32 +427,32 @@ module _ (z : Fixed) where
         go (rep-fun j b v) = meets-stop (Stuck t) i h
         go (rep-rec j b p q u v) = meets-stop (Stuck t) i h
 
--- ---- what is asked of an access control and of how a number and the first frames stand for its states: 3,248 frames have room
+-- ---- what is asked of an access control and of how a number and the first frames stand for its states: maxFrames of them have room
 pub record Models (z : Fixed) (X : Control) (enforce : Bool) (R : X .State → (acc depth : ℕ) → List ℕ → Type 0) : Type 0 where
   pub keeps : (a : X .State) (acc d : ℕ) (f g : List ℕ) → R a acc d f → Kept d f g → R a acc d g
-  pub signed : (a : X .State) (acc d : ℕ) (f : List ℕ) (n may : ℕ) → R a acc d f → may ≡ z .may n → may < 4294967296 → d < 3248
+  pub signed : (a : X .State) (acc d : ℕ) (f : List ℕ) (n may : ℕ) → R a acc d f → may ≡ z .may n → may < 4294967296 → d < maxFrames
       → R (X .signs n a) (signAccess (z .mode) acc may) (d + 1) (signFrames (z .mode) acc f may)
-  pub enabled : (a : X .State) (acc d : ℕ) (f : List ℕ) (p : ℕ) → R a acc d f → d ≤ 3248
+  pub enabled : (a : X .State) (acc d : ℕ) (f : List ℕ) (p : ℕ) → R a acc d f → d ≤ maxFrames
       → R (X .enables p a) (enableAccess (z .mode) acc p) d (enableFrames (z .mode) acc f p)
-  pub grants : (a : X .State) (acc d : ℕ) (f : List ℕ) (p : ℕ) → R a acc d f → d ≤ 3248 → grantedOf (z .mode) acc f p ≡ X .grants a p
+  pub grants : (a : X .State) (acc d : ℕ) (f : List ℕ) (p : ℕ) → R a acc d f → d ≤ maxFrames → grantedOf (z .mode) acc f p ≡ X .grants a p
   pub enforces : enforced (z .mode) ≡ enforce
   pub unsigned : (a : X .State) (acc d : ℕ) (f g : List ℕ) (may : ℕ) → R a acc d f → Kept (d + 1) (signFrames (z .mode) acc f may) g → Kept d f g
-  pub undone : (a : X .State) (acc d : ℕ) (f g : List ℕ) (p : ℕ) → R a acc d f → d ≤ 3248 → Kept d (enableFrames (z .mode) acc f p) g
+  pub undone : (a : X .State) (acc d : ℕ) (f g : List ℕ) (p : ℕ) → R a acc d f → d ≤ maxFrames → Kept d (enableFrames (z .mode) acc f p) g
       → Kept d f (restoreFrames (z .mode) acc g (enabledNow (z .mode) acc f))
 
 module _ (z : Fixed) (X : Control) (R : X .State → (acc depth : ℕ) → List ℕ → Type 0) where
   -- a run that does as the meaning's, where h more frames have room
   pub record Sim (h : ℕ) (p : Runs) (P : Evaluation (z .interpretation) X) : Type 0 where
-    pub go : (env : ℕ) (E : Env z) (acc d : ℕ) (a : X .State) (st : State) (o : Budget) → d + h ≤ 3248 → R a acc d (st .frames)
+    pub go : (env : ℕ) (E : Env z) (acc d : ℕ) (a : X .State) (st : State) (o : Budget) → d + h ≤ maxFrames → R a acc d (st .frames)
         → EnvAt z st env E → Balances z st o → Meets z d st (p env acc st) (P a E o)
 
   pub record SimApply (h : ℕ) (f : Applier) (F : Application (z .interpretation) X) : Type 0 where
     pub go : (t : ℕ) → t < 65536 → (v : ℕ) (x : Value z) (w : ℕ) (y : Value z) (acc d : ℕ) (a : X .State) (st : State) (o : Budget)
-        → d + h ≤ 3248 → R a acc d (st .frames) → RepAt z st v x → RepAt z st w y → Balances z st o → Meets z d st (f t v w acc st) (F t x y a o)
+        → d + h ≤ maxFrames → R a acc d (st .frames) → RepAt z st v x → RepAt z st w y → Balances z st o → Meets z d st (f t v w acc st) (F t x y a o)
 
-allows : (f b g c : Bool) → b ≡ f → g ≡ c → pick b g true ≡ passes f c
-allows true b g c p q = (λ i. pick (p i) g true) ∙ q
-allows false b g c p q = λ i. pick (p i) g true
+allows : (f b g c : Bool) → b ≡ f → g ≡ c → cond b g true ≡ passes f c
+allows true b g c p q = (λ i. cond (p i) g true) ∙ q
+allows false b g c p q = λ i. cond (p i) g true
 
 module _ (z : Fixed) (X : Control) (enforce : Bool) (R : X .State → (acc depth : ℕ) → List ℕ → Type 0) (ctl : Models z X enforce R) where
   abbrev Does : ℕ → Runs → Evaluation (z .interpretation) X → Type 0
@@ -469,9 +470,9 @@ module _ (z : Fixed) (X : Control) (enforce : Bool) (R : X .State → (acc depth
   -- one run, then another on what it left
   sim-both : (h : ℕ) (p q : Runs) (P Q : Evaluation (z .interpretation) X) (k : (v w acc : ℕ) → State → Done)
       (K : (x y : Value z) → X .State → Budget → Result z) → Does h p P → Does h q Q
-      → ((v : ℕ) (x : Value z) (w : ℕ) (y : Value z) (acc d : ℕ) (a : X .State) (st : State) (o : Budget) → d + h ≤ 3248 → R a acc d (st .frames)
+      → ((v : ℕ) (x : Value z) (w : ℕ) (y : Value z) (acc d : ℕ) (a : X .State) (st : State) (o : Budget) → d + h ≤ maxFrames → R a acc d (st .frames)
       → RepAt z st v x → RepAt z st w y → Balances z st o → Meets z d st (k v w acc st) (K x y a o))
-      → (env : ℕ) (E : Env z) (acc d : ℕ) (a : X .State) (st : State) (o : Budget) → d + h ≤ 3248 → R a acc d (st .frames)
+      → (env : ℕ) (E : Env z) (acc d : ℕ) (a : X .State) (st : State) (o : Budget) → d + h ≤ maxFrames → R a acc d (st .frames)
       → EnvAt z st env E → Balances z st o
       → Meets z d st (andThen (p env acc st) (λ v st₁. andThen (q env acc st₁) (λ w st₂. k v w acc st₂)))
       (P a E o then λ x o₁. Q a E o₁ then λ y o₂. K x y a o₂)
@@ -507,13 +508,13 @@ module _ (z : Fixed) (X : Control) (enforce : Bool) (R : X .State → (acc depth
   }
 
   -- ---- access
-  granted-is : {a : X .State} {acc d : ℕ} {st : State} {o : Budget} (p : ℕ) → R a acc d (st .frames) → d ≤ 3248 → Balances z st o
+  granted-is : {a : X .State} {acc d : ℕ} {st : State} {o : Budget} (p : ℕ) → R a acc d (st .frames) → d ≤ maxFrames → Balances z st o
       → grantedOf (modeOf (st .n)) acc (st .frames) p ≡ X .grants a p
   granted-is {a} {acc} {d} {st} p r l y = (λ i. grantedOf (mode-is z y i) acc (st .frames) p) ∙ ctl .grants a acc d (st .frames) p r l
 
   -- a run from where a decision is noted
   noted-go : (h : ℕ) (q : Runs) (Q : Evaluation (z .interpretation) X) → Does h q Q → {env acc d : ℕ} {E : Env z} {a : X .State} {st st₁ : State} {o : Budget}
-      → d + h ≤ 3248 → R a acc d (st .frames) → EnvAt z st env E → Notes z st st₁ o → Meets z d st (q env acc st₁) (Q a E o)
+      → d + h ≤ maxFrames → R a acc d (st .frames) → EnvAt z st env E → Notes z st st₁ o → Meets z d st (q env acc st₁) (Q a E o)
   noted-go h q Q hq {env} {acc} {d} {E} {a} {st} {st₁} {o} w r e k =
       let l = k .later d in
       meets-later z l (hq .go env E acc d a st₁ o w (ctl .keeps a acc d _ _ r (l .frames)) (env-later z (l .more) (l .old) e) (k .balances))
@@ -529,7 +530,7 @@ module _ (z : Fixed) (X : Control) (enforce : Bool) (R : X .State → (acc depth
         (noted-go h q Q hq w r e k) (noted-go h u U hu w r e k);
   }
 
-  allowed-is : {a : X .State} {acc d : ℕ} {st : State} {o : Budget} (p : ℕ) → R a acc d (st .frames) → d ≤ 3248 → Balances z st o
+  allowed-is : {a : X .State} {acc d : ℕ} {st : State} {o : Budget} (p : ℕ) → R a acc d (st .frames) → d ≤ maxFrames → Balances z st o
       → allowedOf (modeOf (st .n)) acc (st .frames) p ≡ passes enforce (X .grants a p)
   unfolding allowedOf
   allowed-is {a} {acc} {d} {st} p r l y =
@@ -537,7 +538,7 @@ module _ (z : Fixed) (X : Control) (enforce : Bool) (R : X .State → (acc depth
       ((λ j. enforced (mode-is z y j)) ∙ ctl .enforces) (granted-is p r l y)
 
   -- a decision on p where checks are in force
-  check-notes : (t p : ℕ) {a : X .State} {acc d : ℕ} {st : State} {o : Budget} → R a acc d (st .frames) → d ≤ 3248 → Balances z st o
+  check-notes : (t p : ℕ) {a : X .State} {acc d : ℕ} {st : State} {o : Budget} → R a acc d (st .frames) → d ≤ maxFrames → Balances z st o
       → Notes z st (withEntry (enforced (modeOf (st .n))) t p acc st) (note (eventIf enforce t (X .grants a) (some p)) o)
   check-notes t p {a} {acc} {d} {st} {o} r l y =
       subst (λ b. Notes z st (withEntry b t p acc st) (note (eventIf enforce t (X .grants a) (some p)) o))
@@ -555,16 +556,16 @@ module _ (z : Fixed) (X : Control) (enforce : Bool) (R : X .State → (acc depth
   }
 
   -- a post, whose guard is decided in the access of the post
-  guard-is : {a : X .State} {acc d : ℕ} {st : State} {o : Budget} (g : ℕ) → R a acc d (st .frames) → d ≤ 3248 → Balances z st o
+  guard-is : {a : X .State} {acc d : ℕ} {st : State} {o : Budget} (g : ℕ) → R a acc d (st .frames) → d ≤ maxFrames → Balances z st o
       → guardPassed (modeOf (st .n)) acc (st .frames) g ≡ guardPasses enforce (X .grants a) (guardIn g)
   unfolding guardPassed
   guard-is {a} {acc} {d} {st} g r l y = go (eqb g noGuard)
     where
-      go : (b : Bool) → pick b true (allowedOf (modeOf (st .n)) acc (st .frames) g) ≡ guardPasses enforce (X .grants a) (cond b none (some g))
+      go : (b : Bool) → cond b true (allowedOf (modeOf (st .n)) acc (st .frames) g) ≡ guardPasses enforce (X .grants a) (cond b none (some g))
       go true = refl
       go false = allowed-is g r l y
 
-  guard-notes : (t x : ℕ) {a : X .State} {acc d : ℕ} {st : State} {o : Budget} → R a acc d (st .frames) → d ≤ 3248 → Balances z st o
+  guard-notes : (t x : ℕ) {a : X .State} {acc d : ℕ} {st : State} {o : Budget} → R a acc d (st .frames) → d ≤ maxFrames → Balances z st o
       → Notes z st (withEntry (numberDecides (modeOf (st .n)) x) t (wordGuard x) acc st) (note (eventIf enforce t (X .grants a) (guardIn (wordGuard x))) o)
   guard-notes t x {a} {acc} {d} {st} {o} r l y = go (eqb (wordGuard x) noGuard)
     where
@@ -572,7 +573,7 @@ module _ (z : Fixed) (X : Control) (enforce : Bool) (R : X .State → (acc depth
       unguarded true = refl
       unguarded false = refl
 
-      go : (b : Bool) → Notes z st (withEntry (pick b false (enforced (modeOf (st .n)))) t (wordGuard x) acc st)
+      go : (b : Bool) → Notes z st (withEntry (cond b false (enforced (modeOf (st .n)))) t (wordGuard x) acc st)
           (note (eventIf enforce t (X .grants a) (cond b none (some (wordGuard x)))) o)
       go true = subst (λ n. Notes z st (withEntry false t (wordGuard x) acc st) (note n o)) (sym (unguarded enforce))
           (notes z false t (wordGuard x) acc (X .grants a) (granted-is (wordGuard x) r l y) y)
@@ -625,7 +626,7 @@ module _ (z : Fixed) (X : Control) (enforce : Bool) (R : X .State → (acc depth
   -- ---- a run that goes on with a new cell
   on-cell : (h : ℕ) (p : Runs) (P : Evaluation (z .interpretation) X) → Does h p P
       → (E : Env z) (acc d : ℕ) (a : X .State) (st : State) (n : List ℕ) (w e : ℕ) {c c′ m k r : ℕ} {log : Log}
-      → d + h ≤ 3248 → R a acc d (st .frames) → Balance z st c m (suc k) r log → n ≡ countersOf z c′ (m + 1) log
+      → d + h ≤ maxFrames → R a acc d (st .frames) → Balance z st c m (suc k) r log → n ≡ countersOf z c′ (m + 1) log
       → RepEnv z (cellSet (st .cells) (cellsMade (st .n)) w e) (cellsMade (st .n) + 1) (cellsMade (st .n) + 1) E
       → Meets z d st (p (cellsMade (st .n) + 1) acc (withCell st n w e)) (P a E (budget c′ k r log))
   on-cell h p P hp E acc d a st n w e l r y k v =
@@ -636,12 +637,12 @@ module _ (z : Fixed) (X : Control) (enforce : Bool) (R : X .State → (acc depth
 
   -- a recursive function
   module _ (h t b ty : ℕ) (i : t < 65536) (body : Term) (q : Runs) (Q : Evaluation (z .interpretation) X) (inside : b < 65536) (k : Body z b body)
-      (hq : Does h q Q) (env : ℕ) (E : Env z) (acc d : ℕ) (a : X .State) (st : State) (w : d + h ≤ 3248)
+      (hq : Does h q Q) (env : ℕ) (E : Env z) (acc d : ℕ) (a : X .State) (st : State) (w : d + h ≤ maxFrames)
       (r : R a acc d (st .frames)) (v : EnvAt z st env E) where
     letrec-is : (room : Bool) (own : ℕ) → hasRoom st ≡ room → ownCell st ≡ own
-        → letrecS q b t env acc st ≡ pick room (q own acc (bound (functionWord b own) env st)) (doneOf (stopWord 21 t) st)
+        → letrecS q b t env acc st ≡ cond room (q own acc (bound (functionWord b own) env st)) (doneOf (stopWord 21 t) st)
     unfolding letrecS
-    letrec-is room own e f = λ j. pick (e j) (q (f j) acc (bound (functionWord b (f j)) env st)) (doneOf (stopWord 21 t) st)
+    letrec-is room own e f = λ j. cond (e j) (q (f j) acc (bound (functionWord b (f j)) env st)) (doneOf (stopWord 21 t) st)
 
     letrec-meets : {o : Budget} → Balances z st o → Meets z d st (letrecS q b t env acc st) (takeCell t (λ o₁. Q a (bind (closure true ty body E) E) o₁) o)
     letrec-meets (balance {c = c} {d = zero} {r = u} {log = log} y) =
@@ -662,13 +663,13 @@ module _ (z : Fixed) (X : Control) (enforce : Bool) (R : X .State → (acc depth
   -- a body begins
   module _ (ev : ℕ → Runs) (t f w acc : ℕ) (st : State) where
     begin-is : (p q : Bool) (own : ℕ) → eqb (callsLeft (st .n)) 0 ≡ p → hasRoom st ≡ q → ownCell st ≡ own
-        → begin ev t f w acc st ≡ pick p (doneOf (stopWord 20 t) st) (pick q (ev (payloadOf f) own acc (called w (envOf f) st)) (doneOf (stopWord 21 t) st))
+        → begin ev t f w acc st ≡ cond p (doneOf (stopWord 20 t) st) (cond q (ev (payloadOf f) own acc (called w (envOf f) st)) (doneOf (stopWord 21 t) st))
     unfolding begin
     begin-is p q own x y e =
-        λ j. pick (x j) (doneOf (stopWord 20 t) st) (pick (y j) (ev (payloadOf f) (e j) acc (called w (envOf f) st)) (doneOf (stopWord 21 t) st))
+        λ j. cond (x j) (doneOf (stopWord 20 t) st) (cond (y j) (ev (payloadOf f) (e j) acc (called w (envOf f) st)) (doneOf (stopWord 21 t) st))
 
     module _ (i : t < 65536) (h ty : ℕ) (ag : Bool) (body : Term) (E : Env z) (y : Value z) (Q : Evaluation (z .interpretation) X)
-        (hq : Does h (ev (payloadOf f)) Q) (d : ℕ) (a : X .State) (l : d + h ≤ 3248) (r : R a acc d (st .frames))
+        (hq : Does h (ev (payloadOf f)) Q) (d : ℕ) (a : X .State) (l : d + h ≤ maxFrames) (r : R a acc d (st .frames))
         (rf : RepAt z st f (closure ag ty body E)) (rx : RepAt z st w y) where
       pub begin-meets : {o : Budget} → Balances z st o → Meets z d st (begin ev t f w acc st) (beginCall t (λ o₁. Q a (entered ag ty body E y) o₁) o)
       begin-meets (balance {c = zero} {d = c} {r = u} {log = log} b) =

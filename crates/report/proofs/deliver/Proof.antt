@@ -9,6 +9,7 @@ use Rattle.program.specs.Laws.Lists.{sized, copy-more}
 use Rattle.report.proofs.ReportLaws.{Copied, too-short, fitting}
 use Rattle.report.proofs.deliver.Statement.{statement}
 use Rattle.report.proofs.deliver.Tie as tie
+use Rattle.drafts.specs.Internal.{draftBytes}
 
 abbrev Inv-loop : tie.InvT-loop
 Inv-loop text₀ d n i₀ text i = Copied (d .bytes) text₀ text n i
@@ -19,7 +20,8 @@ abbrev μ-loop : tie.MeasureT-loop
 returns : tie.Need-returns Inv-loop μ-loop
 returns c =
     let start = c .before in
-    too-short (start .args .t1) (start .args .text .now) (sized (start .args .t1 .bytes) 224 (start .good .0 .1 .1 .0 .1 .0 .1)) (start .pre) (c .if1 .taken)
+    too-short (start .args .t1) (start .args .text .now) (sized (start .args .t1 .bytes) draftBytes (start .good .0 .1 .1 .0 .1 .0 .1))
+    (start .pre) (c .if1 .taken)
 
 loop-holds : tie.Need-loop-holds Inv-loop μ-loop
 loop-holds c = record { below = omega arith; long = refl; copied = refl }
@@ -46,7 +48,7 @@ loop-again c =
       below = omega arith;
       long = simp length-set (at-loop .loop .inv .long);
       copied = copy-more (start .args .t1 .bytes) (start .args .text .now) (at-loop .loop .text)
-          (at-loop .loop .i) (omega (arith, sized (start .args .t1 .bytes) 224 (start .good .0 .1 .1 .0 .1 .0 .1), start .pre))
+          (at-loop .loop .i) (omega (arith, sized (start .args .t1 .bytes) draftBytes (start .good .0 .1 .1 .0 .1 .0 .1), start .pre))
           (omega (arith, c .before .before .before .if1 .left)) (at-loop .loop .inv .copied);
     }
 
@@ -57,7 +59,8 @@ returns-2 : tie.Need-returns-2 Inv-loop μ-loop
 returns-2 c =
     let at-loop = c .before in
     let start = at-loop .before .before in
-    fitting (start .args .t1) (start .args .text .now) (sized (start .args .t1 .bytes) 224 (start .good .0 .1 .1 .0 .1 .0 .1)) (start .pre) (at-loop .loop .i)
+    fitting (start .args .t1) (start .args .text .now) (sized (start .args .t1 .bytes) draftBytes (start .good .0 .1 .1 .0 .1 .0 .1))
+    (start .pre) (at-loop .loop .i)
     (at-loop .loop .text) (at-loop .loop .inv .below) (c .loop-test .left) (c .before .before .if1 .left) (at-loop .loop .inv .copied)
 
 pub deliver-spec : {M : Type 1} → statement M

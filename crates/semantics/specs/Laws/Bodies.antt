@@ -10,7 +10,7 @@ use Rattle.program.specs.Laws.Trees.{every-any}
 use Rattle.traces.specs.Traces.{Event}
 use Rattle.semantics.specs.Domains.{Domain, Interpretation}
 use Rattle.semantics.specs.Values.{ValueOf, bool, num, closure, EnvOf, empty, bind, lookup, entered, Budget, budget, ResultOf, ends, stops}
-use Rattle.semantics.specs.Meaning.{Control, Mode, _then_, choose, found, decided, branch, compute, appendPost, note, postValue, takeCell, beginCall, tooDeep, enter, passes, guardPasses, eventIf, listsChecks, Application, evalWith, apply, eval}
+use Rattle.semantics.specs.Meaning.{Control, Mode, _then_, choose, variableValue, decided, branch, compute, appendPost, note, postValue, takeCell, beginCall, tooDeep, enter, passes, guardPasses, eventIf, listsChecks, Application, evalWith, apply, eval}
 
 -- What stops an evaluation of terms that have Q, and at which of them: 17 at a check or a guarded post, 18 to 22, or 36 at an if whose condition is undecided.
 pub data Stop (D : Domain) (Q : Term → Type 0) (c at : ℕ) : Type 0 where
@@ -64,7 +64,7 @@ module _ {D : Domain} (Q : Term → Type 0) where
   stuck : (at : ℕ) (u : Budget) → Bodies (stops 18 at u)
   stuck at u = other 18 at u (omega arith) (omega arith)
 
-  bodies-found : (at i : ℕ) (e : EnvOf D) (u : Budget) → EveryBodyIn e → Bodies (found at (lookup e i) u)
+  bodies-found : (at i : ℕ) (e : EnvOf D) (u : Budget) → EveryBodyIn e → Bodies (variableValue at (lookup e i) u)
   bodies-found at i empty u h = stuck at u
   bodies-found at zero (bind v e) u h = bodies-end (h .0)
   bodies-found at (suc i) (bind v e) u h = bodies-found at i e u (h .1)

@@ -10,7 +10,7 @@ use Rattle.program.specs.Terms.{Op, Term, boolean, number, variable, function, 
 use Rattle.traces.specs.Traces.{Event}
 use Rattle.semantics.specs.Domains.{Domain, Interpretation}
 use Rattle.semantics.specs.Values.{ValueOf, bool, num, closure, EnvOf, bind, lookup, entered, Log, logPost, Budget, budget, ResultOf, ends, stops}
-use Rattle.semantics.specs.Meaning.{Control, Mode, _then_, choose, found, decided, branch, countSaturated, compute, appendPost, note, postValue, takeCell, beginCall, tooDeep, enter, passes, eventIf, listsChecks, Application, evalWith, apply, eval}
+use Rattle.semantics.specs.Meaning.{Control, Mode, _then_, choose, variableValue, decided, branch, countSaturated, compute, appendPost, note, postValue, takeCell, beginCall, tooDeep, enter, passes, eventIf, listsChecks, Application, evalWith, apply, eval}
 use Rattle.semantics.specs.Runs.{left}
 
 abbrev pub callsIn : Budget → ℕ
@@ -63,7 +63,7 @@ module _ (D : Domain) (R : Budget → Budget → Type 0) (S : Steps D R) where
   leaves-choose true y n u hy hn = hy
   leaves-choose false y n u hy hn = hn
 
-  leaves-found : (at : ℕ) (o : Option (ValueOf D)) (u : Budget) → Leaves u (found at o u)
+  leaves-found : (at : ℕ) (o : Option (ValueOf D)) (u : Budget) → Leaves u (variableValue at o u)
   leaves-found at (some v) u = leaves-none u refl
   leaves-found at none u = leaves-none u refl
 

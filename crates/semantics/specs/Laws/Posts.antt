@@ -16,7 +16,7 @@ use Rattle.program.specs.Laws.Guards.{channel-in}
 use Rattle.traces.specs.Traces.{Event}
 use Rattle.semantics.specs.Domains.{standard, postEntry}
 use Rattle.semantics.specs.Values.{Value, bool, num, closure, Env, empty, bind, lookup, entered, logPost, Budget, budget, Result, ends, stops}
-use Rattle.semantics.specs.Meaning.{Control, Mode, _then_, choose, found, branch, operate, compute, appendPost, note, postValue, takeCell, beginCall, tooDeep, enter, passes, eventIf, listsChecks, Application, evalWith, apply, eval}
+use Rattle.semantics.specs.Meaning.{Control, Mode, _then_, choose, variableValue, branch, operate, compute, appendPost, note, postValue, takeCell, beginCall, tooDeep, enter, passes, eventIf, listsChecks, Application, evalWith, apply, eval}
 use Rattle.semantics.specs.Access.{privs, lazyControl, rights, eagerControl}
 use Rattle.semantics.specs.Runs.{Runner, eager, lazy, Request, Sizes, stack, initial, evaluationIn, left, inOrder}
 use Rattle.semantics.specs.Recording.{decidedIn}
@@ -74,7 +74,7 @@ module _ (E : ℕ → Type 0) (D : (at p : ℕ) → Type 0) where
   kept-choose true y n u hy hn = hy
   kept-choose false y n u hy hn = hn
 
-  kept-found : (at i : ℕ) (e : Env) (u : Budget) → HeldIn e → Logged u → Kept (found at (lookup e i) u)
+  kept-found : (at i : ℕ) (e : Env) (u : Budget) → HeldIn e → Logged u → Kept (variableValue at (lookup e i) u)
   kept-found at i empty u h p = kept-stop p
   kept-found at zero (bind v e) u h p = kept-end (h .0) p
   kept-found at (suc i) (bind v e) u h p = kept-found at i e u (h .1) p

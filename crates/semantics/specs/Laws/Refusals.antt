@@ -13,7 +13,7 @@ use Rattle.program.specs.Laws.Trees.{program-every}
 use Rattle.traces.specs.Traces.{Event}
 use Rattle.semantics.specs.Domains.{standard}
 use Rattle.semantics.specs.Values.{Value, bool, num, closure, Env, empty, bind, lookup, entered, Log, logDecision, Budget, budget, Result, ends, stops}
-use Rattle.semantics.specs.Meaning.{Control, Mode, traced, _then_, choose, found, branch, compute, appendPost, note, postValue, takeCell, beginCall, tooDeep, enter, guardPasses, eventIf, Application, evalWith, apply, eval}
+use Rattle.semantics.specs.Meaning.{Control, Mode, traced, _then_, choose, variableValue, branch, compute, appendPost, note, postValue, takeCell, beginCall, tooDeep, enter, guardPasses, eventIf, Application, evalWith, apply, eval}
 use Rattle.semantics.specs.Access.{privs, lazyControl, rights, eagerControl}
 use Rattle.semantics.specs.Runs.{Runner, eager, lazy, Request, Sizes, stack, initial, evaluationIn, stopped, outcome, left}
 use Rattle.semantics.specs.Recording.{decidedIn}
@@ -73,7 +73,7 @@ module _ (T : ℕ → Type 0) where
   stuck : (at : ℕ) (u : Budget) → Passed u → Answered (stops 18 at u)
   stuck at u p = other 18 at u (λ e. omega (arith, e)) p
 
-  answered-found : (at i : ℕ) (e : Env) (u : Budget) → Passed u → Answered (found at (lookup e i) u)
+  answered-found : (at i : ℕ) (e : Env) (u : Budget) → Passed u → Answered (variableValue at (lookup e i) u)
   answered-found at i empty u p = stuck at u p
   answered-found at zero (bind v e) u p = answered-end p
   answered-found at (suc i) (bind v e) u p = answered-found at i e u p

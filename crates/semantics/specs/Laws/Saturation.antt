@@ -17,7 +17,7 @@ use Rattle.program.specs.Laws.Sizes.{sizes-most}
 use Rattle.traces.specs.Traces.{Event}
 use Rattle.semantics.specs.Domains.{standard, saturates}
 use Rattle.semantics.specs.Values.{Value, bool, num, closure, Env, empty, bind, lookup, entered, Log, logSaturated, Budget, budget, Result, ends, stops}
-use Rattle.semantics.specs.Meaning.{Control, Mode, _then_, choose, found, branch, compute, appendPost, note, postValue, takeCell, beginCall, tooDeep, enter, passes, eventIf, listsChecks, Application, evalWith, apply, eval}
+use Rattle.semantics.specs.Meaning.{Control, Mode, _then_, choose, variableValue, branch, compute, appendPost, note, postValue, takeCell, beginCall, tooDeep, enter, passes, eventIf, listsChecks, Application, evalWith, apply, eval}
 use Rattle.semantics.specs.Access.{privs, lazyControl, rights, eagerControl}
 use Rattle.semantics.specs.Runs.{Runner, eager, lazy, Request, Sizes, stack, initial, evaluationIn, left}
 use Rattle.semantics.specs.Laws.Bodies.{EveryBody, EveryBodyIn, Bodies, bodies-end, entered-bodies, BodiesAll, eval-bodies, apply-bodies}
@@ -52,7 +52,7 @@ module _ (M : ℕ) where
   within-choose n true y z u hy hz = hy
   within-choose n false y z u hy hz = hz
 
-  within-found : (n at i : ℕ) (e : Env) (u : Budget) → Within n u (found at (lookup e i) u)
+  within-found : (n at i : ℕ) (e : Env) (u : Budget) → Within n u (variableValue at (lookup e i) u)
   within-found n at i empty u = within-none n u refl
   within-found n at zero (bind v e) u = within-none n u refl
   within-found n at (suc i) (bind v e) u = within-found n at i e u

@@ -20,7 +20,7 @@ use Rattle.semantics.specs.Domains.{Domain, Interpretation}
 use Rattle.semantics.specs.Values.{empty, Budget, budget, ResultOf}
 use Rattle.semantics.specs.Meaning.{Mode}
 use Rattle.semantics.specs.Access.{privs, lazyControl, rights, eagerControl}
-use Rattle.semantics.specs.Runs.{Runner, eager, lazy, Request, Buffers, Sizes, sizes, stack, framesOk, runConditions, initial, evaluationOver, settled, Counts, AnswerOf, refused, ran, left, counts, inOrder, clearedFrames, buffersAfter}
+use Rattle.semantics.specs.Runs.{Runner, eager, lazy, Request, Buffers, Sizes, sizes, stack, framesOk, runConditions, initial, evaluationOver, settled, RunCounts, AnswerOf, refused, ran, left, counts, inOrder, clearedFrames, buffersAfter}
 use Rattle.semantics.specs.Claims.{Few}
 use Rattle.semantics.specs.Laws.Budgets.{places, Spent, spends}
 use Rattle.semantics.specs.Laws.Saturation.{saturatedIn}
@@ -83,6 +83,6 @@ clear-few s q b e u h n =
     (leb-true (length (b .posts)) maxPosts (search (fits, and-left, and-right))) h n
 
 -- the counts of an answer that has some
-abbrev pub countsIn : {D : Domain} → Counts → AnswerOf D → Counts
+abbrev pub countsIn : {D : Domain} → RunCounts → AnswerOf D → RunCounts
 countsIn k (refused c p) = k
 countsIn k (ran o k′) = k′

@@ -9,7 +9,7 @@ use Rattle.program.specs.Terms.{Op, Term, boolean, number, variable, function, 
 use Rattle.traces.specs.Traces.{Event}
 use Rattle.semantics.specs.Domains.{Domain, Interpretation, standard}
 use Rattle.semantics.specs.Values.{ValueOf, bool, num, closure, EnvOf, empty, bind, lookup, entered, Budget, budget, ResultOf, ends, stops}
-use Rattle.semantics.specs.Meaning.{Control, Mode, plain, _then_, choose, found, decided, branch, compute, appendPost, note, postValue, takeCell, beginCall, tooDeep, enter, passes, eventIf, listsChecks, Application, evalWith, apply, eval}
+use Rattle.semantics.specs.Meaning.{Control, Mode, plain, _then_, choose, variableValue, decided, branch, compute, appendPost, note, postValue, takeCell, beginCall, tooDeep, enter, passes, eventIf, listsChecks, Application, evalWith, apply, eval}
 use Rattle.semantics.specs.Access.{privs, lazyControl, rights, eagerControl}
 use Rattle.semantics.specs.Runs.{Runner, eager, lazy, Request, Sizes, stack, initial, evaluationIn, outcome, left, counts, inOrder}
 
@@ -42,7 +42,7 @@ module _ {D : Domain} where
   forgets-stop : (c at : ℕ) (u : Budget) → Forgets (stops c at u) (stops c at (forgetIn u))
   forgets-stop c at u = record { same = refl }
 
-  forgets-found : (at : ℕ) (o : Option (ValueOf D)) (u : Budget) → Forgets (found at o u) (found at o (forgetIn u))
+  forgets-found : (at : ℕ) (o : Option (ValueOf D)) (u : Budget) → Forgets (variableValue at o u) (variableValue at o (forgetIn u))
   forgets-found at (some v) u = forgets-end v u
   forgets-found at none u = forgets-stop 18 at u
 

@@ -22,7 +22,7 @@ use Rattle.semantics.specs.Domains.{Domain, standard}
 use Rattle.semantics.specs.Values.{bool, num, closure, empty, emptyLog, Budget, budget, Result, ends, stops}
 use Rattle.semantics.specs.Meaning.{Mode, plain, eval}
 use Rattle.semantics.specs.Access.{privs, rights, eagerControl}
-use Rattle.semantics.specs.Runs.{Runner, eager, lazy, Request, Buffers, Sizes, sizes, stack, known, framesOk, runConditions, initial, evaluationIn, evaluation, CourseOf, rejected, started, ran, outcome, left, counts, answerOf, inOrder, postsMade, buffersAfter, AfterOf}
+use Rattle.semantics.specs.Runs.{Runner, eager, lazy, Request, Buffers, Sizes, sizes, stack, principalsKnown, framesOk, runConditions, initial, evaluationIn, evaluation, CourseOf, rejected, started, ran, outcome, left, counts, answerOf, inOrder, postsMade, buffersAfter, AfterOf}
 use Rattle.semantics.specs.Laws.Access.{privs-chk, eager-lazy}
 use Rattle.soundness.specs.Claims.{GrantsSet, SameLimits, Comparable, postsOf, SameRun, Proper}
 use Rattle.soundness.specs.Laws.Safety.{Base, Safe, Alike, checks-removed}
@@ -49,7 +49,7 @@ module _ (s : List ℕ) (x y : Request) (b d : Buffers) (c : Comparable x y b d)
       ≡ runConditions s y (sizes d)
   same-conditions f = λ i.
       decodingConditions s
-      ++ unless 14 (leb (length (c .same-start i)) maxStart && eqb (length (c .same-start i) % 2) 0 && known (principals s) (stack (c .same-start i)))
+      ++ unless 14 (leb (length (c .same-start i)) maxStart && eqb (length (c .same-start i) % 2) 0 && principalsKnown (principals s) (stack (c .same-start i)))
       ∷ unless 15 (leb (c .limits .same-cells i) maxCells && leb (c .limits .same-posts i) maxPosts && f i)
       ∷ unless 16 (leb (c .limits .same-calls i) maxCalls && leb (c .limits .same-depth i) maxDepth) ∷ []
 

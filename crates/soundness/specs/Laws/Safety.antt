@@ -18,7 +18,7 @@ use Rattle.typing.specs.Laws.Variants.{guard-needed}
 use Rattle.typing.specs.Laws.Subtyping.{sub-trans, sub-base, sub-isFun, sub-arg, sub-res, sub-latent, wider-bounds}
 use Rattle.semantics.specs.Domains.{standard}
 use Rattle.semantics.specs.Values.{Value, bool, num, closure, Env, empty, bind, lookup, entered, Budget, budget, Result, ends, stops}
-use Rattle.semantics.specs.Meaning.{plain, _then_, choose, found, branch, operate, compute, appendPost, postValue, takeCell, beginCall, tooDeep, enter, guardPasses, Evaluation, Application, evalWith, apply, eval}
+use Rattle.semantics.specs.Meaning.{plain, _then_, choose, variableValue, branch, operate, compute, appendPost, postValue, takeCell, beginCall, tooDeep, enter, guardPasses, Evaluation, Application, evalWith, apply, eval}
 use Rattle.semantics.specs.Access.{rights, addAuthorised, eagerControl}
 use Rattle.soundness.specs.Claims.{Limit}
 
@@ -180,7 +180,8 @@ module _ (T : Types) (A : ℕ → ℕ) (base : Base T) where
       (λ x. subst (λ z. Alike 1 (postValue at ch z none (num x) u) (postValue at ch b none (num x) u)) (sym ea)
       (subst (λ z. Alike 1 (appendPost at ch x u) (postValue at ch z none (num x) u)) (sym eb) (alike-append at ch x u))) v h
 
-  alike-found : (e : Env) (Γ : List ℕ) (i τ at : ℕ) (u : Budget) → Holds e Γ → bound Γ i ≡ some τ → Alike τ (found at (lookup e i) u) (found at (lookup e i) u)
+  alike-found : (e : Env) (Γ : List ℕ) (i τ at : ℕ) (u : Budget) → Holds e Γ → bound Γ i ≡ some τ
+      → Alike τ (variableValue at (lookup e i) u) (variableValue at (lookup e i) u)
   alike-found empty [] i τ at u h g = none≢some g
   alike-found empty (t ∷ Γ) i τ at u h g = absurd h
   alike-found (bind v e) [] i τ at u h g = absurd h

@@ -10,7 +10,7 @@ use Rattle.program.specs.declared.records.Counts.{Counts}
 use Rattle.program.specs.declared.records.TypeRecord.{TypeRecord}
 use Rattle.program.specs.Laws.Types.{function-type}
 use Rattle.program.specs.Laws.Records.{type-is}
-use Rattle.subtyping.specs.Internal.{Sheet}
+use Rattle.accessors.specs.Internal.{FormedSheet}
 
 -- the record of a function type has the parts that the definitions name
 pub record TypeParts (s : List ℕ) (t : ℕ) (f : TypeRecord) : Type 0 where
@@ -18,7 +18,7 @@ pub record TypeParts (s : List ℕ) (t : ℕ) (f : TypeRecord) : Type 0 where
   pub res-is : f .res ≡ typesOf s .res t
   pub latent-is : f .latent ≡ typesOf s .latent t
 
-module _ {s : List ℕ} {c : Counts} (S : Sheet s c) (t : ℕ) where
+module _ {s : List ℕ} {c : Counts} (S : FormedSheet s c) (t : ℕ) where
   pub function-is : {b : Bool} → b ≡ (leb 2 t && ltb t (c .types)) → b ≡ typesOf s .isFun t
   function-is h = h ∙ ap (λ (n : ℕ). leb 2 t && ltb t n) (S .counts .types-are)
 

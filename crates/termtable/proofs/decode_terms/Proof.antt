@@ -1,4 +1,4 @@
--- So many words are there, and the others zero, until all terms have theirs. The terms that are left fall, since each turn writes the
+-- The first t words are there, and the others zero, until all terms have theirs. What falls is count - t, the terms that are left, since each turn writes the
 -- word of the next.
 use native.Mathlib.Omega.{arith}
 use borrow.Author.Needs.{needs}

@@ -1,5 +1,5 @@
--- The types are compared from the nearest on: none from j to n - 1 has the record of t, so that the first j decide as the first n. Two records are the
--- same exactly if their two words are (same-record). j falls by one each turn.
+-- The types are compared from the nearest on: none from j to n - 1 has the record of t, so that the first j decide as the first n. Two records are the same
+-- exactly if their two words are (eight-differ, two-differ, two-same). What falls is j, since each turn passes one type.
 use mathlib.Core.Path.{refl, sym, _∙_}
 use native.Mathlib.Omega.{arith}
 use Rattle.typerecords.proofs.TypeLaws.{FreshFrom, fresh-not, fresh-more, fresh-end}

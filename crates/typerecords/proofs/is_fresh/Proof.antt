@@ -1,6 +1,6 @@
 -- The types are looked at from the nearest on: none from j to t - 1 has the record of t, so that the first j decide as all before t. A group of which no
--- record has the eight bytes of t is passed (fresh-group); where one has, or no whole group is left, `differs` decides by both words. j falls by
--- a group each turn.
+-- record has the eight bytes of t is passed (fresh-group); where one has, or no whole group is left, `differs` decides by both words. What falls is j, since
+-- each turn passes a group.
 use mathlib.Core.Path.{refl, sym, _∙_}
 use native.Mathlib.Omega.{arith}
 use Rattle.typerecords.proofs.TypeLaws.{FreshFrom, fresh-group}

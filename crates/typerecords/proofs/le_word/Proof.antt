@@ -1,5 +1,5 @@
--- The bytes are taken from the last on: w is the word of those after the first `left`. Where one more is taken it has at most 7, so that it is
--- below 256^7 and no operation on 64 bits overflows. `left` falls by one each turn.
+-- The bytes are taken from the last on: w is the word of those after the first `left`. Where one more is taken it has at most 7, so that it is below 256^7
+-- and no operation on 64 bits overflows. What falls is `left`, since each turn takes one byte.
 use Prim.Native.Nat.{_+_, _-_}
 use native.Mathlib.Omega.{arith}
 use Rattle.typerecords.proofs.WordLaws.{WordFrom, word-none, word-more, word-all, word-fits}

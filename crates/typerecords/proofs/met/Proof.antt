@@ -1,4 +1,4 @@
--- The records are looked at from the last on: the word stands in none from k on. k falls by one each turn.
+-- The records are looked at from the last on: the word stands in none from k on. What falls is k, since each turn passes one record.
 use mathlib.Core.Bool.{false≢true}
 use mathlib.Core.Path.{sym, ap, _∙_}
 use Prim.Native.Nat.{ℕ, _+_, _*_, _-_}

@@ -23,16 +23,16 @@ use Rattle.program.specs.Laws.Types.{Lower}
 use Rattle.typing.specs.Subtyping.{Subtype, subtype, wider}
 use Rattle.typing.specs.Rules.{bound}
 use Rattle.typing.specs.Checking.{Judgement, typed, fault, _next_, require, variableType, joined, bodyFits, infer}
-use Rattle.typing.specs.Faults.{Within, here, in-function, in-letrec-body, in-letrec-rest, in-call-function, in-call-argument, in-if-condition, in-if-yes, in-if-no, in-check, in-enable, in-sign, in-test-yes, in-test-no, in-left, in-right, in-post, Wrong, not-a-function, unfit-argument, unfit-if, unfit-test, Ten, other-result, other-letrec-result, not-a-boolean, left-not-a-number, right-not-a-number, posted-not-a-number, Beyond, past-bindings, sign-needs, body-needs, letrec-body-needs, SomePart, FaultyPart, TenPart, BeyondPart}
+use Rattle.typing.specs.Faults.{Within, here, in-function, in-letrec-body, in-letrec-rest, in-call-function, in-call-argument, in-if-condition, in-if-yes, in-if-no, in-check, in-enable, in-sign, in-test-yes, in-test-no, in-left, in-right, in-post, Mismatch, not-a-function, unfit-argument, unfit-if, unfit-test, OtherTypeFault, other-result, other-letrec-result, not-a-boolean, left-not-a-number, right-not-a-number, posted-not-a-number, OtherFault, past-bindings, sign-needs, body-needs, letrec-body-needs, SomePart, MismatchedPart, OtherTypeFaultyPart, OtherFaultyPart}
 use Rattle.typing.specs.Laws.Subtyping.{refuted, fails}
 
 -- ---- only where a term is so
 
 -- what the rules tell of a term itself
 data FaultAt (T : Types) (A : ℕ → ℕ) (Γ : List ℕ) (n : ℕ) : (cause at : ℕ) → Term → Type 0 where
-  wrong : {cause at : ℕ} {c : Term} → Wrong T A Γ n cause at c → FaultAt T A Γ n cause at c
-  ten : {at : ℕ} {c : Term} → Ten T A Γ n at c → FaultAt T A Γ n 10 at c
-  beyond : {cause at : ℕ} {c : Term} → Beyond T A Γ n cause at c → FaultAt T A Γ n cause at c
+  wrong : {cause at : ℕ} {c : Term} → Mismatch T A Γ n cause at c → FaultAt T A Γ n cause at c
+  ten : {at : ℕ} {c : Term} → OtherTypeFault T A Γ n at c → FaultAt T A Γ n 10 at c
+  beyond : {cause at : ℕ} {c : Term} → OtherFault T A Γ n cause at c → FaultAt T A Γ n cause at c
 
 -- a judgement of a term: typed, or what is told of a part of it
 data Explained (T : Types) (A : ℕ → ℕ) (Γ : List ℕ) (n : ℕ) (c : Term) : Judgement → Type 0 where
@@ -71,22 +71,23 @@ module _ {T : Types} {A : ℕ → ℕ} {Γ : List ℕ} {n : ℕ} {c : Term} wher
   require-explained true cause at f h = h refl
   require-explained false cause at f h = faulted (self (f refl))
 
-  ten-explained : (x y at : ℕ) {j : Judgement} → ((x ≡ y → ⊥) → Ten T A Γ n at c) → (x ≡ y → Explained T A Γ n c j)
+  ten-explained : (x y at : ℕ) {j : Judgement} → ((x ≡ y → ⊥) → OtherTypeFault T A Γ n at c) → (x ≡ y → Explained T A Γ n c j)
       → Explained T A Γ n c (require (eqb x y) 10 at j)
   ten-explained x y at f h = require-explained (eqb x y) 10 at (λ e. ten (f (eqb-false x y e))) (λ e. h (eqb-true x y e))
 
   -- needs N that have to lie in the set S
-  needs-explained : (N S cause at : ℕ) {j : Judgement} → ((N ⊆ S → ⊥) → Beyond T A Γ n cause at c) → Explained T A Γ n c j
+  needs-explained : (N S cause at : ℕ) {j : Judgement} → ((N ⊆ S → ⊥) → OtherFault T A Γ n cause at c) → Explained T A Γ n c j
       → Explained T A Γ n c (require (subset N S) cause at j)
   needs-explained N S cause at f t = require-explained (subset N S) cause at (λ e. beyond (f λ s. true≢false (sym (⊆-subset s) ∙ e))) λ _. t
 
   -- a body of type τ and with needs N, by a function or a letrec
-  body-explained : (at ty τ N : ℕ) {j : Judgement} → ((τ ≡ T .res ty → ⊥) → Ten T A Γ n at c)
-      → (τ ≡ T .res ty → (N ⊆ T .latent ty → ⊥) → Beyond T A Γ n 12 at c) → Explained T A Γ n c j → Explained T A Γ n c (bodyFits T A at ty τ N j)
+  body-explained : (at ty τ N : ℕ) {j : Judgement} → ((τ ≡ T .res ty → ⊥) → OtherTypeFault T A Γ n at c)
+      → (τ ≡ T .res ty → (N ⊆ T .latent ty → ⊥) → OtherFault T A Γ n 12 at c) → Explained T A Γ n c j → Explained T A Γ n c (bodyFits T A at ty τ N j)
   body-explained at ty τ N f g t = ten-explained τ (T .res ty) at f λ e. needs-explained N (T .latent ty) 12 at (g e) t
 
   -- two operands of the types τ and ρ
-  operands-explained : (τ ρ at : ℕ) {j : Judgement} → ((τ ≡ 1 → ⊥) → Ten T A Γ n at c) → ((ρ ≡ 1 → ⊥) → Ten T A Γ n at c) → Explained T A Γ n c j
+  operands-explained : (τ ρ at : ℕ) {j : Judgement} → ((τ ≡ 1 → ⊥) → OtherTypeFault T A Γ n at c) → ((ρ ≡ 1 → ⊥) → OtherTypeFault T A Γ n at c)
+      → Explained T A Γ n c j
       → Explained T A Γ n c (require (eqb τ 1 && eqb ρ 1) 10 at j)
   operands-explained τ ρ at {j} f g t = go (eqb τ 1) (eqb ρ 1) refl refl
     where
@@ -96,7 +97,7 @@ module _ {T : Types} {A : ℕ → ℕ} {Γ : List ℕ} {n : ℕ} {c : Term} wher
       go false y p q = faulted (self (ten (f (eqb-false τ 1 p))))
 
   -- branches of the types τ and ρ
-  branches-explained : Lower T → (at τ ρ N : ℕ) → ((Subtype T τ ρ → ⊥) → (Subtype T ρ τ → ⊥) → Wrong T A Γ n 26 at c)
+  branches-explained : Lower T → (at τ ρ N : ℕ) → ((Subtype T τ ρ → ⊥) → (Subtype T ρ τ → ⊥) → Mismatch T A Γ n 26 at c)
       → Explained T A Γ n c (joined at (wider T τ ρ) N)
   unfolding wider
   branches-explained L at τ ρ N h = go (subtype T τ ρ) (subtype T ρ τ) refl refl
@@ -106,7 +107,7 @@ module _ {T : Types} {A : ℕ → ℕ} {Γ : List ℕ} {n : ℕ} {c : Term} wher
       go false true e f = well
       go false false e f = faulted (self (wrong (h (fails T L τ ρ e) (fails T L ρ τ f))))
 
-  variable-explained : (at : ℕ) (o : Option ℕ) → (o ≡ none → Beyond T A Γ n 9 at c) → Explained T A Γ n c (variableType at o)
+  variable-explained : (at : ℕ) (o : Option ℕ) → (o ≡ none → OtherFault T A Γ n 9 at c) → Explained T A Γ n c (variableType at o)
   variable-explained at none h = faulted (self (beyond (h refl)))
   variable-explained at (some τ) h = well
 
@@ -122,13 +123,13 @@ past-bound (τ ∷ Γ) zero l = absurd (omega arith)
 past-bound (τ ∷ Γ) (suc i) l = past-bound Γ i (omega arith)
 
 module _ (T : Types) (A : ℕ → ℕ) where
-  wrong-cause : {Γ : List ℕ} {n cause at : ℕ} {c : Term} → Wrong T A Γ n cause at c → 24 ≤ cause
+  wrong-cause : {Γ : List ℕ} {n cause at : ℕ} {c : Term} → Mismatch T A Γ n cause at c → 24 ≤ cause
   wrong-cause (not-a-function e e′ h) = omega arith
   wrong-cause (unfit-argument e e′ h h′) = omega arith
   wrong-cause (unfit-if e e′ e″ h h′) = omega arith
   wrong-cause (unfit-test e e′ h h′) = omega arith
 
-  beyond-cause : {Γ : List ℕ} {n cause at : ℕ} {c : Term} → Beyond T A Γ n cause at c → (cause < 13) × (cause ≡ 10 → ⊥)
+  beyond-cause : {Γ : List ℕ} {n cause at : ℕ} {c : Term} → OtherFault T A Γ n cause at c → (cause < 13) × (cause ≡ 10 → ⊥)
   beyond-cause (past-bindings l) = (omega arith, λ h. omega arith)
   beyond-cause (sign-needs e h) = (omega arith, λ h. omega arith)
   beyond-cause (body-needs e h) = (omega arith, λ h. omega arith)
@@ -176,26 +177,26 @@ module _ (T : Types) (A : ℕ → ℕ) where
               → Explained T A Γ n c (fault cause at) → SomePart T Is Γ n c
           go so (faulted f) = above (λ _ _ _ w. w) so f
 
-      pub infer-faulty : 24 ≤ cause → FaultyPart T A Γ n c cause at
+      pub infer-faulty : 24 ≤ cause → MismatchedPart T A Γ n c cause at
       infer-faulty l = part-faulted λ _ _ _ t. go t l
         where
-          go : {Δ : List ℕ} {m cause at : ℕ} {d : Term} → FaultAt T A Δ m cause at d → 24 ≤ cause → Wrong T A Δ m cause at d
+          go : {Δ : List ℕ} {m cause at : ℕ} {d : Term} → FaultAt T A Δ m cause at d → 24 ≤ cause → Mismatch T A Δ m cause at d
           go (wrong w) l = w
           go (ten t) l = absurd (omega arith)
           go (beyond b) l = absurd (omega (arith, beyond-cause b .0))
 
-      pub infer-ten : cause ≡ 10 → TenPart T A Γ n c at
+      pub infer-ten : cause ≡ 10 → OtherTypeFaultyPart T A Γ n c at
       infer-ten q = part-faulted λ _ _ _ t. go t q
         where
-          go : {Δ : List ℕ} {m cause at : ℕ} {d : Term} → FaultAt T A Δ m cause at d → cause ≡ 10 → Ten T A Δ m at d
+          go : {Δ : List ℕ} {m cause at : ℕ} {d : Term} → FaultAt T A Δ m cause at d → cause ≡ 10 → OtherTypeFault T A Δ m at d
           go (wrong w) q = absurd (omega (arith, wrong-cause w))
           go (ten t) q = t
           go (beyond b) q = absurd (beyond-cause b .1 q)
 
-      pub infer-beyond : cause < 24 → (cause ≡ 10 → ⊥) → BeyondPart T A Γ n c cause at
+      pub infer-beyond : cause < 24 → (cause ≡ 10 → ⊥) → OtherFaultyPart T A Γ n c cause at
       infer-beyond l not-ten = part-faulted λ _ _ _ t. go t l not-ten
         where
-          go : {Δ : List ℕ} {m cause at : ℕ} {d : Term} → FaultAt T A Δ m cause at d → cause < 24 → (cause ≡ 10 → ⊥) → Beyond T A Δ m cause at d
+          go : {Δ : List ℕ} {m cause at : ℕ} {d : Term} → FaultAt T A Δ m cause at d → cause < 24 → (cause ≡ 10 → ⊥) → OtherFault T A Δ m cause at d
           go (wrong w) l not-ten = absurd (omega (arith, wrong-cause w))
           go (ten t) l not-ten = absurd (not-ten refl)
           go (beyond b) l not-ten = b
@@ -205,14 +206,14 @@ module _ (T : Types) (A : ℕ → ℕ) where
       infer-not-13 q = omega (arith, beyond-cause (infer-beyond (omega arith) (λ h. omega arith) .is) .0)
 
   -- ---- where a term is so
-  pub wrong-fault : {Γ : List ℕ} {n cause at : ℕ} {c : Term} → Wrong T A Γ n cause at c → infer T A Γ n c ≡ fault cause at
+  pub wrong-fault : {Γ : List ℕ} {n cause at : ℕ} {c : Term} → Mismatch T A Γ n cause at c → infer T A Γ n c ≡ fault cause at
   unfolding infer wider
   wrong-fault (not-a-function e e′ h) = simp (e, e′, h)
   wrong-fault (unfit-argument e e′ h h′) = simp (e, e′, h, refuted T h′)
   wrong-fault (unfit-if e e′ e″ h h′) = simp (e, e′, e″, refuted T h, refuted T h′)
   wrong-fault (unfit-test e e′ h h′) = simp (e, e′, refuted T h, refuted T h′)
 
-  pub ten-fault : {Γ : List ℕ} {n at : ℕ} {c : Term} → Ten T A Γ n at c → infer T A Γ n c ≡ fault 10 at
+  pub ten-fault : {Γ : List ℕ} {n at : ℕ} {c : Term} → OtherTypeFault T A Γ n at c → infer T A Γ n c ≡ fault 10 at
   unfolding infer
   ten-fault (other-result {ty = ty} {τ = τ} e h) = simp (e, ne-eqb τ (T .res ty) h)
   ten-fault (other-letrec-result {ty = ty} {τ = τ} e e′ h) = simp (e, e′, ne-eqb τ (T .res ty) h)
@@ -224,7 +225,7 @@ module _ (T : Types) (A : ℕ → ℕ) where
   outside : {N S : ℕ} → (N ⊆ S → ⊥) → subset N S ≡ false
   outside {N} {S} h = bool-ext (subset N S) false (λ e. absurd (h (subset-⊆ N S e))) (λ e. absurd (false≢true e))
 
-  pub beyond-fault : {Γ : List ℕ} {n cause at : ℕ} {c : Term} → Beyond T A Γ n cause at c → infer T A Γ n c ≡ fault cause at
+  pub beyond-fault : {Γ : List ℕ} {n cause at : ℕ} {c : Term} → OtherFault T A Γ n cause at c → infer T A Γ n c ≡ fault cause at
   unfolding infer
   beyond-fault {Γ = Γ} (past-bindings {i = i} l) = simp (past-bound Γ i l)
   beyond-fault (sign-needs e h) = simp (e, outside h)

@@ -1,5 +1,5 @@
 -- `ranged` has no contract. Shown is that the part of the pairs that it lends is within them and as long as `least` says (part): the list has room for 2,050
--- numbers, and `least` gives no more.
+-- numbers, a pair for each of 1,024 terms and one more, and `least` gives no more.
 use native.Mathlib.Omega.{arith}
 use Rattle.vectors.proofs.PartLaws.{part}
 use borrow.Author.Needs.{needs}

@@ -1,7 +1,7 @@
 //! What the sheets and runs have to do with channels and guards, and what has
 //! to happen.
 
-use differential::{Entry, Happened, Query, ANSWER_NUMBERS};
+use differential::{Coverage, Entry, Query, ANSWER_NUMBERS};
 use sheets::records::{CHANNELS, UNGUARDED};
 use sheets::request::{MAX_CALLS, MAX_CELL_BYTES, MAX_OPEN_CALLS, MAX_POSTS};
 use sheets::tree::Kind;
@@ -73,7 +73,7 @@ const EXPECTED_OF_RUNS: [&str; 4] = [
 ];
 
 /// A question, and what both implementations told.
-pub struct Told<'a> {
+pub struct QueryResult<'a> {
     pub query: &'a Query<'a>,
     pub returned: u32,
     pub answer: &'a [u32; ANSWER_NUMBERS],
@@ -81,7 +81,7 @@ pub struct Told<'a> {
     pub posts: &'a [u32],
 }
 
-impl Told<'_> {
+impl QueryResult<'_> {
     pub fn cause(&self) -> u32 {
         self.answer[0]
     }
@@ -101,16 +101,16 @@ impl Told<'_> {
 }
 
 #[derive(Default)]
-pub struct Counts(pub Happened);
+pub struct Counts(pub Coverage);
 
 impl Counts {
-    pub fn count(&mut self, told: &Told) {
-        match (told.returned, told.cause()) {
-            (REFUSED, 31) => self.count_bad_guard(told),
-            (REFUSED, 1..=8) => self.count_unreadable(told),
-            (REFUSED, 11 | 12) => self.count_needs(told),
-            (DONE, _) if told.query.entry == Entry::Typecheck => self.count_accepted(told),
-            (DONE | STOPPED, _) if told.is_run() => self.count_run(told),
+    pub fn count(&mut self, result: &QueryResult) {
+        match (result.returned, result.cause()) {
+            (REFUSED, 31) => self.count_bad_guard(result),
+            (REFUSED, 1..=8) => self.count_unreadable(result),
+            (REFUSED, 11 | 12) => self.count_needs(result),
+            (DONE, _) if result.query.entry == Entry::Typecheck => self.count_accepted(result),
+            (DONE | STOPPED, _) if result.is_run() => self.count_run(result),
             _ => {}
         }
     }
@@ -133,8 +133,8 @@ impl Counts {
             .never(expected.chain(channels).chain(refusals).chain(runs))
     }
 
-    fn count_unreadable(&mut self, told: &Told) {
-        let (sheet, cause) = (told.query.sheet, told.cause());
+    fn count_unreadable(&mut self, result: &QueryResult) {
+        let (sheet, cause) = (result.query.sheet, result.cause());
         match cause {
             // Of several fields it may be another's fault that is told.
             1..=4 => match fault_of_tag_5(sheet) {
@@ -148,7 +148,7 @@ impl Counts {
             }
         }
         if cause == 6 {
-            self.count_channel(sheet, told.place() as usize);
+            self.count_channel(sheet, result.place() as usize);
         }
     }
 
@@ -172,138 +172,138 @@ impl Counts {
         });
     }
 
-    fn count_bad_guard(&mut self, told: &Told) {
-        let happened = &mut self.0;
+    fn count_bad_guard(&mut self, result: &QueryResult) {
+        let coverage = &mut self.0;
         let Query {
             sheet,
             request,
             entry,
             ..
-        } = told.query;
-        happened.count(by("31", *entry));
-        happened.count(format!("31 at channel {}", told.place()));
+        } = result.query;
+        coverage.count(by("31", *entry));
+        coverage.count(format!("31 at channel {}", result.place()));
         let guards = guards(sheet).expect("a sheet with guards");
         let bad = guards.iter().filter(|guard| is_bad(guard)).count();
-        happened.count_if(bad > 1, "31 where another guard is bad");
+        coverage.count_if(bad > 1, "31 where another guard is bad");
         let mended = with_guards(sheet, |guard| if is_bad(&guard) { 0 } else { guard });
         match entry {
             Entry::Typecheck => {
                 if let Err(Refusal { cause, .. }) = typecheck(&mended) {
-                    happened.count(format!("31 where {} would follow", cause.number()));
+                    coverage.count(format!("31 where {} would follow", cause.number()));
                 }
             }
             Entry::RunEager | Entry::RunLazy => {
                 let principals = decode(&mended).expect("a readable sheet").principals.len();
                 let start = start_frames(&request.start, principals);
-                happened.count_if(start.is_none(), "31 where 14 would follow");
+                coverage.count_if(start.is_none(), "31 where 14 would follow");
                 let buffers = request.posts > MAX_POSTS || request.cell_bytes > MAX_CELL_BYTES;
-                happened.count_if(buffers, "31 where 15 would follow");
+                coverage.count_if(buffers, "31 where 15 would follow");
                 let allowance = request.calls > MAX_CALLS || request.open_calls > MAX_OPEN_CALLS;
-                happened.count_if(allowance, "31 where 16 would follow");
+                coverage.count_if(allowance, "31 where 16 would follow");
             }
             Entry::Decode => {}
         }
     }
 
     /// Counts a need that is too much, if it is a guard's.
-    fn count_needs(&mut self, told: &Told) {
-        let sheet = told.query.sheet;
+    fn count_needs(&mut self, result: &QueryResult) {
+        let sheet = result.query.sheet;
         if guards(sheet).is_none() {
             return;
         }
         let twin = typecheck(&with_guards(sheet, |_| UNGUARDED));
         let same = twin.is_err_and(|refusal| {
-            (refusal.cause.number(), refusal.place) == (told.cause(), told.place())
+            (refusal.cause.number(), refusal.place) == (result.cause(), result.place())
         });
         self.0
-            .count_if(!same, &format!("{} for a guard", told.cause()));
+            .count_if(!same, &format!("{} for a guard", result.cause()));
     }
 
-    fn count_accepted(&mut self, told: &Told) {
-        let happened = &mut self.0;
-        let bytes = told.query.sheet;
+    fn count_accepted(&mut self, result: &QueryResult) {
+        let coverage = &mut self.0;
+        let bytes = result.query.sheet;
         if guards(bytes).is_none() {
-            return happened.count("version 1 accepted");
+            return coverage.count("version 1 accepted");
         }
-        happened.count("version 2 accepted");
+        coverage.count("version 2 accepted");
         let sheet = decode(bytes).expect("an accepted sheet");
-        let needs = told.answer[7];
+        let needs = result.answer[7];
         let guarded: Vec<_> = sheet
             .terms
             .iter()
             .filter_map(|&term| guard_of(&sheet, term))
             .collect();
-        happened.count_if(!guarded.is_empty(), "accepted with a guarded post");
+        coverage.count_if(!guarded.is_empty(), "accepted with a guarded post");
         let needs_of = |privilege| Set::from_bits(needs).contains(privilege);
         let taken_out = guarded.iter().any(|&privilege| !needs_of(privilege));
-        happened.count_if(taken_out, "accepted, and the need of a guard is taken out");
+        coverage.count_if(taken_out, "accepted, and the need of a guard is taken out");
         let twin = typecheck(&with_guards(bytes, |_| UNGUARDED));
         let less = twin.is_ok_and(|verdict| verdict.needs.bits() != needs);
-        happened.count_if(less, "accepted, and needed for a guard alone");
+        coverage.count_if(less, "accepted, and needed for a guard alone");
     }
 
-    fn count_run(&mut self, told: &Told) {
-        if guards(told.query.sheet).is_none() {
+    fn count_run(&mut self, result: &QueryResult) {
+        if guards(result.query.sheet).is_none() {
             return;
         }
-        let sheet = decode(told.query.sheet).expect("a sheet that runs");
-        self.count_posts(told, &sheet);
-        if told.returned == DONE {
+        let sheet = decode(result.query.sheet).expect("a sheet that runs");
+        self.count_posts(result, &sheet);
+        if result.returned == DONE {
             return self
                 .0
-                .count(by("a run of version 2 ends", told.query.entry));
+                .count(by("a run of version 2 ends", result.query.entry));
         }
-        let term = told.place() as TermId;
+        let term = result.place() as TermId;
         if let Term::Post { .. } = sheet.term(term) {
-            self.count_stop_at_post(told, &sheet, term);
+            self.count_stop_at_post(result, &sheet, term);
         }
     }
 
-    fn count_posts(&mut self, told: &Told, sheet: &Sheet) {
-        let happened = &mut self.0;
+    fn count_posts(&mut self, result: &QueryResult, sheet: &Sheet) {
+        let coverage = &mut self.0;
         let is_guarded = |entry: &&u32| sheet.guard((**entry >> 16) as u8).is_some();
-        for &entry in told.made() {
-            happened.count(on_channel((entry >> 16) as usize));
+        for &entry in result.made() {
+            coverage.count(on_channel((entry >> 16) as usize));
             let highest = entry >> 16 > 0 && entry & 0xFFFF == 0xFFFF;
-            happened.count_if(highest, "a post of 65535 on a channel");
+            coverage.count_if(highest, "a post of 65535 on a channel");
         }
-        let guarded = told.made().iter().filter(is_guarded).count();
+        let guarded = result.made().iter().filter(is_guarded).count();
         if guarded == 0 {
             return;
         }
-        happened.count_if(guarded < told.made().len(), "a guarded post among others");
-        if told.query.enforce != 0 {
-            return happened.count(by("a guarded post passes", told.query.entry));
+        coverage.count_if(guarded < result.made().len(), "a guarded post among others");
+        if result.query.enforce != 0 {
+            return coverage.count(by("a guarded post passes", result.query.entry));
         }
-        happened.count(by("a guarded post is passed over", told.query.entry));
-        let stops = refused_at_a_post(told.query, sheet);
-        happened.count_if(stops.is_some(), "passed over, a post that 17 would stop");
+        coverage.count(by("a guarded post is passed over", result.query.entry));
+        let stops = refused_at_a_post(result.query, sheet);
+        coverage.count_if(stops.is_some(), "passed over, a post that 17 would stop");
     }
 
-    fn count_stop_at_post(&mut self, told: &Told, sheet: &Sheet, term: TermId) {
-        let happened = &mut self.0;
-        let enforced = told.query.enforce != 0;
+    fn count_stop_at_post(&mut self, result: &QueryResult, sheet: &Sheet, term: TermId) {
+        let coverage = &mut self.0;
+        let enforced = result.query.enforce != 0;
         let guard = guard_of(sheet, sheet.term(term));
-        let is_full = told.made().len() == told.posts.len();
-        match told.cause() {
+        let is_full = result.made().len() == result.posts.len();
+        match result.cause() {
             17 => {
-                happened.count(by("17 at a post", told.query.entry));
-                happened.count_if(!told.made().is_empty(), "17 at a post after posts");
-                happened.count_if(is_full, "17 at a post where 22 would follow");
+                coverage.count(by("17 at a post", result.query.entry));
+                coverage.count_if(!result.made().is_empty(), "17 at a post after posts");
+                coverage.count_if(is_full, "17 at a post where 22 would follow");
             }
             18 => {
                 let Some(guard) = guard else {
                     return;
                 };
-                happened.count("18 at a guarded post");
+                coverage.count("18 at a guarded post");
                 let may_use = sheet.authorised(signer(sheet, term)).contains(guard);
-                happened.count_if(enforced && !may_use, "18 at a post where 17 would follow");
+                coverage.count_if(enforced && !may_use, "18 at a post where 17 would follow");
             }
-            22 if guard.is_some() && enforced => happened.count("22 at a guarded post"),
+            22 if guard.is_some() && enforced => coverage.count("22 at a guarded post"),
             22 if guard.is_some() => {
-                happened.count("22 at a guarded post, passed over");
-                happened.count_if(
-                    refused_at_a_post(told.query, sheet) == Some(term),
+                coverage.count("22 at a guarded post, passed over");
+                coverage.count_if(
+                    refused_at_a_post(result.query, sheet) == Some(term),
                     "passed over, 22 at a post that 17 would stop",
                 );
             }

@@ -1,8 +1,8 @@
 //! What the runs have to do with sums and differences that are held, and what
 //! has to happen.
 
-use crate::guards::Told;
-use differential::{Entry, Happened};
+use crate::guards::QueryResult;
+use differential::{Coverage, Entry};
 use sheets::tree::Kind;
 use sovzedal_reference::{decode, Term, TermId};
 
@@ -20,30 +20,30 @@ const EXPECTED: [&str; 5] = [
 ];
 
 #[derive(Default)]
-pub struct Counts(pub Happened);
+pub struct Counts(pub Coverage);
 
 impl Counts {
-    pub fn count(&mut self, told: &Told) {
-        let held = told.answer[7];
-        if !told.is_run() || held == 0 {
+    pub fn count(&mut self, result: &QueryResult) {
+        let held = result.answer[7];
+        if !result.is_run() || held == 0 {
             return;
         }
-        let happened = &mut self.0;
-        let enforced = told.query.enforce != 0;
-        happened.count(by(told.returned, told.query.entry, enforced));
-        happened.count(match held {
+        let coverage = &mut self.0;
+        let enforced = result.query.enforce != 0;
+        coverage.count(by(result.returned, result.query.entry, enforced));
+        coverage.count(match held {
             1 => "held results, 1",
             2..=9 => "held results, 2 to 9",
             _ => "held results, 10 or more",
         });
-        if told.returned == STOPPED {
-            happened.count(then_stopped(told.cause()));
+        if result.returned == STOPPED {
+            coverage.count(then_stopped(result.cause()));
         }
-        if told.cause() == 18 {
-            let sheet = decode(told.query.sheet).expect("a sheet that runs");
-            match sheet.term(told.place() as TermId) {
-                Term::Sum(..) => happened.count(then_stuck(Kind::Sum)),
-                Term::Difference(..) => happened.count(then_stuck(Kind::Difference)),
+        if result.cause() == 18 {
+            let sheet = decode(result.query.sheet).expect("a sheet that runs");
+            match sheet.term(result.place() as TermId) {
+                Term::Sum(..) => coverage.count(then_stuck(Kind::Sum)),
+                Term::Difference(..) => coverage.count(then_stuck(Kind::Difference)),
                 _ => {}
             }
         }

@@ -5,7 +5,7 @@ mod guards;
 mod held;
 
 use differential::{settings, Buffers, Entry, Library, Query, Reference, ANSWER_NUMBERS};
-use guards::Told;
+use guards::QueryResult;
 use sheets::generate::sample;
 use sheets::hex;
 use sheets::request::Request;
@@ -107,14 +107,14 @@ fn compare(seed: u64, index: u64, reached: &mut Reached) -> Result<(), String> {
         let buffers = Buffers::random(rng, entry, &request, answer);
         let (returned, buffers) = ask_both(&query, buffers)?;
         if let Some(answer) = buffers.answer() {
-            let told = Told {
+            let result = QueryResult {
                 query: &query,
                 returned,
                 answer,
                 posts: buffers.posts.contents(),
             };
-            reached.guards.count(&told);
-            reached.held.count(&told);
+            reached.guards.count(&result);
+            reached.held.count(&result);
             match entry {
                 Entry::Decode => {}
                 Entry::Typecheck => reached.count_judged(&sample.bytes, answer),

@@ -1,7 +1,7 @@
 //! What has been made lean and run, and what has to be.
 
 use crate::sentences::{first_alike, is_kept, kept};
-use differential::{Entry, Happened, Told, Way, ANSWER_NUMBERS};
+use differential::{Coverage, Entry, RunMode, RunResult, ANSWER_NUMBERS};
 use sovzedal_reference::{Accepted, Set, Sheet, Term, TermId, Type, TypeId};
 use std::collections::BTreeSet;
 
@@ -100,29 +100,29 @@ pub struct Question<'a> {
 }
 
 #[derive(Default)]
-pub struct Counts(pub Happened);
+pub struct Counts(pub Coverage);
 
 impl Counts {
     pub fn count(&mut self, question: &Question) {
-        let happened = &mut self.0;
+        let coverage = &mut self.0;
         let is_empty = question.room == 0;
         match (question.returned, question.cause) {
             (UNFIT, _) => self.count_short(question),
             (DONE, _) => self.count_room(question),
             (REFUSED, NO_LEAN_FORM) => {
-                happened.count_if(is_empty, "32, nothing lent");
+                coverage.count_if(is_empty, "32, nothing lent");
                 self.count_no_lean_form(question);
             }
             (REFUSED, NO_ROOM) => {
                 let needed = question.lean.unwrap_or(0);
-                happened.count(match needed == question.room + 1 {
+                coverage.count(match needed == question.room + 1 {
                     true => "33 for one byte",
                     false => "33 for more",
                 });
-                happened.count_if(is_empty, "33, nothing lent");
+                coverage.count_if(is_empty, "33, nothing lent");
             }
-            (REFUSED, cause) => happened.count(refused_by(cause, is_empty)),
-            (returned, cause) => happened.count(format!("{returned} returned, cause {cause}")),
+            (REFUSED, cause) => coverage.count(refused_by(cause, is_empty)),
+            (returned, cause) => coverage.count(format!("{returned} returned, cause {cause}")),
         }
         let is_longer = question.returned != UNFIT && question.answer > ANSWER_NUMBERS;
         self.0.count_if(is_longer, "a longer answer");
@@ -174,20 +174,20 @@ impl Counts {
     /// Counts what is left out of a sheet in its lean form.
     pub fn count_lean(&mut self, accepted: &Accepted, new: &Sheet) {
         let old = &accepted.sheet;
-        let happened = &mut self.0;
+        let coverage = &mut self.0;
         let has = |wanted: fn(&Term) -> bool| old.terms.iter().any(wanted);
-        happened.count_if(old == new, "nothing left out");
-        happened.count_if(
+        coverage.count_if(old == new, "nothing left out");
+        coverage.count_if(
             has(|it| matches!(it, Term::Check { .. })),
             "checks left out",
         );
-        happened.count_if(
+        coverage.count_if(
             has(|it| matches!(it, Term::Enable { .. })),
             "enables left out",
         );
         let root = accepted.judgement(old.root());
-        happened.count_if(root.needs != Set::EMPTY, "a need given up");
-        happened.count(match root.ty {
+        coverage.count_if(root.needs != Set::EMPTY, "a need given up");
+        coverage.count(match root.ty {
             Type::BOOL => "a boolean",
             _ => "a number",
         });
@@ -198,28 +198,28 @@ impl Counts {
     }
 
     fn count_types(&mut self, old: &Sheet, new: &Sheet) {
-        let happened = &mut self.0;
+        let coverage = &mut self.0;
         let latent = |ty: &Type| match ty {
             Type::Function(function) => function.latent != Set::EMPTY,
             Type::Bool | Type::Number => false,
         };
         let merged = new.types.len() < old.types.len();
-        happened.count_if(old.types.iter().any(latent), "latent sets emptied");
-        happened.count_if(merged, "types merged");
-        happened.count_if(
+        coverage.count_if(old.types.iter().any(latent), "latent sets emptied");
+        coverage.count_if(merged, "types merged");
+        coverage.count_if(
             merged && new.types.len() == 3,
             "all functions have one type",
         );
-        happened.count_if(
+        coverage.count_if(
             merged && distinct_at_once(old) > new.types.len(),
             "types merged for their parts alone",
         );
         let first = first_alike(old);
         let moved = |(&ty, number): (&TypeId, TypeId)| ty != number;
         let moved_up = first.iter().zip(0..).any(moved);
-        happened.count_if(moved_up, "a type that moved up");
+        coverage.count_if(moved_up, "a type that moved up");
         let named: BTreeSet<TypeId> = old.terms.iter().filter_map(|&it| type_of(it)).collect();
-        happened.count_if(
+        coverage.count_if(
             (2..old.types.len()).any(|ty| !named.contains(&(ty as TypeId))),
             "types that nothing names",
         );
@@ -229,67 +229,73 @@ impl Counts {
                 Term::Function { .. } => "a function of a type that was merged",
                 _ => "a letrec of a type that was merged",
             };
-            happened.count_if(was_merged, kind);
+            coverage.count_if(was_merged, kind);
         }
     }
 
     /// Counts what is left out right below a term that is kept.
     fn count_term(&mut self, accepted: &Accepted, id: TermId) {
         let old = &accepted.sheet;
-        let happened = &mut self.0;
+        let coverage = &mut self.0;
         let term = old.term(id);
         let ty = |id| accepted.judgement(id).ty;
         for (place, child) in term.children().enumerate() {
             let layers = layers(old, child);
             if layers > 0 {
                 let (name, place) = (name(term), place + 1);
-                happened.count(format!("left out of {name}, child {place}"));
+                coverage.count(format!("left out of {name}, child {place}"));
             }
-            happened.count_if(layers == 2, "two left out in a row");
-            happened.count_if(layers == 3, "three left out in a row");
-            happened.count_if(layers > 3, "more than three left out in a row");
+            coverage.count_if(layers == 2, "two left out in a row");
+            coverage.count_if(layers == 3, "three left out in a row");
+            coverage.count_if(layers > 3, "more than three left out in a row");
         }
         let children: Vec<TermId> = term.children().collect();
-        happened.count_if(
+        coverage.count_if(
             matches!(children[..], [first, second, ..] if first > second),
             "a first child with the higher number",
         );
         match term {
             Term::Call { function, argument } => {
                 let query = old.function_type(ty(function)).map(|it| it.argument);
-                happened.count_if(query != Some(ty(argument)), "an argument that only fitted");
+                coverage.count_if(query != Some(ty(argument)), "an argument that only fitted");
             }
             Term::If { yes, no, .. } => {
-                happened.count_if(ty(yes) != ty(no), "branches of two types");
+                coverage.count_if(ty(yes) != ty(no), "branches of two types");
             }
             _ => {}
         }
     }
 
     /// Counts two runs that agree.
-    pub fn count_runs(&mut self, old: &Sheet, needs: u32, start: &[u32], runs: [(Way, &Told); 2]) {
-        let happened = &mut self.0;
-        let [(old_way, told), (new_way, lean)] = runs;
-        happened.count(ways(old_way, new_way));
-        happened.count_if(start.is_empty(), "on the empty stack");
-        happened.count_if(needs != 0, "on a stack that grants something needed");
-        happened.count_if(!told.posts.is_empty(), "posts made");
-        let [cause, term, ty, .., held] = told.answer;
+    pub fn count_runs(
+        &mut self,
+        old: &Sheet,
+        needs: u32,
+        start: &[u32],
+        runs: [(RunMode, &RunResult); 2],
+    ) {
+        let coverage = &mut self.0;
+        let [(old_mode, result), (new_mode, lean)] = runs;
+        coverage.count(modes(old_mode, new_mode));
+        coverage.count_if(start.is_empty(), "on the empty stack");
+        coverage.count_if(needs != 0, "on a stack that grants something needed");
+        coverage.count_if(!result.posts.is_empty(), "posts made");
+        let [cause, term, ty, .., held] = result.answer;
         if held > 0 {
-            happened.count(match told.stopped() {
+            coverage.count(match result.stopped() {
                 true => "stopped, with results held",
                 false => "ended, with results held",
             });
         }
-        if told.stopped() {
+        if result.stopped() {
             let kind = name(old.term(term as TermId));
-            happened.count(format!("stopped by {cause} at {kind}"));
-            happened.count(match term == lean.answer[1] {
+            coverage.count(format!("stopped by {cause} at {kind}"));
+            coverage.count(match term == lean.answer[1] {
                 true => "stopped at a term that has its old number",
                 false => "stopped at a term that has another number",
             });
         } else {
-            happened.count(match ty {
+            coverage.count(match ty {
                 0 => "ended in a boolean",
                 _ => "ended in a number",
             });
@@ -298,31 +304,35 @@ impl Counts {
 
     /// What should have happened and never did.
     pub fn never(&self) -> Vec<String> {
-        let told = (1..=13).chain(24..=26).chain([31]);
-        let refusals = told.flat_map(|cause| [false, true].map(|empty| refused_by(cause, empty)));
+        let causes = (1..=13).chain(24..=26).chain([31]);
+        let refusals = causes.flat_map(|cause| [false, true].map(|empty| refused_by(cause, empty)));
         let all = [Entry::RunEager, Entry::RunLazy]
             .into_iter()
-            .flat_map(|entry| [0, 1].map(|enforce| Way { entry, enforce }));
+            .flat_map(|entry| [0, 1].map(|enforce| RunMode { entry, enforce }));
         let pairs = all
             .clone()
-            .flat_map(|old| all.clone().map(move |new| ways(old, new)));
+            .flat_map(|old| all.clone().map(move |new| modes(old, new)));
         let expected = EXPECTED.map(String::from).into_iter();
         self.0.never(expected.chain(refusals).chain(pairs))
     }
 }
 
-fn refused_by(cause: u32, nothing_lent: bool) -> String {
-    let lent = if nothing_lent { ", nothing lent" } else { "" };
-    format!("refused by {cause:2}{lent}")
+fn refused_by(cause: u32, is_empty: bool) -> String {
+    let buffer = if is_empty { ", nothing lent" } else { "" };
+    format!("refused by {cause:2}{buffer}")
 }
 
-fn ways(old: Way, new: Way) -> String {
-    let [old, new] = [old, new].map(|way| {
-        let runner = match way.entry {
+fn modes(old: RunMode, new: RunMode) -> String {
+    let [old, new] = [old, new].map(|mode| {
+        let runner = match mode.entry {
             Entry::RunLazy => "lazy",
             _ => "eager",
         };
-        let checks = if way.enforce == 0 { "over" } else { "in force" };
+        let checks = if mode.enforce == 0 {
+            "over"
+        } else {
+            "in force"
+        };
         format!("{runner} {checks}")
     });
     format!("{old}, lean {new}")

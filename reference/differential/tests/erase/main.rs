@@ -10,7 +10,9 @@ mod sentences;
 
 use counts::{Counts, Question};
 use differential::{granting_stack, settings};
-use differential::{Implementation, Library, Reference, Shipped, Told, Way, ANSWER_NUMBERS};
+use differential::{
+    EraseCall, Implementation, Library, Reference, RunMode, RunResult, ANSWER_NUMBERS,
+};
 use sentences::Pair;
 use sheets::erasable::erasable;
 use sheets::extremes::{deepest, many_checks, most_types, widest};
@@ -105,9 +107,9 @@ fn compare(rng: &mut Rng, sample: &Sample, counts: &mut Counts) -> Result<bool, 
     let length = lean.as_ref().map(Vec::len);
     for room in random_rooms(rng, length.unwrap_or(sheet.len()), sheet.len()) {
         let answer = random_answer_length(rng);
-        let lent = Shipped::random(rng, room, answer);
-        let (returned, told) = ask_both(sheet, lent)?;
-        let cause = told.answer.contents().first().copied();
+        let call = EraseCall::random(rng, room, answer);
+        let (returned, call) = ask_both(sheet, call)?;
+        let cause = call.answer.contents().first().copied();
         counts.count(&Question {
             accepted: accepted.as_ref(),
             sheet,
@@ -131,10 +133,10 @@ fn compare(rng: &mut Rng, sample: &Sample, counts: &mut Counts) -> Result<bool, 
 /// The lean form by the library, if there is one. As much room as the sheet
 /// takes is always enough.
 fn made_lean(rng: &mut Rng, sheet: &[u8]) -> Result<Option<Vec<u8>>, String> {
-    let lent = Shipped::fitting(rng, sheet);
-    let (returned, told) = ask_both(sheet, lent)?;
-    match (returned, told.answer.contents()[0]) {
-        (DONE, _) => Ok(Some(told.told().to_vec())),
+    let call = EraseCall::fitting(rng, sheet);
+    let (returned, call) = ask_both(sheet, call)?;
+    match (returned, call.answer.contents()[0]) {
+        (DONE, _) => Ok(Some(call.result().to_vec())),
         (_, 33) => Err("longer than the sheet itself".to_string()),
         _ => Ok(None),
     }
@@ -163,8 +165,8 @@ fn random_answer_length(rng: &mut Rng) -> usize {
 }
 
 /// Gives what both returned and wrote, or tells how they differ.
-fn ask_both(sheet: &[u8], lent: Shipped) -> Result<(u32, Shipped), String> {
-    let (mut library, mut reference) = (lent.clone(), lent);
+fn ask_both(sheet: &[u8], call: EraseCall) -> Result<(u32, EraseCall), String> {
+    let (mut library, mut reference) = (call.clone(), call);
     let returned = [
         library.ask::<Library>(sheet),
         reference.ask::<Reference>(sheet),
@@ -243,20 +245,20 @@ fn runs_agree(
     let start = granting_stack(rng, &world, needs)
         .ok_or("no principal may use what the root, a sign, needs")?;
     let request = Request::random_admissible(rng, start);
-    let ways = [Way::random(rng), Way::random(rng)];
-    let told = Told::of_run(rng, &sample.bytes, &request, ways[0])?;
-    let lean_told = Told::of_run(rng, lean, &request, ways[1])?;
-    if runs::made_lean(&told, old).as_ref() != Some(&lean_told) {
+    let modes = [RunMode::random(rng), RunMode::random(rng)];
+    let result = RunResult::of_run(rng, &sample.bytes, &request, modes[0])?;
+    let lean_result = RunResult::of_run(rng, lean, &request, modes[1])?;
+    if runs::made_lean(&result, old).as_ref() != Some(&lean_result) {
         return Err(format!(
             "runs differ\n{request:?}\n\
-             {:?} {told:?}\n\
-             {:?} {lean_told:?}, lean {}",
-            ways[0],
-            ways[1],
+             {:?} {result:?}\n\
+             {:?} {lean_result:?}, lean {}",
+            modes[0],
+            modes[1],
             hex(lean),
         ));
     }
-    let runs = [(ways[0], &told), (ways[1], &lean_told)];
+    let runs = [(modes[0], &result), (modes[1], &lean_result)];
     counts.count_runs(old, needs, &request.start, runs);
     Ok(())
 }

@@ -1,7 +1,7 @@
 //! What has been explained, and what has to be.
 
 use crate::sentences::{steps, Question};
-use differential::{Happened, ANSWER_NUMBERS, CHAIN_NUMBERS};
+use differential::{Coverage, ANSWER_NUMBERS, CHAIN_NUMBERS};
 use sheets::extremes::MAX_CHAIN;
 use sovzedal_reference::{Accepted, Term, TermId};
 
@@ -73,7 +73,7 @@ const EXPECTED: [&str; 58] = [
 ];
 
 /// A question, and all that both implementations told of it.
-pub struct Told<'a> {
+pub struct ExplainResult<'a> {
     /// The sheet, if it is accepted.
     pub accepted: Option<&'a Accepted>,
     /// What the library's judge tells, 0 if the sheet is refused.
@@ -88,79 +88,79 @@ pub struct Told<'a> {
 }
 
 #[derive(Default)]
-pub struct Counts(pub Happened);
+pub struct Counts(pub Coverage);
 
 impl Counts {
     /// Counts what was told, but for a chain.
-    pub fn count(&mut self, told: &Told) {
-        let happened = &mut self.0;
-        let above = told.privilege > 31;
-        if told.returned == UNFIT {
-            let [chain, answer] = [told.chain < CHAIN_NUMBERS, told.answer < ANSWER_NUMBERS];
-            happened.count(match (chain, answer) {
+    pub fn count(&mut self, result: &ExplainResult) {
+        let coverage = &mut self.0;
+        let above = result.privilege > 31;
+        if result.returned == UNFIT {
+            let [chain, answer] = [result.chain < CHAIN_NUMBERS, result.answer < ANSWER_NUMBERS];
+            coverage.count(match (chain, answer) {
                 (true, true) => "both short",
                 (true, false) => "a short chain",
                 _ => "a short answer",
             });
-            happened.count_if(told.chain == CHAIN_NUMBERS - 1, "a chain of one too few");
-            happened.count_if(told.accepted.is_none(), "short, and the sheet is refused");
-            happened.count_if(
-                told.accepted.is_some() && above,
+            coverage.count_if(result.chain == CHAIN_NUMBERS - 1, "a chain of one too few");
+            coverage.count_if(result.accepted.is_none(), "short, and the sheet is refused");
+            coverage.count_if(
+                result.accepted.is_some() && above,
                 "short, and 30 would follow",
             );
             return;
         }
-        happened.count_if(told.chain > CHAIN_NUMBERS, "a longer chain");
-        happened.count_if(told.answer > ANSWER_NUMBERS, "a longer answer");
-        match (told.returned, told.cause) {
+        coverage.count_if(result.chain > CHAIN_NUMBERS, "a longer chain");
+        coverage.count_if(result.answer > ANSWER_NUMBERS, "a longer answer");
+        match (result.returned, result.cause) {
             (DONE, 0) => {}
             (REFUSED, 30) => {
-                let needed = |bits: u32| told.needs >> bits & 1 == 1;
-                let low = told.privilege % 256;
-                happened.count("30");
-                happened.count_if(
-                    needed(told.privilege % 32),
+                let needed = |bits: u32| result.needs >> bits & 1 == 1;
+                let low = result.privilege % 256;
+                coverage.count("30");
+                coverage.count_if(
+                    needed(result.privilege % 32),
                     "30 for one that is needed, but for a multiple of 32",
                 );
-                happened.count_if(
+                coverage.count_if(
                     low < 32 && needed(low),
                     "30 for one that is needed, but for a multiple of 256",
                 );
             }
-            (REFUSED, cause) => happened.count(refused_by(cause, above)),
-            (returned, cause) => happened.count(format!("{returned} returned, cause {cause}")),
+            (REFUSED, cause) => coverage.count(refused_by(cause, above)),
+            (returned, cause) => coverage.count(format!("{returned} returned, cause {cause}")),
         }
     }
 
     /// Counts the answer to a question about an accepted sheet.
     pub fn count_chain(&mut self, question: &Question, needs: u32, chain: &[TermId]) {
         let hidden = Hidden::of(question);
-        let happened = &mut self.0;
-        happened.count_if(
+        let coverage = &mut self.0;
+        coverage.count_if(
             hidden.in_vain,
             "an enable hides nothing of whom may not use it",
         );
         let Some(&last) = chain.last() else {
-            happened.count("not needed");
-            happened.count_if(hidden.by_enable, "not needed, an enable hides it");
-            happened.count_if(hidden.by_test, "not needed, a test hides it");
-            happened.count_if(hidden.in_body, "not needed, a body needs it");
-            happened.count_if(
+            coverage.count("not needed");
+            coverage.count_if(hidden.by_enable, "not needed, an enable hides it");
+            coverage.count_if(hidden.by_test, "not needed, a test hides it");
+            coverage.count_if(hidden.in_body, "not needed, a body needs it");
+            coverage.count_if(
                 hidden.post_by_enable,
                 "not needed, an enable hides a guarded post",
             );
-            happened.count_if(
+            coverage.count_if(
                 hidden.post_by_test,
                 "not needed, a test hides a guarded post",
             );
-            happened.count_if(!hidden.anywhere, "not needed, nothing has to do with it");
+            coverage.count_if(!hidden.anywhere, "not needed, nothing has to do with it");
             return;
         };
-        happened.count(of_length(chain.len()));
-        happened.count_if(needs.count_ones() > 1, "a need of two privileges");
-        happened.count_if(hidden.by_enable, "needed, and an enable hides it elsewhere");
-        happened.count_if(hidden.by_test, "needed, and a test hides it elsewhere");
-        happened.count_if(hidden.in_body, "needed, and a body needs it");
+        coverage.count(of_length(chain.len()));
+        coverage.count_if(needs.count_ones() > 1, "a need of two privileges");
+        coverage.count_if(hidden.by_enable, "needed, and an enable hides it elsewhere");
+        coverage.count_if(hidden.by_test, "needed, and a test hides it elsewhere");
+        coverage.count_if(hidden.in_body, "needed, and a body needs it");
         self.count_cause(question, last);
         for (term, next) in steps(chain) {
             self.count_step(question, term, next);
@@ -168,61 +168,61 @@ impl Counts {
     }
 
     fn count_cause(&mut self, question: &Question, cause: TermId) {
-        let happened = &mut self.0;
+        let coverage = &mut self.0;
         let needs = |child| question.needs(child);
         match question.term(cause) {
             Term::Check { inner, .. } => {
-                happened.count("ends in a check");
-                happened.count_if(needs(inner), "a check that is a cause, its child needs it");
+                coverage.count("ends in a check");
+                coverage.count_if(needs(inner), "a check that is a cause, its child needs it");
             }
             Term::Call { function, argument } => {
-                happened.count("ends in a call");
-                happened.count_if(
+                coverage.count("ends in a call");
+                coverage.count_if(
                     needs(function),
                     "a call that is a cause, its function needs it",
                 );
-                happened.count_if(
+                coverage.count_if(
                     needs(argument),
                     "a call that is a cause, its argument needs it",
                 );
             }
             Term::Letrec { body, rest, .. } => {
-                happened.count("ends in a letrec");
-                happened.count_if(needs(body), "a letrec that is a cause, its body needs it");
-                happened.count_if(needs(rest), "a letrec that is a cause, its rest needs it");
+                coverage.count("ends in a letrec");
+                coverage.count_if(needs(body), "a letrec that is a cause, its body needs it");
+                coverage.count_if(needs(rest), "a letrec that is a cause, its rest needs it");
             }
             Term::Post { inner, .. } => {
-                happened.count("ends in a guarded post");
-                happened.count_if(
+                coverage.count("ends in a guarded post");
+                coverage.count_if(
                     needs(inner),
                     "a guarded post that is a cause, its child needs it",
                 );
             }
-            other => happened.count(format!("ends in {other:?}")),
+            other => coverage.count(format!("ends in {other:?}")),
         }
     }
 
     fn count_step(&mut self, question: &Question, term: TermId, next: TermId) {
-        let happened = &mut self.0;
+        let coverage = &mut self.0;
         let children: Vec<TermId> = question.term(term).children().collect();
         let position = children.iter().position(|&child| child == next);
         let position = position.expect("a child") + 1;
         let name = name(question, term);
-        happened.count(format!("goes on from {name}, child {position}"));
+        coverage.count(format!("goes on from {name}, child {position}"));
 
         let qualifying = question.qualifying(term);
-        happened.count_if(qualifying.len() > 1, "several children qualify");
-        happened.count_if(qualifying.len() > 2, "three children qualify");
-        happened.count_if(
+        coverage.count_if(qualifying.len() > 1, "several children qualify");
+        coverage.count_if(qualifying.len() > 2, "three children qualify");
+        coverage.count_if(
             qualifying.iter().any(|&other| other < next),
             "several children qualify, the first has a higher number",
         );
-        happened.count_if(
+        coverage.count_if(
             children[0] != next && !question.needs(children[0]),
             "a later child qualifies, and an earlier one needs nothing of it",
         );
         let yes_branch = question.yes_branch(term);
-        happened.count_if(
+        coverage.count_if(
             yes_branch.is_some_and(|yes| question.needs(yes)),
             "a test of it, both branches need it",
         );
@@ -230,8 +230,8 @@ impl Counts {
 
     /// What should have happened and never did.
     pub fn never(&self) -> Vec<String> {
-        let told = (1..=13).chain(24..=26).chain([31]);
-        let refusals = told.flat_map(|cause| [false, true].map(|above| refused_by(cause, above)));
+        let causes = (1..=13).chain(24..=26).chain([31]);
+        let refusals = causes.flat_map(|cause| [false, true].map(|above| refused_by(cause, above)));
         let lengths = (2..=MAX_CHAIN).map(of_length);
         let expected = EXPECTED.map(String::from).into_iter();
         self.0.never(expected.chain(lengths).chain(refusals))

@@ -6,9 +6,9 @@
 mod counts;
 mod sentences;
 
-use counts::{Counts, Told};
+use counts::{Counts, ExplainResult};
 use differential::{
-    settings, Implementation, Library, Reference, Why, ANSWER_NUMBERS, CHAIN_NUMBERS,
+    settings, ExplainCall, Implementation, Library, Reference, ANSWER_NUMBERS, CHAIN_NUMBERS,
 };
 use sentences::Question;
 use sheets::extremes::{deep_calls, deep_need};
@@ -87,17 +87,17 @@ fn compare(rng: &mut Rng, sheet: &[u8], counts: &mut Counts) -> Result<(), Strin
     let above = random_above(rng, needs);
     for privilege in (0..PRIVILEGES).chain(above) {
         let (chain, answer) = random_lengths(rng);
-        let lists = Why::random(rng, chain, answer);
-        let (returned, told) = ask_both(sheet, privilege, lists)?;
-        let told_cause = told.answer.contents().first().copied();
-        counts.count(&Told {
+        let lists = ExplainCall::random(rng, chain, answer);
+        let (returned, call) = ask_both(sheet, privilege, lists)?;
+        let cause = call.answer.contents().first().copied();
+        counts.count(&ExplainResult {
             accepted: accepted.as_ref(),
             needs,
             privilege,
             returned,
             chain,
             answer,
-            cause: told_cause.unwrap_or(0),
+            cause: cause.unwrap_or(0),
         });
         if let (DONE, Some(accepted)) = (returned, &accepted) {
             let privilege = Privilege::new(privilege as u8).expect("one of those there are");
@@ -105,7 +105,7 @@ fn compare(rng: &mut Rng, sheet: &[u8], counts: &mut Counts) -> Result<(), Strin
                 accepted,
                 privilege,
             };
-            let chain = told.told();
+            let chain = call.result();
             fits(&question, needs, chain).map_err(|broken| {
                 format!(
                     "{broken}\n{privilege:?}, chain {chain:?}\nsheet {}",
@@ -150,7 +150,11 @@ fn random_lengths(rng: &mut Rng) -> (usize, usize) {
 }
 
 /// Gives what both returned and wrote, or tells how they differ.
-fn ask_both(sheet: &[u8], privilege: u32, lists: Why) -> Result<(u32, Why), String> {
+fn ask_both(
+    sheet: &[u8],
+    privilege: u32,
+    lists: ExplainCall,
+) -> Result<(u32, ExplainCall), String> {
     let (mut library, mut reference) = (lists.clone(), lists);
     let returned = [
         library.ask::<Library>(sheet, privilege),

@@ -1,7 +1,7 @@
 //! What has happened in the sessions, and what has to.
 
 use crate::{Call, Other};
-use differential::{Happened, ANSWER_NUMBERS};
+use differential::{Coverage, ANSWER_NUMBERS};
 use sheets::lines::*;
 use sheets::request::{MAX_CALLS, MAX_POSTS};
 
@@ -12,7 +12,7 @@ const UNFIT: u32 = 3;
 const IDLE: u32 = 4;
 
 /// A call, and all that both implementations told of it.
-pub struct Told<'a> {
+pub struct CallResult<'a> {
     pub call: Call,
     /// The state of the lines before it.
     pub before: &'a [u64],
@@ -25,7 +25,7 @@ pub struct Told<'a> {
     pub list: &'a [u32],
 }
 
-impl Told<'_> {
+impl CallResult<'_> {
     fn cause(&self) -> u32 {
         self.answer[0]
     }
@@ -62,7 +62,7 @@ impl Told<'_> {
 }
 
 #[derive(Default)]
-pub struct Counts(pub Happened);
+pub struct Counts(pub Coverage);
 
 /// What has to happen, beside the refusals by 1 to 8 and 31 and the stops.
 const EXPECTED: [&str; 55] = [
@@ -124,20 +124,20 @@ const EXPECTED: [&str; 55] = [
 ];
 
 impl Counts {
-    pub fn count_call(&mut self, told: &Told) {
-        if told.returned == UNFIT {
-            return self.count_unfit(told);
+    pub fn count_call(&mut self, result: &CallResult) {
+        if result.returned == UNFIT {
+            return self.count_unfit(result);
         }
-        match told.call {
-            Call::Add { line, job } => self.count_add(told, line, job),
-            Call::Serve { posts } => self.count_serve(told, posts),
+        match result.call {
+            Call::Add { line, job } => self.count_add(result, line, job),
+            Call::Serve { posts } => self.count_serve(result, posts),
         }
     }
 
-    fn count_unfit(&mut self, told: &Told) {
-        let numbers = told.answer.len();
-        match told.call {
-            _ if told.other == Other::Lines => self.0.count("lines of another length"),
+    fn count_unfit(&mut self, result: &CallResult) {
+        let numbers = result.answer.len();
+        match result.call {
+            _ if result.other == Other::Lines => self.0.count("lines of another length"),
             Call::Add { .. } => self.0.count("a short answer at add"),
             Call::Serve { .. } if numbers == ANSWER_NUMBERS => {
                 self.0.count("an answer of 8 numbers at serve");
@@ -146,19 +146,19 @@ impl Counts {
         }
     }
 
-    fn count_add(&mut self, told: &Told, line: u32, job: Job) {
+    fn count_add(&mut self, result: &CallResult, line: u32, job: Job) {
         let Job {
             offset,
             length,
             calls,
         } = job;
-        let inside = told.has_inside(offset, length);
+        let inside = result.has_inside(offset, length);
         let past = offset.checked_add(length).is_none();
-        let waiting = (line < 4).then(|| told.waiting(line as usize));
-        match (told.returned, told.cause()) {
+        let waiting = (line < 4).then(|| result.waiting(line as usize));
+        match (result.returned, result.cause()) {
             (DONE, 0) => {
                 self.0.count("added");
-                let at_end = offset + length == told.store as u64;
+                let at_end = offset + length == result.store as u64;
                 self.0.count_if(
                     at_end && length == 0,
                     "added, an empty part at the very end",
@@ -169,7 +169,7 @@ impl Counts {
                     .count_if(waiting == Some(7), "added, the queue is full now");
                 self.0
                     .count_if(calls > MAX_CALLS, "added, more than 4096 calls");
-                self.count_made_by_none(told);
+                self.count_made_by_none(result);
             }
             (REFUSED, 27) => {
                 self.0.count("27");
@@ -189,37 +189,37 @@ impl Counts {
         }
     }
 
-    fn count_serve(&mut self, told: &Told, posts: usize) {
-        if told.returned == IDLE {
+    fn count_serve(&mut self, result: &CallResult, posts: usize) {
+        if result.returned == IDLE {
             self.0.count("idle");
             self.0
-                .count_if(told.place() > 0, "idle and the list has been written to");
-            let made = told.turn() as u64 == told.before[TURN]
-                && told.before[JOBS..].iter().all(|&number| number == 0);
+                .count_if(result.place() > 0, "idle and the list has been written to");
+            let made = result.turn() as u64 == result.before[TURN]
+                && result.before[JOBS..].iter().all(|&number| number == 0);
             return self.0.count_if(!made, "lines that no entry made: idle");
         }
-        self.count_made_by_none(told);
-        let line = told.answer[ANSWER_NUMBERS] as usize;
-        let skipped = (line + LINES - told.turn()) % LINES;
+        self.count_made_by_none(result);
+        let line = result.answer[ANSWER_NUMBERS] as usize;
+        let skipped = (line + LINES - result.turn()) % LINES;
         self.0
             .count(format!("served, {skipped} empty lines skipped"));
         self.0.count(format!("served line {line}"));
         self.0.count_if(
-            told.waiting(line) == QUEUE_JOBS,
+            result.waiting(line) == QUEUE_JOBS,
             "served, the queue was full",
         );
-        match told.returned {
-            REFUSED => self.count_refused(told, posts, told.jobs(line)[2]),
-            _ => self.count_run(told, posts),
+        match result.returned {
+            REFUSED => self.count_refused(result, posts, result.jobs(line)[2]),
+            _ => self.count_run(result, posts),
         }
     }
 
-    fn count_run(&mut self, told: &Told, posts: usize) {
-        let (lent, place) = (posts as u64, told.place());
-        let made = !told.posts_made().is_empty();
-        let in_the_middle = place > 0 && place < lent;
-        let has_held = told.answer[7] > 0;
-        match (told.returned, told.cause()) {
+    fn count_run(&mut self, result: &CallResult, posts: usize) {
+        let (length, place) = (posts as u64, result.place());
+        let made = !result.posts_made().is_empty();
+        let in_the_middle = place > 0 && place < length;
+        let has_held = result.answer[7] > 0;
+        match (result.returned, result.cause()) {
             (DONE, 0) => {
                 self.0.count("ended");
                 self.0.count_if(has_held, "ended, with results held");
@@ -240,7 +240,7 @@ impl Counts {
                     "stopped by 22 in the middle of the list",
                 );
                 self.0.count_if(
-                    cause == 22 && lent < place,
+                    cause == 22 && length < place,
                     "stopped by 22 with a list that is shorter than the place",
                 );
             }
@@ -248,29 +248,29 @@ impl Counts {
                 .0
                 .count(format!("{returned} returned by serve, cause {cause}")),
         }
-        let posts = told.posts_made();
+        let posts = result.posts_made();
         self.0.count_if(
             in_the_middle && posts.iter().any(|entry| entry >> 16 > 0),
             "posts on a channel above 0 in the middle of the list",
         );
         self.0.count_if(
-            in_the_middle && lent - place == MAX_POSTS as u64,
+            in_the_middle && length - place == MAX_POSTS as u64,
             "run with all 256 entries left in the middle of the list",
         );
         self.0.count_if(
-            place > 0 && lent == place,
+            place > 0 && length == place,
             "run with a list that ends at the place",
         );
         self.0.count_if(
-            lent < place,
+            length < place,
             "run with a list that is shorter than the place",
         );
     }
 
-    fn count_refused(&mut self, told: &Told, posts: usize, calls: u64) {
-        let cause = told.cause();
-        let cells = told.other == Other::Cells;
-        let left = (posts as u64).saturating_sub(told.place()) > MAX_POSTS as u64;
+    fn count_refused(&mut self, result: &CallResult, posts: usize, calls: u64) {
+        let cause = result.cause();
+        let cells = result.other == Other::Cells;
+        let left = (posts as u64).saturating_sub(result.place()) > MAX_POSTS as u64;
         let (buffers, allowance) = (cells || left, calls > u64::from(MAX_CALLS));
         match cause {
             15 => {
@@ -278,7 +278,7 @@ impl Counts {
                 self.0
                     .count_if(!cells && left, "refused by 15, by what is left of the list");
                 self.0.count_if(
-                    left && told.place() > 0,
+                    left && result.place() > 0,
                     "refused by 15 in the middle of the list",
                 );
             }
@@ -297,15 +297,20 @@ impl Counts {
 
     /// Counts by what no entry writes into a state, where it is read and
     /// another is written.
-    fn count_made_by_none(&mut self, told: &Told) {
+    fn count_made_by_none(&mut self, result: &CallResult) {
         let lines = || 0..LINES;
-        let waiting = |line| told.jobs(line).chunks(JOB_NUMBERS).take(told.waiting(line));
-        let of_none = |line: usize| &told.jobs(line)[told.waiting(line) * JOB_NUMBERS..];
+        let waiting = |line| {
+            result
+                .jobs(line)
+                .chunks(JOB_NUMBERS)
+                .take(result.waiting(line))
+        };
+        let of_none = |line: usize| &result.jobs(line)[result.waiting(line) * JOB_NUMBERS..];
         let beyond = |job: &[u64]| job[2] > u64::from(u32::MAX);
         let made_by_none = [
-            (told.before[TURN] >= LINES as u64, "a turn above 3"),
+            (result.before[TURN] >= LINES as u64, "a turn above 3"),
             (
-                lines().any(|line| told.before[COUNTS + line] > QUEUE_JOBS as u64),
+                lines().any(|line| result.before[COUNTS + line] > QUEUE_JOBS as u64),
                 "a count above 8",
             ),
             (

@@ -5,8 +5,10 @@
 
 mod counts;
 
-use counts::{Counts, Told};
-use differential::{settings, Lent, Library, Reference, Unit, ANSWER_NUMBERS, SERVE_NUMBERS};
+use counts::{CallResult, Counts};
+use differential::{
+    settings, Library, LinesCall, Margined, Reference, ANSWER_NUMBERS, SERVE_NUMBERS,
+};
 use sheets::hex;
 use sheets::lines::*;
 use sheets::request::MAX_CELL_BYTES;
@@ -51,7 +53,7 @@ fn compare(seed: u64, index: u64, counts: &mut Counts) -> Result<(), String> {
     let rng = &mut Rng::for_item(seed.rotate_left(2), index);
     let mut store = Store::random(rng);
     let state = random_state(rng, &store);
-    let mut units = Units::alike(Unit::random(rng, &state, LIST));
+    let mut lines_calls = LinesCalls::alike(LinesCall::random(rng, &state, LIST));
     let favoured = rng.below(LINES) as u32;
     let adds = rng.pick(&[30, 50, 70, 90]);
     for _ in 0..rng.between(6, 40) {
@@ -60,34 +62,34 @@ fn compare(seed: u64, index: u64, counts: &mut Counts) -> Result<(), String> {
             1 | 2 => store.keep(&random_sheet(rng)),
             _ => {}
         }
-        let before = units.library.lines.contents().to_vec();
-        let lent = store.random_length(rng);
+        let before = lines_calls.library.lines.contents().to_vec();
+        let length = store.random_length(rng);
         let call = if rng.percent(adds) {
             Call::Add {
                 line: random_line(rng, favoured),
-                job: store.random_job(rng, lent),
+                job: store.random_job(rng, length),
             }
         } else {
             Call::Serve {
                 posts: random_list_length(rng, before[PLACE]),
             }
         };
-        let lent = &store.bytes[..lent];
-        let called = lend_and_call(rng, &mut units, call, lent);
+        let bytes = &store.bytes[..length];
+        let called = call_with_random_buffers(rng, &mut lines_calls, call, bytes);
         let (returned, other) = called.map_err(|difference| {
             format!(
                 "the implementations differ\n{call:?}\nlines {before:?}\nstore {}\n{difference}",
-                hex(lent),
+                hex(bytes),
             )
         })?;
-        counts.count_call(&Told {
+        counts.count_call(&CallResult {
             call,
             before: &before,
-            store: lent.len(),
+            store: bytes.len(),
             other,
             returned,
-            answer: units.library.answer.contents(),
-            list: units.library.posts.contents(),
+            answer: lines_calls.library.answer.contents(),
+            list: lines_calls.library.posts.contents(),
         });
     }
     Ok(())
@@ -109,14 +111,17 @@ enum Other {
 
 /// Makes one call. Now and then other lines or another cell store, of another
 /// length, are lent to it.
-fn lend_and_call(
+fn call_with_random_buffers(
     rng: &mut Rng,
-    units: &mut Units,
+    lines_calls: &mut LinesCalls,
     call: Call,
     store: &[u8],
 ) -> Result<(u32, Other), String> {
     let answer = random_answer_length(rng, call);
-    units.put(|unit| &mut unit.answer, Lent::random(rng, answer));
+    lines_calls.put(
+        |lines_call| &mut lines_call.answer,
+        Margined::random(rng, answer),
+    );
     let (returned, other) = match rng.below(40) {
         0 => {
             let length = rng.pick(&[
@@ -126,17 +131,19 @@ fn lend_and_call(
                 STATE_NUMBERS + 1,
                 2 * STATE_NUMBERS,
             ]);
-            let lines = Lent::random(rng, length);
-            let returned = units.call_with(|unit| &mut unit.lines, lines, call, store);
+            let lines = Margined::random(rng, length);
+            let returned =
+                lines_calls.call_with(|lines_call| &mut lines_call.lines, lines, call, store);
             (returned, Other::Lines)
         }
         1..=3 => {
             let length = rng.pick(&[0, 8, MAX_CELL_BYTES - 1, MAX_CELL_BYTES + 1]);
-            let cells = Lent::random(rng, length);
-            let returned = units.call_with(|unit| &mut unit.cells, cells, call, store);
+            let cells = Margined::random(rng, length);
+            let returned =
+                lines_calls.call_with(|lines_call| &mut lines_call.cells, cells, call, store);
             (returned, Other::Cells)
         }
-        _ => (units.call(call, store), Other::Nothing),
+        _ => (lines_calls.call(call, store), Other::Nothing),
     };
     Ok((returned?, other))
 }
@@ -155,22 +162,22 @@ fn random_answer_length(rng: &mut Rng, call: Call) -> usize {
     }
 }
 
-/// The unit of each implementation, kept through a session.
-struct Units {
-    library: Unit,
-    reference: Unit,
+/// The call of each implementation, kept through a session.
+struct LinesCalls {
+    library: LinesCall,
+    reference: LinesCall,
 }
 
-impl Units {
-    fn alike(unit: Unit) -> Self {
+impl LinesCalls {
+    fn alike(lines_call: LinesCall) -> Self {
         Self {
-            library: unit.clone(),
-            reference: unit,
+            library: lines_call.clone(),
+            reference: lines_call,
         }
     }
 
-    /// Puts the same part into both units and gives what they had.
-    fn put<T: Clone>(&mut self, part: impl Fn(&mut Unit) -> &mut T, new: T) -> [T; 2] {
+    /// Puts the same part into both calls and gives what they had.
+    fn put<T: Clone>(&mut self, part: impl Fn(&mut LinesCall) -> &mut T, new: T) -> [T; 2] {
         [
             mem::replace(part(&mut self.library), new.clone()),
             mem::replace(part(&mut self.reference), new),
@@ -215,7 +222,7 @@ impl Units {
     /// The same with another part, for this call alone.
     fn call_with<T: Clone>(
         &mut self,
-        part: impl Fn(&mut Unit) -> &mut T,
+        part: impl Fn(&mut LinesCall) -> &mut T,
         other: T,
         call: Call,
         store: &[u8],

@@ -2,7 +2,7 @@
 
 use crate::sentences::{By, Question};
 use crate::starts::{Change, Pair};
-use differential::{Entry, Happened, Told, Way, ANSWER_NUMBERS};
+use differential::{Coverage, Entry, RunMode, RunResult, ANSWER_NUMBERS};
 use sovzedal_reference::TermId;
 
 const DONE: u32 = 0;
@@ -97,7 +97,7 @@ pub struct Pairs {
 
 #[derive(Default)]
 pub struct Counts {
-    pub happened: Happened,
+    pub coverage: Coverage,
     pub pairs: Pairs,
     /// Pairs of runs that come out differently, where the privilege is named
     /// by checks, by tests and by guards alone.
@@ -105,39 +105,39 @@ pub struct Counts {
 }
 
 impl Counts {
-    pub fn count(&mut self, told: &Answered) {
-        let happened = &mut self.happened;
-        let above = told.privilege > 31;
-        if told.returned == UNFIT {
-            happened.count("a short answer");
-            happened.count_if(
-                !told.is_readable,
+    pub fn count(&mut self, answered: &Answered) {
+        let coverage = &mut self.coverage;
+        let above = answered.privilege > 31;
+        if answered.returned == UNFIT {
+            coverage.count("a short answer");
+            coverage.count_if(
+                !answered.is_readable,
                 "a short answer, and the sheet is unreadable",
             );
-            happened.count_if(
-                told.is_readable && above,
+            coverage.count_if(
+                answered.is_readable && above,
                 "a short answer, and 30 would follow",
             );
             return;
         }
-        happened.count_if(told.answer > ANSWER_NUMBERS, "a longer answer");
-        match (told.returned, told.cause) {
+        coverage.count_if(answered.answer > ANSWER_NUMBERS, "a longer answer");
+        match (answered.returned, answered.cause) {
             (DONE, 0) => {}
             (REFUSED, 30) => {
-                let named = |k: u32| told.named >> k & 1 == 1;
-                let low = told.privilege % 256;
-                happened.count("30");
-                happened.count_if(
-                    named(told.privilege % 32),
+                let named = |k: u32| answered.named >> k & 1 == 1;
+                let low = answered.privilege % 256;
+                coverage.count("30");
+                coverage.count_if(
+                    named(answered.privilege % 32),
                     "30 for one that is named, but for a multiple of 32",
                 );
-                happened.count_if(
+                coverage.count_if(
                     low < 32 && named(low),
                     "30 for one that is named, but for a multiple of 256",
                 );
             }
-            (REFUSED, cause) => happened.count(refused_by(cause, above)),
-            (returned, cause) => happened.count(format!("{returned} returned, cause {cause}")),
+            (REFUSED, cause) => coverage.count(refused_by(cause, above)),
+            (returned, cause) => coverage.count(format!("{returned} returned, cause {cause}")),
         }
     }
 
@@ -150,46 +150,46 @@ impl Counts {
     }
 
     fn count_named(&mut self, question: &Question, naming: &[(TermId, By)], is_accepted: bool) {
-        let happened = &mut self.happened;
+        let coverage = &mut self.coverage;
         let (lowest, by) = naming[0];
-        happened.count(match by {
+        coverage.count(match by {
             By::Check => "named by a check",
             By::Test => "named by a test",
             By::Guard => "named by a guard",
         });
         if let Some(by) = question.named_alone_by() {
-            happened.count(format!("named by {by:?} alone"));
+            coverage.count(format!("named by {by:?} alone"));
         }
-        happened.count_if(naming.len() > 1, "named by several terms");
-        happened.count_if(
+        coverage.count_if(naming.len() > 1, "named by several terms");
+        coverage.count_if(
             naming.iter().any(|&(_, other)| other != by),
             "named in several ways",
         );
-        happened.count_if(
+        coverage.count_if(
             lowest + 1 == question.sheet.root(),
             "named by the term before the root",
         );
-        happened.count_if(!is_accepted, "named, and the sheet is refused by the rules");
+        coverage.count_if(!is_accepted, "named, and the sheet is refused by the rules");
     }
 
     fn count_unnamed(&mut self, question: &Question, is_accepted: bool) {
-        let happened = &mut self.happened;
+        let coverage = &mut self.coverage;
         let [enables, guards] = [question.enables(), question.guards()];
         let [latent, authorised] = [question.is_latent(), question.is_authorised()];
         if enables {
-            happened.count(match question.enables_with_effect() {
+            coverage.count(match question.enables_with_effect() {
                 true => "not named, and an enable of it has an effect",
                 false => "not named, and an enable of it is in vain",
             });
         }
-        happened.count_if(guards, "not named, and a channel is guarded by it");
-        happened.count_if(latent, "not named, and a latent set has it");
-        happened.count_if(authorised, "not named, and a principal may use it");
-        happened.count_if(
+        coverage.count_if(guards, "not named, and a channel is guarded by it");
+        coverage.count_if(latent, "not named, and a latent set has it");
+        coverage.count_if(authorised, "not named, and a principal may use it");
+        coverage.count_if(
             !enables && !guards && !latent && !authorised,
             "not named, and nothing has to do with it",
         );
-        happened.count_if(
+        coverage.count_if(
             !is_accepted,
             "not named, and the sheet is refused by the rules",
         );
@@ -201,12 +201,12 @@ impl Counts {
         question: &Question,
         is_accepted: bool,
         pair: &Pair,
-        ways: [Way; 2],
-        told: &Told,
+        modes: [RunMode; 2],
+        result: &RunResult,
     ) {
         let [enables, with_effect] = [question.enables(), question.enables_with_effect()];
         self.pairs.all += 1;
-        self.happened.count(match pair.grants {
+        self.coverage.count(match pair.grants {
             [true, true] => "pair: both grant it",
             [true, false] => "pair: the first grants it",
             [false, true] => "pair: the second grants it",
@@ -219,8 +219,8 @@ impl Counts {
         self.pairs.differing += 1;
         self.pairs.enabled += usize::from(enables);
         self.pairs.enabled_with_effect += usize::from(with_effect);
-        self.count_differing(question, is_accepted, pair, ways);
-        self.count_told(told);
+        self.count_differing(question, is_accepted, pair, modes);
+        self.count_result(result);
     }
 
     fn count_differing(
@@ -228,47 +228,47 @@ impl Counts {
         question: &Question,
         is_accepted: bool,
         pair: &Pair,
-        ways: [Way; 2],
+        modes: [RunMode; 2],
     ) {
-        let happened = &mut self.happened;
-        happened.count(changed(pair.change));
-        happened.count(runners(ways));
+        let coverage = &mut self.coverage;
+        coverage.count(changed(pair.change));
+        coverage.count(runners(modes));
         if question.enables() {
-            happened.count(match question.enables_with_effect() {
+            coverage.count(match question.enables_with_effect() {
                 true => "pair: an enable of it has an effect",
                 false => "pair: an enable of it is in vain",
             });
         }
-        happened.count_if(question.asks_for_others(), "pair: others are asked for");
-        happened.count(match pair.others.bits() {
+        coverage.count_if(question.asks_for_others(), "pair: others are asked for");
+        coverage.count(match pair.others.bits() {
             0 => "pair: nothing else is granted",
             _ => "pair: something else is granted",
         });
-        happened.count_if(
+        coverage.count_if(
             pair.starts.iter().any(Vec::is_empty),
             "pair: one of them is the empty stack",
         );
-        happened.count(match is_accepted {
+        coverage.count(match is_accepted {
             true => "pair: the sheet is accepted",
             false => "pair: the sheet is refused by the rules",
         });
     }
 
-    fn count_told(&mut self, told: &Told) {
-        let happened = &mut self.happened;
-        let [cause, _, ty, _, _, _, posts, held] = told.answer;
-        happened.count(match (told.stopped(), ty) {
+    fn count_result(&mut self, result: &RunResult) {
+        let coverage = &mut self.coverage;
+        let [cause, _, ty, _, _, _, posts, held] = result.answer;
+        coverage.count(match (result.stopped(), ty) {
             (true, _) => format!("pair: stopped by {cause}"),
             (false, 0) => "pair: a boolean".to_string(),
             (false, _) => "pair: a number".to_string(),
         });
-        happened.count_if(posts > 0, "pair: posts made");
-        happened.count_if(held > 0, "pair: a count of held results");
+        coverage.count_if(posts > 0, "pair: posts made");
+        coverage.count_if(held > 0, "pair: a count of held results");
     }
 
     /// Counts two runs of a sheet that names the privilege, in one way alone.
     pub fn count_named_pair(&mut self, by: By, is_same: bool) {
-        self.happened.count(match is_same {
+        self.coverage.count(match is_same {
             true => format!("named by {by:?} alone, and the runs are the same"),
             false => format!("named by {by:?} alone, and the runs differ"),
         });
@@ -281,14 +281,14 @@ impl Counts {
         let refusals =
             refusals.flat_map(|cause| [false, true].map(|above| refused_by(cause, above)));
         let runner = [Entry::RunEager, Entry::RunLazy];
-        let way = runner.map(|entry| Way { entry, enforce: 1 });
-        let pairs = way
+        let modes = runner.map(|entry| RunMode { entry, enforce: 1 });
+        let pairs = modes
             .iter()
-            .flat_map(|&one| way.map(|other| runners([one, other])));
+            .flat_map(|&one| modes.map(|other| runners([one, other])));
         let changes = Change::ALL.map(changed);
         let expected = EXPECTED.map(String::from).into_iter();
         let expected = expected.chain(refusals).chain(pairs).chain(changes);
-        let mut missing = self.happened.never(expected);
+        let mut missing = self.coverage.never(expected);
         let Pairs {
             differing,
             enabled_with_effect,
@@ -323,7 +323,7 @@ fn changed(change: Change) -> String {
     format!("pair: {change:?}")
 }
 
-fn runners(ways: [Way; 2]) -> String {
-    let [one, other] = ways.map(|way| way.entry);
+fn runners(modes: [RunMode; 2]) -> String {
+    let [one, other] = modes.map(|mode| mode.entry);
     format!("pair: {one:?} and {other:?}")
 }

@@ -9,8 +9,8 @@ mod sentences;
 mod starts;
 
 use counts::{Answered, Counts, Pairs};
-use differential::{settings, Told, Way};
-use differential::{Implementation, Lent, Library, Reference, ANSWER_NUMBERS};
+use differential::{settings, RunMode, RunResult};
+use differential::{Implementation, Library, Margined, Reference, ANSWER_NUMBERS};
 use sentences::Question;
 use sheets::extremes::{deepest, longest, widest};
 use sheets::generate::{sample, Sample};
@@ -53,7 +53,7 @@ fn main() -> ExitCode {
             }
         }
     }
-    println!("{}", counts.happened);
+    println!("{}", counts.coverage);
     let seconds = begun.elapsed().as_secs_f64();
     println!("{sheets} sheets with every privilege in {seconds:.1} s");
     print_pairs(&counts);
@@ -89,7 +89,7 @@ fn compare_made_by_hand(counts: &mut Counts) -> Result<(), String> {
         let rng = &mut Rng::new(0);
         let world = World::random(rng);
         let sample = Sample { bytes, world };
-        compare(rng, &sample, named::ASKED, counts)
+        compare(rng, &sample, named::PRIVILEGE, counts)
             .map_err(|difference| format!("{difference}\nsheet {}", hex(&sample.bytes)))?;
     }
     Ok(())
@@ -166,11 +166,15 @@ fn random_answer_length(rng: &mut Rng) -> usize {
 }
 
 /// Gives what both returned and wrote, or tells how they differ.
-fn ask_both(sheet: &[u8], privilege: u32, lent: Lent<u32>) -> Result<(u32, Lent<u32>), String> {
-    let (mut library, mut reference) = (lent.clone(), lent);
+fn ask_both(
+    sheet: &[u8],
+    privilege: u32,
+    buffer: Margined<u32>,
+) -> Result<(u32, Margined<u32>), String> {
+    let (mut library, mut reference) = (buffer.clone(), buffer);
     let returned = [
-        Library::names(sheet, privilege, library.lent()),
-        Reference::names(sheet, privilege, reference.lent()),
+        Library::names(sheet, privilege, library.contents_mut()),
+        Reference::names(sheet, privilege, reference.contents_mut()),
     ];
     if returned[0] == returned[1] && library == reference {
         return Ok((returned[0], library));
@@ -228,18 +232,18 @@ impl<'a> Subject<'a> {
     /// Asks both implementations for any number.
     fn ask(&self, rng: &mut Rng, privilege: u32, counts: &mut Counts) -> Result<(), String> {
         let length = random_answer_length(rng);
-        let (returned, told) = ask_both(self.bytes, privilege, Lent::random(rng, length))?;
+        let (returned, buffer) = ask_both(self.bytes, privilege, Margined::random(rng, length))?;
         counts.count(&Answered {
             is_readable: self.sheet.is_some(),
             named: self.named,
             privilege,
             answer: length,
             returned,
-            cause: told.contents().first().copied().unwrap_or(0),
+            cause: buffer.contents().first().copied().unwrap_or(0),
         });
         if let (DONE, Some(sheet)) = (returned, &self.sheet) {
             let question = question(sheet, privilege);
-            is_as_said(&question, told.contents())?;
+            is_as_said(&question, buffer.contents())?;
             counts.count_naming(&question, self.is_accepted);
         }
         Ok(())
@@ -256,16 +260,16 @@ impl<'a> Subject<'a> {
         counts: &mut Counts,
     ) -> Result<(), String> {
         let pair = Pair::random(rng, world, question.privilege);
-        let ways = [Way::enforced(rng), Way::enforced(rng)];
+        let modes = [RunMode::enforced(rng), RunMode::enforced(rng)];
         let [start, other] = pair.starts.clone();
         let request = Request::random_admissible(rng, start);
-        let told = Told::of_run(rng, self.bytes, &request, ways[0])?;
+        let result = RunResult::of_run(rng, self.bytes, &request, modes[0])?;
         let request = Request {
             start: other,
             ..request
         };
-        let told_too = Told::of_run(rng, self.bytes, &request, ways[1])?;
-        let is_same = told == told_too;
+        let other_result = RunResult::of_run(rng, self.bytes, &request, modes[1])?;
+        let is_same = result == other_result;
         if Set::from_bits(self.named).contains(question.privilege) {
             if let Some(by) = question.named_alone_by() {
                 counts.count_named_pair(by, is_same);
@@ -275,12 +279,12 @@ impl<'a> Subject<'a> {
         if !is_same {
             return Err(format!(
                 "{:?} isn't named and plays a part\n{pair:?}\n{request:?}\n\
-                 {:?} {told:?}\n\
-                 {:?} {told_too:?}",
-                question.privilege, ways[0], ways[1],
+                 {:?} {result:?}\n\
+                 {:?} {other_result:?}",
+                question.privilege, modes[0], modes[1],
             ));
         }
-        counts.count_pair(question, self.is_accepted, &pair, ways, &told);
+        counts.count_pair(question, self.is_accepted, &pair, modes, &result);
         Ok(())
     }
 }

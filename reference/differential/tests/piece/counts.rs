@@ -1,7 +1,7 @@
 //! What has been told of pieces, and what has to be.
 
 use crate::sentences::{smallest, Fault, Signer, Standing};
-use differential::{Happened, ANSWER_NUMBERS};
+use differential::{Coverage, ANSWER_NUMBERS};
 use sovzedal_reference::{PrincipalId, Sheet, Term, TermId};
 
 const DONE: u32 = 0;
@@ -80,7 +80,7 @@ pub struct Answered {
 
 #[derive(Default)]
 pub struct Counts {
-    pub happened: Happened,
+    pub coverage: Coverage,
     /// Sheets with a piece.
     pub pieces: usize,
     /// Of which the first fault is another.
@@ -97,29 +97,29 @@ const ENOUGH_NOT_FIRST: usize = 3_000;
 const ENOUGH_BY_PRINCIPAL: usize = 400;
 
 impl Counts {
-    pub fn count(&mut self, told: &Answered) {
-        let happened = &mut self.happened;
-        if told.returned == UNFIT {
-            happened.count("a short answer");
-            happened.count_if(
-                !told.is_readable,
+    pub fn count(&mut self, answered: &Answered) {
+        let coverage = &mut self.coverage;
+        if answered.returned == UNFIT {
+            coverage.count("a short answer");
+            coverage.count_if(
+                !answered.is_readable,
                 "a short answer, and the sheet is unreadable",
             );
-            happened.count_if(
-                told.is_readable && !matches!(told.judged, 0 | 13),
+            coverage.count_if(
+                answered.is_readable && !matches!(answered.judged, 0 | 13),
                 "a short answer, and the sheet has a piece",
             );
             return;
         }
-        happened.count_if(told.answer > ANSWER_NUMBERS, "a longer answer");
-        match (told.returned, told.cause) {
-            (DONE, 0) if told.has_piece => {}
-            (DONE, 0) => happened.count(match told.judged {
+        coverage.count_if(answered.answer > ANSWER_NUMBERS, "a longer answer");
+        match (answered.returned, answered.cause) {
+            (DONE, 0) if answered.has_piece => {}
+            (DONE, 0) => coverage.count(match answered.judged {
                 0 => "no piece, accepted".to_string(),
                 cause => format!("no piece, refused by {cause}"),
             }),
-            (REFUSED, cause) => happened.count(refused_by(cause)),
-            (returned, cause) => happened.count(format!("{returned} returned, cause {cause}")),
+            (REFUSED, cause) => coverage.count(refused_by(cause)),
+            (returned, cause) => coverage.count(format!("{returned} returned, cause {cause}")),
         }
     }
 
@@ -138,15 +138,15 @@ impl Counts {
         self.count_size(sheet, piece);
         self.count_place(sheet, standing, piece);
         self.count_signs(sheet, standing, piece);
-        self.happened.count(match sheet.guards {
+        self.coverage.count(match sheet.guards {
             None => "of version 1",
             Some(_) => "of version 2",
         });
         let otherwise = smallest(&standing.faults(Signer::Root));
-        let otherwise_told = otherwise.map(|it| it.term);
-        if otherwise_told != Some(piece.term) {
+        let other_term = otherwise.map(|it| it.term);
+        if other_term != Some(piece.term) {
             self.by_principal += 1;
-            self.happened.count(match otherwise_told {
+            self.coverage.count(match other_term {
                 Some(_) => "if the root's principal signed all, another piece would be told",
                 None => "if the root's principal signed all, none would be told",
             });
@@ -154,41 +154,41 @@ impl Counts {
     }
 
     fn count_faults(&mut self, faults: &[Fault], piece: Fault, (cause, first): (u32, TermId)) {
-        let happened = &mut self.happened;
+        let coverage = &mut self.coverage;
         let own = faults.iter().filter(|it| it.is_own).count();
-        happened.count(match own {
+        coverage.count(match own {
             0 | 1 => "one fault",
             2 => "two faults",
             _ => "three faults or more",
         });
         let as_many = faults.iter().filter(|it| it.count == piece.count).count();
-        happened.count_if(as_many > 1, "a tie");
-        happened.count_if(as_many > 2, "a tie of three");
+        coverage.count_if(as_many > 1, "a tie");
+        coverage.count_if(as_many > 2, "a tie of three");
         let of_several = as_many > 1 && piece.count > 1;
-        happened.count_if(of_several, "a tie of pieces of several terms");
+        coverage.count_if(of_several, "a tie of pieces of several terms");
         if first == piece.term {
-            happened.count("the first fault is the piece");
+            coverage.count("the first fault is the piece");
             return;
         }
         self.not_first += 1;
-        let told = faults.iter().find(|it| it.term == first);
-        let as_many = told.is_some_and(|it| it.count == piece.count);
-        happened.count("the first fault is another");
-        happened.count(match as_many {
+        let first_fault = faults.iter().find(|it| it.term == first);
+        let as_many = first_fault.is_some_and(|it| it.count == piece.count);
+        coverage.count("the first fault is another");
+        coverage.count(match as_many {
             true => "the first fault is another, of as many terms",
             false => "the first fault is another, of more terms",
         });
-        happened.count_if(
+        coverage.count_if(
             cause != piece.cause,
             "the first fault is another, of another number",
         );
     }
 
     fn count_size(&mut self, sheet: &Sheet, piece: Fault) {
-        let happened = &mut self.happened;
+        let coverage = &mut self.coverage;
         let name = name(sheet.term(piece.term));
-        happened.count(format!("piece: {name}, {:2}", piece.cause));
-        happened.count(match piece.count {
+        coverage.count(format!("piece: {name}, {:2}", piece.cause));
+        coverage.count(match piece.count {
             1 => "of 1 term",
             2 => "of 2 terms",
             3 => "of 3 terms",
@@ -197,11 +197,11 @@ impl Counts {
             _ => "of 100 terms or more",
         });
         let all = sheet.terms.len();
-        happened.count_if(piece.count + 1 == all, "all terms but the root");
+        coverage.count_if(piece.count + 1 == all, "all terms but the root");
     }
 
     fn count_place(&mut self, sheet: &Sheet, standing: &Standing, piece: Fault) {
-        let happened = &mut self.happened;
+        let coverage = &mut self.coverage;
         let mut bindings = 0;
         let mut below = piece.term;
         let (mut in_function, mut in_body, mut in_rest) = (false, false, false);
@@ -223,24 +223,24 @@ impl Counts {
             }
             below = around;
         }
-        happened.count_if(in_function, "in a function's body");
-        happened.count_if(in_body, "in a letrec's body");
-        happened.count_if(in_rest, "in a letrec's rest");
-        happened.count_if(bindings > 2, "in three bindings or more");
+        coverage.count_if(in_function, "in a function's body");
+        coverage.count_if(in_body, "in a letrec's body");
+        coverage.count_if(in_rest, "in a letrec's rest");
+        coverage.count_if(bindings > 2, "in three bindings or more");
     }
 
     fn count_signs(&mut self, sheet: &Sheet, standing: &Standing, piece: Fault) {
-        let happened = &mut self.happened;
+        let coverage = &mut self.coverage;
         let above = standing.above(piece.term);
         let signers = above.iter().filter_map(|&id| signer(sheet.term(id)));
         let signers: Vec<PrincipalId> = signers.collect();
-        happened.count(match signers.len() {
+        coverage.count(match signers.len() {
             0 => "the root",
             1 => "under one sign",
             2 => "under two signs",
             _ => "under three signs or more",
         });
-        happened.count_if(
+        coverage.count_if(
             signers.first() != signers.last(),
             "under another principal than the root's",
         );
@@ -250,7 +250,7 @@ impl Counts {
     pub fn missing(&self) -> Vec<String> {
         let refusals = (1..=8).chain([31]).map(refused_by);
         let expected = EXPECTED.map(String::from).into_iter().chain(refusals);
-        let mut missing = self.happened.never(expected);
+        let mut missing = self.coverage.never(expected);
         let often = [
             ("pieces", self.pieces, ENOUGH_PIECES),
             (

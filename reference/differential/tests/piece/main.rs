@@ -8,7 +8,7 @@ mod sentences;
 
 use counts::{Answered, Counts};
 use differential::settings;
-use differential::{Implementation, Lent, Library, Reference, ANSWER_NUMBERS};
+use differential::{Implementation, Library, Margined, Reference, ANSWER_NUMBERS};
 use sentences::{is_by_rules, record_place, smallest, Signer, Standing};
 use sheets::extremes::{costly_branches, costly_fault, deepest, late_fault, longest};
 use sheets::faulty::faulty;
@@ -55,7 +55,7 @@ fn main() -> ExitCode {
             }
         }
     }
-    println!("{}", counts.happened);
+    println!("{}", counts.coverage);
     let seconds = begun.elapsed().as_secs_f64();
     println!(
         "{sheets} sheets in {seconds:.1} s, {} with a piece held against W13's words, by {} terms \
@@ -120,11 +120,11 @@ fn compare(
     counts: &mut Counts,
 ) -> Result<(), String> {
     let length = random_answer_length(rng);
-    let (returned, told) = ask_both(bytes, Lent::random(rng, length))?;
+    let (returned, buffer) = ask_both(bytes, Margined::random(rng, length))?;
     let mut judged = [0; ANSWER_NUMBERS];
     Library::typecheck(bytes, &mut judged);
     let sheet = decode(bytes).ok();
-    let answer = told.contents();
+    let answer = buffer.contents();
     counts.count(&Answered {
         judged: judged[0],
         is_readable: sheet.is_some(),
@@ -152,11 +152,11 @@ fn compare(
 }
 
 /// Gives what both returned and wrote, or tells how they differ.
-fn ask_both(sheet: &[u8], lent: Lent<u32>) -> Result<(u32, Lent<u32>), String> {
-    let (mut library, mut reference) = (lent.clone(), lent);
+fn ask_both(sheet: &[u8], buffer: Margined<u32>) -> Result<(u32, Margined<u32>), String> {
+    let (mut library, mut reference) = (buffer.clone(), buffer);
     let returned = [
-        Library::piece(sheet, library.lent()),
-        Reference::piece(sheet, reference.lent()),
+        Library::piece(sheet, library.contents_mut()),
+        Reference::piece(sheet, reference.contents_mut()),
     ];
     if returned[0] == returned[1] && library == reference {
         return Ok((returned[0], library));
@@ -241,8 +241,8 @@ impl Query<'_> {
         let Some(piece) = smallest(&faults) else {
             return Err(format!("no term is refused alone; {:?}", self.answer));
         };
-        let told = (term, count as usize, cause);
-        if told != (piece.term.into(), piece.count, piece.cause) || !piece.is_own {
+        let found = (term, count as usize, cause);
+        if found != (piece.term.into(), piece.count, piece.cause) || !piece.is_own {
             return Err(format!("{piece:?} is the smallest; {:?}", self.answer));
         }
         let mut children = self.sheet.term(piece.term).children();

@@ -26,7 +26,7 @@ use authority::Authority;
 use domain::Numbers;
 use machine::Machine;
 use ranges::Ranges;
-use request::Lent;
+use request::BufferLengths;
 
 /// A run that was started, and how it went.
 #[derive(Clone, Copy, Debug, PartialEq, Eq)]
@@ -98,12 +98,12 @@ pub fn record_eager(
     record: &mut [u8],
 ) -> Result<Recorded, Refusal> {
     let sheet = decode(bytes)?;
-    let lent = Lent {
+    let lengths = BufferLengths {
         cell_bytes: cells.len(),
         posts: posts.len(),
         frame_numbers: None,
     };
-    let start = request.admit(&sheet, lent)?;
+    let start = request.admit(&sheet, lengths)?;
     let authority = eager::Granted::new(&sheet, &start);
     Ok(run(&sheet, request, authority, cells, posts, record))
 }
@@ -131,12 +131,12 @@ pub fn record_lazy(
     record: &mut [u8],
 ) -> Result<Recorded, Refusal> {
     let sheet = decode(bytes)?;
-    let lent = Lent {
+    let lengths = BufferLengths {
         cell_bytes: cells.len(),
         posts: posts.len(),
         frame_numbers: Some(frames.len()),
     };
-    let start = request.admit(&sheet, lent)?;
+    let start = request.admit(&sheet, lengths)?;
     let authority = lazy::Frames::new(&sheet, start);
     let recorded = run(&sheet, request, authority, cells, posts, record);
     frames.fill(0);
@@ -154,12 +154,12 @@ pub fn run_ranges(
     posts: &mut [u32],
 ) -> Result<RangeRun, Refusal> {
     let sheet = decode(bytes)?;
-    let lent = Lent {
+    let lengths = BufferLengths {
         cell_bytes: cells.len(),
         posts: posts.len(),
         frame_numbers: None,
     };
-    let start = request.admit(&sheet, lent)?;
+    let start = request.admit(&sheet, lengths)?;
     let ranges = Ranges::of(&sheet, pairs)?;
     let authority = eager::Granted::new(&sheet, &start);
     let length = cells.len();

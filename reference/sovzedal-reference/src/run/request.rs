@@ -41,7 +41,7 @@ impl Request<'_> {
 
 /// The lengths of the lent buffers.
 #[derive(Clone, Copy)]
-pub(super) struct Lent {
+pub(super) struct BufferLengths {
     pub cell_bytes: usize,
     pub posts: usize,
     /// Only a lazy run has a frame store.
@@ -50,10 +50,14 @@ pub(super) struct Lent {
 
 impl Request<'_> {
     /// The frames of the start stack, if nothing is wrong with the request.
-    pub(super) fn admit(&self, sheet: &Sheet, lent: Lent) -> Result<Vec<Frame>, Refusal> {
+    pub(super) fn admit(
+        &self,
+        sheet: &Sheet,
+        lengths: BufferLengths,
+    ) -> Result<Vec<Frame>, Refusal> {
         let frames =
             start_frames(self.start, sheet.principals.len()).ok_or(Cause::StartStack.anywhere())?;
-        if !lent.is_admissible() {
+        if !lengths.is_admissible() {
             return Err(Cause::Buffers.anywhere());
         }
         if self.calls > MAX_CALLS || self.open_calls > MAX_OPEN_CALLS {
@@ -63,7 +67,7 @@ impl Request<'_> {
     }
 }
 
-impl Lent {
+impl BufferLengths {
     fn is_admissible(self) -> bool {
         self.cell_bytes <= MAX_CELL_BYTES
             && self.posts <= MAX_POSTS

@@ -1,5 +1,5 @@
--- The lowest guard at fault is found in ascending order: the byte that is read is the sheet's, in version 1 that of no guard (guard-ok). All guards below
--- the channel are right, so that the search from it on finds what the whole search finds (Laws/Search). The channels that are left fall,
+-- The lowest guard at fault is found in ascending order: the byte that is read is the sheet's, in version 1 that of no guard (guard-ok). All guards below the
+-- channel are right, so that the search from it on finds what the whole search finds (Laws/Search). What falls is 16 - channel, the channels that are left,
 -- since each turn goes to the next.
 use native.Mathlib.Omega.{arith}
 use borrow.Author.Needs.{needs}

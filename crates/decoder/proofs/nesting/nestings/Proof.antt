@@ -1,10 +1,9 @@
--- The list has the nesting of every term from t on, held at 33, one more than is allowed. The parent of t - 1 is t or higher, so that its nesting is in
--- the list; t - 1 has one more, or 33 if the parent has 33 (nested-more). t falls by one each turn, from the
--- root to 0.
-use Prim.Native.Nat.{_-_}
+-- The list has the nesting of every term from t on, held at 33, one more than is allowed. The parent of t - 1 is t or higher, so that its nesting is in the
+-- list; t - 1 has one more, or 33 if the parent has 33 (nested-more). What falls is t, from the root to 0, since each turn takes the next lower term.
+use Prim.Native.Nat.{_+_, _-_}
 use native.Mathlib.Omega.{arith}
 use lib.ListN.{length-set, replicate}
-use Rattle.program.specs.Limits.{maxTerms}
+use Rattle.program.specs.Limits.{maxTerms, maxNesting}
 use Rattle.decoder.proofs.NestingLaws.{NestedFrom, nested-root, nested-more, one-more, held}
 use Rattle.decoder.proofs.nesting.nestings.Statement.{statement}
 use Rattle.decoder.proofs.nesting.nestings.Tie as tie
@@ -90,7 +89,7 @@ loop-again-2 c =
       below = omega arith;
       room = simp length-set (at-loop .loop .inv .room);
       nested = nested-more (start .args .parents .now) (at-loop .loop .deep) (start .args .n)
-          (at-loop .loop .t) 33 (at-loop .loop .inv .nested) (start .pre .rising) (omega (arith, at-loop .loop .inv .room, start .pre .high))
+          (at-loop .loop .t) (maxNesting + 1) (at-loop .loop .inv .nested) (start .pre .rising) (omega (arith, at-loop .loop .inv .room, start .pre .high))
           (c .before .before .loop-test .taken) (at-loop .loop .inv .below) (λ k h. held _ k (c .if1 .left) h) (omega arith);
     }
 

@@ -4,6 +4,7 @@ use mathlib.Core.Path.{refl, sym, _∙_}
 use Prim.Native.Nat.{_-_}
 use native.Mathlib.Omega.{arith}
 use borrow.Author.Tests.{le-leb, lt-leb}
+use Rattle.program.specs.Limits.{maxNesting}
 use Rattle.program.specs.Search.{Passed}
 use Rattle.decoder.specs.Internal.{shallowEnough}
 use Rattle.program.specs.Laws.Search.{lowest-here, lowest-more, lowest-past, lowest-starts}
@@ -28,7 +29,7 @@ element-copy-out-d c = omega (arith, c .before .before .pre)
 returns : tie.Need-returns Inv-loop μ-loop
 returns c =
     let start = c .before .before .before .before in
-    lowest-here (shallowEnough (start .args .deep .now)) _ _ (c .before .before .loop-test .taken) (lt-leb _ 32 (c .if1 .taken)) ∙ sym
+    lowest-here (shallowEnough (start .args .deep .now)) _ _ (c .before .before .loop-test .taken) (lt-leb _ maxNesting (c .if1 .taken)) ∙ sym
     (c .before .before .before .loop .inv .rest-is)
 
 add-t : tie.Need-add-t Inv-loop μ-loop
@@ -48,7 +49,7 @@ loop-again c =
       below = omega arith;
       all = refl;
       rest-is = c .before .before .before .loop .inv .rest-is ∙ lowest-more (shallowEnough (start .args .deep .now)) _ _ (c .before .before .loop-test .taken)
-          (le-leb _ 32 (c .if1 .left));
+          (le-leb _ maxNesting (c .if1 .left));
     }
 
 returns-2 : tie.Need-returns-2 Inv-loop μ-loop

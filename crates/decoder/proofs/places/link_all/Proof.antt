@@ -24,13 +24,13 @@ enum-known-x-2 c = search needs
 link-requires-2 : tie.Need-link-requires-2
 link-requires-2 c κs =
     let start = c .before .before .before .before .before in
-    (by-shape (length (start .args .parents .now)) (c .before .before .x2 .given .1) (start .pre)) .0
+    (by-shape (length (start .args .parents .now)) (c .before .before .x2 .given .1) (start .pre)) .first
 
 link-requires-3 : tie.Need-link-requires-3
 link-requires-3 c κs =
     let at-x2 = c .before .before .before .before .before .before in
     let start = at-x2 .before .before .before in
-    omega (arith, (by-shape (length (start .args .parents .now)) (at-x2 .x2 .given .1) (start .pre)) .1, c .before .before .before .link2 .kept .0)
+    omega (arith, (by-shape (length (start .args .parents .now)) (at-x2 .x2 .given .1) (start .pre)) .second, c .before .before .before .link2 .kept .0)
 
 enum-known-x-3 : tie.Need-enum-known-x-3
 enum-known-x-3 c = search needs
@@ -38,13 +38,13 @@ enum-known-x-3 c = search needs
 link-requires-4 : tie.Need-link-requires-4
 link-requires-4 c κs =
     let start = c .before .before .before .before .before in
-    (by-shape (length (start .args .parents .now)) (c .before .before .x3 .given .1) (start .pre)) .0
+    (by-shape (length (start .args .parents .now)) (c .before .before .x3 .given .1) (start .pre)) .first
 
 link-requires-5 : tie.Need-link-requires-5
 link-requires-5 c κs =
     let at-x3 = c .before .before .before .before .before .before in
     let start = at-x3 .before .before .before in
-    omega (arith, (by-shape (length (start .args .parents .now)) (at-x3 .x3 .given .1) (start .pre)) .1, c .before .before .before .link4 .kept .0)
+    omega (arith, (by-shape (length (start .args .parents .now)) (at-x3 .x3 .given .1) (start .pre)) .second, c .before .before .before .link4 .kept .0)
 
 link-requires-6 : tie.Need-link-requires-6
 link-requires-6 c κs =
@@ -53,7 +53,7 @@ link-requires-6 c κs =
     let start = at-x3 .before .before .before in
     omega (
       arith,
-      (by-shape (length (start .args .parents .now)) (at-x3 .x3 .given .1) (start .pre)) .2,
+      (by-shape (length (start .args .parents .now)) (at-x3 .x3 .given .1) (start .pre)) .third,
       at-link4 .link4 .kept .0,
       c .before .before .before .link5 .kept .0,
     )
@@ -72,13 +72,13 @@ enum-known-x-5 c = search needs
 link-requires-8 : tie.Need-link-requires-8
 link-requires-8 c κs =
     let start = c .before .before .before .before .before in
-    (by-shape (length (start .args .parents .now)) (c .before .before .x5 .given .1) (start .pre)) .0
+    (by-shape (length (start .args .parents .now)) (c .before .before .x5 .given .1) (start .pre)) .first
 
 link-requires-9 : tie.Need-link-requires-9
 link-requires-9 c κs =
     let at-x5 = c .before .before .before .before .before .before in
     let start = at-x5 .before .before .before in
-    omega (arith, (by-shape (length (start .args .parents .now)) (at-x5 .x5 .given .1) (start .pre)) .1, c .before .before .before .link8 .kept .0)
+    omega (arith, (by-shape (length (start .args .parents .now)) (at-x5 .x5 .given .1) (start .pre)) .second, c .before .before .before .link8 .kept .0)
 
 enum-told-2 : tie.Need-enum-told-2
 enum-told-2 c = search needs

@@ -5,6 +5,7 @@ use Rattle.drafts.proofs.DraftLaws.{put-held}
 use borrow.Author.Needs.{needs}
 use Rattle.drafts.proofs.draft.put.Statement.{statement}
 use Rattle.drafts.proofs.draft.put.Tie as tie
+use Rattle.drafts.specs.Internal.{draftBytes}
 
 element-write-r : tie.Need-element-write-r
 element-write-r c = search needs
@@ -14,8 +15,8 @@ add-r c = search needs
 
 returns : tie.Need-returns
 returns c = record {
-  held-is = put-held (c .args .d .bytes) (c .args .d .len) (c .args .b)
-      (omega (arith, sized (c .args .d .bytes) 224 (c .good .0 .1 .1 .0 .1 .0 .1), c .pre));
+  contents-are = put-held (c .args .d .bytes) (c .args .d .len) (c .args .b)
+      (omega (arith, sized (c .args .d .bytes) draftBytes (c .good .0 .1 .1 .0 .1 .0 .1), c .pre));
   len-most = omega arith;
 }
 

@@ -1,25 +1,28 @@
--- The terms written are the first of the chain, and what follows is the chain from the place that is reached. The places that
--- are left of 32 fall, since each turn writes a term.
+-- The terms written are the first of the chain, and what follows is the chain from the place that is reached. What falls is 32 - len, the places that are
+-- left, since each turn writes a term.
 use native.Mathlib.Omega.{arith}
 use borrow.Author.Tests.{not-true, not-false}
 use mathlib.Core.Path.{refl}
 use Prim.Native.Nat.{_-_}
 use Rattle.checker.proofs.VerdictLaws.{some-terms}
-use Rattle.following.proofs.FollowLaws.{FollowedTo, root-place, place-more, place-last, place-none}
+use Rattle.following.proofs.FollowLaws.{FollowedTo, root-followed, place-more, place-last, place-none}
 use Rattle.following.proofs.chain.follow.Statement.{statement}
 use Rattle.following.proofs.chain.follow.Tie as tie
+use Rattle.program.specs.Limits.{maxNesting}
 
 abbrev Inv-loop : tie.InvT-loop
 Inv-loop s c p known₀ terms₀ at₀ len₀ known terms at len = FollowedTo s c p known terms at len
 
 abbrev μ-loop : tie.MeasureT-loop
-μ-loop s c p known₀ terms₀ at₀ len₀ known terms at len = 32 - len
+μ-loop s c p known₀ terms₀ at₀ len₀ known terms at len = maxNesting - len
 
-sub-t9 : tie.Need-sub-t9 Inv-loop μ-loop
-sub-t9 c = omega (arith, some-terms (c .before .before .pre .sheet))
+root-requires : tie.Need-root-requires Inv-loop μ-loop
+root-requires c κs = some-terms (c .before .pre .sheet)
 
 loop-holds : tie.Need-loop-holds Inv-loop μ-loop
-loop-holds c = root-place (c .before .before .pre) _ refl refl refl
+loop-holds c =
+    let at-root = c .before in
+    root-followed (at-root .before .before .pre) (at-root .root .ensures) refl refl
 
 mul-terms : tie.Need-mul-terms Inv-loop μ-loop
 mul-terms c = omega arith
@@ -57,7 +60,7 @@ follow-spec =
     (tie.spec
     Inv-loop
     μ-loop
-    sub-t9
+    root-requires
     loop-holds
     mul-terms
     array-write-terms

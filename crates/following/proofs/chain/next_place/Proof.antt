@@ -1,4 +1,4 @@
--- By the term's kind: after a call, or after any other term.
+-- The next place is that of `nextAt`, by the term's kind: a call is as `after_call` requires (at-call), and any other term as `after_other` does (at-other).
 use borrow.Author.Needs.{needs}
 use Rattle.following.proofs.NextLaws.{at-call, at-other}
 use Rattle.following.proofs.chain.next_place.Statement.{statement}

@@ -22,7 +22,7 @@ admit-readable-requires c κs =
     record {
       readable = readable (start .args .s .now) (start .args .start .now) (start .args .cells) (start .args .posts) (start .args .frames) (start .args .calls)
           (start .args .depth) (at-decode .decode .ensures .answer-is) (at-d2 .d2 .given .1);
-      counts-are = counted (start .args .s .now) (start .args .start .now) (start .args .cells)
+      counts = counted (start .args .s .now) (start .args .start .now) (start .args .cells)
           (start .args .posts) (start .args .frames) (start .args .calls) (start .args .depth) (at-d2 .d2 .given .1) (at-decode .decode .ensures .counts-are);
     }
 

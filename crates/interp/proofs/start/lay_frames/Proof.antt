@@ -1,5 +1,5 @@
--- Each turn lays one frame, from the outermost on, in front of what is left of the store. The numbers of the stack that are left fall by two, a
--- frame's.
+-- Each turn lays one frame, from the outermost on, in front of what is left of the store. What falls is i, the numbers of the stack that are left, by two
+-- each turn, since a frame has two.
 use native.Mathlib.Omega.{arith}
 use borrow.Author.Needs.{needs}
 use mathlib.Core.Path.{refl}

@@ -1,5 +1,5 @@
--- Each turn passes one frame, from the innermost on: the principals before place i are known, so that the frames from i on decide as the whole stack.
--- i is even, so that a frame is never half. The numbers that are left fall by two, a frame's.
+-- Each turn passes one frame, from the innermost on: the principals before place i are known, so that the frames from i on decide as the whole stack. i is
+-- even, so that a frame is never half. What falls is length - i, the numbers that are left, by two each turn, since a frame has two.
 use mathlib.Core.Path.{refl, sym, _∙_}
 use Prim.Native.Nat.{_-_}
 use native.Mathlib.Omega.{arith}

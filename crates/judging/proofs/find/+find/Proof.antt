@@ -1,6 +1,6 @@
 -- Nothing is found in a child that is absent. Of one that is there, the term itself is found if it has the number (found-here), nothing if its number is
--- lower (found-above), and else what is found in its children, the first of them that has something (found-first, found-second, found-third). What falls
--- is the number of the term that is there, and one more; an absent child has 0.
+-- lower (found-above), and else what is found in its children, the first of them that has something (found-first, found-second, found-third). What falls is
+-- the number of the term that is there, and one more, or 0 of an absent child: a child has a lower number than its term (child-falls).
 use native.Mathlib.Omega.{arith}
 use borrow.Author.Needs.{needs}
 use borrow.Author.Tests.{not-true, not-false}

@@ -7,7 +7,7 @@ use borrow.Author.Tests.{not-true, not-false}
 use mathlib.Core.Path.{sym, ap}
 use Prim.Native.Nat.{_-_}
 use lib.ListN.{length}
-use Rattle.program.specs.Layout.{terms as termsOf}
+use Rattle.program.specs.Layout.{terms as termCount}
 use Rattle.erasure.specs.Lean.{keptTerm, termBytes}
 use Rattle.renumbering.proofs.TermLaws.{kept-here, gone-here}
 use Rattle.renumbering.proofs.TableLaws.{within, up-to, through}
@@ -16,7 +16,7 @@ use Rattle.leanwriting.proofs.write.put_terms.Statement.{statement}
 use Rattle.leanwriting.proofs.write.put_terms.Tie as tie
 
 abbrev Inv-loop : tie.InvT-loop
-Inv-loop s c types terms buffer₀ at n count₀ next₀ buffer count next = Written (keptTerm s) (termBytes s) (termsOf s) buffer₀ at n next count buffer
+Inv-loop s c types terms buffer₀ at n count₀ next₀ buffer count next = Written (keptTerm s) (termBytes s) (termCount s) buffer₀ at n next count buffer
 
 abbrev μ-loop : tie.MeasureT-loop
 μ-loop s c types terms buffer₀ at n count₀ next₀ buffer count next = n - next

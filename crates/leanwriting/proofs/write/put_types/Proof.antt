@@ -5,7 +5,7 @@ use native.Mathlib.Omega.{arith}
 use mathlib.Core.Path.{sym, ap}
 use Prim.Native.Nat.{_-_}
 use lib.ListN.{length}
-use Rattle.program.specs.Layout.{types as typesOf}
+use Rattle.program.specs.Layout.{types as typeCount}
 use Rattle.erasure.specs.Lean.{keptType, typeBytes}
 use Rattle.renumbering.proofs.TypeLaws.{entry-first, entry-other}
 use Rattle.renumbering.proofs.TableLaws.{within, up-to, through}
@@ -14,7 +14,7 @@ use Rattle.leanwriting.proofs.write.put_types.Statement.{statement}
 use Rattle.leanwriting.proofs.write.put_types.Tie as tie
 
 abbrev Inv-loop : tie.InvT-loop
-Inv-loop s c types buffer₀ at n count₀ next₀ buffer count next = Written (keptType s) (typeBytes s) (typesOf s) buffer₀ at n next count buffer
+Inv-loop s c types buffer₀ at n count₀ next₀ buffer count next = Written (keptType s) (typeBytes s) (typeCount s) buffer₀ at n next count buffer
 
 abbrev μ-loop : tie.MeasureT-loop
 μ-loop s c types buffer₀ at n count₀ next₀ buffer count next = n - next

@@ -1,4 +1,4 @@
--- The judgement is `joined`: the wider type with the needs, or fault 10 if there is none.
+-- The judgement is the definition's `joined`: the wider type with the needs, or fault 26 if there is none.
 use borrow.Author.Needs.{needs}
 use Rattle.rules.proofs.StepLaws.{joined-typed, joined-fault}
 use Rattle.rules.proofs.steps.joined.Statement.{statement}

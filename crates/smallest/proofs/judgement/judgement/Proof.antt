@@ -1,4 +1,4 @@
--- By the kind: the judgement of the term from those of the children that the kind has (JudgeLaws).
+-- By the kind: the judgement of the term from those of the children that the kind has (JudgementLaws).
 use native.Mathlib.Omega.{arith}
 use borrow.Author.Needs.{needs}
 use Rattle.checker.proofs.TermLaws.{past-ten, kind-most, post-guard-byte, check-privilege, enable-privilege, test-privilege}

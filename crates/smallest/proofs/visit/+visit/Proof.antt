@@ -1,6 +1,6 @@
--- A child that is absent adds nothing. Of one that is there, its children are visited and it is judged from their judgements (judgeable), its count of
--- terms is at most 1,024 (counts-fit), and what is found is as `VisitedAs` says (found-there). What falls is the number of the term that is there, and
--- one more; an absent child has 0.
+-- A child that is absent adds nothing. Of one that is there, its children are visited and it is judged from their judgements (judgeable), its count of terms
+-- is at most 1,024 (counts-fit), and what is found is as `VisitedAs` says (found-there). What falls is the number of the term that is there, and one more, or
+-- 0 of an absent child: a child has a lower number than its term (child-falls).
 use native.Mathlib.Omega.{arith}
 use borrow.Author.Tests.{not-true, not-false}
 use Rattle.places.proofs.PlaceLaws.{fuel, child-falls}

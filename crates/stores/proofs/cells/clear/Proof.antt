@@ -1,4 +1,4 @@
--- So many bytes are zero, and the others as they were, until all are zero. The bytes that are left fall, since each turn clears one.
+-- The first i bytes are zero, and the others as they were, until all are zero. What falls is length - i, the bytes that are left, since each turn clears one.
 use native.Mathlib.Omega.{arith}
 use mathlib.Core.Path.{refl, ap, _∙_}
 use mathlib.Core.List.{List}

@@ -1,4 +1,4 @@
--- Two bytes are below 65,536 together.
+-- Two bytes make at most 255 * 256 + 255 = 65535, so that no operation on 16 bits overflows; the sum is then the definition's.
 use native.Mathlib.Omega.{arith}
 use Prim.Native.Nat.{_+_}
 use borrow.Author.Needs.{needs}

@@ -1,9 +1,9 @@
--- The two writes are the definition's.
+-- The number is written as two bytes, the highest first, as `withWord16` says.
 use mathlib.Core.Path.{refl}
-use Rattle.stores.specs.Cells.{set16}
 use borrow.Author.Needs.{needs}
 use Rattle.stores.proofs.cells.put16.Statement.{statement}
 use Rattle.stores.proofs.cells.put16.Tie as tie
+use Rattle.program.specs.Bytes.{withWord16}
 
 cast-s : tie.Need-cast-s
 cast-s c = search needs
@@ -24,7 +24,7 @@ same-length : tie.Need-same-length
 same-length c = search needs
 
 returns : tie.Need-returns
-unfolding set16
+unfolding withWord16
 returns c = refl
 
 pub put16-spec : {M : Type 1} → statement M

@@ -1,4 +1,5 @@
--- Each turn goes one cell behind, so that what is left of the walk leads to the same cell. The steps that are left fall, since each turn takes one.
+-- Each turn goes one cell behind, so that what is left of the walk leads to the same cell. What falls is `left`, since each turn takes one of the steps that
+-- are left.
 use native.Mathlib.Omega.{arith}
 use borrow.Author.Needs.{needs}
 use mathlib.Core.Path.{_≡_, refl}

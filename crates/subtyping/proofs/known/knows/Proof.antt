@@ -1,4 +1,4 @@
--- The bit of the pair, by `contains`.
+-- What is told is the bit of the pair (a, b): bit b % 32 of word b / 32 in the row of a, by `contains`.
 use borrow.Author.Needs.{needs}
 use Rattle.subtyping.specs.Known.{knows}
 use Rattle.subtyping.proofs.known.knows.Statement.{statement}

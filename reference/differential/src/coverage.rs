@@ -5,9 +5,9 @@ use std::collections::BTreeMap;
 use std::fmt;
 
 #[derive(Default)]
-pub struct Happened(BTreeMap<String, usize>);
+pub struct Coverage(BTreeMap<String, usize>);
 
-impl Happened {
+impl Coverage {
     pub fn count(&mut self, what: impl Into<String>) {
         *self.0.entry(what.into()).or_default() += 1;
     }
@@ -30,7 +30,7 @@ impl Happened {
     }
 }
 
-impl fmt::Display for Happened {
+impl fmt::Display for Coverage {
     fn fmt(&self, f: &mut fmt::Formatter) -> fmt::Result {
         for (what, times) in &self.0 {
             writeln!(f, "{times:9}  {what}")?;

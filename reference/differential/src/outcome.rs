@@ -11,12 +11,12 @@ const STOPPED: u32 = 1;
 
 /// A runner, and whether checks are in force.
 #[derive(Clone, Copy, Debug, PartialEq, Eq)]
-pub struct Way {
+pub struct RunMode {
     pub entry: Entry,
     pub enforce: u32,
 }
 
-impl Way {
+impl RunMode {
     pub fn random(rng: &mut Rng) -> Self {
         Self {
             enforce: rng.pick(&[0, 1, 1]),
@@ -35,32 +35,32 @@ impl Way {
 
 /// A run that wasn't refused.
 #[derive(Clone, Debug, PartialEq, Eq)]
-pub struct Told {
+pub struct RunResult {
     pub status: u32,
     pub answer: [u32; ANSWER_NUMBERS],
     pub posts: Vec<u32>,
 }
 
-impl Told {
+impl RunResult {
     /// What a run tells in buffers of its own, or `Err` with the answer if it
     /// was refused.
     pub fn of_run(
         rng: &mut Rng,
         sheet: &[u8],
         request: &Request,
-        way: Way,
+        mode: RunMode,
     ) -> Result<Self, String> {
-        let mut buffers = Buffers::random(rng, way.entry, request, ANSWER_NUMBERS);
+        let mut buffers = Buffers::random(rng, mode.entry, request, ANSWER_NUMBERS);
         let query = Query {
-            entry: way.entry,
+            entry: mode.entry,
             sheet,
             request,
-            enforce: way.enforce,
+            enforce: mode.enforce,
         };
         let status = query.of::<Library>(&mut buffers);
         let answer = *buffers.answer().expect("the answer has room");
         if status != ENDED && status != STOPPED {
-            return Err(format!("{way:?} returns {status}, {answer:?}"));
+            return Err(format!("{mode:?} returns {status}, {answer:?}"));
         }
         let posts = buffers.posts.contents()[..answer[6] as usize].to_vec();
         Ok(Self {

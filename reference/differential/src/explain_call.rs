@@ -1,23 +1,23 @@
 //! One question why a privilege is needed, to be put to any implementation.
 
 use crate::implementation::{Implementation, ANSWER_NUMBERS, CHAIN_NUMBERS};
-use crate::query::Lent;
+use crate::query::Margined;
 use sheets::rng::Rng;
 
 /// The list for the chain and the answer, with margins. Two are equal if every
 /// number in and around these is.
 #[derive(Clone, Debug, PartialEq, Eq)]
-pub struct Why {
-    pub chain: Lent<u16>,
-    pub answer: Lent<u32>,
+pub struct ExplainCall {
+    pub chain: Margined<u16>,
+    pub answer: Margined<u32>,
 }
 
-impl Why {
+impl ExplainCall {
     /// Lists of these lengths, filled at random.
     pub fn random(rng: &mut Rng, chain: usize, answer: usize) -> Self {
         Self {
-            chain: Lent::random(rng, chain),
-            answer: Lent::random(rng, answer),
+            chain: Margined::random(rng, chain),
+            answer: Margined::random(rng, answer),
         }
     }
 
@@ -28,11 +28,16 @@ impl Why {
 
     /// Puts the question and gives the returned number.
     pub fn ask<I: Implementation>(&mut self, sheet: &[u8], privilege: u32) -> u32 {
-        I::explain(sheet, privilege, self.chain.lent(), self.answer.lent())
+        I::explain(
+            sheet,
+            privilege,
+            self.chain.contents_mut(),
+            self.answer.contents_mut(),
+        )
     }
 
     /// The chain told, which is empty where the privilege isn't needed.
-    pub fn told(&self) -> &[u16] {
+    pub fn result(&self) -> &[u16] {
         let length = self.answer.contents()[3] as usize;
         &self.chain.contents()[..length]
     }
