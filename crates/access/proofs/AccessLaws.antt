@@ -7,7 +7,7 @@ use native.Mathlib.Omega.{arith}
 use lib.ListN.{getD, length, set}
 use borrow.Author.Tests.{le-leb, lt-leb}
 use Rattle.privileges.specs.Sets.{has, meet, insert}
-use Rattle.access.specs.Access.{pairOf, lowOf, highOf, lazyMode, walkGrants, framesGrant, grantedOf, signAccess, signFrames, lastOf, firstEnabled, enableAccess, enableFrames, enabledNow, restoreFrames}
+use Rattle.access.specs.Access.{packed, lowOf, highOf, lazyMode, walkGrants, framesGrant, grantedOf, signAccess, signFrames, lastOf, firstEnabled, enableAccess, enableFrames, enabledNow, restoreFrames}
 use Rattle.stores.specs.Returns.{Returned}
 
 -- ---- the walk
@@ -59,32 +59,32 @@ last-of zero r h g e = omega arith
 last-of (suc d) r h g e = omega arith
 
 -- ---- by the mode, which the code asks for as b
-module _ (mode acc : ℕ) (f : List ℕ) {b : Bool} (q : b ≡ lazyMode mode) where
+module _ (mode access : ℕ) (f : List ℕ) {b : Bool} (q : b ≡ lazyMode mode) where
   module _ (lz : b ≡ true) where
     mode-lazy : lazyMode mode ≡ true
     mode-lazy = sym q ∙ lz
 
-    pub granted-lazy : (p : ℕ) {l : ℕ} {r : Bool} → l ≡ lowOf acc → r ≡ framesGrant f l p → r ≡ grantedOf mode acc f p
+    pub granted-lazy : (p : ℕ) {l : ℕ} {r : Bool} → l ≡ lowOf access → r ≡ framesGrant f l p → r ≡ grantedOf mode access f p
     unfolding grantedOf
     granted-lazy p u e = e ∙ rw (u, mode-lazy) refl
 
-    pub sign-lazy : (may : ℕ) {l : ℕ} {g h : List ℕ} → l ≡ lowOf acc → g ≡ set f l may → h ≡ set g (l + 1) 0
-        → Returned (l + 2) (signAccess mode acc may) h (signFrames mode acc f may)
+    pub sign-lazy : (authorised : ℕ) {l : ℕ} {g h : List ℕ} → l ≡ lowOf access → g ≡ set f l authorised → h ≡ set g (l + 1) 0
+        → Returned (l + 2) (signAccess mode access authorised) h (signFrames mode access f authorised)
     unfolding signAccess signFrames
-    sign-lazy may t u v = record { answer-is = rw (t, mode-lazy) refl; store-is = v ∙ rw (u, t, mode-lazy) refl }
+    sign-lazy authorised t u v = record { answer-is = rw (t, mode-lazy) refl; store-is = v ∙ rw (u, t, mode-lazy) refl }
 
     -- i is where the first frame has its enabled set
-    module _ {i : ℕ} (at : i ≡ firstEnabled acc) where
+    module _ {i : ℕ} (at : i ≡ firstEnabled access) where
       pub enable-lazy : (p : ℕ) {old on : ℕ} {g : List ℕ} → old ≡ getD f i 0 → on ≡ insert p old → g ≡ set f i on
-          → Returned acc (enableAccess mode acc p) g (enableFrames mode acc f p)
+          → Returned access (enableAccess mode access p) g (enableFrames mode access f p)
       unfolding enableAccess enableFrames
       enable-lazy p u v w = record { answer-is = sym (rw mode-lazy refl); store-is = w ∙ rw (v, u, at, mode-lazy) refl }
 
-      pub enabled-lazy : {r : ℕ} → r ≡ getD f i 0 → r ≡ enabledNow mode acc f
+      pub enabled-lazy : {r : ℕ} → r ≡ getD f i 0 → r ≡ enabledNow mode access f
       unfolding enabledNow
       enabled-lazy e = e ∙ rw (at, mode-lazy) refl
 
-      pub restore-lazy : (old : ℕ) {g : List ℕ} → g ≡ set f i old → g ≡ restoreFrames mode acc f old
+      pub restore-lazy : (old : ℕ) {g : List ℕ} → g ≡ set f i old → g ≡ restoreFrames mode access f old
       unfolding restoreFrames
       restore-lazy old e = e ∙ rw (at, mode-lazy) refl
 
@@ -92,33 +92,33 @@ module _ (mode acc : ℕ) (f : List ℕ) {b : Bool} (q : b ≡ lazyMode mode) wh
     mode-eager : lazyMode mode ≡ false
     mode-eager = sym q ∙ ez
 
-    pub granted-eager : (p : ℕ) {h : ℕ} {r : Bool} → h ≡ highOf acc → r ≡ has p h → r ≡ grantedOf mode acc f p
+    pub granted-eager : (p : ℕ) {h : ℕ} {r : Bool} → h ≡ highOf access → r ≡ has p h → r ≡ grantedOf mode access f p
     unfolding grantedOf
     granted-eager p u e = e ∙ rw (u, mode-eager) refl
 
-    pub sign-eager : (may : ℕ) {h r on : ℕ} → h ≡ highOf acc → on ≡ meet h may → r ≡ pairOf may on
-        → Returned r (signAccess mode acc may) f (signFrames mode acc f may)
+    pub sign-eager : (authorised : ℕ) {h r on : ℕ} → h ≡ highOf access → on ≡ meet h authorised → r ≡ packed authorised on
+        → Returned r (signAccess mode access authorised) f (signFrames mode access f authorised)
     unfolding signAccess signFrames
-    sign-eager may t u v = record { answer-is = v ∙ rw (u, t, mode-eager) refl; store-is = sym (rw mode-eager refl) }
+    sign-eager authorised t u v = record { answer-is = v ∙ rw (u, t, mode-eager) refl; store-is = sym (rw mode-eager refl) }
 
-    frames-stay : (p : ℕ) → f ≡ enableFrames mode acc f p
+    frames-stay : (p : ℕ) → f ≡ enableFrames mode access f p
     unfolding enableFrames
     frames-stay p = sym (rw mode-eager refl)
 
-    module _ (p : ℕ) {l : ℕ} {a : Bool} (low : l ≡ lowOf acc) (g : a ≡ has p l) where
-      pub enable-yes : {h r on : ℕ} → a ≡ true → h ≡ highOf acc → on ≡ insert p h → r ≡ pairOf l on
-          → Returned r (enableAccess mode acc p) f (enableFrames mode acc f p)
+    module _ (p : ℕ) {l : ℕ} {a : Bool} (low : l ≡ lowOf access) (g : a ≡ has p l) where
+      pub enable-yes : {h r on : ℕ} → a ≡ true → h ≡ highOf access → on ≡ insert p h → r ≡ packed l on
+          → Returned r (enableAccess mode access p) f (enableFrames mode access f p)
       unfolding enableAccess
       enable-yes y t u v = record { answer-is = v ∙ rw (u, t, mode-eager, ← low, ← g, y) refl; store-is = frames-stay p }
 
-      pub enable-no : a ≡ false → Returned acc (enableAccess mode acc p) f (enableFrames mode acc f p)
+      pub enable-no : a ≡ false → Returned access (enableAccess mode access p) f (enableFrames mode access f p)
       unfolding enableAccess
       enable-no y = record { answer-is = sym (rw (mode-eager, ← low, ← g, y) refl); store-is = frames-stay p }
 
-    pub enabled-eager : 0 ≡ enabledNow mode acc f
+    pub enabled-eager : 0 ≡ enabledNow mode access f
     unfolding enabledNow
     enabled-eager = sym (rw mode-eager refl)
 
-    pub restore-eager : (old : ℕ) → f ≡ restoreFrames mode acc f old
+    pub restore-eager : (old : ℕ) → f ≡ restoreFrames mode access f old
     unfolding restoreFrames
     restore-eager old = sym (rw mode-eager refl)

@@ -8,14 +8,14 @@ use lib.Dec.{leb, ltb, eqb}
 use lib.ListN.{length, getD, set}
 use Rattle.privileges.specs.Sets.{has, meet, insert}
 
-abbrev pub pairOf : (low high : ℕ) → ℕ
-pairOf low high = low + 4294967296 * high
+abbrev pub packed : (low high : ℕ) → ℕ
+packed low high = low + 4294967296 * high
 
 abbrev pub lowOf : ℕ → ℕ
-lowOf acc = acc % 4294967296
+lowOf access = access % 4294967296
 
 abbrev pub highOf : ℕ → ℕ
-highOf acc = acc / 4294967296
+highOf access = access / 4294967296
 
 -- a run's mode: 1 if checks are enforced, 2 more if it is lazy, and 4 more if its numbers are intervals
 abbrev pub enforced : (mode : ℕ) → Bool
@@ -41,17 +41,17 @@ walkGrants f (suc (suc d)) p = cond (has p (getD f d 0)) (cond (has p (getD f (d
 unfoldable pub framesGrant : (frames : List ℕ) (used p : ℕ) → Bool
 framesGrant f used p = cond (leb used (length f)) (walkGrants f used p) false
 
-unfoldable pub grantedOf : (mode acc : ℕ) (frames : List ℕ) (p : ℕ) → Bool
-grantedOf mode acc f p = cond (lazyMode mode) (framesGrant f (lowOf acc) p) (has p (highOf acc))
+unfoldable pub grantedOf : (mode access : ℕ) (frames : List ℕ) (p : ℕ) → Bool
+grantedOf mode access f p = cond (lazyMode mode) (framesGrant f (lowOf access) p) (has p (highOf access))
 
-unfoldable pub allowedOf : (mode acc : ℕ) (frames : List ℕ) (p : ℕ) → Bool
-allowedOf mode acc f p = cond (enforced mode) (grantedOf mode acc f p) true
+unfoldable pub allowedOf : (mode access : ℕ) (frames : List ℕ) (p : ℕ) → Bool
+allowedOf mode access f p = cond (enforced mode) (grantedOf mode access f p) true
 
-unfoldable pub signAccess : (mode acc may : ℕ) → ℕ
-signAccess mode acc may = cond (lazyMode mode) (lowOf acc + 2) (pairOf may (meet (highOf acc) may))
+unfoldable pub signAccess : (mode access authorised : ℕ) → ℕ
+signAccess mode access authorised = cond (lazyMode mode) (lowOf access + 2) (packed authorised (meet (highOf access) authorised))
 
-unfoldable pub signFrames : (mode acc : ℕ) (frames : List ℕ) (may : ℕ) → List ℕ
-signFrames mode acc f may = cond (lazyMode mode) (set (set f (lowOf acc) may) (lowOf acc + 1) 0) f
+unfoldable pub signFrames : (mode access : ℕ) (frames : List ℕ) (authorised : ℕ) → List ℕ
+signFrames mode access f authorised = cond (lazyMode mode) (set (set f (lowOf access) authorised) (lowOf access + 1) 0) f
 
 -- the last number of so many: with none, 2^64 - 1, an index that is past every store
 unfoldable pub lastOf : ℕ → ℕ
@@ -59,17 +59,17 @@ lastOf zero = 18446744073709551615
 lastOf (suc d) = d
 
 -- where the first frame has its enabled set
-abbrev pub firstEnabled : (acc : ℕ) → ℕ
-firstEnabled acc = lastOf (lowOf acc)
+abbrev pub firstEnabled : (access : ℕ) → ℕ
+firstEnabled access = lastOf (lowOf access)
 
-unfoldable pub enableAccess : (mode acc p : ℕ) → ℕ
-enableAccess mode acc p = cond (lazyMode mode) acc (cond (has p (lowOf acc)) (pairOf (lowOf acc) (insert p (highOf acc))) acc)
+unfoldable pub enableAccess : (mode access p : ℕ) → ℕ
+enableAccess mode access p = cond (lazyMode mode) access (cond (has p (lowOf access)) (packed (lowOf access) (insert p (highOf access))) access)
 
-unfoldable pub enableFrames : (mode acc : ℕ) (frames : List ℕ) (p : ℕ) → List ℕ
-enableFrames mode acc f p = cond (lazyMode mode) (set f (firstEnabled acc) (insert p (getD f (firstEnabled acc) 0))) f
+unfoldable pub enableFrames : (mode access : ℕ) (frames : List ℕ) (p : ℕ) → List ℕ
+enableFrames mode access f p = cond (lazyMode mode) (set f (firstEnabled access) (insert p (getD f (firstEnabled access) 0))) f
 
-unfoldable pub enabledNow : (mode acc : ℕ) (frames : List ℕ) → ℕ
-enabledNow mode acc f = cond (lazyMode mode) (getD f (firstEnabled acc) 0) 0
+unfoldable pub enabledNow : (mode access : ℕ) (frames : List ℕ) → ℕ
+enabledNow mode access f = cond (lazyMode mode) (getD f (firstEnabled access) 0) 0
 
-unfoldable pub restoreFrames : (mode acc : ℕ) (frames : List ℕ) (old : ℕ) → List ℕ
-restoreFrames mode acc f old = cond (lazyMode mode) (set f (firstEnabled acc) old) f
+unfoldable pub restoreFrames : (mode access : ℕ) (frames : List ℕ) (old : ℕ) → List ℕ
+restoreFrames mode access f old = cond (lazyMode mode) (set f (firstEnabled access) old) f

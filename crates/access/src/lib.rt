@@ -5,7 +5,8 @@ ghost use mathlib.Core.Bool.{true, false};
 ghost use mathlib.Core.Path.{_≡_};
 ghost use Prim.Native.Nat.{_<_};
 ghost use lib.ListN.{getD, set};
-ghost use Rattle.access.specs.Access.{pairOf, lowOf, highOf, enforced, lazyMode, intervalMode, ModeIs, framesGrant, grantedOf, signAccess, signFrames, firstEnabled, enableAccess, enableFrames, enabledNow, restoreFrames};
+ghost use Rattle.privileges.specs.Sets.{privilegeCount};
+ghost use Rattle.access.specs.Access.{packed, lowOf, highOf, enforced, lazyMode, intervalMode, ModeIs, framesGrant, grantedOf, signAccess, signFrames, firstEnabled, enableAccess, enableFrames, enabledNow, restoreFrames};
 ghost use Rattle.stores.specs.Cells.{zerosLike};
 ghost use Rattle.stores.specs.Returns.{Returned};
 
@@ -24,21 +25,21 @@ fn put_number(f: &mut [u32], i: usize, v: u32)
 }
 
 pub fn pair(low: u32, high: u32) -> u64
-    ensures { λ r. ⌜ r ≡ pairOf low high ⌝ }
+    ensures { λ r. ⌜ r ≡ packed low high ⌝ }
 {
     (low as u64) + 4294967296 * (high as u64)
 }
 
-fn low(acc: u64) -> u32
-    ensures { λ r. ⌜ r ≡ lowOf acc ⌝ }
+fn low(access: u64) -> u32
+    ensures { λ r. ⌜ r ≡ lowOf access ⌝ }
 {
-    (acc % 4294967296) as u32
+    (access % 4294967296) as u32
 }
 
-fn high(acc: u64) -> u32
-    ensures { λ r. ⌜ r ≡ highOf acc ⌝ }
+fn high(access: u64) -> u32
+    ensures { λ r. ⌜ r ≡ highOf access ⌝ }
 {
-    (acc / 4294967296) as u32
+    (access / 4294967296) as u32
 }
 
 pub fn mode_of(lazy: bool, enforce: bool) -> usize
@@ -86,7 +87,7 @@ fn is_lazy(mode: usize) -> bool
 
 // Whether the frames in the first `used` numbers grant p, the last of them being the innermost. One test stands for all indexes.
 fn frames_grant(frames: &[u32], used: u32, p: u8) -> bool
-    requires { ⌜ p < 32 ⌝ }
+    requires { ⌜ p < privilegeCount ⌝ }
     ensures { λ r. ⌜ r ≡ framesGrant (now (frames .entry)) used p ⌝ }
 {
     let mut d = used as usize;
@@ -106,70 +107,70 @@ fn frames_grant(frames: &[u32], used: u32, p: u8) -> bool
 }
 
 // Whether p is granted.
-pub fn granted(frames: &mut [u32], mode: usize, acc: u64, p: u8) -> bool
-    requires { ⌜ p < 32 ⌝ }
-    ensures { λ r. ⌜ Returned r (grantedOf mode acc (now (frames .entry)) p) (now (frames .exit)) (now (frames .entry)) ⌝ }
+pub fn granted(frames: &mut [u32], mode: usize, access: u64, p: u8) -> bool
+    requires { ⌜ p < privilegeCount ⌝ }
+    ensures { λ r. ⌜ Returned r (grantedOf mode access (now (frames .entry)) p) (now (frames .exit)) (now (frames .entry)) ⌝ }
 {
     if is_lazy(mode) {
-        return frames_grant(frames, low(acc), p);
+        return frames_grant(frames, low(access), p);
     }
-    privileges::contains(p, high(acc))
+    privileges::contains(p, high(access))
 }
 
 // Where the first frame has its enabled set. With no frame it wraps to the largest index, which is past every store: 0 is read there and nothing
 // written.
-fn first_enabled(acc: u64) -> usize
-    ensures { λ r. ⌜ r ≡ firstEnabled acc ⌝ }
+fn first_enabled(access: u64) -> usize
+    ensures { λ r. ⌜ r ≡ firstEnabled access ⌝ }
 {
-    std::num::wrapping_sub_usize(low(acc) as usize, 1)
+    std::num::wrapping_sub_usize(low(access) as usize, 1)
 }
 
 // What a sign by a principal that may use `may` makes of the access and of the frames.
-pub fn sign(frames: &mut [u32], mode: usize, acc: u64, may: u32) -> u64
-    ensures { λ r. ⌜ Returned r (signAccess mode acc may) (now (frames .exit)) (signFrames mode acc (now (frames .entry)) may) ⌝ }
+pub fn sign(frames: &mut [u32], mode: usize, access: u64, authorised: u32) -> u64
+    ensures { λ r. ⌜ Returned r (signAccess mode access authorised) (now (frames .exit)) (signFrames mode access (now (frames .entry)) authorised) ⌝ }
 {
     if is_lazy(mode) {
-        let at = low(acc) as usize;
-        put_number(frames, at, may);
+        let at = low(access) as usize;
+        put_number(frames, at, authorised);
         put_number(frames, at + 1, 0);
         return (at + 2) as u64;
     }
-    pair(may, privileges::meet(high(acc), may))
+    pair(authorised, privileges::meet(high(access), authorised))
 }
 
 // What an enable makes of the access and of the frames.
-pub fn enable(frames: &mut [u32], mode: usize, acc: u64, p: u8) -> u64
-    requires { ⌜ p < 32 ⌝ }
-    ensures { λ r. ⌜ Returned r (enableAccess mode acc p) (now (frames .exit)) (enableFrames mode acc (now (frames .entry)) p) ⌝ }
+pub fn enable(frames: &mut [u32], mode: usize, access: u64, p: u8) -> u64
+    requires { ⌜ p < privilegeCount ⌝ }
+    ensures { λ r. ⌜ Returned r (enableAccess mode access p) (now (frames .exit)) (enableFrames mode access (now (frames .entry)) p) ⌝ }
 {
     if is_lazy(mode) {
-        let at = first_enabled(acc);
+        let at = first_enabled(access);
         put_number(frames, at, privileges::insert(p, number_at(frames, at)));
-        return acc;
+        return access;
     }
-    let may = low(acc);
-    if privileges::contains(p, may) {
-        return pair(may, privileges::insert(p, high(acc)));
+    let authorised = low(access);
+    if privileges::contains(p, authorised) {
+        return pair(authorised, privileges::insert(p, high(access)));
     }
-    acc
+    access
 }
 
 // The enabled set of the first frame, to be restored when an enable ends.
-pub fn enabled_now(frames: &mut [u32], mode: usize, acc: u64) -> u32
-    ensures { λ r. ⌜ Returned r (enabledNow mode acc (now (frames .entry))) (now (frames .exit)) (now (frames .entry)) ⌝ }
+pub fn enabled_now(frames: &mut [u32], mode: usize, access: u64) -> u32
+    ensures { λ r. ⌜ Returned r (enabledNow mode access (now (frames .entry))) (now (frames .exit)) (now (frames .entry)) ⌝ }
 {
     if is_lazy(mode) {
-        return number_at(frames, first_enabled(acc));
+        return number_at(frames, first_enabled(access));
     }
     0
 }
 
 // Restores the first frame's enabled set.
-pub fn restore(frames: &mut [u32], mode: usize, acc: u64, old: u32)
-    ensures { λ _. ⌜ now (frames .exit) ≡ restoreFrames mode acc (now (frames .entry)) old ⌝ }
+pub fn restore(frames: &mut [u32], mode: usize, access: u64, old: u32)
+    ensures { λ _. ⌜ now (frames .exit) ≡ restoreFrames mode access (now (frames .entry)) old ⌝ }
 {
     if is_lazy(mode) {
-        put_number(frames, first_enabled(acc), old);
+        put_number(frames, first_enabled(access), old);
     }
 }
 

@@ -112,8 +112,8 @@ module _ (s start : List ℕ) (e : Bool) (calls depth : ℕ) (cells posts frames
       ∙ sym (run-course s Q (buffersOf cells posts frames) _ same-course)
 
   module _ (r : Run) (cells′ posts′ frames′ : List ℕ) where
-    abbrev Answers : Bool → Type 0
-    Answers l = after r cells′ posts′ frames′ ≡ run s (requestOf (runnerOf l) e start calls depth) (buffersOf cells posts frames)
+    abbrev BothAnswers : Bool → Type 0
+    BothAnswers l = after r cells′ posts′ frames′ ≡ run s (requestOf (runnerOf l) e start calls depth) (buffersOf cells posts frames)
 
-    pub by-either : {isLazy : Bool} (l : Bool) → isLazy ≡ l → Answers l → Answers isLazy
-    by-either l h p = subst Answers (sym h) p
+    pub by-either : {isLazy : Bool} (l : Bool) → isLazy ≡ l → BothAnswers l → BothAnswers isLazy
+    by-either l h p = subst BothAnswers (sym h) p

@@ -52,7 +52,7 @@ fn run_either(
 }
 
 // The verdict and the two runs, each of either runner and on buffers of its own.
-pub fn compare(
+pub fn compare_checks(
     sheet: &[u8],
     start: &[u32],
     calls: u32,

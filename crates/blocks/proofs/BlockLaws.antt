@@ -11,7 +11,7 @@ use lib.Seq.{drop-cons}
 use Rattle.privileges.specs.Sets.{has, meet}
 use Rattle.privileges.specs.Laws.{has-meet, has-xor, has-ext}
 use Rattle.program.specs.Bytes.{byte}
-use Rattle.blocks.specs.Block.{RunRegisters, without, withFlag, afterRun}
+use Rattle.blocks.specs.Block.{blockBytes, RunRegisters, without, withFlag, afterRun}
 use Rattle.blocks.specs.Laws.{has-without}
 use Rattle.blocks.specs.Internal.{setPair}
 
@@ -48,7 +48,7 @@ pub sized : (l : List ℕ) (n : ℕ) → length (map (λ (v : ℕ). v) l) ≡ n 
 sized l n e = simp length-map at e
 
 -- ---- what the stores of a run leave
-module _ (b : List ℕ) (t : RunRegisters) (size : length b ≡ 16) where
+module _ (b : List ℕ) (t : RunRegisters) (size : length b ≡ blockBytes) where
   abbrev three : List ℕ → List ℕ
   three l = set (set (set l 0 0) 1 (withFlag (byte b 1) (t .flag))) 2 (t .cause)
 
@@ -56,7 +56,7 @@ module _ (b : List ℕ) (t : RunRegisters) (size : length b ≡ 16) where
   stores l = setPair (setPair (setPair (three l) 6 (t .value)) 8 (t .calls)) 10 (t .place)
 
   stored-all : stores b ≡ afterRun b t
-  stored-all = ap stores (listed b 0 16 size)
+  stored-all = ap stores (listed b 0 blockBytes size)
 
   pub run-stored : {flag : ℕ} {x y z : List ℕ} → flag ≡ withFlag (byte b 1) (t .flag)
       → x ≡ setPair (set (set (set b 0 0) 1 flag) 2 (t .cause)) 6 (t .value) → y ≡ setPair x 8 (t .calls) → z ≡ setPair y 10 (t .place) → z ≡ afterRun b t

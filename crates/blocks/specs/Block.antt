@@ -12,6 +12,10 @@ use Rattle.semantics.specs.Runs.{Ground, ground-bool, ground-num, ended, stoppe
 abbrev pub blockBytes : ℕ
 blockBytes = 16
 
+-- "An address above 15 is answered with 23"
+abbrev pub maxAddress : ℕ
+maxAddress = 15
+
 abbrev pub newBlock : List ℕ
 newBlock = zeros blockBytes
 
@@ -75,7 +79,7 @@ pub data Access : Type 0 where
 
 -- "An address above 15 is answered with 23"; no place is named, so it is 0
 abbrev pub readOf : (block : List ℕ) (address : ℕ) → Reading
-readOf b a = cond (leb a 15) (read-byte (byte b a)) (read-refused 23 0)
+readOf b a = cond (leb a maxAddress) (read-byte (byte b a)) (read-refused 23 0)
 
 -- "The interrupt is raised while status and mask share a bit." (Theorems: raised-exactly)
 abbrev pub raised : (block : List ℕ) → Bool
@@ -90,4 +94,4 @@ pub data Register : Type 0 where
   command status kept fixed absent : Register
 
 abbrev pub registerAt : (address : ℕ) → Register
-registerAt a = cond (eqb a 0) command (cond (eqb a 1) status (cond (leb a 15) (cond (isKept a) kept fixed) absent))
+registerAt a = cond (eqb a 0) command (cond (eqb a 1) status (cond (leb a maxAddress) (cond (isKept a) kept fixed) absent))

@@ -13,7 +13,7 @@ use borrow.Author.Tests.{le-leb, lt-leb, ne-eqb}
 use Rattle.privileges.specs.Sets.{isOne, has, meet}
 use Rattle.privileges.specs.Booleans.{and-both}
 use Rattle.privileges.specs.Laws.{has-none, has-meet, has-union, has-xor, has-one, has-ext}
-use Rattle.blocks.specs.Block.{without, withFlag, isKept, Register, command, status, kept, fixed, absent, registerAt}
+use Rattle.blocks.specs.Block.{maxAddress, without, withFlag, isKept, Register, command, status, kept, fixed, absent, registerAt}
 
 -- ---- bits
 less : (a b : Bool) → (a && not (a && b) || not a && (a && b)) ≡ (a && not b)
@@ -94,18 +94,18 @@ module _ (a : ℕ) where
   abbrev from-two : (inside keeps : Bool) → Register
   from-two x k = cond x (cond k kept fixed) absent
 
-  past-status : 2 ≤ a → registerAt a ≡ from-two (leb a 15) (isKept a)
-  past-status h = λ i. cond (ne-eqb a 0 (λ e. omega arith) i) command (cond (ne-eqb a 1 (λ e. omega arith) i) status (from-two (leb a 15) (isKept a)))
+  past-status : 2 ≤ a → registerAt a ≡ from-two (leb a maxAddress) (isKept a)
+  past-status h = λ i. cond (ne-eqb a 0 (λ e. omega arith) i) command (cond (ne-eqb a 1 (λ e. omega arith) i) status (from-two (leb a maxAddress) (isKept a)))
 
-  pub at-inside : 2 ≤ a → a ≤ 15 → registerAt a ≡ cond (isKept a) kept fixed
-  at-inside h l = past-status h ∙ (λ i. from-two (le-leb a 15 l i) (isKept a))
+  pub at-inside : 2 ≤ a → a ≤ maxAddress → registerAt a ≡ cond (isKept a) kept fixed
+  at-inside h l = past-status h ∙ (λ i. from-two (le-leb a maxAddress l i) (isKept a))
 
   pub at-kept : 3 ≤ a → a ≤ 5 → registerAt a ≡ kept
   at-kept h l = at-inside (omega arith) (omega arith) ∙ (λ i. cond (and-both (le-leb 3 a h) (le-leb a 5 l) i) kept fixed)
 
-  pub at-fixed : 6 ≤ a → a ≤ 15 → registerAt a ≡ fixed
+  pub at-fixed : 6 ≤ a → a ≤ maxAddress → registerAt a ≡ fixed
   at-fixed h l =
       at-inside (omega arith) l ∙ (λ i. cond ((ap (λ (x : Bool). leb 3 a && x) (lt-leb a 5 h) ∙ never (leb 3 a)) i) kept fixed)
 
-  pub at-absent : 15 < a → registerAt a ≡ absent
-  at-absent h = past-status (omega arith) ∙ (λ i. from-two (lt-leb a 15 h i) (isKept a))
+  pub at-absent : maxAddress < a → registerAt a ≡ absent
+  at-absent h = past-status (omega arith) ∙ (λ i. from-two (lt-leb a maxAddress h i) (isKept a))

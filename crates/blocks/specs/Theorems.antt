@@ -16,7 +16,7 @@ use Rattle.privileges.specs.Booleans.{and-left, and-right, and-both}
 use Rattle.privileges.specs.Laws.{has-none, has-meet}
 use Rattle.program.specs.Bytes.{byte, word16}
 use Rattle.semantics.specs.Runs.{Ground, ended, stopped, RunCounts, Answer, refused, ran}
-use Rattle.blocks.specs.Block.{RunRegisters, registersOf, withFlag, afterRun, read-byte, read-refused, readOf, raised}
+use Rattle.blocks.specs.Block.{maxAddress, RunRegisters, registersOf, withFlag, afterRun, read-byte, read-refused, readOf, raised}
 use Rattle.blocks.specs.Laws.{flag-low, flag-high, SomeBit, NoBit, find-bit, no-bit}
 
 -- ---- "It sets one status bit and clears the other two"
@@ -135,8 +135,8 @@ raised-exactly block h = (
 )
 
 -- ---- "An address above 15 is answered with 23"
-pub inside-read : (block : List ℕ) (a : ℕ) → a ≤ 15 → readOf block a ≡ read-byte (byte block a)
-inside-read block a h = λ i. cond (le-leb a 15 h i) (read-byte (byte block a)) (read-refused 23 0)
+pub inside-read : (block : List ℕ) (a : ℕ) → a ≤ maxAddress → readOf block a ≡ read-byte (byte block a)
+inside-read block a h = λ i. cond (le-leb a maxAddress h i) (read-byte (byte block a)) (read-refused 23 0)
 
-pub absent-read : (block : List ℕ) (a : ℕ) → 15 < a → readOf block a ≡ read-refused 23 0
-absent-read block a above = λ i. cond (lt-leb a 15 above i) (read-byte (byte block a)) (read-refused 23 0)
+pub absent-read : (block : List ℕ) (a : ℕ) → maxAddress < a → readOf block a ≡ read-refused 23 0
+absent-read block a above = λ i. cond (lt-leb a maxAddress above i) (read-byte (byte block a)) (read-refused 23 0)

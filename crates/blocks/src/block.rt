@@ -1,6 +1,8 @@
 // The block by value, what a run puts into it, and the answers of its accesses. specs/Answers.antt gives the paper's number and values of each case.
 pub const BLOCK_BYTES: usize = 16;
 
+pub const MAX_ADDRESS: u32 = 15;
+
 pub struct Block {
     pub bytes: [u8; BLOCK_BYTES],
 }

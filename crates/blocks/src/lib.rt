@@ -9,6 +9,7 @@ pub mod update;
 
 use block::BLOCK_BYTES;
 use block::Block;
+use block::MAX_ADDRESS;
 use block::Read;
 use update::stored;
 
@@ -23,7 +24,7 @@ pub fn new_block() -> Block
 pub fn read(b: Block, address: u32) -> Read
     ensures { λ r. ⌜ readModel r ≡ readOf (b .bytes) address ⌝ }
 {
-    if 15 < address {
+    if MAX_ADDRESS < address {
         return Read::Refused;
     }
     let at = address as usize;

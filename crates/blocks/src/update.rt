@@ -2,7 +2,7 @@
 ghost use mathlib.Core.Path.{_≡_};
 ghost use Prim.Native.Nat.{_<_};
 ghost use lib.ListN.{set};
-ghost use Rattle.blocks.specs.Block.{blockBytes, without as withoutOf, withFlag as withFlagOf, afterRun};
+ghost use Rattle.blocks.specs.Block.{maxAddress, blockBytes, without as withoutOf, withFlag as withFlagOf, afterRun};
 ghost use Rattle.blocks.specs.Internal.{registersModel, setPair};
 use crate::block::Block;
 use crate::block::RunRegisters;
@@ -33,7 +33,7 @@ pub fn stored(b: Block, at: usize, value: u8) -> Block
 
 // A pair of registers, the highest byte first.
 fn stored_pair(b: Block, at: usize, n: u16) -> Block
-    requires { ⌜ at < 15 ⌝ }
+    requires { ⌜ at < maxAddress ⌝ }
     ensures { λ r. ⌜ r .bytes ≡ setPair (b .bytes) at n ⌝ }
 {
     stored(stored(b, at, (n / 256) as u8), at + 1, (n % 256) as u8)

@@ -4,7 +4,7 @@ ghost use mathlib.Core.Path.{_≡_};
 ghost use Rattle.semantics.specs.Runs.{eager as eagerRunner, lazy as lazyRunner, run};
 ghost use Rattle.semantics.specs.Recording.{recording};
 ghost use Rattle.interp.specs.Answers.{requestOf, buffersOf};
-ghost use Rattle.replies.specs.Replies.{decodeReply, typecheckReply, replied, called, enforces, left, leftAll};
+ghost use Rattle.replies.specs.Replies.{decodeReply, typecheckReply, replied, called, enforces, leftReply, leftAll};
 ghost use Rattle.queues.specs.Answers.{jobOf};
 ghost use Rattle.capi_lines.specs.Entries.{linesAdd, leftAdd, linesServe, leftServe};
 ghost use Rattle.capi_explain.specs.Entries.{explainCall, leftExplain};
@@ -16,14 +16,14 @@ ghost use Rattle.capi_record.specs.Entries.{recordCall, leftRecord};
 ghost use Rattle.capi_piece.specs.Entries.{pieceReply};
 ghost use Rattle.subterms.specs.Judging.{judging};
 ghost use Rattle.capi_term.specs.Entries.{termReply};
-ghost use Rattle.intervals.specs.Runs.{rangeRun};
-ghost use Rattle.capi_ranges.specs.Entries.{rangeCall};
+ghost use Rattle.intervals.specs.Runs.{intervalRun};
+ghost use Rattle.capi_ranges.specs.Entries.{intervalCall};
 ghost use Rattle.capi_block.specs.Blocks.{blockRead, leftBlock, blockWrite};
 
 // What any bytes are as a sheet.
 #[no_mangle]
 pub extern "C" fn sovzedal_decode(sheet: &[u8], answer: &mut [u32]) -> u32
-    ensures { λ r. ⌜ left r (now (answer .exit)) ≡ replied (now (answer .entry)) (decodeReply (now (sheet .entry))) ⌝ }
+    ensures { λ r. ⌜ leftReply r (now (answer .exit)) ≡ replied (now (answer .entry)) (decodeReply (now (sheet .entry))) ⌝ }
 {
     capi_base::decode(sheet, answer)
 }
@@ -31,7 +31,7 @@ pub extern "C" fn sovzedal_decode(sheet: &[u8], answer: &mut [u32]) -> u32
 // The type checker's verdict on a sheet.
 #[no_mangle]
 pub extern "C" fn sovzedal_typecheck(sheet: &[u8], answer: &mut [u32]) -> u32
-    ensures { λ r. ⌜ left r (now (answer .exit)) ≡ replied (now (answer .entry)) (typecheckReply (now (sheet .entry))) ⌝ }
+    ensures { λ r. ⌜ leftReply r (now (answer .exit)) ≡ replied (now (answer .entry)) (typecheckReply (now (sheet .entry))) ⌝ }
 {
     capi_base::typecheck(sheet, answer)
 }
@@ -101,8 +101,8 @@ pub extern "C" fn sovzedal_run_ranges(
     answer: &mut [u32],
 ) -> u32
     ensures { λ r. ⌜ leftAll r (now (answer .exit)) (buffersOf (now (cells .exit)) (now (posts .exit)) [])
-        ≡ rangeCall (now (answer .entry)) (buffersOf (now (cells .entry)) (now (posts .entry)) [])
-        (rangeRun (now (sheet .entry)) (now (pairs .entry)) (requestOf eagerRunner (enforces enforce) (now (start .entry)) calls depth)
+        ≡ intervalCall (now (answer .entry)) (buffersOf (now (cells .entry)) (now (posts .entry)) [])
+        (intervalRun (now (sheet .entry)) (now (pairs .entry)) (requestOf eagerRunner (enforces enforce) (now (start .entry)) calls depth)
         (buffersOf (now (cells .entry)) (now (posts .entry)) [])) ⌝ }
 {
     capi_ranges::ranges(
@@ -185,7 +185,7 @@ pub extern "C" fn sovzedal_record_lazy(
 // A register's byte. The block is a list of 16 bytes.
 #[no_mangle]
 pub extern "C" fn sovzedal_block_read(block: &[u8], address: u32, answer: &mut [u32]) -> u32
-    ensures { λ r. ⌜ left r (now (answer .exit)) ≡ blockRead (now (block .entry)) address (now (answer .entry)) ⌝ }
+    ensures { λ r. ⌜ leftReply r (now (answer .exit)) ≡ blockRead (now (block .entry)) address (now (answer .entry)) ⌝ }
 {
     capi_block::read(block, address, answer)
 }
@@ -266,7 +266,7 @@ pub extern "C" fn sovzedal_erase(sheet: &[u8], lean: &mut [u8], answer: &mut [u3
 // Whether a sheet names a privilege, and the lowest term that does.
 #[no_mangle]
 pub extern "C" fn sovzedal_names(sheet: &[u8], privilege: u32, answer: &mut [u32]) -> u32
-    ensures { λ r. ⌜ left r (now (answer .exit)) ≡ replied (now (answer .entry)) (namesReply (naming (now (sheet .entry)) privilege)) ⌝ }
+    ensures { λ r. ⌜ leftReply r (now (answer .exit)) ≡ replied (now (answer .entry)) (namesReply (naming (now (sheet .entry)) privilege)) ⌝ }
 {
     capi_names::names(sheet, privilege, answer)
 }
@@ -274,7 +274,7 @@ pub extern "C" fn sovzedal_names(sheet: &[u8], privilege: u32, answer: &mut [u32
 // The unit's record held against the office's.
 #[no_mangle]
 pub extern "C" fn sovzedal_compare(unit: &[u8], office: &[u8], answer: &mut [u32]) -> u32
-    ensures { λ r. ⌜ left r (now (answer .exit)) ≡ compareCall (now (unit .entry)) (now (office .entry)) (now (answer .entry)) ⌝ }
+    ensures { λ r. ⌜ leftReply r (now (answer .exit)) ≡ compareCall (now (unit .entry)) (now (office .entry)) (now (answer .entry)) ⌝ }
 {
     capi_compare::compare(unit, office, answer)
 }
@@ -282,7 +282,7 @@ pub extern "C" fn sovzedal_compare(unit: &[u8], office: &[u8], answer: &mut [u32
 // The smallest faulty piece of a sheet, with the place of its record.
 #[no_mangle]
 pub extern "C" fn sovzedal_piece(sheet: &[u8], answer: &mut [u32]) -> u32
-    ensures { λ r. ⌜ left r (now (answer .exit)) ≡ replied (now (answer .entry)) (pieceReply (now (sheet .entry))) ⌝ }
+    ensures { λ r. ⌜ leftReply r (now (answer .exit)) ≡ replied (now (answer .entry)) (pieceReply (now (sheet .entry))) ⌝ }
 {
     capi_piece::piece(sheet, answer)
 }
@@ -290,7 +290,7 @@ pub extern "C" fn sovzedal_piece(sheet: &[u8], answer: &mut [u32]) -> u32
 // The judgement of one term of a sheet, where it stands.
 #[no_mangle]
 pub extern "C" fn sovzedal_term(sheet: &[u8], term: u32, answer: &mut [u32]) -> u32
-    ensures { λ r. ⌜ left r (now (answer .exit)) ≡ replied (now (answer .entry)) (termReply (judging (now (sheet .entry)) term)) ⌝ }
+    ensures { λ r. ⌜ leftReply r (now (answer .exit)) ≡ replied (now (answer .entry)) (termReply (judging (now (sheet .entry)) term)) ⌝ }
 {
     capi_term::term(sheet, term, answer)
 }

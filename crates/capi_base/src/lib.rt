@@ -3,7 +3,7 @@ ghost use mathlib.Core.List.{[]};
 ghost use mathlib.Core.Path.{_≡_};
 ghost use Rattle.semantics.specs.Runs.{eager as eagerRunner, lazy as lazyRunner, run};
 ghost use Rattle.interp.specs.Answers.{requestOf, buffersOf};
-ghost use Rattle.replies.specs.Replies.{decodeReply, typecheckReply, replied, called, enforces, left, leftAll};
+ghost use Rattle.replies.specs.Replies.{decodeReply, typecheckReply, replied, called, enforces, leftReply, leftAll};
 use replies::ANSWER_NUMBERS;
 use replies::of_decoded;
 use replies::of_run;
@@ -12,7 +12,7 @@ use replies::put;
 
 // What any bytes are as a sheet.
 pub fn decode(sheet: &[u8], answer: &mut [u32]) -> u32
-    ensures { λ r. ⌜ left r (now (answer .exit)) ≡ replied (now (answer .entry)) (decodeReply (now (sheet .entry))) ⌝ }
+    ensures { λ r. ⌜ leftReply r (now (answer .exit)) ≡ replied (now (answer .entry)) (decodeReply (now (sheet .entry))) ⌝ }
 {
     if answer.len() < ANSWER_NUMBERS {
         return 3;
@@ -22,7 +22,7 @@ pub fn decode(sheet: &[u8], answer: &mut [u32]) -> u32
 
 // The type checker's verdict on a sheet.
 pub fn typecheck(sheet: &[u8], answer: &mut [u32]) -> u32
-    ensures { λ r. ⌜ left r (now (answer .exit)) ≡ replied (now (answer .entry)) (typecheckReply (now (sheet .entry))) ⌝ }
+    ensures { λ r. ⌜ leftReply r (now (answer .exit)) ≡ replied (now (answer .entry)) (typecheckReply (now (sheet .entry))) ⌝ }
 {
     if answer.len() < ANSWER_NUMBERS {
         return 3;

@@ -12,7 +12,7 @@ use Rattle.blocks.specs.Answers.{accessModel}
 use Rattle.registers.specs.Writes.{writeOf}
 use Rattle.registers.specs.Answers.{writtenModel}
 use Rattle.registers.specs.declared.Written.{Written}
-use Rattle.replies.specs.Replies.{answerNumbers, unfit, written, notDone, left}
+use Rattle.replies.specs.Replies.{answerNumbers, unfit, written, notDone, leftReply}
 use Rattle.replies.specs.Laws.{fit, in-place}
 use Rattle.capi_block.specs.Blocks.{accessed, readReply, accessReply, blockRead, leftBlock, afterWrite, blockWrite}
 use Rattle.replies.specs.Internal.{replyOf, Put}
@@ -25,7 +25,7 @@ replied-by status cause byte false = refl
 
 module _ (block answer : List ℕ) where
   -- ---- nothing is done
-  pub short-read : (a : ℕ) → unfit blockBytes answerNumbers block answer ≡ true → left 3 answer ≡ blockRead block a answer
+  pub short-read : (a : ℕ) → unfit blockBytes answerNumbers block answer ≡ true → leftReply 3 answer ≡ blockRead block a answer
   short-read a e = λ i. cond (sym e i) (notDone answer) (written (readReply (readOf block a) (raised block)) answer)
 
   pub short-write : (a v : ℕ) (s : List ℕ) (b : Buffers) → unfit blockBytes answerNumbers block answer ≡ true
@@ -33,13 +33,14 @@ module _ (block answer : List ℕ) where
   short-write a v s b e = λ i. cond (sym e i) (leftBlock 3 answer block b) (afterWrite answer (writeOf block a v s b))
 
   -- ---- the access is done
-  module _ (size : length block ≡ 16) (room : 8 ≤ length answer) {loaded : List ℕ} (load : loaded ≡ block) {x : Reply} {status : ℕ} {after : List ℕ}
+  module _ (size : length block ≡ blockBytes) (room : 8 ≤ length answer) {loaded : List ℕ} (load : loaded ≡ block) {x : Reply} {status : ℕ} {after : List ℕ}
       (put : Put x answer status after) where
     pub read-given : (a : ℕ) {m : Reading} {r : Bool} → m ≡ readOf loaded a → r ≡ raised loaded → replyOf x ≡ readReply m r
-        → left status after ≡ blockRead block a answer
+        → leftReply status after ≡ blockRead block a answer
     read-given a f g e =
         in-place answer room (e ∙ (λ i. readReply ((f ∙ ap (λ (l : List ℕ). readOf l a) load) i) ((g ∙ ap raised load) i))) put
-        ∙ (λ i. cond (sym (fit 16 8 block answer size room) i) (notDone answer) (written (readReply (readOf block a) (raised block)) answer))
+        ∙ (λ i. cond (sym (fit blockBytes answerNumbers block answer size room) i) (notDone answer)
+        (written (readReply (readOf block a) (raised block)) answer))
 
     pub write-given : (a v : ℕ) (s : List ℕ) (b : Buffers) (w : Written) {cells posts block′ : List ℕ} {r : Bool}
         → writtenModel w cells posts ≡ writeOf loaded a v s b → block′ ≡ w .block .bytes → r ≡ raised (w .block .bytes)
@@ -47,4 +48,4 @@ module _ (block answer : List ℕ) where
     write-given a v s b w {cells = cells} {posts = posts} f g h e =
         (λ i. record { reply = in-place answer room (e ∙ ap (accessReply (accessModel (w .access))) h) put i; block = g i; buffers = buffersOf cells posts [] })
         ∙ ap (afterWrite answer) (f ∙ ap (λ (l : List ℕ). writeOf l a v s b) load)
-        ∙ (λ i. cond (sym (fit 16 8 block answer size room) i) (leftBlock 3 answer block b) (afterWrite answer (writeOf block a v s b)))
+        ∙ (λ i. cond (sym (fit blockBytes answerNumbers block answer size room) i) (leftBlock 3 answer block b) (afterWrite answer (writeOf block a v s b)))

@@ -5,7 +5,7 @@ use Prim.Native.Nat.{ℕ}
 use Rattle.semantics.specs.Runs.{Buffers}
 use Rattle.blocks.specs.Block.{blockBytes, Reading, read-byte, read-refused, Access, access-done, access-refused, readOf, raised}
 use Rattle.registers.specs.Writes.{Written, writeOf}
-use Rattle.replies.specs.Replies.{Reply, bit, answerNumbers, unfit, written, notDone, left}
+use Rattle.replies.specs.Replies.{Reply, bit, answerNumbers, unfit, written, notDone, leftReply}
 
 -- a cause and its place, whether the interrupt is raised after the access, and the byte read; a run's own answer stands in the block
 abbrev pub accessed : (status cause place : ℕ) (raised : Bool) (byte : ℕ) → Reply
@@ -30,7 +30,7 @@ pub record BlockLeft : Type 0 where
   pub buffers : Buffers
 
 abbrev pub leftBlock : (status : ℕ) (answer block : List ℕ) → Buffers → BlockLeft
-leftBlock status answer block b = record { reply = left status answer; block = block; buffers = b }
+leftBlock status answer block b = record { reply = leftReply status answer; block = block; buffers = b }
 
 abbrev pub afterWrite : (answer : List ℕ) → Written → BlockLeft
 afterWrite answer w = record { reply = written (accessReply (w .access) (raised (w .block))) answer; block = w .block; buffers = w .buffers }

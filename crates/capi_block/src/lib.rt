@@ -2,7 +2,7 @@
 ghost use mathlib.Core.List.{[]};
 ghost use mathlib.Core.Path.{_≡_};
 ghost use Rattle.interp.specs.Answers.{buffersOf};
-ghost use Rattle.replies.specs.Replies.{left};
+ghost use Rattle.replies.specs.Replies.{leftReply};
 ghost use Rattle.capi_block.specs.Blocks.{blockRead, leftBlock, blockWrite};
 
 mod block;
@@ -17,7 +17,7 @@ use replies::put;
 
 // A register's byte.
 pub fn read(block: &[u8], address: u32, answer: &mut [u32]) -> u32
-    ensures { λ r. ⌜ left r (now (answer .exit)) ≡ blockRead (now (block .entry)) address (now (answer .entry)) ⌝ }
+    ensures { λ r. ⌜ leftReply r (now (answer .exit)) ≡ blockRead (now (block .entry)) address (now (answer .entry)) ⌝ }
 {
     if block.len() != BLOCK_BYTES {
         return 3;

@@ -2,7 +2,7 @@
 ghost use mathlib.Core.Path.{_≡_};
 ghost use Prim.Native.Nat.{_≤_};
 ghost use Rattle.compare.specs.Answers.{comparisonModel};
-ghost use Rattle.replies.specs.Replies.{left};
+ghost use Rattle.replies.specs.Replies.{leftReply};
 ghost use Rattle.replies.specs.Internal.{replyOf};
 ghost use Rattle.capi_compare.specs.Entries.{comparedReply, comparisonReply, compareCall, maxRecord};
 ghost use Rattle.capi_compare.specs.Internal.{FewEntries};
@@ -15,7 +15,7 @@ use replies::put;
 pub const MAX_RECORD: usize = 4294967295;
 
 pub fn compare(unit: &[u8], office: &[u8], answer: &mut [u32]) -> u32
-    ensures { λ r. ⌜ left r (now (answer .exit)) ≡ compareCall (now (unit .entry)) (now (office .entry)) (now (answer .entry)) ⌝ }
+    ensures { λ r. ⌜ leftReply r (now (answer .exit)) ≡ compareCall (now (unit .entry)) (now (office .entry)) (now (answer .entry)) ⌝ }
 {
     if MAX_RECORD < unit.len() {
         return 3;

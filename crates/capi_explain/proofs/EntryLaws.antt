@@ -17,13 +17,13 @@ use Rattle.replies.specs.Internal.{replyOf, Put}
 use Rattle.replies.specs.Laws.{in-place}
 use Rattle.replies.specs.declared.Reply.{Reply}
 use Rattle.typing.specs.Places.{Placed, placedNumber, rootOf}
-use Rattle.chains.specs.Explaining.{next, onward, chain, chainOf, Explained as ExplainedOf, explainedIf, explainedIn, explainedBy, explanation}
-use Rattle.chains.specs.Answers.{answerModel, chainTerms, padded, chainLength, ExplainedAs}
+use Rattle.chains.specs.Explaining.{next, followedBy, chain, chainOf, Explained as ExplainedOf, explainedIf, explainedIn, explainedBy, explanation}
+use Rattle.chains.specs.Answers.{explanationModel, chainTerms, padded, chainLength, ExplainedAs}
 use Rattle.chains.specs.declared.answer.Explanation.{Explanation}
 use Rattle.chains.specs.declared.answer.Explanation.the-variants.{Chain, NotNeeded, Unreadable, Refused, NoPrivilege}
 use Rattle.chains.specs.declared.answer.Explained.{Explained}
 use Rattle.capi_explain.specs.Entries.{chainReply, explainReply, chainAfter, leftExplain, explainLeft, narrow, explainCall}
-use Rattle.capi_explain.specs.Internal.{Listed, replyFor, listAfter}
+use Rattle.capi_explain.specs.Internal.{ChainFits, explanationReply, chainLeft}
 
 -- ---- no chain has more than 32 terms
 module _ (T : Types) (A : ℕ → ℕ) (p : ℕ) where
@@ -32,7 +32,7 @@ module _ (T : Types) (A : ℕ → ℕ) (p : ℕ) where
   chain-short zero x = omega arith
   chain-short (suc k) x = go (next T A p x) (chain-short k)
     where
-      go : (o : Option Placed) → ((y : Placed) → length (chain T A p k y) ≤ k) → suc (length (onward T A p o (λ y. chain T A p k y))) ≤ suc k
+      go : (o : Option Placed) → ((y : Placed) → length (chain T A p k y) ≤ k) → suc (length (followedBy T A p o (λ y. chain T A p k y))) ≤ suc k
       go none h = omega arith
       go (some y) h = omega (arith, h y)
 
@@ -57,20 +57,20 @@ explained-short s p = by-verdict (verdict s)
     by-verdict (accepted n τ N) = by-number N (leb p maxPrivilege)
     by-verdict (rejected c at) = omega arith
 
-pub listed : (s : List ℕ) (p : ℕ) (r : Explained) → ExplainedAs r (explanation s p) → Listed (r .answer)
+pub listed : (s : List ℕ) (p : ℕ) (r : Explained) → ExplainedAs r (explanation s p) → ChainFits (r .answer)
 listed s p r h = omega (arith, h .length-is, explained-short s p)
 
 -- ---- the reply and the list, by the answer
 module _ (terms : List ℕ) where
-  reply-by : (a : Explanation) → chainLength a ≡ length (chainTerms (answerModel a terms)) → replyFor a ≡ explainReply (answerModel a terms)
+  reply-by : (a : Explanation) → chainLength a ≡ length (chainTerms (explanationModel a terms)) → explanationReply a ≡ explainReply (explanationModel a terms)
   reply-by (Chain n) h = ap chainReply h
   reply-by NotNeeded h = refl
   reply-by (Unreadable f) h = refl
   reply-by (Refused f) h = refl
   reply-by NoPrivilege h = refl
 
-  list-by : (chain : List ℕ) (a : Explanation) → terms ≡ padded (chainTerms (answerModel a terms))
-      → listAfter a terms chain ≡ chainAfter (answerModel a terms) chain
+  list-by : (chain : List ℕ) (a : Explanation) → terms ≡ padded (chainTerms (explanationModel a terms))
+      → chainLeft a terms chain ≡ chainAfter (explanationModel a terms) chain
   list-by chain (Chain n) h = ap (λ (l : List ℕ). l ++ drop maxNesting chain) h
   list-by chain NotNeeded h = ap (λ (l : List ℕ). l ++ drop maxNesting chain) h
   list-by chain (Unreadable f) h = refl
@@ -78,8 +78,8 @@ module _ (terms : List ℕ) where
   list-by chain NoPrivilege h = refl
 
 -- the list afterwards, by the case that a match found
-pub kept : (terms chain : List ℕ) {x y : Explanation} {now : List ℕ} → x ≡ y → now ≡ listAfter y terms chain → now ≡ listAfter x terms chain
-kept terms chain e h = h ∙ sym (ap (λ (a : Explanation). listAfter a terms chain) e)
+pub kept : (terms chain : List ℕ) {x y : Explanation} {now : List ℕ} → x ≡ y → now ≡ chainLeft y terms chain → now ≡ chainLeft x terms chain
+kept terms chain e h = h ∙ sym (ap (λ (a : Explanation). chainLeft a terms chain) e)
 
 -- ---- the entry
 module _ (s : List ℕ) (p : ℕ) (chain answer : List ℕ) where
@@ -96,18 +96,18 @@ module _ (s : List ℕ) (p : ℕ) (chain answer : List ℕ) where
   wide h g = λ i. le-ltb (length chain) maxNesting h i || le-ltb (length answer) 8 g i
 
   pub given : maxNesting ≤ length chain → 8 ≤ length answer → (r : Explained) → ExplainedAs r (explanation s p) → {chain′ : List ℕ}
-      → chain′ ≡ listAfter (r .answer) (r .terms) chain → {x : Reply} → replyOf x ≡ replyFor (r .answer) → {status : ℕ} {after : List ℕ}
+      → chain′ ≡ chainLeft (r .answer) (r .terms) chain → {x : Reply} → replyOf x ≡ explanationReply (r .answer) → {status : ℕ} {after : List ℕ}
       → Put x answer status after → leftExplain status after chain′ ≡ explainCall s p chain answer
   given h g r explains {chain′ = chain′} f e put =
       (λ i. record { reply = in-place answer g (e ∙ reply-by (r .terms) (r .answer) as-long) put i; chain = list-after i })
       ∙ ap (explainLeft answer chain) (explains .answer-is)
       ∙ (λ i. cond (sym (wide h g) i) (leftExplain 3 answer chain) (explainLeft answer chain (explanation s p)))
     where
-      as-long : chainLength (r .answer) ≡ length (chainTerms (answerModel (r .answer) (r .terms)))
+      as-long : chainLength (r .answer) ≡ length (chainTerms (explanationModel (r .answer) (r .terms)))
       as-long = explains .length-is ∙ sym (ap (λ (x : ExplainedOf). length (chainTerms x)) (explains .answer-is))
 
-      as-terms : r .terms ≡ padded (chainTerms (answerModel (r .answer) (r .terms)))
+      as-terms : r .terms ≡ padded (chainTerms (explanationModel (r .answer) (r .terms)))
       as-terms = explains .terms-are ∙ sym (ap (λ (x : ExplainedOf). padded (chainTerms x)) (explains .answer-is))
 
-      list-after : chain′ ≡ chainAfter (answerModel (r .answer) (r .terms)) chain
+      list-after : chain′ ≡ chainAfter (explanationModel (r .answer) (r .terms)) chain
       list-after = f ∙ list-by (r .terms) chain (r .answer) as-terms

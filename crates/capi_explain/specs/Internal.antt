@@ -12,21 +12,21 @@ use Rattle.chains.specs.Answers.{chainLength}
 use Rattle.capi_explain.specs.Entries.{chainReply}
 
 -- a chain has at most 32 terms
-abbrev pub Listed : Explanation → Type 0
-Listed x = chainLength x ≤ maxNesting
+abbrev pub ChainFits : Explanation → Type 0
+ChainFits x = chainLength x ≤ maxNesting
 
 -- what is told of an answer
-abbrev pub replyFor : Explanation → Reply
-replyFor (Chain n) = chainReply n
-replyFor NotNeeded = chainReply 0
-replyFor (Unreadable f) = refusal (decodingCause f) (decodingPlace f)
-replyFor (Refused f) = refusal (faultCause f) (faultPlace f)
-replyFor NoPrivilege = refusal 30 0
+abbrev pub explanationReply : Explanation → Reply
+explanationReply (Chain n) = chainReply n
+explanationReply NotNeeded = chainReply 0
+explanationReply (Unreadable f) = refusal (decodingCause f) (decodingPlace f)
+explanationReply (Refused f) = refusal (faultCause f) (faultPlace f)
+explanationReply NoPrivilege = refusal 30 0
 
 -- the list after an answer with these terms
-abbrev pub listAfter : Explanation → (terms chain : List ℕ) → List ℕ
-listAfter (Chain n) terms chain = terms ++ drop maxNesting chain
-listAfter NotNeeded terms chain = terms ++ drop maxNesting chain
-listAfter (Unreadable f) terms chain = chain
-listAfter (Refused f) terms chain = chain
-listAfter NoPrivilege terms chain = chain
+abbrev pub chainLeft : Explanation → (terms chain : List ℕ) → List ℕ
+chainLeft (Chain n) terms chain = terms ++ drop maxNesting chain
+chainLeft NotNeeded terms chain = terms ++ drop maxNesting chain
+chainLeft (Unreadable f) terms chain = chain
+chainLeft (Refused f) terms chain = chain
+chainLeft NoPrivilege terms chain = chain

@@ -6,7 +6,7 @@ ghost use lib.ListN.{length, drop};
 ghost use Rattle.program.specs.Limits.{maxNesting};
 ghost use Rattle.replies.specs.Internal.{replyOf};
 ghost use Rattle.capi_explain.specs.Entries.{chainReply, explainCall, leftExplain};
-ghost use Rattle.capi_explain.specs.Internal.{Listed, replyFor, listAfter};
+ghost use Rattle.capi_explain.specs.Internal.{ChainFits, explanationReply, chainLeft};
 use chains::answer::Explanation;
 use program::limits::NESTING_PLACES;
 use replies::ANSWER_NUMBERS;
@@ -42,8 +42,8 @@ fn counted(terms: usize) -> Reply
 }
 
 fn of_explained(x: Explanation) -> Reply
-    requires { ⌜ Listed x ⌝ }
-    ensures { λ r. ⌜ replyOf r ≡ replyFor x ⌝ }
+    requires { ⌜ ChainFits x ⌝ }
+    ensures { λ r. ⌜ replyOf r ≡ explanationReply x ⌝ }
 {
     match x {
         Explanation::Chain(n) => counted(n),
@@ -60,7 +60,7 @@ fn of_explained(x: Explanation) -> Reply
 // Writes the terms of a chain, or zeros where there is none. A refusal leaves the list.
 fn keep(x: Explanation, terms: [u16; NESTING_PLACES], chain: &mut [u16])
     requires { ⌜ maxNesting ≤ length (now chain) ⌝ }
-    ensures { λ _. ⌜ now (chain .exit) ≡ listAfter x terms (now (chain .entry)) ⌝ }
+    ensures { λ _. ⌜ now (chain .exit) ≡ chainLeft x terms (now (chain .entry)) ⌝ }
 {
     match x {
         Explanation::Chain(n) => copy(terms, chain),

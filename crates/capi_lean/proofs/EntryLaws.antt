@@ -11,7 +11,7 @@ use Rattle.replies.specs.declared.Reply.{Reply}
 use Rattle.erasure.specs.Erasure.{erasure}
 use Rattle.erasure.specs.Answers.{erasedModel}
 use Rattle.erasure.specs.declared.answer.Erased.{Erased}
-use Rattle.lean.specs.Answers.{after}
+use Rattle.lean.specs.Answers.{afterErasure}
 use Rattle.capi_lean.specs.Entries.{eraseReply, leftErase, eraseLeft, eraseCall}
 
 module _ (s b answer : List ℕ) where
@@ -20,7 +20,7 @@ module _ (s b answer : List ℕ) where
   short-answer h = λ i. cond (sym (lt-ltb (length answer) 8 h) i) (leftErase 3 answer b) (eraseLeft answer (erasure s b))
 
   -- it holds the reply
-  pub given : 8 ≤ length answer → (r : Erased) {b′ : List ℕ} → after r b′ ≡ erasure s b → {x : Reply} → replyOf x ≡ eraseReply (erasedModel r)
+  pub given : 8 ≤ length answer → (r : Erased) {b′ : List ℕ} → afterErasure r b′ ≡ erasure s b → {x : Reply} → replyOf x ≡ eraseReply (erasedModel r)
       → {status : ℕ} {answer′ : List ℕ} → Put x answer status answer′ → leftErase status answer′ b′ ≡ eraseCall s b answer
   given h r {b′ = b′} left-is e put =
       (λ i. record { reply = in-place answer h e put i; buffer = b′ }) ∙ ap (eraseLeft answer) left-is

@@ -2,11 +2,11 @@
 use mathlib.Core.Bool.{cond}
 use mathlib.Core.List.{List, [], _∷_}
 use Prim.Native.Nat.{ℕ}
-use Rattle.replies.specs.Replies.{Reply, refusal, short, written, notDone, left}
-use Rattle.erasure.specs.Erasure.{Answer, refused, lean, After, erasure}
+use Rattle.replies.specs.Replies.{Reply, refusal, short, written, notDone, leftReply}
+use Rattle.erasure.specs.Erasure.{ErasureAnswer, refused, lean, AfterErasure, erasure}
 
 -- "The answer tells the new sheet's length"; or the refusal's cause and place
-abbrev pub eraseReply : Answer → Reply
+abbrev pub eraseReply : ErasureAnswer → Reply
 eraseReply (lean n) = record { status = 0; numbers = 0 ∷ 0 ∷ 0 ∷ n ∷ 0 ∷ 0 ∷ 0 ∷ 0 ∷ [] }
 eraseReply (refused c p) = refusal c p
 
@@ -16,9 +16,9 @@ pub record EraseLeft : Type 0 where
   pub buffer : List ℕ
 
 abbrev pub leftErase : (status : ℕ) (answer buffer : List ℕ) → EraseLeft
-leftErase status answer b = record { reply = left status answer; buffer = b }
+leftErase status answer b = record { reply = leftReply status answer; buffer = b }
 
-abbrev pub eraseLeft : (answer : List ℕ) → After → EraseLeft
+abbrev pub eraseLeft : (answer : List ℕ) → AfterErasure → EraseLeft
 eraseLeft answer a = record { reply = written (eraseReply (a .answer)) answer; buffer = a .buffer }
 
 -- A list for the answer of fewer than eight places: 3; nothing is done, and nothing is written anywhere.

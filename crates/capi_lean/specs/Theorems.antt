@@ -6,7 +6,7 @@ use Prim.Native.Nat.{ℕ}
 use native.Mathlib.Omega.{arith}
 use lib.ListN.{getD, take, drop}
 use Rattle.replies.specs.Replies.{short, notDone}
-use Rattle.erasure.specs.Erasure.{Answer, refused, lean, erasure}
+use Rattle.erasure.specs.Erasure.{ErasureAnswer, refused, lean, erasure}
 use Rattle.erasure.specs.Theorems.{LeanOf, Wrote, Refused, wrote, written-sheet, refused-exactly, refused-untouched}
 use Rattle.capi_lean.specs.Entries.{eraseReply, EraseLeft, eraseLeft, eraseCall}
 
@@ -28,10 +28,11 @@ pub record StatusMeans (s buffer : List ℕ) (status : ℕ) (x : EraseLeft) : Ty
   pub untouched : (status ≡ 0 → ⊥) → x .buffer ≡ buffer
 
 module _ (s b answer : List ℕ) where
-  numbers-at : (a : Answer) → erasure s b .answer ≡ a → (i : ℕ) → entry (eraseLeft answer (erasure s b)) i ≡ getD (eraseReply a .numbers ++ drop 8 answer) i 0
-  numbers-at a e i = ap (λ (x : Answer). getD (eraseReply x .numbers ++ drop 8 answer) i 0) e
+  numbers-at : (a : ErasureAnswer) → erasure s b .answer ≡ a → (i : ℕ)
+      → entry (eraseLeft answer (erasure s b)) i ≡ getD (eraseReply a .numbers ++ drop 8 answer) i 0
+  numbers-at a e i = ap (λ (x : ErasureAnswer). getD (eraseReply x .numbers ++ drop 8 answer) i 0) e
 
-  answer-status : (a : Answer) → erasure s b .answer ≡ a → StatusMeans s b (eraseReply a .status) (eraseLeft answer (erasure s b))
+  answer-status : (a : ErasureAnswer) → erasure s b .answer ≡ a → StatusMeans s b (eraseReply a .status) (eraseLeft answer (erasure s b))
   answer-status (lean n) e = record {
     wrote-lean = λ h. subst (λ (k : ℕ). Lean s b k (erasure s b .buffer)) (sym (numbers-at (lean n) e 3))
         (record { bytes = wrote s b n e; sheet = written-sheet s b n e });

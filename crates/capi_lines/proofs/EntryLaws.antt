@@ -7,7 +7,7 @@ use lib.ListN.{length, set}
 use Rattle.semantics.specs.Runs.{Buffers}
 use Rattle.interp.specs.Answers.{buffersOf, outcomeModel, countsModel}
 use Rattle.interp.specs.declared.answer.Run.the-variants.{Refused, Ran}
-use Rattle.replies.specs.Replies.{unfit, writtenNine, left}
+use Rattle.replies.specs.Replies.{unfit, writtenNine, leftReply}
 use Rattle.replies.specs.Internal.{replyOf, Put}
 use Rattle.replies.specs.Laws.{fit, in-place, run-eight, in-nine}
 use Rattle.replies.specs.declared.Reply.{Reply}
@@ -15,13 +15,13 @@ use Rattle.queues.specs.Queues.{Job, State, addOf}
 use Rattle.lines.specs.Serving as serving
 use Rattle.lines.specs.Serving.{ServeAnswer, idle, answered, serveOf}
 use Rattle.queues.specs.Answers.{linesModel, additionModel, addedModel}
-use Rattle.lines.specs.Answers.{answerModel, servedModel}
+use Rattle.lines.specs.Answers.{serveModel, servedModel}
 use Rattle.lines.specs.Theorems.{served-few}
 use Rattle.queues.specs.declared.state.Lines.{Lines}
 use Rattle.queues.specs.declared.state.Addition.{Addition}
 use Rattle.queues.specs.declared.state.Added.{Added}
-use Rattle.lines.specs.declared.answer.Answer as answers
-use Rattle.lines.specs.declared.answer.Answer.the-variants.{Idle, Outside, Run}
+use Rattle.lines.specs.declared.answer.ServeAnswer as answers
+use Rattle.lines.specs.declared.answer.ServeAnswer.the-variants.{Idle, Outside, Run}
 use Rattle.lines.specs.declared.answer.Served.{Served}
 use Rattle.capi_lines.specs.States.{stateNumbers, stateRead}
 use Rattle.capi_lines.specs.Entries.{addReply, leftAdd, stateAfter, addLeft, linesAdd, serveReply, leftServe, servedState, serveLeft, linesServe}
@@ -32,9 +32,9 @@ pub kept-added : (before : List ℕ) (s : State) {x y : Addition} {now : List �
     → now ≡ stateAfter (additionModel x) before s
 kept-added before s e h = h ∙ sym (ap (λ (a : Addition). stateAfter (additionModel a) before s) e)
 
-pub kept-served : (before : List ℕ) (s : State) {x y : answers.Answer} {now : List ℕ} → x ≡ y → now ≡ servedState (answerModel y) before s
-    → now ≡ servedState (answerModel x) before s
-kept-served before s e h = h ∙ sym (ap (λ (a : answers.Answer). servedState (answerModel a) before s) e)
+pub kept-served : (before : List ℕ) (s : State) {x y : answers.ServeAnswer} {now : List ℕ} → x ≡ y → now ≡ servedState (serveModel y) before s
+    → now ≡ servedState (serveModel x) before s
+kept-served before s e h = h ∙ sym (ap (λ (a : answers.ServeAnswer). servedState (serveModel a) before s) e)
 
 -- ---- nothing is done
 module _ (state answer store : List ℕ) where
@@ -63,8 +63,8 @@ reply-eight (answered a) = run-eight a
 
 module _ (state answer store : List ℕ) (size : length state ≡ stateNumbers) (room : 9 ≤ length answer) (b : Buffers) (old : Lines)
     (load : linesModel old ≡ stateRead state) (r : Served) {cells posts : List ℕ} (e : servedModel r cells posts ≡ serveOf (linesModel old) store b) where
-  pub serve-given : {state′ : List ℕ} → state′ ≡ servedState (answerModel (r .answer)) state (linesModel (r .lines)) → {x : Reply}
-      → replyOf x ≡ serveReply (answerModel (r .answer)) → {status : ℕ} {after : List ℕ} → Put x answer status after
+  pub serve-given : {state′ : List ℕ} → state′ ≡ servedState (serveModel (r .answer)) state (linesModel (r .lines)) → {x : Reply}
+      → replyOf x ≡ serveReply (serveModel (r .answer)) → {status : ℕ} {after : List ℕ} → Put x answer status after
       → leftServe status (set after 8 (r .line)) state′ (buffersOf cells posts []) ≡ linesServe state store b answer
   serve-given f g {status = status} {after = after} put =
       (λ i. record { reply = whole i; state = f i; buffers = buffersOf cells posts [] })
@@ -74,12 +74,12 @@ module _ (state answer store : List ℕ) (size : length state ≡ stateNumbers) 
       fits : unfit stateNumbers 9 state answer ≡ false
       fits = fit stateNumbers 9 state answer size room
 
-      whole : left status (set after 8 (r .line)) ≡ writtenNine (serveReply (answerModel (r .answer))) (r .line) answer
-      whole = in-nine answer room (serveReply (answerModel (r .answer))) (reply-eight (answerModel (r .answer))) (r .line) g put
+      whole : leftReply status (set after 8 (r .line)) ≡ writtenNine (serveReply (serveModel (r .answer))) (r .line) answer
+      whole = in-nine answer room (serveReply (serveModel (r .answer))) (reply-eight (serveModel (r .answer))) (r .line) g put
 
 -- the counts of a job's run are those of a run
 module _ (s : State) (store : List ℕ) (b : Buffers) where
-  few : (x : answers.Answer) → answerModel x ≡ serveOf s store b .answer → SmallAnswer x
+  few : (x : answers.ServeAnswer) → serveModel x ≡ serveOf s store b .answer → SmallAnswer x
   few Idle e = tt
   few Outside e = tt
   few (Run (Refused f)) e = tt

@@ -4,7 +4,7 @@ use mathlib.Core.List.{List, [], _∷_}
 use Prim.Native.Nat.{ℕ, _+_}
 use Rattle.program.specs.Screening.{Screening, clear, found}
 use Rattle.semantics.specs.Runs.{Buffers}
-use Rattle.replies.specs.Replies.{Reply, refusal, runReply, answerNumbers, unfit, written, writtenNine, notDone, left}
+use Rattle.replies.specs.Replies.{Reply, refusal, runReply, answerNumbers, unfit, written, writtenNine, notDone, leftReply}
 use Rattle.queues.specs.Queues.{Job, State, Added, addOf}
 use Rattle.lines.specs.Serving.{ServeAnswer, idle, answered, Served, serveOf}
 use Rattle.capi_lines.specs.States.{stateNumbers, stateRead, stateWritten}
@@ -22,7 +22,7 @@ pub record AddLeft : Type 0 where
   pub state : List ℕ
 
 abbrev pub leftAdd : (status : ℕ) (answer state : List ℕ) → AddLeft
-leftAdd status answer state = record { reply = left status answer; state = state }
+leftAdd status answer state = record { reply = leftReply status answer; state = state }
 
 -- the state is written anew, or, by a refusal, left
 abbrev pub stateAfter : Screening → (before : List ℕ) → State → List ℕ
@@ -50,7 +50,7 @@ pub record ServeLeft : Type 0 where
   pub buffers : Buffers
 
 abbrev pub leftServe : (status : ℕ) (answer state : List ℕ) → Buffers → ServeLeft
-leftServe status answer state b = record { reply = left status answer; state = state; buffers = b }
+leftServe status answer state b = record { reply = leftReply status answer; state = state; buffers = b }
 
 -- with no job the state is left
 abbrev pub servedState : ServeAnswer → (before : List ℕ) → State → List ℕ

@@ -6,8 +6,8 @@ use lib.ListN.{length}
 use Rattle.queues.specs.Queues.{maxLines}
 use Rattle.replies.specs.Replies.{Reply}
 use Rattle.replies.specs.Internal.{Small}
-use Rattle.lines.specs.declared.answer.Answer.{Answer}
-use Rattle.lines.specs.declared.answer.Answer.the-variants.{Idle, Outside, Run}
+use Rattle.lines.specs.declared.answer.ServeAnswer.{ServeAnswer}
+use Rattle.lines.specs.declared.answer.ServeAnswer.the-variants.{Idle, Outside, Run}
 use Rattle.capi_lines.specs.States.{stateNumbers}
 
 -- a status with a cause
@@ -15,7 +15,7 @@ abbrev pub numbered : (status cause : ℕ) → Reply
 numbered status c = record { status = status; numbers = c ∷ 0 ∷ 0 ∷ 0 ∷ 0 ∷ 0 ∷ 0 ∷ 0 ∷ [] }
 
 -- the counts of a job's run fit into 32 bits
-abbrev pub SmallAnswer : Answer → Type 0
+abbrev pub SmallAnswer : ServeAnswer → Type 0
 SmallAnswer Idle = Unit {0}
 SmallAnswer Outside = Unit {0}
 SmallAnswer (Run r) = Small r

@@ -14,7 +14,7 @@ use Rattle.semantics.specs.Runs.{Buffers}
 use Rattle.replies.specs.Replies.{notDone}
 use Rattle.replies.specs.Laws.{fit}
 use Rattle.lines.specs.Serving.{serveTurn, serveOf}
-use Rattle.lines.specs.Sessions.{Operation, add, serve, stepped, session, accepted, addedBy, addedIn, servedIn, Sound}
+use Rattle.lines.specs.Sessions.{Operation, add, serve, stepped, session, addedIf, addedBy, addedIn, servedIn, Sound}
 use Rattle.lines.specs.Theorems.{start-sound, session-sound, in-order}
 use Rattle.capi_lines.specs.States.{stateNumbers, maxAllowance, placesRead, queueRead, stateRead, stateWritten}
 use Rattle.capi_lines.specs.Entries.{AddLeft, stateAfter, addLeft, linesAdd, ServeLeft, servedState, serveLeft, linesServe}
@@ -116,7 +116,7 @@ only-small j h true zero = h
 only-small j h true (suc k) = omega arith
 only-small j h false k = omega arith
 
-accepted-small : (x : Screening) (l k : ℕ) (j : Job) → j .calls ≤ maxAllowance → SmallAllowances (accepted x l k j)
+accepted-small : (x : Screening) (l k : ℕ) (j : Job) → j .calls ≤ maxAllowance → SmallAllowances (addedIf x l k j)
 accepted-small clear l k j h = only-small j h (eqb k l)
 accepted-small (found c p) l k j h = none-small
 
@@ -135,14 +135,14 @@ nothing-small (suc (suc (suc zero))) = none-small
 nothing-small (suc (suc (suc (suc l)))) = none-small
 
 -- the states of which what is written is read back
-record Readable (s : State) : Type 0 where
+record StateReadable (s : State) : Type 0 where
   sound : Sound s
   small : (l : ℕ) → SmallAllowances (queueAt s l)
 
-start-readable : Readable start
+start-readable : StateReadable start
 start-readable = record { sound = start-sound; small = nothing-small }
 
-session-readable : (os : List Operation) (s : State) → Readable s → SmallAdds os → Readable (session os s)
+session-readable : (os : List Operation) (s : State) → StateReadable s → SmallAdds os → StateReadable (session os s)
 session-readable os s r h = record {
   sound = session-sound os s (r .sound);
   small = λ l.
@@ -221,7 +221,7 @@ pub written-size : (s : State) → length (stateWritten s) ≡ stateNumbers
 unfolding stateWritten
 written-size s = refl
 
-same-step : (o : Operation) (answer : List ℕ) (s : State) → Readable s → Room o answer → listStepped o answer (stateWritten s) ≡ stateWritten (stepped o s)
+same-step : (o : Operation) (answer : List ℕ) (s : State) → StateReadable s → Room o answer → listStepped o answer (stateWritten s) ≡ stateWritten (stepped o s)
 same-step (add l j store) answer s r room =
     ap (λ (x : AddLeft). x .state) (add-read (stateWritten s) (written-size s) s (read-back s (r .sound) (r .small)) store answer room l j)
     ∙ add-written s store l j
@@ -233,7 +233,7 @@ first-small : (o : Operation) (os : List Operation) → SmallAdds (o ∷ os) →
 first-small (add l j store) os h = ((h .0, tt), h .1)
 first-small (serve store b) os h = (tt, h)
 
-same-from : (cs : List Call) → Rooms cs → SmallAdds (operations cs) → (s : State) → Readable s
+same-from : (cs : List Call) → Rooms cs → SmallAdds (operations cs) → (s : State) → StateReadable s
     → listSession cs (stateWritten s) ≡ stateWritten (session (operations cs) s)
 same-from [] room h s r = refl
 same-from (c ∷ cs) room h s r =

@@ -2,10 +2,10 @@
 ghost use mathlib.Core.Path.{_≡_};
 ghost use Rattle.replies.specs.Internal.{replyOf};
 ghost use Rattle.queues.specs.Answers.{additionModel};
-ghost use Rattle.lines.specs.Answers.{answerModel};
+ghost use Rattle.lines.specs.Answers.{serveModel};
 ghost use Rattle.capi_lines.specs.Entries.{addReply, serveReply};
 ghost use Rattle.capi_lines.specs.Internal.{numbered, SmallAnswer};
-use lines::answer::Answer;
+use lines::answer::ServeAnswer;
 use queues::state::Addition;
 use replies::Reply;
 use replies::of_run;
@@ -31,13 +31,13 @@ pub fn of_added(x: Addition) -> Reply
     }
 }
 
-pub fn of_served(x: Answer) -> Reply
+pub fn of_served(x: ServeAnswer) -> Reply
     requires { ⌜ SmallAnswer x ⌝ }
-    ensures { λ r. ⌜ replyOf r ≡ serveReply (answerModel x) ⌝ }
+    ensures { λ r. ⌜ replyOf r ≡ serveReply (serveModel x) ⌝ }
 {
     match x {
-        Answer::Idle => plain(4, 0),
-        Answer::Outside => plain(2, 28),
-        Answer::Run(r) => of_run(r),
+        ServeAnswer::Idle => plain(4, 0),
+        ServeAnswer::Outside => plain(2, 28),
+        ServeAnswer::Run(r) => of_run(r),
     }
 }

@@ -3,11 +3,11 @@ ghost use mathlib.Core.Path.{_≡_};
 ghost use Prim.Native.Nat.{_+_, _<_, min as least};
 ghost use lib.ListN.{length};
 ghost use Rattle.queues.specs.Answers.{jobModel, queueModel, linesModel, additionModel};
-ghost use Rattle.lines.specs.Answers.{answerModel};
+ghost use Rattle.lines.specs.Answers.{serveModel};
 ghost use Rattle.capi_lines.specs.States.{stateNumbers, maxAllowance, jobRead, queueRead, stateRead, jobPart, jobNumber, numberAt, stateWritten};
 ghost use Rattle.capi_lines.specs.Entries.{stateAfter, servedState};
 ghost use Rattle.capi_lines.specs.Internal.{LineAt};
-use lines::answer::Answer;
+use lines::answer::ServeAnswer;
 use queues::queue::job_at;
 use queues::queue::size;
 use queues::state::Addition;
@@ -149,13 +149,13 @@ pub fn keep_added(x: Addition, q: Lines, state: &mut [u64])
 }
 
 // With no job the list is left.
-pub fn keep_served(x: Answer, q: Lines, state: &mut [u64])
+pub fn keep_served(x: ServeAnswer, q: Lines, state: &mut [u64])
     requires { ⌜ length (now state) ≡ stateNumbers ⌝ }
-    ensures { λ _. ⌜ now (state .exit) ≡ servedState (answerModel x) (now (state .entry)) (linesModel q) ⌝ }
+    ensures { λ _. ⌜ now (state .exit) ≡ servedState (serveModel x) (now (state .entry)) (linesModel q) ⌝ }
 {
     match x {
-        Answer::Idle => {}
-        Answer::Outside => save(q, state),
-        Answer::Run(r) => save(q, state),
+        ServeAnswer::Idle => {}
+        ServeAnswer::Outside => save(q, state),
+        ServeAnswer::Run(r) => save(q, state),
     }
 }

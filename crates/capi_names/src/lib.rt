@@ -1,6 +1,6 @@
 // Whether a sheet names a privilege, for C. include/sovzedal.h documents each argument.
 ghost use mathlib.Core.Path.{_≡_};
-ghost use Rattle.replies.specs.Replies.{replied, left};
+ghost use Rattle.replies.specs.Replies.{replied, leftReply};
 ghost use Rattle.replies.specs.Internal.{replyOf};
 ghost use Rattle.irrelevance.specs.Naming.{naming};
 ghost use Rattle.irrelevance.specs.Answers.{namedModel};
@@ -12,7 +12,7 @@ use replies::put;
 use replies::refused;
 
 pub fn names(sheet: &[u8], privilege: u32, answer: &mut [u32]) -> u32
-    ensures { λ r. ⌜ left r (now (answer .exit)) ≡ replied (now (answer .entry)) (namesReply (naming (now (sheet .entry)) privilege)) ⌝ }
+    ensures { λ r. ⌜ leftReply r (now (answer .exit)) ≡ replied (now (answer .entry)) (namesReply (naming (now (sheet .entry)) privilege)) ⌝ }
 {
     if answer.len() < ANSWER_NUMBERS {
         return 3;

@@ -16,7 +16,7 @@ use Rattle.subterms.specs.declared.answer.Piece.the-variants.{Smallest, NoPiece
 use Rattle.piece.specs.Answers.{LocatedAs}
 use Rattle.piece.specs.declared.Located.{Located}
 use Rattle.capi_piece.specs.Entries.{located, replyTo, pieceReply}
-use Rattle.capi_piece.specs.Internal.{Near, replyBy, replyFor}
+use Rattle.capi_piece.specs.Internal.{Near, replyBy, locatedReply}
 
 module _ (s : List ℕ) {x : Located} (h : LocatedAs s (pieceOf s) x) where
   pub near : Near x
@@ -27,7 +27,7 @@ module _ (s : List ℕ) {x : Located} (h : LocatedAs s (pieceOf s) x) where
   by-piece NoPiece = refl
   by-piece (Unreadable f) = refl
 
-  pub reply-is : {r : replies.Reply} → r ≡ replyFor x → r ≡ pieceReply s
+  pub reply-is : {r : replies.Reply} → r ≡ locatedReply x → r ≡ pieceReply s
   reply-is q =
       q
       ∙ (λ i. replyBy ((h .at-is ∙ sym (ap (recordPlace s) (h .piece-is))) i) ((h .len-is ∙ sym (ap recordLength (h .piece-is))) i) (x .piece))

@@ -19,5 +19,5 @@ replyBy a l (Smallest t n f) = located (faultCause f) t n a l
 replyBy a l NoPiece = located 0 0 0 0 0
 replyBy a l (Unreadable f) = refusal (decodingCause f) (decodingPlace f)
 
-abbrev pub replyFor : Located → Reply
-replyFor x = replyBy (x .at) (x .len) (x .piece)
+abbrev pub locatedReply : Located → Reply
+locatedReply x = replyBy (x .at) (x .len) (x .piece)

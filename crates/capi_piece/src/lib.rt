@@ -1,9 +1,9 @@
 // The smallest faulty piece of a sheet, for C: the place of its record stands in the answer. include/sovzedal.h documents each argument.
 ghost use mathlib.Core.Path.{_≡_};
-ghost use Rattle.replies.specs.Replies.{replied, left};
+ghost use Rattle.replies.specs.Replies.{replied, leftReply};
 ghost use Rattle.replies.specs.Internal.{replyOf};
 ghost use Rattle.capi_piece.specs.Entries.{pieceReply};
-ghost use Rattle.capi_piece.specs.Internal.{Near, replyFor};
+ghost use Rattle.capi_piece.specs.Internal.{Near, locatedReply};
 use piece::Located;
 use replies::ANSWER_NUMBERS;
 use replies::Reply;
@@ -12,7 +12,7 @@ use replies::refused;
 use subterms::answer::Piece;
 
 pub fn piece(sheet: &[u8], answer: &mut [u32]) -> u32
-    ensures { λ r. ⌜ left r (now (answer .exit)) ≡ replied (now (answer .entry)) (pieceReply (now (sheet .entry))) ⌝ }
+    ensures { λ r. ⌜ leftReply r (now (answer .exit)) ≡ replied (now (answer .entry)) (pieceReply (now (sheet .entry))) ⌝ }
 {
     if answer.len() < ANSWER_NUMBERS {
         return 3;
@@ -23,7 +23,7 @@ pub fn piece(sheet: &[u8], answer: &mut [u32]) -> u32
 
 fn of_located(x: Located) -> Reply
     requires { ⌜ Near x ⌝ }
-    ensures { λ r. ⌜ replyOf r ≡ replyFor x ⌝ }
+    ensures { λ r. ⌜ replyOf r ≡ locatedReply x ⌝ }
 {
     let p = x.piece;
     match p {

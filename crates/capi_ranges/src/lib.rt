@@ -2,21 +2,21 @@
 ghost use mathlib.Core.List.{[]};
 ghost use mathlib.Core.Path.{_≡_};
 ghost use Rattle.semantics.specs.Runs.{eager as eagerRunner};
-ghost use Rattle.intervals.specs.Runs.{rangeRun};
+ghost use Rattle.intervals.specs.Runs.{intervalRun};
 ghost use Rattle.interp.specs.Answers.{countsModel, requestOf, buffersOf};
 ghost use Rattle.numbers.specs.Codes.{CodeIs};
 ghost use Rattle.replies.specs.Replies.{enforces, leftAll};
 ghost use Rattle.replies.specs.Internal.{replyOf};
-ghost use Rattle.ranges.specs.Answers.{truthOf, outcomeModel, rangeRefusalCause, rangeRefusalPlace, rangeModel};
-ghost use Rattle.capi_ranges.specs.Entries.{truthNumber, rangeFinished, rangeReply, rangeCall};
-ghost use Rattle.capi_ranges.specs.Internal.{Uncounted, RangeReplyFits};
+ghost use Rattle.ranges.specs.Answers.{truthOf, intervalOutcomeModel, intervalRefusalCause, intervalRefusalPlace, intervalModel};
+ghost use Rattle.capi_ranges.specs.Entries.{truthNumber, intervalFinished, intervalReply, intervalCall};
+ghost use Rattle.capi_ranges.specs.Internal.{Uncounted, IntervalReplyFits};
 use interp::answer::Made;
 use numbers::Code;
-use ranges::answer::Outcome;
-use ranges::answer::RangeRun;
-use ranges::answer::Refusal;
+use ranges::answer::IntervalGround;
+use ranges::answer::IntervalOutcome;
+use ranges::answer::IntervalRefusal;
+use ranges::answer::IntervalRun;
 use ranges::answer::Truth;
-use ranges::answer::Value;
 use replies::ANSWER_NUMBERS;
 use replies::Reply;
 use replies::counted;
@@ -33,16 +33,16 @@ fn truth_number(t: Truth) -> u32
     }
 }
 
-fn of_outcome(o: Outcome, m: Made) -> Reply
+fn of_outcome(o: IntervalOutcome, m: Made) -> Reply
     requires { ⌜ Uncounted m ⌝ }
-    ensures { λ r. ⌜ replyOf r ≡ rangeFinished (outcomeModel o) (countsModel m) ⌝ }
+    ensures { λ r. ⌜ replyOf r ≡ intervalFinished (intervalOutcomeModel o) (countsModel m) ⌝ }
 {
     let none = Code { cause: 0, place: 0 };
     match o {
-        Outcome::Stop(x) => counted(1, numbers::of_stop(x), 0, 0, m),
-        Outcome::End(v) => match v {
-            Value::Truth(t) => counted(0, none, 0, truth_number(t), m),
-            Value::Interval { lowest, highest } => counted(
+        IntervalOutcome::Stop(x) => counted(1, numbers::of_stop(x), 0, 0, m),
+        IntervalOutcome::End(v) => match v {
+            IntervalGround::Truth(t) => counted(0, none, 0, truth_number(t), m),
+            IntervalGround::Interval { lowest, highest } => counted(
                 0,
                 none,
                 1,
@@ -54,25 +54,25 @@ fn of_outcome(o: Outcome, m: Made) -> Reply
 }
 
 // The refusals of a plain run, and 35.
-fn of_refusal(f: Refusal) -> Code
-    ensures { λ r. ⌜ CodeIs (rangeRefusalCause f) (rangeRefusalPlace f) r ⌝ }
+fn of_refusal(f: IntervalRefusal) -> Code
+    ensures { λ r. ⌜ CodeIs (intervalRefusalCause f) (intervalRefusalPlace f) r ⌝ }
 {
     match f {
-        Refusal::Run(x) => numbers::of_refusal(x),
-        Refusal::Pairs => Code {
+        IntervalRefusal::Run(x) => numbers::of_refusal(x),
+        IntervalRefusal::Pairs => Code {
             cause: 35,
             place: 0,
         },
     }
 }
 
-fn of_run(x: RangeRun) -> Reply
-    requires { ⌜ RangeReplyFits x ⌝ }
-    ensures { λ r. ⌜ replyOf r ≡ rangeReply (rangeModel x) ⌝ }
+fn of_run(x: IntervalRun) -> Reply
+    requires { ⌜ IntervalReplyFits x ⌝ }
+    ensures { λ r. ⌜ replyOf r ≡ intervalReply (intervalModel x) ⌝ }
 {
     match x {
-        RangeRun::Refused(f) => refused(of_refusal(f)),
-        RangeRun::Ran { outcome, made } => of_outcome(outcome, made),
+        IntervalRun::Refused(f) => refused(of_refusal(f)),
+        IntervalRun::Ran { outcome, made } => of_outcome(outcome, made),
     }
 }
 
@@ -88,8 +88,8 @@ pub fn ranges(
     answer: &mut [u32],
 ) -> u32
     ensures { λ r. ⌜ leftAll r (now (answer .exit)) (buffersOf (now (cells .exit)) (now (posts .exit)) [])
-        ≡ rangeCall (now (answer .entry)) (buffersOf (now (cells .entry)) (now (posts .entry)) [])
-        (rangeRun (now (sheet .entry)) (now (pairs .entry)) (requestOf eagerRunner (enforces enforce) (now (start .entry)) calls depth)
+        ≡ intervalCall (now (answer .entry)) (buffersOf (now (cells .entry)) (now (posts .entry)) [])
+        (intervalRun (now (sheet .entry)) (now (pairs .entry)) (requestOf eagerRunner (enforces enforce) (now (start .entry)) calls depth)
         (buffersOf (now (cells .entry)) (now (posts .entry)) [])) ⌝ }
 {
     if answer.len() < ANSWER_NUMBERS {

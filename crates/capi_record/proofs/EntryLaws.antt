@@ -11,7 +11,7 @@ use Rattle.semantics.specs.Recording.{Recorded, recording}
 use Rattle.semantics.specs.RecordTheorems.{record-holds, decisions-few}
 use Rattle.interp.specs.Answers.{runModel, buffersOf, afterRecording}
 use Rattle.interp.specs.declared.answer.RecordedRun.{RecordedRun}
-use Rattle.replies.specs.Replies.{runReply, writtenNine, left}
+use Rattle.replies.specs.Replies.{runReply, writtenNine, leftReply}
 use Rattle.replies.specs.Laws.{small}
 use Rattle.capi_record.specs.Entries.{leftRecord, recordLeft, recordCall}
 use Rattle.capi_record.specs.Internal.{RecordReplyFits}
@@ -32,7 +32,7 @@ module _ (s : List ℕ) (q : Request) (b : Buffers) (t : List ℕ) where
     reply-fits = record { counts-small = small s q b (r .run) (ap (λ (x : Recorded). x .after .answer) e); entries-small = few }
 
     pub nine-written : (answer : List ℕ) → 9 ≤ length answer → {status : ℕ} {after : List ℕ}
-        → left status after ≡ writtenNine (runReply (runModel (r .run))) (r .entries) answer
+        → leftReply status after ≡ writtenNine (runReply (runModel (r .run))) (r .entries) answer
         → leftRecord status after (buffersOf cells posts frames) noted ≡ recordCall answer b t (recording s q b t)
     nine-written answer h p =
         (λ i. record { reply = p i; buffers = buffersOf cells posts frames; noted = noted })

@@ -4,7 +4,7 @@ ghost use mathlib.Core.Path.{_≡_};
 ghost use Rattle.semantics.specs.Runs.{eager as eagerRunner, lazy as lazyRunner};
 ghost use Rattle.semantics.specs.Recording.{recording};
 ghost use Rattle.interp.specs.Answers.{runModel, requestOf, buffersOf};
-ghost use Rattle.replies.specs.Replies.{runReply, writtenNine, enforces, left};
+ghost use Rattle.replies.specs.Replies.{runReply, writtenNine, enforces, leftReply};
 ghost use Rattle.capi_record.specs.Entries.{recordCall, leftRecord};
 ghost use Rattle.capi_record.specs.Internal.{RecordReplyFitsIn};
 use interp::answer::RecordedRun;
@@ -16,7 +16,7 @@ use replies::put;
 // Writes the nine numbers and gives the status.
 fn put_nine(r: RecordedRun, answer: &mut [u32]) -> u32
     requires { ⌜ RecordReplyFitsIn r (now answer) ⌝ }
-    ensures { λ status. ⌜ left status (now (answer .exit)) ≡ writtenNine (runReply (runModel (r .run))) (r .entries) (now (answer .entry)) ⌝ }
+    ensures { λ status. ⌜ leftReply status (now (answer .exit)) ≡ writtenNine (runReply (runModel (r .run))) (r .entries) (now (answer .entry)) ⌝ }
 {
     let run = r.run;
     let status = put(of_run(run), answer);

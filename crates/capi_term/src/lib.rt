@@ -1,6 +1,6 @@
 // The judgement of one term of a sheet, for C. include/sovzedal.h documents each argument.
 ghost use mathlib.Core.Path.{_≡_};
-ghost use Rattle.replies.specs.Replies.{replied, left};
+ghost use Rattle.replies.specs.Replies.{replied, leftReply};
 ghost use Rattle.replies.specs.Internal.{replyOf};
 ghost use Rattle.subterms.specs.Judging.{judging};
 ghost use Rattle.subterms.specs.Answers.{judgedModel};
@@ -12,7 +12,7 @@ use replies::refused;
 use subterms::answer::Judged;
 
 pub fn term(sheet: &[u8], term: u32, answer: &mut [u32]) -> u32
-    ensures { λ r. ⌜ left r (now (answer .exit)) ≡ replied (now (answer .entry)) (termReply (judging (now (sheet .entry)) term)) ⌝ }
+    ensures { λ r. ⌜ leftReply r (now (answer .exit)) ≡ replied (now (answer .entry)) (termReply (judging (now (sheet .entry)) term)) ⌝ }
 {
     if answer.len() < ANSWER_NUMBERS {
         return 3;

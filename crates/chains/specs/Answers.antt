@@ -11,15 +11,15 @@ use Rattle.chains.specs.declared.answer.Explanation.{Explanation}
 use Rattle.chains.specs.declared.answer.Explanation.the-variants.{Chain, NotNeeded, Unreadable, Refused, NoPrivilege}
 use Rattle.chains.specs.declared.answer.Explained.{Explained}
 
-abbrev pub answerModel : Explanation → (terms : List ℕ) → ExplainedOf
-answerModel (Chain n) l = explained (take n l)
-answerModel NotNeeded l = not-needed
-answerModel (Unreadable f) l = refused (decodingCause f) (decodingPlace f)
-answerModel (Refused f) l = refused (faultCause f) (faultPlace f)
-answerModel NoPrivilege l = refused 30 0
+abbrev pub explanationModel : Explanation → (terms : List ℕ) → ExplainedOf
+explanationModel (Chain n) l = explained (take n l)
+explanationModel NotNeeded l = not-needed
+explanationModel (Unreadable f) l = refused (decodingCause f) (decodingPlace f)
+explanationModel (Refused f) l = refused (faultCause f) (faultPlace f)
+explanationModel NoPrivilege l = refused 30 0
 
 abbrev pub explainedModel : Explained → ExplainedOf
-explainedModel r = answerModel (r .answer) (r .terms)
+explainedModel r = explanationModel (r .answer) (r .terms)
 
 -- the places of the list: the chain, and then zeros up to 32
 abbrev pub chainTerms : ExplainedOf → List ℕ

@@ -87,13 +87,13 @@ module _ (T : Types) (A : ℕ → ℕ) (p : ℕ) where
   next x = unlessCause (isCause x) λ _. firstNeeding (followed x)
 
   -- the chain from a term on, of at most so many terms; no sheet has one longer than its nesting, 32
-  abbrev pub onward : Option Placed → (Placed → List Placed) → List Placed
-  onward none later = []
-  onward (some x) later = later x
+  abbrev pub followedBy : Option Placed → (Placed → List Placed) → List Placed
+  followedBy none later = []
+  followedBy (some x) later = later x
 
   unfoldable pub chain : (most : ℕ) → Placed → List Placed
   chain zero x = []
-  chain (suc k) x = x ∷ onward (next x) λ y. chain k y
+  chain (suc k) x = x ∷ followedBy (next x) λ y. chain k y
 
 -- "If the privilege isn't needed the answer says so, and only then. The judge's own refusals come first, and a privilege above 31 is 30."
 pub data Explained : Type 0 where

@@ -28,7 +28,7 @@ use Rattle.chains.specs.Laws.Chains.{heightOf, Way, chain-way, way-root,
 
 -- ---- what is asked
 -- an accepted sheet and a privilege, which is among the needs told or is not
-pub record Answerable (s : List ℕ) (p : ℕ) (needed : Bool) : Type 0 where
+pub record Explainable (s : List ℕ) (p : ℕ) (needed : Bool) : Type 0 where
   pub count : ℕ
   pub type : ℕ
   pub needs : ℕ
@@ -37,10 +37,10 @@ pub record Answerable (s : List ℕ) (p : ℕ) (needed : Bool) : Type 0 where
   pub among : has p needs ≡ needed
 
 abbrev pub Needed : List ℕ → (p : ℕ) → Type 0
-Needed s p = Answerable s p true
+Needed s p = Explainable s p true
 
 abbrev pub NotNeeded : List ℕ → (p : ℕ) → Type 0
-NotNeeded s p = Answerable s p false
+NotNeeded s p = Explainable s p false
 
 -- ---- the chain
 -- "Given an accepted sheet and a privilege, answer a chain of terms from the root": l is one, with what each sentence says of it
@@ -137,30 +137,30 @@ pub record NoPrivilege (s : List ℕ) (p cause place : ℕ) : Type 0 where
   pub place-is : place ≡ 0
 
 -- each answer with what holds where it is given
-data Given (s : List ℕ) (p : ℕ) : Explained → Type 0 where
-  given-chain : Needed s p → Given s p (explained (map placedNumber (chainOf s p)))
-  given-not-needed : NotNeeded s p → Given s p not-needed
-  given-rejected : {c at : ℕ} → verdict s ≡ rejected c at → Given s p (refused c at)
-  given-no-privilege : Accepted s → maxPrivilege < p → Given s p (refused 30 0)
+data ChainGiven (s : List ℕ) (p : ℕ) : Explained → Type 0 where
+  given-chain : Needed s p → ChainGiven s p (explained (map placedNumber (chainOf s p)))
+  given-not-needed : NotNeeded s p → ChainGiven s p not-needed
+  given-rejected : {c at : ℕ} → verdict s ≡ rejected c at → ChainGiven s p (refused c at)
+  given-no-privilege : Accepted s → maxPrivilege < p → ChainGiven s p (refused 30 0)
 
 module _ (s : List ℕ) (p : ℕ) where
-  given : Given s p (explanation s p)
+  given : ChainGiven s p (explanation s p)
   unfolding explanation
   given = judged (verdict s) refl
     where
-      needed : (n τ N : ℕ) → verdict s ≡ accepted n τ N → p ≤ maxPrivilege → (b : Bool) → has p N ≡ b → Given s p (explainedIf s p b)
+      needed : (n τ N : ℕ) → verdict s ≡ accepted n τ N → p ≤ maxPrivilege → (b : Bool) → has p N ≡ b → ChainGiven s p (explainedIf s p b)
       needed n τ N e l true h = given-chain (record { count = n; type = τ; needs = N; acceptance-is = e; privilege = l; among = h })
       needed n τ N e l false h = given-not-needed (record { count = n; type = τ; needs = N; acceptance-is = e; privilege = l; among = h })
 
-      low : (n τ N : ℕ) → verdict s ≡ accepted n τ N → (b : Bool) → leb p maxPrivilege ≡ b → Given s p (explainedIn s p N b)
+      low : (n τ N : ℕ) → verdict s ≡ accepted n τ N → (b : Bool) → leb p maxPrivilege ≡ b → ChainGiven s p (explainedIn s p N b)
       low n τ N e true h = needed n τ N e (leb-true p maxPrivilege h) (has p N) refl
       low n τ N e false h = given-no-privilege (n, τ, N, e) (leb-false p maxPrivilege h)
 
-      judged : (v : Verdict) → verdict s ≡ v → Given s p (explainedBy s p v)
+      judged : (v : Verdict) → verdict s ≡ v → ChainGiven s p (explainedBy s p v)
       judged (accepted n τ N) e = low n τ N e (leb p maxPrivilege) refl
       judged (rejected c at) e = given-rejected e
 
-  answerable-is : (b : Bool) → Answerable s p b → explanation s p ≡ explainedIf s p b
+  answerable-is : (b : Bool) → Explainable s p b → explanation s p ≡ explainedIf s p b
   unfolding explanation
   answerable-is b h =
       (λ i. explainedBy s p (h .acceptance-is i)) ∙ (λ i. explainedIn s p (h .needs) (le-leb p maxPrivilege (h .privilege) i))
@@ -168,24 +168,24 @@ module _ (s : List ℕ) (p : ℕ) where
 
   -- a chain is answered exactly if the sheet is accepted and needs the privilege; and then it is the chain's numbers
   pub explained-exactly : (terms : List ℕ) → (explanation s p ≡ explained terms) ↔ (Needed s p × (terms ≡ map placedNumber (chainOf s p)))
-  explained-exactly terms = (λ e. forth (subst (Given s p) e given), λ h. answerable-is true (h .0) ∙ ap explained (sym (h .1)))
+  explained-exactly terms = (λ e. forth (subst (ChainGiven s p) e given), λ h. answerable-is true (h .0) ∙ ap explained (sym (h .1)))
     where
-      forth : {terms : List ℕ} → Given s p (explained terms) → Needed s p × (terms ≡ map placedNumber (chainOf s p))
+      forth : {terms : List ℕ} → ChainGiven s p (explained terms) → Needed s p × (terms ≡ map placedNumber (chainOf s p))
       forth (given-chain h) = (h, refl)
 
   -- "If the privilege isn't needed the answer says so, and only then."
   pub not-needed-exactly : (explanation s p ≡ not-needed) ↔ NotNeeded s p
-  not-needed-exactly = (λ e. forth (subst (Given s p) e given), λ h. answerable-is false h)
+  not-needed-exactly = (λ e. forth (subst (ChainGiven s p) e given), λ h. answerable-is false h)
     where
-      forth : Given s p not-needed → NotNeeded s p
+      forth : ChainGiven s p not-needed → NotNeeded s p
       forth (given-not-needed h) = h
 
   -- "The judge's own refusals come first, and a privilege above 31 is 30."
   pub refused-exactly : (cause place : ℕ) → (explanation s p ≡ refused cause place) ↔ ((verdict s ≡ rejected cause place) ⊎ NoPrivilege s p cause place)
   unfolding explanation
-  refused-exactly cause place = (λ e. forth (subst (Given s p) e given), back)
+  refused-exactly cause place = (λ e. forth (subst (ChainGiven s p) e given), back)
     where
-      forth : {cause place : ℕ} → Given s p (refused cause place) → (verdict s ≡ rejected cause place) ⊎ NoPrivilege s p cause place
+      forth : {cause place : ℕ} → ChainGiven s p (refused cause place) → (verdict s ≡ rejected cause place) ⊎ NoPrivilege s p cause place
       forth (given-rejected e) = inl e
       forth (given-no-privilege a l) = inr (record { sheet-accepted = a; above = l; cause-is = refl; place-is = refl })
 

@@ -10,12 +10,12 @@ use lib.Dec.{eqb}
 use borrow.Author.Tests.{leb-true, ltb-true}
 use denote.Enum.Declared.{tagOf}
 use Rattle.typing.proofs.answer.Inferred.{the-type}
-use Rattle.privileges.specs.Sets.{union, subset}
+use Rattle.privileges.specs.Sets.{privilegeCount, union, subset}
 use Rattle.program.specs.Limits.{maxChannels, maxNesting, maxPrivilege}
 use Rattle.program.specs.Layout.{principals, termAt, channels, guardByte, guardIn, guardOf, authority, typesOf}
 use Rattle.program.specs.Formats.{Kind, Boolean, Number, Variable, Function, Letrec, Call, If, Check, Enable, Sign, Test, Sum, Difference, Less, Post, kindOf, format}
 use Rattle.program.specs.Terms.{node, tree}
-use Rattle.program.specs.Decoding.{partOk}
+use Rattle.program.specs.Decoding.{partOk, isGuard}
 use Rattle.program.specs.Records.{termAtByte, termRecord, typeRecord, authorityRecord, guardRecord}
 use Rattle.program.specs.declared.records.Counts.{Counts}
 use Rattle.program.specs.declared.records.TermRecord.{TermRecord}
@@ -27,8 +27,9 @@ use Rattle.program.specs.Laws.Trees.{Below, below, parts, tree-node}
 use Rattle.typing.specs.Rules.{removeAuthorised}
 use Rattle.typing.specs.Checking.{Judgement, typed, _next_, require, bodyFits, infer}
 use Rattle.subtyping.specs.Laws.Records.{TypeParts, type-parts}
-use Rattle.rules.specs.Inference.{inferredModel, context, room, roomAt, termJudgement, Ready}
-use Rattle.rules.specs.Steps.{Pushed, leafStep, checkStep, enableStep, signStep, postStep, GuardByte, testStep, ifStep, binaryStep, bodyStep, functionStep, letrecStep, callStep, resultOf}
+use Rattle.typing.specs.Verdicts.{termJudgement}
+use Rattle.rules.specs.Inference.{inferredModel, context, room, roomAt, Ready}
+use Rattle.rules.specs.Steps.{Pushed, leafStep, checkStep, enableStep, signStep, postStep, testStep, ifStep, binaryStep, bodyStep, functionStep, letrecStep, callStep, binaryResult}
 use Rattle.checker.specs.Internal.{ReadyTerm, ReadyAt}
 use Rattle.typing.specs.declared.answer.Inferred.{Inferred}
 use Rattle.typing.specs.declared.answer.Inferred.the-variants.{Typed}
@@ -65,7 +66,7 @@ pub read-at : {s : List ℕ} {c : Counts} {l : List ℕ} {t : ℕ} {b : Bindings
 read-at r e = record { ready = r .ready; known = r .known; record-is = e }
 
 -- what a child asks, and that it is lower
-pub record Child (s : List ℕ) (c : Counts) (t y : ℕ) (b : Bindings) (n : ℕ) : Type 0 where
+pub record ChildReady (s : List ℕ) (c : Counts) (t y : ℕ) (b : Bindings) (n : ℕ) : Type 0 where
   pub lower : y < t
   pub ready : Ready s c y b n
 
@@ -113,39 +114,39 @@ module _ {s : List ℕ} {c : Counts} {l : List ℕ} {t : ℕ} {b : Bindings} {n 
   named e = ap kindOf e
 
   -- ---- children
-  child : (y : ℕ) (d : Bindings) (m : ℕ) → m < principals s → y < t → d .len + roomAt s y ≤ maxNesting → Child s c t y d m
+  child : (y : ℕ) (d : Bindings) (m : ℕ) → m < principals s → y < t → d .len + roomAt s y ≤ maxNesting → ChildReady s c t y d m
   child y d m p h g = record { lower = h; ready = record { sheet = W .ready .sheet; inside = omega (arith, W .ready .inside); principal = p; fits = g } }
 
-  plain : (y : ℕ) → y < t → roomAt s y ≤ roomAt s t → Child s c t y b n
+  plain : (y : ℕ) → y < t → roomAt s y ≤ roomAt s t → ChildReady s c t y b n
   plain y h g = child y b n (W .ready .principal) h (omega (arith, W .ready .fits))
 
-  pub check-child : x .kind ≡ 7 → Child s c t (x .first) b n
+  pub check-child : x .kind ≡ 7 → ChildReady s c t (x .first) b n
   unfolding roomAt
   check-child e = plain (x .first) (lower-as Check (named e) .first-below refl) (omega (arith, room-as Check (named e)))
 
-  pub enable-child : x .kind ≡ 8 → Child s c t (x .first) b n
+  pub enable-child : x .kind ≡ 8 → ChildReady s c t (x .first) b n
   unfolding roomAt
   enable-child e = plain (x .first) (lower-as Enable (named e) .first-below refl) (omega (arith, room-as Enable (named e)))
 
   pub sign-principal : x .kind ≡ 9 → x .small < principals s
   sign-principal e = ltb-true (x .small) (principals s) (small-as Sign (named e))
 
-  pub sign-child : x .kind ≡ 9 → Child s c t (x .first) b (x .small)
+  pub sign-child : x .kind ≡ 9 → ChildReady s c t (x .first) b (x .small)
   unfolding roomAt
   sign-child e = child (x .first) b (x .small) (sign-principal e) (lower-as Sign (named e) .first-below refl)
       (omega (arith, room-as Sign (named e), W .ready .fits))
 
-  pub post-child : x .kind ≡ 14 → Child s c t (x .first) b n
+  pub post-child : x .kind ≡ 14 → ChildReady s c t (x .first) b n
   unfolding roomAt
   post-child e = plain (x .first) (lower-as Post (named e) .first-below refl) (omega (arith, room-as Post (named e)))
 
-  pub check-privilege : x .kind ≡ 7 → x .small < 32
+  pub check-privilege : x .kind ≡ 7 → x .small < privilegeCount
   check-privilege e = omega (arith, leb-true (x .small) maxPrivilege (small-as Check (named e)))
 
-  pub enable-privilege : x .kind ≡ 8 → x .small < 32
+  pub enable-privilege : x .kind ≡ 8 → x .small < privilegeCount
   enable-privilege e = omega (arith, leb-true (x .small) maxPrivilege (small-as Enable (named e)))
 
-  pub test-privilege : x .kind ≡ 10 → x .small < 32
+  pub test-privilege : x .kind ≡ 10 → x .small < privilegeCount
   test-privilege e = omega (arith, leb-true (x .small) maxPrivilege (small-as Test (named e)))
 
   post-channel : x .kind ≡ 14 → x .small < maxChannels
@@ -155,28 +156,28 @@ module _ {s : List ℕ} {c : Counts} {l : List ℕ} {t : ℕ} {b : Bindings} {n 
   pub post-guard : x .kind ≡ 14 → {g : ℕ} → g ≡ guardRecord s c (x .small) → g ≡ guardByte s (x .small)
   post-guard e a = a ∙ guard-is s well c (W .ready .sheet .counts) (x .small) (post-channel e)
 
-  pub post-guard-byte : x .kind ≡ 14 → {g : ℕ} → g ≡ guardRecord s c (x .small) → GuardByte g
-  post-guard-byte e a = subst GuardByte (sym (post-guard e a)) (well .guard-ok (x .small) (post-channel e))
+  pub post-guard-byte : x .kind ≡ 14 → {g : ℕ} → g ≡ guardRecord s c (x .small) → isGuard g ≡ true
+  post-guard-byte e a = subst (λ (g : ℕ). isGuard g ≡ true) (sym (post-guard e a)) (well .guard-ok (x .small) (post-channel e))
 
-  left : (y z : ℕ) → y < t → roomAt s t ≡ max (roomAt s y) (roomAt s z) → Child s c t y b n
+  left : (y z : ℕ) → y < t → roomAt s t ≡ max (roomAt s y) (roomAt s z) → ChildReady s c t y b n
   left y z h e = plain y h (omega (arith, e, le-max-left (roomAt s y) (roomAt s z)))
 
-  right : (y z : ℕ) → z < t → roomAt s t ≡ max (roomAt s y) (roomAt s z) → Child s c t z b n
+  right : (y z : ℕ) → z < t → roomAt s t ≡ max (roomAt s y) (roomAt s z) → ChildReady s c t z b n
   right y z h e = plain z h (omega (arith, e, le-max-right (roomAt s y) (roomAt s z)))
 
-  pub call-first : x .kind ≡ 5 → Child s c t (x .first) b n
+  pub call-first : x .kind ≡ 5 → ChildReady s c t (x .first) b n
   unfolding roomAt
   call-first e = left (x .first) (x .second) (lower-as Call (named e) .first-below refl) (room-as Call (named e))
 
-  pub call-second : x .kind ≡ 5 → Child s c t (x .second) b n
+  pub call-second : x .kind ≡ 5 → ChildReady s c t (x .second) b n
   unfolding roomAt
   call-second e = right (x .first) (x .second) (lower-as Call (named e) .second-below refl) (room-as Call (named e))
 
-  pub test-first : x .kind ≡ 10 → Child s c t (x .first) b n
+  pub test-first : x .kind ≡ 10 → ChildReady s c t (x .first) b n
   unfolding roomAt
   test-first e = left (x .first) (x .second) (lower-as Test (named e) .first-below refl) (room-as Test (named e))
 
-  pub test-second : x .kind ≡ 10 → Child s c t (x .second) b n
+  pub test-second : x .kind ≡ 10 → ChildReady s c t (x .second) b n
   unfolding roomAt
   test-second e = right (x .first) (x .second) (lower-as Test (named e) .second-below refl) (room-as Test (named e))
 
@@ -209,18 +210,18 @@ module _ {s : List ℕ} {c : Counts} {l : List ℕ} {t : ℕ} {b : Bindings} {n 
         most = room-as Less (named e);
       }
 
-  pub binary-first : 11 ≤ x .kind → x .kind < 14 → Child s c t (x .first) b n
+  pub binary-first : 11 ≤ x .kind → x .kind < 14 → ChildReady s c t (x .first) b n
   binary-first h g = let w = operands h g in left (x .first) (x .second) (w .first-lower) (w .most)
 
-  pub binary-second : 11 ≤ x .kind → x .kind < 14 → Child s c t (x .second) b n
+  pub binary-second : 11 ≤ x .kind → x .kind < 14 → ChildReady s c t (x .second) b n
   binary-second h g = let w = operands h g in right (x .first) (x .second) (w .second-lower) (w .most)
 
-  pub if-first : x .kind ≡ 6 → Child s c t (x .first) b n
+  pub if-first : x .kind ≡ 6 → ChildReady s c t (x .first) b n
   unfolding roomAt
   if-first e = plain (x .first) (lower-as If (named e) .first-below refl)
       (omega (arith, room-as If (named e), le-max-left (roomAt s (x .first)) (max (roomAt s (x .second)) (roomAt s (x .third)))))
 
-  pub if-second : x .kind ≡ 6 → Child s c t (x .second) b n
+  pub if-second : x .kind ≡ 6 → ChildReady s c t (x .second) b n
   unfolding roomAt
   if-second e = plain (x .second) (lower-as If (named e) .second-below refl)
       (omega (
@@ -231,7 +232,7 @@ module _ {s : List ℕ} {c : Counts} {l : List ℕ} {t : ℕ} {b : Bindings} {n 
             (roomAt s (x .second)) (roomAt s (x .third)),
       ))
 
-  pub if-third : x .kind ≡ 6 → Child s c t (x .third) b n
+  pub if-third : x .kind ≡ 6 → ChildReady s c t (x .third) b n
   unfolding roomAt
   if-third e = plain (x .third) (lower-as If (named e) .third-below refl)
       (omega (
@@ -247,7 +248,7 @@ module _ {s : List ℕ} {c : Counts} {l : List ℕ} {t : ℕ} {b : Bindings} {n 
   unfolding roomAt
   function-room e = omega (arith, room-as Function (named e), W .ready .fits)
 
-  pub function-child : x .kind ≡ 3 → {ty : ℕ} {d : Bindings} → Pushed b ty d → Child s c t (x .second) d n
+  pub function-child : x .kind ≡ 3 → {ty : ℕ} {d : Bindings} → Pushed b ty d → ChildReady s c t (x .second) d n
   unfolding roomAt
   function-child e {d = d} p = child (x .second) d n (W .ready .principal) (lower-as Function (named e) .second-below refl)
       (omega (arith, room-as Function (named e), W .ready .fits, p .len-is))
@@ -264,11 +265,11 @@ module _ {s : List ℕ} {c : Counts} {l : List ℕ} {t : ℕ} {b : Bindings} {n 
   pub letrec-room : x .kind ≡ 4 → b .len + 1 < maxNesting
   letrec-room e = omega (arith, body-room e, W .ready .fits)
 
-  pub letrec-body : x .kind ≡ 4 → {ty arg : ℕ} {d g : Bindings} → Pushed b ty d → Pushed d arg g → Child s c t (x .second) g n
+  pub letrec-body : x .kind ≡ 4 → {ty arg : ℕ} {d g : Bindings} → Pushed b ty d → Pushed d arg g → ChildReady s c t (x .second) g n
   letrec-body e {g = g} p q = child (x .second) g n (W .ready .principal) (lower-as Letrec (named e) .second-below refl)
       (omega (arith, body-room e, W .ready .fits, p .len-is, q .len-is))
 
-  pub letrec-rest : x .kind ≡ 4 → {ty : ℕ} {d : Bindings} → Pushed b ty d → Child s c t (x .third) d n
+  pub letrec-rest : x .kind ≡ 4 → {ty : ℕ} {d : Bindings} → Pushed b ty d → ChildReady s c t (x .third) d n
   letrec-rest e {d = d} p = child (x .third) d n (W .ready .principal) (lower-as Letrec (named e) .third-below refl)
       (omega (arith, rest-room e, W .ready .fits, p .len-is))
 
@@ -293,24 +294,27 @@ module _ {s : List ℕ} {c : Counts} {l : List ℕ} {t : ℕ} {b : Bindings} {n 
     pub check-is : x .kind ≡ 7 → {j r : Judgement} → j ≡ J (x .first) → r ≡ checkStep (x .small) j → r ≡ J t
     check-is e p q = ends (checkStep (x .small)) p (check-as e) q
 
-    pub enable-as : x .kind ≡ 8 → {may : ℕ} → may ≡ authorityRecord s n → J t ≡ enableStep may (x .small) (J (x .first))
+    pub enable-as : x .kind ≡ 8 → {authorised : ℕ} → authorised ≡ authorityRecord s n → J t ≡ enableStep authorised (x .small) (J (x .first))
     unfolding termJudgement infer enableStep removeAuthorised
     enable-as e a =
         inferred-as Enable (named e) Γ n
         ∙ ap (λ (m : ℕ). enableStep m (x .small) (J (x .first))) (sym (a ∙ authority-is s well n (W .ready .principal)))
 
-    pub enable-is : x .kind ≡ 8 → {may : ℕ} → may ≡ authorityRecord s n → {j r : Judgement} → j ≡ J (x .first) → r ≡ enableStep may (x .small) j → r ≡ J t
-    enable-is e {may} a p q = ends (enableStep may (x .small)) p (enable-as e a) q
+    pub enable-is : x .kind ≡ 8 → {authorised : ℕ} → authorised ≡ authorityRecord s n → {j r : Judgement} → j ≡ J (x .first)
+        → r ≡ enableStep authorised (x .small) j → r ≡ J t
+    enable-is e {authorised} a p q = ends (enableStep authorised (x .small)) p (enable-as e a) q
 
-    pub sign-as : x .kind ≡ 9 → {may : ℕ} → may ≡ authorityRecord s (x .small) → J t ≡ signStep may t (termJudgement s Γ (x .small) (x .first))
+    pub sign-as : x .kind ≡ 9 → {authorised : ℕ} → authorised ≡ authorityRecord s (x .small)
+        → J t ≡ signStep authorised t (termJudgement s Γ (x .small) (x .first))
     unfolding termJudgement infer signStep
     sign-as e a =
         inferred-as Sign (named e) Γ n
         ∙ ap (λ (m : ℕ). signStep m t (termJudgement s Γ (x .small) (x .first))) (sym (a ∙ authority-is s well (x .small) (sign-principal e)))
 
-    pub sign-is : x .kind ≡ 9 → {may : ℕ} → may ≡ authorityRecord s (x .small) → {j r : Judgement} → j ≡ termJudgement s Γ (x .small) (x .first) → r
-        ≡ signStep may t j → r ≡ J t
-    sign-is e {may} a p q = ends (signStep may t) p (sign-as e a) q
+    pub sign-is : x .kind ≡ 9 → {authorised : ℕ} → authorised ≡ authorityRecord s (x .small) → {j r : Judgement} → j ≡ termJudgement s Γ (x .small) (x .first)
+        → r
+        ≡ signStep authorised t j → r ≡ J t
+    sign-is e {authorised} a p q = ends (signStep authorised t) p (sign-as e a) q
 
     pub post-as : x .kind ≡ 14 → {g : ℕ} → g ≡ guardRecord s c (x .small) → J t ≡ postStep (guardIn g) t (J (x .first))
     unfolding termJudgement infer postStep
@@ -349,10 +353,10 @@ module _ {s : List ℕ} {c : Counts} {l : List ℕ} {t : ℕ} {b : Bindings} {n 
     call-is e {φ = φ} {N = N} h p q r = ends (callStep (typesOf s) t φ N) q (goes call-rest (call-as e) h p) r
 
     abbrev pub binary-rest : (τ N : ℕ) → Judgement
-    binary-rest τ N = binaryStep (resultOf (x .kind)) t τ N (J (x .second))
+    binary-rest τ N = binaryStep (binaryResult (x .kind)) t τ N (J (x .second))
 
     pub binary-as : 11 ≤ x .kind → x .kind < 14 → J t ≡ (J (x .first) next binary-rest)
-    unfolding termJudgement infer binaryStep resultOf
+    unfolding termJudgement infer binaryStep binaryResult
     binary-as l u = go (three-of 11 (x .kind) l u)
       where
         go : (x .kind ≡ 11) ⊎ ((x .kind ≡ 12) ⊎ (x .kind ≡ 13)) → J t ≡ (J (x .first) next binary-rest)
@@ -365,9 +369,9 @@ module _ {s : List ℕ} {c : Counts} {l : List ℕ} {t : ℕ} {b : Bindings} {n 
 
     pub binary-is : 11 ≤ x .kind → x .kind < 14 → {j : Inferred} {τ N : ℕ} → j ≡ Typed τ N → inferredModel j ≡ J (x .first) → {k r : Judgement} → k
         ≡ J (x .second)
-        → {σ : ℕ} → σ ≡ resultOf (x .kind) → r ≡ binaryStep σ t τ N k → r ≡ J t
+        → {σ : ℕ} → σ ≡ binaryResult (x .kind) → r ≡ binaryStep σ t τ N k → r ≡ J t
     binary-is l u {τ = τ} {N = N} h p {k} q m r =
-        ends (binaryStep (resultOf (x .kind)) t τ N) q (goes binary-rest (binary-as l u) h p) (r ∙ ap (λ (z : ℕ). binaryStep z t τ N k) m)
+        ends (binaryStep (binaryResult (x .kind)) t τ N) q (goes binary-rest (binary-as l u) h p) (r ∙ ap (λ (z : ℕ). binaryStep z t τ N k) m)
 
     -- ---- three children
     abbrev pub branch-rest : (σ N τ M : ℕ) → Judgement

@@ -14,10 +14,10 @@ use Rattle.program.specs.declared.answer.Decoded.the-variants.{Readable, Refuse
 use Rattle.program.specs.declared.records.Counts.{Counts}
 use Rattle.program.specs.Laws.Readable.{well-formed}
 use Rattle.typing.specs.Checking.{Judgement}
-use Rattle.typing.specs.Verdicts.{Verdict, accepted, rejected, concluded, judgement, verdict}
+use Rattle.typing.specs.Verdicts.{termJudgement, Verdict, accepted, rejected, concluded, judgement, verdict}
 use Rattle.typing.specs.Answers.{faultCause, faultPlace}
 use Rattle.accessors.specs.Internal.{FormedSheet, ReadableSheet}
-use Rattle.rules.specs.Inference.{inferredModel, context, lastFirst, termJudgement, Ready}
+use Rattle.rules.specs.Inference.{inferredModel, context, lastFirst, Ready}
 use Rattle.rules.specs.Laws.Room.{root-room}
 use Rattle.typing.specs.declared.answer.Fault.{Fault}
 use Rattle.typing.specs.declared.answer.Inferred.{Inferred}

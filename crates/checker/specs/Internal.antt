@@ -8,7 +8,8 @@ use Rattle.program.specs.declared.records.Counts.{Counts}
 use Rattle.program.specs.declared.records.TermRecord.{TermRecord}
 use Rattle.typing.specs.declared.answer.Inferred.{Inferred}
 use Rattle.subtyping.specs.Known.{Known, Answered}
-use Rattle.rules.specs.Inference.{inferredModel, termJudgement, Ready}
+use Rattle.typing.specs.Verdicts.{termJudgement}
+use Rattle.rules.specs.Inference.{inferredModel, Ready}
 use Rattle.rules.specs.declared.bindings.Bindings.{Bindings}
 
 -- a term that can be judged, and what is known of the sheet's types
@@ -34,5 +35,5 @@ pub record ReadyBinary (s : List ℕ) (c : Counts) (l : List ℕ) (t : ℕ) (b :
   pub kind-most : x .kind < 14
 
 -- a term's judgement, and what is known then
-abbrev pub Judged : (s Γ : List ℕ) (n t : ℕ) → Inferred → (l : List ℕ) → Type 0
-Judged s Γ n t r l = Answered (typesOf s) (inferredModel r) (termJudgement s Γ n t) l
+abbrev pub InferredAs : (s Γ : List ℕ) (n t : ℕ) → Inferred → (l : List ℕ) → Type 0
+InferredAs s Γ n t r l = Answered (typesOf s) (inferredModel r) (termJudgement s Γ n t) l

@@ -11,12 +11,12 @@ use rules::steps;
 use subtyping::known::Known;
 use typing::answer::Inferred;
 ghost use Rattle.rules.specs.Inference.{context};
-ghost use Rattle.checker.specs.Internal.{ReadyTerm, ReadyKind, ReadyBinary, Judged};
+ghost use Rattle.checker.specs.Internal.{ReadyTerm, ReadyKind, ReadyBinary, InferredAs};
 
 // The type and needs of term t under the bindings b and the principal n, or its first fault. What is known of the sheet's types is handed on.
 pub fn infer(s: &[u8], c: Counts, known: &mut Known, t: u16, b: Bindings, n: u8) -> Inferred
     requires { ⌜ ReadyTerm (now s) c (now known) t b n ⌝ }
-    ensures { λ r. ⌜ Judged (now (s .entry)) (context b) n t r (now (known .exit)) ⌝ }
+    ensures { λ r. ⌜ InferredAs (now (s .entry)) (context b) n t r (now (known .exit)) ⌝ }
 {
     let x = table_term(s, c, t);
     let kind = x.kind;
@@ -45,7 +45,7 @@ fn infer_function(
     n: u8,
 ) -> Inferred
     requires { ⌜ ReadyKind (now s) c (now known) t b n x 3 ⌝ }
-    ensures { λ r. ⌜ Judged (now (s .entry)) (context b) n t r (now (known .exit)) ⌝ }
+    ensures { λ r. ⌜ InferredAs (now (s .entry)) (context b) n t r (now (known .exit)) ⌝ }
 {
     let f = type_record(s, c, x.first);
     let inner = push(b, f.arg);
@@ -63,7 +63,7 @@ fn infer_letrec(
     n: u8,
 ) -> Inferred
     requires { ⌜ ReadyKind (now s) c (now known) t b n x 4 ⌝ }
-    ensures { λ r. ⌜ Judged (now (s .entry)) (context b) n t r (now (known .exit)) ⌝ }
+    ensures { λ r. ⌜ InferredAs (now (s .entry)) (context b) n t r (now (known .exit)) ⌝ }
 {
     let f = type_record(s, c, x.first);
     let outer = push(b, x.first);
@@ -86,7 +86,7 @@ fn infer_call(
     n: u8,
 ) -> Inferred
     requires { ⌜ ReadyKind (now s) c (now known) t b n x 5 ⌝ }
-    ensures { λ r. ⌜ Judged (now (s .entry)) (context b) n t r (now (known .exit)) ⌝ }
+    ensures { λ r. ⌜ InferredAs (now (s .entry)) (context b) n t r (now (known .exit)) ⌝ }
 {
     let j = infer(s, c, known, x.first, b, n);
     let Inferred::Typed { ty, needs } = j else {
@@ -106,7 +106,7 @@ fn infer_if(
     n: u8,
 ) -> Inferred
     requires { ⌜ ReadyKind (now s) c (now known) t b n x 6 ⌝ }
-    ensures { λ r. ⌜ Judged (now (s .entry)) (context b) n t r (now (known .exit)) ⌝ }
+    ensures { λ r. ⌜ InferredAs (now (s .entry)) (context b) n t r (now (known .exit)) ⌝ }
 {
     let i = infer(s, c, known, x.first, b, n);
     let Inferred::Typed {
@@ -134,7 +134,7 @@ fn infer_check(
     n: u8,
 ) -> Inferred
     requires { ⌜ ReadyKind (now s) c (now known) t b n x 7 ⌝ }
-    ensures { λ r. ⌜ Judged (now (s .entry)) (context b) n t r (now (known .exit)) ⌝ }
+    ensures { λ r. ⌜ InferredAs (now (s .entry)) (context b) n t r (now (known .exit)) ⌝ }
 {
     let j = infer(s, c, known, x.first, b, n);
     steps::checked(x.small, j)
@@ -150,11 +150,11 @@ fn infer_enable(
     n: u8,
 ) -> Inferred
     requires { ⌜ ReadyKind (now s) c (now known) t b n x 8 ⌝ }
-    ensures { λ r. ⌜ Judged (now (s .entry)) (context b) n t r (now (known .exit)) ⌝ }
+    ensures { λ r. ⌜ InferredAs (now (s .entry)) (context b) n t r (now (known .exit)) ⌝ }
 {
     let j = infer(s, c, known, x.first, b, n);
-    let may = authority(s, n as u32);
-    steps::enabled(may, x.small, j)
+    let authorised = authority(s, n as u32);
+    steps::enabled(authorised, x.small, j)
 }
 
 // The child is judged under the principal that signs it.
@@ -168,11 +168,11 @@ fn infer_sign(
     n: u8,
 ) -> Inferred
     requires { ⌜ ReadyKind (now s) c (now known) t b n x 9 ⌝ }
-    ensures { λ r. ⌜ Judged (now (s .entry)) (context b) n t r (now (known .exit)) ⌝ }
+    ensures { λ r. ⌜ InferredAs (now (s .entry)) (context b) n t r (now (known .exit)) ⌝ }
 {
     let j = infer(s, c, known, x.first, b, x.small);
-    let may = authority(s, x.small as u32);
-    steps::signed(may, t, j)
+    let authorised = authority(s, x.small as u32);
+    steps::signed(authorised, t, j)
 }
 
 fn infer_test(
@@ -185,7 +185,7 @@ fn infer_test(
     n: u8,
 ) -> Inferred
     requires { ⌜ ReadyKind (now s) c (now known) t b n x 10 ⌝ }
-    ensures { λ r. ⌜ Judged (now (s .entry)) (context b) n t r (now (known .exit)) ⌝ }
+    ensures { λ r. ⌜ InferredAs (now (s .entry)) (context b) n t r (now (known .exit)) ⌝ }
 {
     let j = infer(s, c, known, x.first, b, n);
     let Inferred::Typed { ty, needs } = j else {
@@ -205,7 +205,7 @@ fn infer_binary(
     n: u8,
 ) -> Inferred
     requires { ⌜ ReadyBinary (now s) c (now known) t b n x ⌝ }
-    ensures { λ r. ⌜ Judged (now (s .entry)) (context b) n t r (now (known .exit)) ⌝ }
+    ensures { λ r. ⌜ InferredAs (now (s .entry)) (context b) n t r (now (known .exit)) ⌝ }
 {
     let j = infer(s, c, known, x.first, b, n);
     let Inferred::Typed { ty, needs } = j else {
@@ -227,7 +227,7 @@ fn infer_post(
     n: u8,
 ) -> Inferred
     requires { ⌜ ReadyKind (now s) c (now known) t b n x 14 ⌝ }
-    ensures { λ r. ⌜ Judged (now (s .entry)) (context b) n t r (now (known .exit)) ⌝ }
+    ensures { λ r. ⌜ InferredAs (now (s .entry)) (context b) n t r (now (known .exit)) ⌝ }
 {
     let j = infer(s, c, known, x.first, b, n);
     let g = guard(s, c, x.small);

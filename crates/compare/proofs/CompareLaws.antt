@@ -10,7 +10,7 @@ use lib.Seq.{drop-length}
 use borrow.Author.Tests.{eqb-true, eq-eqb, le-leb, lt-leb}
 use Rattle.privileges.specs.Booleans.{bool-ext}
 use Rattle.program.specs.Bytes.{byte}
-use Rattle.traces.specs.Traces.{Event, eventOf, eventAt, wellFormed, trace}
+use Rattle.traces.specs.Traces.{Event, eventOf, eventAt, wellFormedRecord, trace}
 use Rattle.traces.specs.Comparing.{sameEvent, refused, fits, diverges, compared, ifBoth, comparison}
 use Rattle.traces.specs.Laws.Subsequences.{same-true, same-self}
 use Rattle.traces.specs.Laws.Greedy.{placed, placed-none, placed-room, compared-fits, compared-diverges}
@@ -63,11 +63,11 @@ module _ (s : List ℕ) (i : ℕ) (t : List ℕ) (j : ℕ) (a : EntryAt s i) (b 
 pub record Formed (s : List ℕ) (i : ℕ) : Type 0 where
   pub fourth : i % 4 ≡ 0
   pub within : i ≤ length s
-  pub so-far : wellFormed s ≡ wellFormed (drop i s)
+  pub so-far : wellFormedRecord s ≡ wellFormedRecord (drop i s)
 
 module _ (s : List ℕ) where
-  pub not-whole : (length s % 4 ≡ 0 → ⊥) → false ≡ wellFormed s
-  not-whole n = sym (bool-ext (wellFormed s) false (λ w. absurd (n (well-formed-true s w .whole-entries))) (λ q. absurd (false≢true q)))
+  pub not-whole : (length s % 4 ≡ 0 → ⊥) → false ≡ wellFormedRecord s
+  not-whole n = sym (bool-ext (wellFormedRecord s) false (λ w. absurd (n (well-formed-true s w .whole-entries))) (λ q. absurd (false≢true q)))
 
   pub formed-starts : Formed s 0
   formed-starts = record { fourth = refl; within = omega arith; so-far = refl }
@@ -76,20 +76,20 @@ module _ (s : List ℕ) where
     pub room : i + 4 ≤ length s
     room = omega (arith, f .fourth)
 
-    next : (b : Bool) → leb (byte s (i + 3)) 1 ≡ b → wellFormed s ≡ (b && wellFormed (drop (i + 4) s))
-    next b e = f .so-far ∙ well-formed-next s i room ∙ ap (λ (x : Bool). x && wellFormed (drop (i + 4) s)) e
+    next : (b : Bool) → leb (byte s (i + 3)) 1 ≡ b → wellFormedRecord s ≡ (b && wellFormedRecord (drop (i + 4) s))
+    next b e = f .so-far ∙ well-formed-next s i room ∙ ap (λ (x : Bool). x && wellFormedRecord (drop (i + 4) s)) e
 
-    pub above-one : 1 < byte s (i + 3) → false ≡ wellFormed s
+    pub above-one : 1 < byte s (i + 3) → false ≡ wellFormedRecord s
     above-one h = sym (next false (lt-leb (byte s (i + 3)) 1 h))
 
     pub formed-more : byte s (i + 3) ≤ 1 → Formed s (i + 4)
     formed-more h = record { fourth = omega (arith, f .fourth); within = room; so-far = next true (le-leb (byte s (i + 3)) 1 h) }
 
-  pub formed-all : (i : ℕ) → Formed s i → length s ≤ i → true ≡ wellFormed s
-  unfolding wellFormed
+  pub formed-all : (i : ℕ) → Formed s i → length s ≤ i → true ≡ wellFormedRecord s
+  unfolding wellFormedRecord
   formed-all i f h =
       let e : i ≡ length s = omega (arith, f .within) in
-      sym (f .so-far ∙ ap (λ (x : ℕ). wellFormed (drop x s)) e ∙ ap wellFormed (drop-length s))
+      sym (f .so-far ∙ ap (λ (x : ℕ). wellFormedRecord (drop x s)) e ∙ ap wellFormedRecord (drop-length s))
 
 -- ---- placing the entries: those of the unit before byte i are placed before byte j of the office's record
 pub record Placing (u o : List ℕ) (i j : ℕ) : Type 0 where
@@ -163,15 +163,15 @@ module _ (u o : List ℕ) where
 
 -- ---- the answers
 module _ (u o : List ℕ) where
-  pub malformed-unit : false ≡ wellFormed u → refused 34 0 ≡ comparison u o
+  pub malformed-unit : false ≡ wellFormedRecord u → refused 34 0 ≡ comparison u o
   unfolding comparison
-  malformed-unit h = λ i. ifBoth (h i && wellFormed o) u o
+  malformed-unit h = λ i. ifBoth (h i && wellFormedRecord o) u o
 
-  pub malformed-office : true ≡ wellFormed u → false ≡ wellFormed o → refused 34 0 ≡ comparison u o
+  pub malformed-office : true ≡ wellFormedRecord u → false ≡ wellFormedRecord o → refused 34 0 ≡ comparison u o
   unfolding comparison
   malformed-office g h = λ i. ifBoth (g i && h i) u o
 
-  module _ (g : true ≡ wellFormed u) (h : true ≡ wellFormed o) where
+  module _ (g : true ≡ wellFormedRecord u) (h : true ≡ wellFormedRecord o) where
     as-compared : compared (trace u) (trace o) ≡ comparison u o
     unfolding comparison
     as-compared = λ i. ifBoth (g i && h i) u o

@@ -1,7 +1,7 @@
 // The unit's record held against the office's: each of the unit's entries is placed at the first of the office's entries behind the one before that equals
 // it. specs/Answers.antt has the paper's number of each case.
 ghost use mathlib.Core.Path.{_≡_};
-ghost use Rattle.traces.specs.Traces.{eventAt, wellFormed};
+ghost use Rattle.traces.specs.Traces.{eventAt, wellFormedRecord};
 ghost use Rattle.traces.specs.Comparing.{sameEvent, comparison};
 ghost use Rattle.compare.specs.Answers.{comparisonModel};
 ghost use Rattle.compare.specs.Internal.{TwoEntries, TwoFormed, placedEntries};
@@ -32,7 +32,7 @@ pub fn compare(unit: &[u8], office: &[u8]) -> Comparison
 
 // Whether a record has whole entries alone, each with 0 or 1 for its decision.
 fn well_formed(s: &[u8]) -> bool
-    ensures { λ r. ⌜ r ≡ wellFormed (now (s .entry)) ⌝ }
+    ensures { λ r. ⌜ r ≡ wellFormedRecord (now (s .entry)) ⌝ }
 {
     if s.len() % ENTRY != 0 {
         return false;

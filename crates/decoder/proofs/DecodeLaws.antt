@@ -1,13 +1,11 @@
 -- The whole decoder: each way out tells the first condition that is found.
-use mathlib.Core.Bool.{_||_}
 use mathlib.Core.List.{List}
 use mathlib.Core.Option.{Option, none, some}
 use mathlib.Core.Path.{_≡_, sym, ap, _∙_, subst}
 use Prim.Native.Nat.{ℕ, _<_}
-use lib.Dec.{leb, eqb}
-use Rattle.program.specs.Limits.{maxChannels, noGuard, maxPrivilege}
+use Rattle.program.specs.Limits.{maxChannels}
 use Rattle.program.specs.Screening.{found, screen}
-use Rattle.program.specs.Decoding.{guardOk, tableConditions, decoding}
+use Rattle.program.specs.Decoding.{guardOk, tableConditions, decoding, isGuard}
 use Rattle.program.specs.Records.{guardRecord}
 use Rattle.program.specs.Laws.Readable.{fields-ok}
 use Rattle.program.specs.Laws.Records.{guard-laid}
@@ -34,9 +32,9 @@ found-none e h = sym h ∙ ap foundOf e
 
 -- ---- a guard
 pub guard-ok : (s : List ℕ) (c : Counts) → Laid s c → (channel : ℕ) → channel < maxChannels → {g : ℕ} → g ≡ guardRecord s c channel
-    → (leb g maxPrivilege || eqb g noGuard) ≡ guardOk s channel
+    → isGuard g ≡ guardOk s channel
 guard-ok s c L channel h e =
-    ap (λ (x : ℕ). leb x maxPrivilege || eqb x noGuard) (e ∙ guard-laid s (fields-ok s (L .none-found) .ends) c (L .counts-are) channel h)
+    ap isGuard (e ∙ guard-laid s (fields-ok s (L .none-found) .ends) c (L .counts-are) channel h)
 
 -- ---- the fields, and then the tables
 module _ (s : List ℕ) where

@@ -12,16 +12,16 @@ use borrow.Author.Tests.{eqb-true, eqb-false, eq-eqb, ne-eqb}
 use Rattle.program.specs.Limits.{maxTerms}
 use Rattle.program.specs.Layout.{terms, termAt, root, kindByte, first, second, third}
 use Rattle.program.specs.Formats.{Part, isChild, Kind, Boolean, Number, Variable, Function, Letrec, Call, If, Check, Enable, Sign, Test, Sum, Difference, Less, Post, kindOf, format}
-use Rattle.program.specs.Decoding.{formatAt, termOk, counts, timesIn, timesBelow, isSign, signedBody, placedOk, parent}
+use Rattle.program.specs.Decoding.{formatAt, termOk, childCount, timesIn, timesBelow, isSign, signedBody, placedOk, parent}
 use Rattle.accessors.specs.Internal.{Laid, TermInside, term-inside}
-use Rattle.termrecords.specs.Internal.{childrenOf, shapeIf, shapeAt}
-use Rattle.decoder.specs.Internal.{TermsOk, TableTerm, linkStep, Linked, linkTimes, one, among, LinkedAll, ChildrenBelow, linkOf, Links, manyParents, TwoBelow}
+use Rattle.termrecords.specs.Internal.{kindShape, shapeIf, shapeAt}
+use Rattle.decoder.specs.Internal.{TermsOk, TableTerm, linkStep, Linked, linkTimes, countEqual, among, LinkedAll, ChildrenBelow, linkOf, Links, manyParents, TwoBelow}
 use Rattle.program.specs.Records.{termAtByte, termRecord}
 use Rattle.program.specs.Laws.Screening.{lowest-none}
 use Rattle.program.specs.Laws.Readable.{fields-ok}
 use Rattle.program.specs.Laws.Records.{term-laid}
 use Rattle.program.specs.Laws.Trees.{Below, below-of}
-use Rattle.program.specs.declared.records.Counts.{Counts as TableCounts}
+use Rattle.program.specs.declared.records.Counts.{Counts}
 use Rattle.program.specs.declared.records.TermRecord.{TermRecord}
 use Rattle.termrecords.specs.declared.Shape.{Shape}
 use Rattle.termrecords.specs.declared.Shape.the-variants.{Leaf, One, Two, Three, Function as FunctionShape, Letrec as LetrecShape, Wrong}
@@ -81,7 +81,7 @@ module _ (l : List ℕ) (t : ℕ) where
   pub links-wrong : {x : Shape} → x ≡ Wrong → LinkedAll l l x t
   links-wrong e = shape-of l e (λ y h. refl)
 
-  alone : (l₁ : List ℕ) (a : ℕ) → Linked l l₁ a t → (y : ℕ) → y < length l → getD l₁ y 0 ≡ linkTimes (one a y) (getD l y 0) t
+  alone : (l₁ : List ℕ) (a : ℕ) → Linked l l₁ a t → (y : ℕ) → y < length l → getD l₁ y 0 ≡ linkTimes (countEqual a y) (getD l y 0) t
   alone l₁ a w y h = w y h ∙ step (eqb a y) (getD l y 0) t
 
   pub links-one : (l₁ : List ℕ) {x : Shape} (a : ℕ) → x ≡ One a → Linked l l₁ a t → LinkedAll l l₁ x t
@@ -91,9 +91,9 @@ module _ (l : List ℕ) (t : ℕ) where
   links-function l₁ a e w = shape-of l₁ e (alone l₁ a w)
 
   both : (l₁ l₂ : List ℕ) (a b : ℕ) → length l₁ ≡ length l → Linked l l₁ a t → Linked l₁ l₂ b t → (y : ℕ) → y < length l
-      → getD l₂ y 0 ≡ linkTimes (one b y) (linkTimes (one a y) (getD l y 0) t) t
+      → getD l₂ y 0 ≡ linkTimes (countEqual b y) (linkTimes (countEqual a y) (getD l y 0) t) t
   both l₁ l₂ a b k w v y h =
-      v y (omega arith) ∙ step (eqb b y) (getD l₁ y 0) t ∙ ap (λ (z : ℕ). linkTimes (one b y) z t) (alone l₁ a w y h)
+      v y (omega arith) ∙ step (eqb b y) (getD l₁ y 0) t ∙ ap (λ (z : ℕ). linkTimes (countEqual b y) z t) (alone l₁ a w y h)
 
   pub links-two : (l₁ l₂ : List ℕ) {x : Shape} (a b : ℕ) → x ≡ Two a b → length l₁ ≡ length l → Linked l l₁ a t → Linked l₁ l₂ b t → LinkedAll l l₂ x t
   links-two l₁ l₂ a b e k w v = shape-of l₂ e (λ y h. both l₁ l₂ a b k w v y h ∙ two-steps (eqb a y) (eqb b y) (getD l y 0) t)
@@ -105,7 +105,7 @@ module _ (l : List ℕ) (t : ℕ) where
   pub links-three : (l₁ l₂ l₃ : List ℕ) {x : Shape} (a b d : ℕ) → x ≡ Three a b d → length l₁ ≡ length l → length l₂ ≡ length l₁
       → Linked l l₁ a t → Linked l₁ l₂ b t → Linked l₂ l₃ d t → LinkedAll l l₃ x t
   links-three l₁ l₂ l₃ a b d e k m w v u = shape-of l₃ e (λ y h.
-      u y (omega arith) ∙ step (eqb d y) (getD l₂ y 0) t ∙ ap (λ (z : ℕ). linkTimes (one d y) z t) (both l₁ l₂ a b k w v y h)
+      u y (omega arith) ∙ step (eqb d y) (getD l₂ y 0) t ∙ ap (λ (z : ℕ). linkTimes (countEqual d y) z t) (both l₁ l₂ a b k w v y h)
       ∙ three-steps (eqb a y) (eqb b y) (eqb d y) (getD l y 0) t)
 
 pub by-shape : (n : ℕ) {x y : Shape} → x ≡ y → ChildrenBelow x n → ChildrenBelow y n
@@ -115,7 +115,7 @@ by-shape n e h = subst (λ (z : Shape). ChildrenBelow z n) e h
 two-below : (t a b n : ℕ) → a < t → b < t → t ≤ n → TwoBelow a b n
 two-below t a b n h g l = record { first = omega arith; second = omega arith }
 
-children-below : (k : Kind) (t a b d n : ℕ) → Below (format k) t a b d → t ≤ n → ChildrenBelow (childrenOf k a b d) n
+children-below : (k : Kind) (t a b d n : ℕ) → Below (format k) t a b d → t ≤ n → ChildrenBelow (kindShape k a b d) n
 children-below Boolean t a b d n w l = tt
 children-below Number t a b d n w l = tt
 children-below Variable t a b d n w l = tt
@@ -136,8 +136,8 @@ children-below Difference t a b d n w l = two-below t a b n (w .first-below refl
 children-below Less t a b d n w l = two-below t a b n (w .first-below refl) (w .second-below refl) l
 children-below Post t a b d n w l = omega (arith, w .first-below refl)
 
-among-times : (k : Kind) (y a b d : ℕ) → among y (childrenOf k a b d)
-    ≡ counts (format k .first) a y + counts (format k .second) b y + counts (format k .third) d y
+among-times : (k : Kind) (y a b d : ℕ) → among y (kindShape k a b d)
+    ≡ childCount (format k .first) a y + childCount (format k .second) b y + childCount (format k .third) d y
 among-times Boolean y a b d = refl
 among-times Number y a b d = refl
 among-times Variable y a b d = refl
@@ -158,9 +158,9 @@ terms-ok : (s : List ℕ) → TermsOk s → (t : ℕ) → t < terms s → termOk
 terms-ok s T t h = lowest-none (termOk s) 0 (terms s) (T .none-found) t (omega arith) (omega arith)
 
 -- the shape of a right record
-right-shape : (s : List ℕ) (t : ℕ) → termOk s t ≡ true → shapeAt s t ≡ childrenOf (kindOf (kindByte s t)) (first s t) (second s t) (third s t)
+right-shape : (s : List ℕ) (t : ℕ) → termOk s t ≡ true → shapeAt s t ≡ kindShape (kindOf (kindByte s t)) (first s t) (second s t) (third s t)
 unfolding shapeAt
-right-shape s t h = ap (λ (b : Bool). shapeIf b (childrenOf (kindOf (kindByte s t)) (first s t) (second s t) (third s t))) h
+right-shape s t h = ap (λ (b : Bool). shapeIf b (kindShape (kindOf (kindByte s t)) (first s t) (second s t) (third s t))) h
 
 module _ (s : List ℕ) (T : TermsOk s) (few : terms s ≤ maxTerms) (t : ℕ) (h : t < terms s) {x : Shape} (e : x ≡ shapeAt s t) where
   pub shape-below : ChildrenBelow x maxTerms
@@ -172,7 +172,7 @@ module _ (s : List ℕ) (T : TermsOk s) (few : terms s ≤ maxTerms) (t : ℕ) (
   among-is y = ap (among y) (e ∙ right-shape s t (terms-ok s T t h)) ∙ among-times (kindOf (kindByte s t)) y (first s t) (second s t) (third s t)
 
 -- ---- the parent that is found lies above its child
-not-counted : (p : Part) (v x t : ℕ) → (isChild p ≡ true → v < t) → t ≤ x → counts p v x ≡ 0
+not-counted : (p : Part) (v x t : ℕ) → (isChild p ≡ true → v < t) → t ≤ x → childCount p v x ≡ 0
 not-counted p v x t f l = go (isChild p) refl
   where
     digit : Bool → ℕ
@@ -219,7 +219,7 @@ module _ (s : List ℕ) (T : TermsOk s) where
 
 -- ---- what the list of parents holds
 -- it has room for every term, and what the first t of all n terms note
-pub record Noted (s l : List ℕ) (n t : ℕ) : Type 0 where
+pub record ParentsNoted (s l : List ℕ) (n t : ℕ) : Type 0 where
   pub below : t ≤ n
   pub all : n ≡ terms s
   pub room : length l ≡ maxTerms
@@ -305,12 +305,12 @@ body-child k h = go (eqb k 3) refl h
     go true e h = ap second-child (eqb-true k 3 e)
     go false e h = ap second-child (eqb-true k 4 h)
 
-pub record-inside : (s : List ℕ) (c : TableCounts) (t : ℕ) → TableTerm s c t → TermInside s c t
+pub record-inside : (s : List ℕ) (c : Counts) (t : ℕ) → TableTerm s c t → TermInside s c t
 record-inside s c t K =
     let L = K .tables .laid in
     term-inside s (fields-ok s (L .none-found) .terms-in) c (L .counts-are) t (K .inside)
 
-module _ (s : List ℕ) (c : TableCounts) (t : ℕ) (K : TableTerm s c t) {r : TermRecord} (e : r ≡ termRecord s c t) where
+module _ (s : List ℕ) (c : Counts) (t : ℕ) (K : TableTerm s c t) {r : TermRecord} (e : r ≡ termRecord s c t) where
   read : r ≡ termAtByte s (termAt s t)
   read = let L = K .tables .laid in e ∙ term-laid s (fields-ok s (L .none-found) .terms-in) c (L .counts-are) t (K .inside)
 
@@ -340,7 +340,7 @@ root-is t n h = elim (ℕ-discrete (t + 1) n) [
   | no g ↦ ne-eqb (t + 1) n g ∙ sym (ne-eqb t (n - 1) (λ z. g (omega arith)))
 ]
 
-module _ (s : List ℕ) (c : TableCounts) (L : Laid s c) (T : TermsOk s) (t : ℕ) (h : t < terms s) (l : List ℕ) (w : Links s l (terms s)) where
+module _ (s : List ℕ) (c : Counts) (L : Laid s c) (T : TermsOk s) (t : ℕ) (h : t < terms s) (l : List ℕ) (w : Links s l (terms s)) where
   few : terms s ≤ maxTerms
   few = fields-ok s (L .none-found) .terms-high
 

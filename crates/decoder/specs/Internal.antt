@@ -51,17 +51,17 @@ abbrev pub linkTimes : (count old t : ℕ) → ℕ
 linkTimes zero v t = v
 linkTimes (suc k) v t = linkTimes k (linkStep v t) t
 
-abbrev pub one : (x y : ℕ) → ℕ
-one x y = cond (eqb x y) 1 0
+abbrev pub countEqual : (x y : ℕ) → ℕ
+countEqual x y = cond (eqb x y) 1 0
 
 -- how often y is among the children
 abbrev pub among : (y : ℕ) → Shape → ℕ
 among y Leaf = 0
-among y (One a) = one a y
-among y (Two a b) = one a y + one b y
-among y (Three a b d) = one a y + one b y + one d y
-among y (FunctionShape b) = one b y
-among y (LetrecShape b d) = one b y + one d y
+among y (One a) = countEqual a y
+among y (Two a b) = countEqual a y + countEqual b y
+among y (Three a b d) = countEqual a y + countEqual b y + countEqual d y
+among y (FunctionShape b) = countEqual b y
+among y (LetrecShape b d) = countEqual b y + countEqual d y
 among y Wrong = 0
 
 abbrev pub LinkedAll : (old new : List ℕ) → Shape → (t : ℕ) → Type 0

@@ -17,11 +17,11 @@ pub record Blank (r : Draft) : Type 0 where
   pub len-is : r .len ≡ 0
 
 -- a piece more, of at most so many bytes
-pub record Appended (d : Draft) (piece : List ℕ) (most : ℕ) (r : Draft) : Type 0 where
+pub record DraftAppended (d : Draft) (piece : List ℕ) (most : ℕ) (r : Draft) : Type 0 where
   pub contents-are : contents r ≡ contents d ++ piece
   pub len-most : r .len ≤ d .len + most
 
 -- the text alone, of at most so many bytes
-pub record Holds (text : List ℕ) (most : ℕ) (r : Draft) : Type 0 where
+pub record DraftHolds (text : List ℕ) (most : ℕ) (r : Draft) : Type 0 where
   pub contents-are : contents r ≡ text
   pub len-most : r .len ≤ most

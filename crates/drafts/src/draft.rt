@@ -4,7 +4,7 @@ ghost use mathlib.Core.Path.{_≡_};
 ghost use Prim.Native.Nat.{_+_, _<_, _≤_};
 ghost use lib.ListN.{length};
 ghost use Rattle.text.specs.Text.{digit as digitOf, decimal as decimalOf, hexadecimal as hexadecimalOf};
-ghost use Rattle.drafts.specs.Internal.{Blank, Appended, draftBytes};
+ghost use Rattle.drafts.specs.Internal.{Blank, DraftAppended, draftBytes};
 
 // Bytes of a draft: they hold the longest text, of which a number takes at most 20.
 pub const DRAFT_BYTES: usize = 224;
@@ -26,7 +26,7 @@ pub fn blank() -> Draft
 // One byte more.
 pub fn put(d: Draft, b: u8) -> Draft
     requires { ⌜ d .len < draftBytes ⌝ }
-    ensures { λ r. ⌜ Appended d (b ∷ []) 1 r ⌝ }
+    ensures { λ r. ⌜ DraftAppended d (b ∷ []) 1 r ⌝ }
 {
     let mut r = d;
     let at = d.len;
@@ -37,7 +37,7 @@ pub fn put(d: Draft, b: u8) -> Draft
 
 pub fn word(d: Draft, s: &[u8]) -> Draft
     requires { ⌜ d .len + length (now s) ≤ draftBytes ⌝ }
-    ensures { λ r. ⌜ Appended d (now (s .entry)) (length (now (s .entry))) r ⌝ }
+    ensures { λ r. ⌜ DraftAppended d (now (s .entry)) (length (now (s .entry))) r ⌝ }
 {
     let mut r = d;
     let mut i = 0;
@@ -59,7 +59,7 @@ fn digit(n: u8) -> u8
 // The last `k` hexadecimal digits.
 pub fn hexadecimal(d: Draft, k: usize, n: u32) -> Draft
     requires { ⌜ d .len + k ≤ draftBytes ⌝ }
-    ensures { λ r. ⌜ Appended d (hexadecimalOf k n) k r ⌝ }
+    ensures { λ r. ⌜ DraftAppended d (hexadecimalOf k n) k r ⌝ }
 {
     if k == 0 {
         return d;
@@ -72,7 +72,7 @@ pub fn hexadecimal(d: Draft, k: usize, n: u32) -> Draft
 // The last digit, behind those of the tenth if that is not 0.
 pub fn decimal(d: Draft, n: usize) -> Draft
     requires { ⌜ d .len + 20 ≤ draftBytes ⌝ }
-    ensures { λ r. ⌜ Appended d (decimalOf n) (length (decimalOf n)) r ⌝ }
+    ensures { λ r. ⌜ DraftAppended d (decimalOf n) (length (decimalOf n)) r ⌝ }
 {
     let last = digit((n % 10) as u8);
     if n < 10 {

@@ -2,11 +2,11 @@
 -- has none named".
 use Rattle.program.specs.Answers.{decodingCause, decodingPlace}
 use Rattle.typing.specs.Answers.{faultCause, faultPlace}
-use Rattle.erasure.specs.Erasure.{Answer, refused, lean}
+use Rattle.erasure.specs.Erasure.{ErasureAnswer, refused, lean}
 use Rattle.erasure.specs.declared.answer.Erased.{Erased}
 use Rattle.erasure.specs.declared.answer.Erased.the-variants.{Lean, Unreadable, Refused, NotErasable, NoRoom}
 
-abbrev pub erasedModel : Erased → Answer
+abbrev pub erasedModel : Erased → ErasureAnswer
 erasedModel (Lean n) = lean n
 erasedModel (Unreadable f) = refused (decodingCause f) (decodingPlace f)
 erasedModel (Refused f) = refused (faultCause f) (faultPlace f)

@@ -18,7 +18,7 @@ use Rattle.semantics.specs.Runs.{Buffers, sizes, course, ended, stopped, ground
 use Rattle.soundness.specs.Cases.{Case, deciding, due, request, counted, both, observed, observedBy, largest, as-due}
 use Rattle.erasure.specs.Kept.{keptBelow, gather}
 use Rattle.erasure.specs.Lean.{heads, head, keptType, newTypes, newType, keptTerm, innerIn, inner, newTerms, newTerm, leanSheet, untested, erasable}
-use Rattle.erasure.specs.Erasure.{Answer, refused, lean, After, erasure}
+use Rattle.erasure.specs.Erasure.{ErasureAnswer, refused, lean, AfterErasure, erasure}
 
 -- ---- the sheets, a line for each field's header and each record
 -- 01's sheet of 78 bytes: sign 0 (enable 1 (check 1 (post 7))), with A(0) = {1} or another set, in a version, and what follows the terms
@@ -127,12 +127,12 @@ guards = 5 ∷ 0 ∷ 16 ∷ replicate 16 255
 
 -- ---- erasures
 pub data Erasing : Type 0 where
-  erasing : (sheet buffer : List ℕ) → Answer → (after : List ℕ) → Erasing
+  erasing : (sheet buffer : List ℕ) → ErasureAnswer → (after : List ℕ) → Erasing
 
-abbrev pub dueOf : Erasing → After
+abbrev pub dueOf : Erasing → AfterErasure
 dueOf (erasing s b a after) = record { answer = a; buffer = after }
 
-unfoldable pub erasureOf : Erasing → After
+unfoldable pub erasureOf : Erasing → AfterErasure
 erasureOf (erasing s b a after) = erasure s b
 
 -- a buffer of so many bytes, none of them zero

@@ -9,32 +9,32 @@ use lib.ListN.{length, drop}
 use Rattle.typing.specs.Verdicts.{Verdict, accepted, rejected, verdict}
 use Rattle.erasure.specs.Lean.{leanSheet, erasable}
 
-pub data Answer : Type 0 where
-  refused : (cause place : ℕ) → Answer
-  lean : (length : ℕ) → Answer
+pub data ErasureAnswer : Type 0 where
+  refused : (cause place : ℕ) → ErasureAnswer
+  lean : (length : ℕ) → ErasureAnswer
 
-pub record After : Type 0 where
-  pub answer : Answer
+pub record AfterErasure : Type 0 where
+  pub answer : ErasureAnswer
   pub buffer : List ℕ
 
-abbrev pub untouched : (cause place : ℕ) → (buffer : List ℕ) → After
+abbrev pub untouched : (cause place : ℕ) → (buffer : List ℕ) → AfterErasure
 untouched cause place b = record { answer = refused cause place; buffer = b }
 
 -- the new sheet, followed by the buffer's rest
-abbrev pub written : (sheet buffer : List ℕ) → After
-written new b = record { answer = lean (length new); buffer = new ++ drop (length new) b }
+abbrev pub leanWritten : (sheet buffer : List ℕ) → AfterErasure
+leanWritten new b = record { answer = lean (length new); buffer = new ++ drop (length new) b }
 
-abbrev pub ifRoom : Bool → (sheet buffer : List ℕ) → After
-ifRoom true new b = written new b
+abbrev pub ifRoom : Bool → (sheet buffer : List ℕ) → AfterErasure
+ifRoom true new b = leanWritten new b
 ifRoom false new b = untouched 33 0 b
 
-abbrev pub ifErasable : (erasable room : Bool) → (sheet buffer : List ℕ) → After
+abbrev pub ifErasable : (erasable room : Bool) → (sheet buffer : List ℕ) → AfterErasure
 ifErasable true room new b = ifRoom room new b
 ifErasable false room new b = untouched 32 0 b
 
-abbrev pub erased : Verdict → List ℕ → (buffer : List ℕ) → After
+abbrev pub erased : Verdict → List ℕ → (buffer : List ℕ) → AfterErasure
 erased (accepted n τ N) s b = ifErasable (erasable s) (leb (length (leanSheet s)) (length b)) (leanSheet s) b
 erased (rejected c p) s b = untouched c p b
 
-unfoldable pub erasure : List ℕ → (buffer : List ℕ) → After
+unfoldable pub erasure : List ℕ → (buffer : List ℕ) → AfterErasure
 erasure s b = erased (verdict s) s b

@@ -21,7 +21,7 @@ use Rattle.semantics.specs.Runs.{Request, Buffers, run}
 use Rattle.semantics.specs.Theorems.{Starts}
 use Rattle.soundness.specs.Claims.{GrantsSet, Comparable}
 use Rattle.erasure.specs.Lean.{keptType, newTypes, newType, idle, keptTerm, newTerms, newTerm, typeBytes, leanSheet, untested, erasable}
-use Rattle.erasure.specs.Erasure.{Answer, refused, lean, ifRoom, ifErasable, erased, erasure}
+use Rattle.erasure.specs.Erasure.{ErasureAnswer, refused, lean, ifRoom, ifErasable, erased, erasure}
 use Rattle.erasure.specs.Claims.{LikeRun}
 use Rattle.erasure.specs.Laws.Kept.{kept-strict, old-of}
 use Rattle.erasure.specs.Laws.Bytes.{copied, types-are, terms-are, lean-shorter, type-latent, term-kind}
@@ -109,7 +109,7 @@ pub data Refused (s buffer : List ℕ) : (cause place : ℕ) → Type 0 where
   not-erasable : (n τ N : ℕ) → verdict s ≡ accepted n τ N → erasable s ≡ false → Refused s buffer 32 0
   no-room : (n τ N : ℕ) → verdict s ≡ accepted n τ N → erasable s ≡ true → length buffer < length (leanSheet s) → Refused s buffer 33 0
 
-abbrev AnswerMeans : (s buffer : List ℕ) → Answer → (after : List ℕ) → Type 0
+abbrev AnswerMeans : (s buffer : List ℕ) → ErasureAnswer → (after : List ℕ) → Type 0
 AnswerMeans s b (refused c p) after = Refused s b c p × (after ≡ b)
 AnswerMeans s b (lean n) after = Wrote s b after n
 
@@ -148,8 +148,8 @@ module _ (s b : List ℕ) where
   unfolding erasure
   answer-means = verdict-means (verdict s) refl
 
-  abbrev answerMeansAs : (a : Answer) → erasure s b .answer ≡ a → AnswerMeans s b a (erasure s b .buffer)
-  answerMeansAs a e = subst (λ (x : Answer). AnswerMeans s b x (erasure s b .buffer)) e answer-means
+  abbrev answerMeansAs : (a : ErasureAnswer) → erasure s b .answer ≡ a → AnswerMeans s b a (erasure s b .buffer)
+  answerMeansAs a e = subst (λ (x : ErasureAnswer). AnswerMeans s b x (erasure s b .buffer)) e answer-means
 
   -- "The judge's refusals come first, then a test or version 2 is 32 and a buffer shorter than the new sheet 33, and the buffer is untouched by any of them."
   pub refused-exactly : (c p : ℕ) → (erasure s b .answer ≡ refused c p) ↔ Refused s b c p

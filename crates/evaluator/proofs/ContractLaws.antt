@@ -10,25 +10,25 @@ use denote.Ref.{RefT}
 use Rattle.stores.specs.Words.{isStop}
 use Rattle.machine.specs.Steps.{callsLeft}
 use Rattle.machine.specs.Store.{Store, Done, storeOf, doneOf, andThen}
-use Rattle.evaluator.specs.Contracts.{namesOf, stateOf, Evaluated}
+use Rattle.evaluator.specs.Contracts.{namesOf, storeNow, Evaluated}
 
 module _ {run : Store → Done} {n : List ℕ} {c p f o : RefT (List ℕ)} where
   -- the run ends where it stands
-  pub ends : {w : ℕ} → run (stateOf n c p f o) ≡ doneOf w (stateOf n c p f o) → Evaluated run n c p f o w n c p f o
+  pub ends : {w : ℕ} → run (storeNow n c p f o) ≡ doneOf w (storeNow n c p f o) → Evaluated run n c p f o w n c p f o
   ends e = record { done = sym e; calls = le-refl _; names = refl }
 
   -- it ends there, and what was lent meanwhile is as it was
-  pub ends-same : {w : ℕ} {n′ : List ℕ} {c′ p′ f′ o′ : RefT (List ℕ)} → stateOf n′ c′ p′ f′ o′ ≡ stateOf n c p f o → namesOf c′ p′ f′ o′ ≡ namesOf c p f o
-      → run (stateOf n c p f o) ≡ doneOf w (stateOf n c p f o) → Evaluated run n c p f o w n′ c′ p′ f′ o′
+  pub ends-same : {w : ℕ} {n′ : List ℕ} {c′ p′ f′ o′ : RefT (List ℕ)} → storeNow n′ c′ p′ f′ o′ ≡ storeNow n c p f o → namesOf c′ p′ f′ o′ ≡ namesOf c p f o
+      → run (storeNow n c p f o) ≡ doneOf w (storeNow n c p f o) → Evaluated run n c p f o w n′ c′ p′ f′ o′
   ends-same {w} s k e = record {
     done = ap (λ (st : Store). doneOf w st) s ∙ sym e;
-    calls = omega (arith, ap (λ (st : Store). callsLeft (st .n)) s);
+    calls = omega (arith, ap (λ (st : Store). callsLeft (st .counters)) s);
     names = k;
   }
 
   module _ {run₂ : Store → Done} {r : ℕ} {n₁ : List ℕ} {c₁ p₁ f₁ o₁ : RefT (List ℕ)} where
     -- the run goes on as another one, from a later state
-    pub goes-on : {n₂ : List ℕ} {c₂ p₂ f₂ o₂ : RefT (List ℕ)} → run (stateOf n c p f o) ≡ run₂ (stateOf n₂ c₂ p₂ f₂ o₂) → callsLeft n₂ ≤ callsLeft n
+    pub goes-on : {n₂ : List ℕ} {c₂ p₂ f₂ o₂ : RefT (List ℕ)} → run (storeNow n c p f o) ≡ run₂ (storeNow n₂ c₂ p₂ f₂ o₂) → callsLeft n₂ ≤ callsLeft n
         → namesOf c₂ p₂ f₂ o₂ ≡ namesOf c p f o
         → Evaluated run₂ n₂ c₂ p₂ f₂ o₂ r n₁ c₁ p₁ f₁ o₁ → Evaluated run n c p f o r n₁ c₁ p₁ f₁ o₁
     goes-on e l s h = record { done = h .done ∙ sym e; calls = omega (arith, l, h .calls); names = h .names ∙ s }

@@ -1,2 +1,2 @@
 pub mod ContractLaws
-pub mod ShapeLaws
+pub mod ActionLaws

@@ -1,9 +1,9 @@
 // The evaluator of both runners over the words of a readable sheet's terms: evaluating a term and applying a function call each other. Its contracts
-// speak of the store-level interpreter in machine/specs/Store.antt; the crate `refinement` takes that to the meaning. `n` holds the calls left, the
+// speak of the store-level interpreter in machine/specs/Store.antt; the crate `refinement` takes that to the meaning. `counters` are the calls left, the
 // cells made, the posts made, the run's mode, the saturated results and the entries of the record, whose bytes are `noted`. The lent stores are handed on
 // as references to the slices, so that no call copies one. What few terms look at comes last among the parameters: the first six are in registers.
 ghost use Rattle.machine.specs.Store.{enable, evalAt, applyAt};
-ghost use Rattle.evaluator.specs.Contracts.{Table, Node, Tail, First, Pair, secondAt, Evaluated};
+ghost use Rattle.evaluator.specs.Contracts.{TermTable, Node, Tail, FirstNode, PairNode, secondAt, Evaluated};
 use machine::enter::enter;
 use machine::steps::append;
 use machine::steps::choose;
@@ -24,18 +24,19 @@ use termtable::word_at;
 pub fn eval(
     terms: &[u64; TERM_PLACES],
     cells: &mut &mut [u8],
-    n: &mut [usize; 6],
+    counters: &mut [usize; 6],
     t: u16,
     env: u16,
-    acc: u64,
+    access: u64,
     depth: usize,
     frames: &mut &mut [u32],
     posts: &mut &mut [u32],
     noted: &mut &mut [u8],
 ) -> u64
-    requires { ⌜ Table (now terms) ⌝ }
-    ensures { λ r. ⌜ Evaluated (evalAt (now (terms .entry)) depth t env acc) (now (n .entry)) (now (cells .entry)) (now (posts .entry)) (now (frames .entry))
-        (now (noted .entry)) r (now (n .exit)) (now (cells .exit)) (now (posts .exit)) (now (frames .exit)) (now (noted .exit)) ⌝ }
+    requires { ⌜ TermTable (now terms) ⌝ }
+    ensures { λ r. ⌜ Evaluated (evalAt (now (terms .entry)) depth t env access) (now (counters .entry)) (now (cells .entry)) (now (posts .entry))
+        (now (frames .entry))
+        (now (noted .entry)) r (now (counters .exit)) (now (cells .exit)) (now (posts .exit)) (now (frames .exit)) (now (noted .exit)) ⌝ }
 {
     let x = word_at(terms, t);
     let kind = kind_of(x);
@@ -47,19 +48,43 @@ pub fn eval(
         5 | 6 | 11..=255 => eval_first(
             terms,
             cells,
-            n,
+            counters,
             t,
             env,
-            acc,
+            access,
             x,
             depth,
             frames,
             posts,
             noted,
         ),
-        8 => eval_enable(terms, cells, n, t, env, acc, x, depth, frames, posts, noted),
+        8 => eval_enable(
+            terms,
+            cells,
+            counters,
+            t,
+            env,
+            access,
+            x,
+            depth,
+            frames,
+            posts,
+            noted,
+        ),
         // letrec, check, sign and test: 4, 7, 9 and 10
-        _ => eval_tail(terms, cells, n, t, env, acc, x, depth, frames, posts, noted),
+        _ => eval_tail(
+            terms,
+            cells,
+            counters,
+            t,
+            env,
+            access,
+            x,
+            depth,
+            frames,
+            posts,
+            noted,
+        ),
     }
 }
 
@@ -67,10 +92,10 @@ pub fn eval(
 fn eval_tail(
     terms: &[u64; TERM_PLACES],
     cells: &mut &mut [u8],
-    n: &mut [usize; 6],
+    counters: &mut [usize; 6],
     t: u16,
     env: u16,
-    acc: u64,
+    access: u64,
     x: u64,
     depth: usize,
     frames: &mut &mut [u32],
@@ -78,20 +103,21 @@ fn eval_tail(
     noted: &mut &mut [u8],
 ) -> u64
     requires { ⌜ Tail (now terms) t x ⌝ }
-    ensures { λ r. ⌜ Evaluated (evalAt (now (terms .entry)) depth t env acc) (now (n .entry)) (now (cells .entry)) (now (posts .entry)) (now (frames .entry))
-        (now (noted .entry)) r (now (n .exit)) (now (cells .exit)) (now (posts .exit)) (now (frames .exit)) (now (noted .exit)) ⌝ }
+    ensures { λ r. ⌜ Evaluated (evalAt (now (terms .entry)) depth t env access) (now (counters .entry)) (now (cells .entry)) (now (posts .entry))
+        (now (frames .entry))
+        (now (noted .entry)) r (now (counters .exit)) (now (cells .exit)) (now (posts .exit)) (now (frames .exit)) (now (noted .exit)) ⌝ }
 {
-    let e = enter(*cells, *frames, *noted, n, t, x, env, acc);
+    let e = enter(*cells, *frames, *noted, counters, t, x, env, access);
     if words::is_stop(e.stop) {
         return e.stop;
     }
     eval(
         terms,
         cells,
-        n,
+        counters,
         e.next,
         e.env,
-        e.acc,
+        e.access,
         depth,
         frames,
         posts,
@@ -103,10 +129,10 @@ fn eval_tail(
 fn eval_enable(
     terms: &[u64; TERM_PLACES],
     cells: &mut &mut [u8],
-    n: &mut [usize; 6],
+    counters: &mut [usize; 6],
     t: u16,
     env: u16,
-    acc: u64,
+    access: u64,
     x: u64,
     depth: usize,
     frames: &mut &mut [u32],
@@ -114,16 +140,17 @@ fn eval_enable(
     noted: &mut &mut [u8],
 ) -> u64
     requires { ⌜ Node (now terms) t x enable ⌝ }
-    ensures { λ r. ⌜ Evaluated (evalAt (now (terms .entry)) depth t env acc) (now (n .entry)) (now (cells .entry)) (now (posts .entry)) (now (frames .entry))
-        (now (noted .entry)) r (now (n .exit)) (now (cells .exit)) (now (posts .exit)) (now (frames .exit)) (now (noted .exit)) ⌝ }
+    ensures { λ r. ⌜ Evaluated (evalAt (now (terms .entry)) depth t env access) (now (counters .entry)) (now (cells .entry)) (now (posts .entry))
+        (now (frames .entry))
+        (now (noted .entry)) r (now (counters .exit)) (now (cells .exit)) (now (posts .exit)) (now (frames .exit)) (now (noted .exit)) ⌝ }
 {
-    let mode = n[3];
-    let old = access::enabled_now(*frames, mode, acc);
-    let inner = access::enable(*frames, mode, acc, small_of(x));
+    let mode = counters[3];
+    let old = access::enabled_now(*frames, mode, access);
+    let inner = access::enable(*frames, mode, access, small_of(x));
     let w = eval(
         terms,
         cells,
-        n,
+        counters,
         first_of(x),
         env,
         inner,
@@ -132,7 +159,7 @@ fn eval_enable(
         posts,
         noted,
     );
-    access::restore(*frames, mode, acc, old);
+    access::restore(*frames, mode, access, old);
     w
 }
 
@@ -140,27 +167,28 @@ fn eval_enable(
 fn eval_first(
     terms: &[u64; TERM_PLACES],
     cells: &mut &mut [u8],
-    n: &mut [usize; 6],
+    counters: &mut [usize; 6],
     t: u16,
     env: u16,
-    acc: u64,
+    access: u64,
     x: u64,
     depth: usize,
     frames: &mut &mut [u32],
     posts: &mut &mut [u32],
     noted: &mut &mut [u8],
 ) -> u64
-    requires { ⌜ First (now terms) t x ⌝ }
-    ensures { λ r. ⌜ Evaluated (evalAt (now (terms .entry)) depth t env acc) (now (n .entry)) (now (cells .entry)) (now (posts .entry)) (now (frames .entry))
-        (now (noted .entry)) r (now (n .exit)) (now (cells .exit)) (now (posts .exit)) (now (frames .exit)) (now (noted .exit)) ⌝ }
+    requires { ⌜ FirstNode (now terms) t x ⌝ }
+    ensures { λ r. ⌜ Evaluated (evalAt (now (terms .entry)) depth t env access) (now (counters .entry)) (now (cells .entry)) (now (posts .entry))
+        (now (frames .entry))
+        (now (noted .entry)) r (now (counters .exit)) (now (cells .exit)) (now (posts .exit)) (now (frames .exit)) (now (noted .exit)) ⌝ }
 {
     let a = eval(
         terms,
         cells,
-        n,
+        counters,
         first_of(x),
         env,
-        acc,
+        access,
         depth,
         frames,
         posts,
@@ -171,16 +199,16 @@ fn eval_first(
     }
     let kind = kind_of(x);
     if 13 < kind {
-        return append(*posts, *frames, *noted, n, t, x, acc, a);
+        return append(*posts, *frames, *noted, counters, t, x, access, a);
     }
     if kind != 6 {
         return eval_second(
             terms,
             cells,
-            n,
+            counters,
             t,
             env,
-            acc,
+            access,
             x,
             a,
             depth,
@@ -199,10 +227,10 @@ fn eval_first(
     eval(
         terms,
         cells,
-        n,
+        counters,
         branch,
         env,
-        acc,
+        access,
         depth,
         frames,
         posts,
@@ -214,10 +242,10 @@ fn eval_first(
 fn eval_second(
     terms: &[u64; TERM_PLACES],
     cells: &mut &mut [u8],
-    n: &mut [usize; 6],
+    counters: &mut [usize; 6],
     t: u16,
     env: u16,
-    acc: u64,
+    access: u64,
     x: u64,
     a: u64,
     depth: usize,
@@ -225,17 +253,17 @@ fn eval_second(
     posts: &mut &mut [u32],
     noted: &mut &mut [u8],
 ) -> u64
-    requires { ⌜ Pair (now terms) t x ⌝ }
-    ensures { λ r. ⌜ Evaluated (secondAt (now (terms .entry)) depth t x env acc a) (now (n .entry)) (now (cells .entry)) (now (posts .entry))
-        (now (frames .entry)) (now (noted .entry)) r (now (n .exit)) (now (cells .exit)) (now (posts .exit)) (now (frames .exit)) (now (noted .exit)) ⌝ }
+    requires { ⌜ PairNode (now terms) t x ⌝ }
+    ensures { λ r. ⌜ Evaluated (secondAt (now (terms .entry)) depth t x env access a) (now (counters .entry)) (now (cells .entry)) (now (posts .entry))
+        (now (frames .entry)) (now (noted .entry)) r (now (counters .exit)) (now (cells .exit)) (now (posts .exit)) (now (frames .exit)) (now (noted .exit)) ⌝ }
 {
     let b = eval(
         terms,
         cells,
-        n,
+        counters,
         second_of(x),
         env,
-        acc,
+        access,
         depth,
         frames,
         posts,
@@ -246,18 +274,30 @@ fn eval_second(
     }
     let kind = kind_of(x);
     if kind == 5 {
-        return apply(terms, cells, n, t, acc, a, b, depth, frames, posts, noted);
+        return apply(
+            terms,
+            cells,
+            counters,
+            t,
+            access,
+            a,
+            b,
+            depth,
+            frames,
+            posts,
+            noted,
+        );
     }
-    operate(n, kind, t, a, b)
+    operate(counters, kind, t, a, b)
 }
 
-// Applies f to v at the call t: 18, 19, 20, 21, or its body runs in the caller's access, with its argument in a new cell.
+// Applies f to v at the call t: 18, 19, 20, 21, or its body runs in the access `caller`, with its argument in a new cell.
 fn apply(
     terms: &[u64; TERM_PLACES],
     cells: &mut &mut [u8],
-    n: &mut [usize; 6],
+    counters: &mut [usize; 6],
     t: u16,
-    acc: u64,
+    caller: u64,
     f: u64,
     v: u64,
     depth: usize,
@@ -265,9 +305,9 @@ fn apply(
     posts: &mut &mut [u32],
     noted: &mut &mut [u8],
 ) -> u64
-    requires { ⌜ Table (now terms) ⌝ }
-    ensures { λ r. ⌜ Evaluated (applyAt (now (terms .entry)) depth t f v acc) (now (n .entry)) (now (cells .entry)) (now (posts .entry))
-        (now (frames .entry)) (now (noted .entry)) r (now (n .exit)) (now (cells .exit)) (now (posts .exit)) (now (frames .exit))
+    requires { ⌜ TermTable (now terms) ⌝ }
+    ensures { λ r. ⌜ Evaluated (applyAt (now (terms .entry)) depth t f v caller) (now (counters .entry)) (now (cells .entry)) (now (posts .entry))
+        (now (frames .entry)) (now (noted .entry)) r (now (counters .exit)) (now (cells .exit)) (now (posts .exit)) (now (frames .exit))
         (now (noted .exit)) ⌝ }
 {
     if words::sort(f) != 2 {
@@ -276,26 +316,26 @@ fn apply(
     if depth == 0 {
         return words::stop(19, t);
     }
-    let calls = n[0];
+    let calls = counters[0];
     if calls == 0 {
         return words::stop(20, t);
     }
-    let k = n[1];
+    let k = counters[1];
     let made = bind(*cells, k, v, words::env(f));
     if made == 0 {
         return words::stop(21, t);
     }
-    n[0] = calls - 1;
-    n[1] = made;
+    counters[0] = calls - 1;
+    counters[1] = made;
     let body = words::payload(f);
     let own = next_cell(k);
     eval(
         terms,
         cells,
-        n,
+        counters,
         body,
         own,
-        acc,
+        caller,
         depth - 1,
         frames,
         posts,

@@ -16,36 +16,36 @@ use Rattle.program.specs.Answers.{decodingCause, decodingPlace}
 use Rattle.program.specs.declared.answer.Refusal.{Refusal}
 use Rattle.program.specs.declared.records.Counts.{Counts}
 use Rattle.typing.specs.Checking.{Judgement, typed, fault}
-use Rattle.typing.specs.Verdicts.{Verdict, accepted, rejected, concluded, judgement, verdict}
+use Rattle.typing.specs.Verdicts.{Verdict as VerdictOf, accepted, rejected, concluded, judgement, verdict}
 use Rattle.typing.specs.Answers.{faultCause, faultPlace, verdictModel}
 use Rattle.typing.specs.declared.answer.Fault.{Fault}
-use Rattle.typing.specs.declared.answer.Verdict.{Verdict as VerdictAnswer}
+use Rattle.typing.specs.declared.answer.Verdict.{Verdict}
 use Rattle.typing.specs.declared.answer.Verdict.the-variants as answer
 use Rattle.accessors.specs.Internal.{FormedSheet}
 use Rattle.typing.specs.Places.{placedNumber, rootOf}
 use Rattle.chains.specs.Explaining.{needing, needs, chainOf, Explained as ExplainedOf, explained, not-needed, refused, explainedIn, explainedBy, explanation}
-use Rattle.chains.specs.Answers.{answerModel, chainTerms, chainLength, ExplainedAs}
+use Rattle.chains.specs.Answers.{explanationModel, chainTerms, chainLength, ExplainedAs}
 use Rattle.following.specs.Internal.{RootNeeds, Followable, unchained}
 use Rattle.chains.specs.declared.answer.Explanation.{Explanation}
 use Rattle.chains.specs.declared.answer.Explanation.the-variants.{NotNeeded, Unreadable, Refused, NoPrivilege}
 use Rattle.chains.specs.declared.answer.Explained.{Explained}
 
 -- ---- an answer with no chain
-unchained-as : {r : Explained} (a : Explanation) (e : ExplainedOf) → r ≡ unchained a → answerModel a (replicate maxNesting 0) ≡ e → chainTerms e ≡ []
+unchained-as : {r : Explained} (a : Explanation) (e : ExplainedOf) → r ≡ unchained a → explanationModel a (replicate maxNesting 0) ≡ e → chainTerms e ≡ []
     → chainLength a ≡ 0 → ExplainedAs r e
 unchained-as a e q h k l = rw q (record { answer-is = h; length-is = l ∙ sym (ap length k); terms-are = rw k })
 
 -- ---- the verdict on the sheet
-by-verdict : (s : List ℕ) (p : ℕ) {r : Explained} (v : Verdict) → v ≡ verdict s → ExplainedAs r (explainedBy s p v) → ExplainedAs r (explanation s p)
+by-verdict : (s : List ℕ) (p : ℕ) {r : Explained} (v : VerdictOf) → v ≡ verdict s → ExplainedAs r (explainedBy s p v) → ExplainedAs r (explanation s p)
 unfolding explanation
-by-verdict s p {r} v e w = subst (λ (v : Verdict). ExplainedAs r (explainedBy s p v)) e w
+by-verdict s p {r} v e w = subst (λ (v : VerdictOf). ExplainedAs r (explainedBy s p v)) e w
 
 module _ (s : List ℕ) (p : ℕ) {r : Explained} where
   pub unreadable-explained : {f : Refusal} → r ≡ unchained (Unreadable f) → rejected (decodingCause f) (decodingPlace f) ≡ verdict s
       → ExplainedAs r (explanation s p)
   unreadable-explained {f} q e = by-verdict s p (rejected (decodingCause f) (decodingPlace f)) e (unchained-as (Unreadable f) _ q refl refl refl)
 
-  module _ {v : VerdictAnswer} (w : verdictModel v ≡ verdict s) where
+  module _ {v : Verdict} (w : verdictModel v ≡ verdict s) where
     pub refused-unreadable : {f : Refusal} → v ≡ answer.Unreadable f → r ≡ unchained (Unreadable f) → ExplainedAs r (explanation s p)
     refused-unreadable e q = unreadable-explained q (ap verdictModel (sym e) ∙ w)
 
@@ -72,7 +72,7 @@ verdict-needs s p n τ N e = go (decoding s) e
     go clear e = conclusion-needs p (terms s) (root s) n τ N (judgement s) e
     go (found c at) e = let z : _≡_ {A = ℕ} 0 1 = cc in absurd (omega arith)
 
-pub accepted-needs : {s : List ℕ} {c : Counts} → FormedSheet s c → {v : VerdictAnswer} {n τ N : ℕ} → verdictModel v ≡ verdict s → v ≡ answer.Accepted n τ N
+pub accepted-needs : {s : List ℕ} {c : Counts} → FormedSheet s c → {v : Verdict} {n τ N : ℕ} → verdictModel v ≡ verdict s → v ≡ answer.Accepted n τ N
     → RootNeeds s c N
 accepted-needs {s} S {n = n} {τ = τ} {N = N} w e = record { sheet = S; needs-are = λ p. verdict-needs s p n τ N (ap verdictModel (sym e) ∙ w) }
 

@@ -6,7 +6,7 @@ use Prim.Native.Nat.{ℕ, _<_}
 use native.Mathlib.Omega.{arith}
 use lib.Dec.{eqb}
 use denote.Enum.Declared.{tagOf}
-use Rattle.privileges.specs.Sets.{has}
+use Rattle.privileges.specs.Sets.{privilegeCount, has}
 use Rattle.program.specs.Layout.{Types, authority, typesOf, guardIn}
 use Rattle.program.specs.Terms.{Term, tree, contains}
 use Rattle.program.specs.Records.{termRecord, typeRecord, guardRecord}
@@ -20,7 +20,8 @@ use Rattle.typing.specs.declared.answer.Inferred.the-variants.{Typed, Faulty}
 use Rattle.typing.proofs.answer.Inferred.{the-type}
 use Rattle.accessors.specs.Internal.{FormedSheet}
 use Rattle.subtyping.specs.Laws.Records.{type-parts}
-use Rattle.rules.specs.Inference.{inferredModel, context, termJudgement, Ready}
+use Rattle.typing.specs.Verdicts.{termJudgement}
+use Rattle.rules.specs.Inference.{inferredModel, context, Ready}
 use Rattle.rules.specs.Steps.{callStep}
 use Rattle.rules.specs.declared.bindings.Bindings.{Bindings}
 use Rattle.checker.proofs.TermLaws.{post-guard, call-is, call-stops}
@@ -60,7 +61,7 @@ module _ {s : List ℕ} {c : Counts} {t : ℕ} {b : Bindings} {n : ℕ} (R : Rea
   unfolding isCause
   check-cause e = ap cause (sym (tree-is R h e))
 
-  pub post-cause : x .kind ≡ 14 → p < 32 → {g : ℕ} → g ≡ guardRecord s c (x .small) → eqb g p ≡ cause (tree s t)
+  pub post-cause : x .kind ≡ 14 → p < privilegeCount → {g : ℕ} → g ≡ guardRecord s c (x .small) → eqb g p ≡ cause (tree s t)
   unfolding isCause
   post-cause e l {g} q =
       guard-contains p g l ∙ ap (λ (g : ℕ). contains p (guardIn g)) (post-guard (at-record R h) e q) ∙ ap cause (sym (tree-is R h e))

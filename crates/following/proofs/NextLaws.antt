@@ -9,7 +9,7 @@ use native.Mathlib.Omega.{arith}
 use lib.Dec.{eqb}
 use borrow.Author.Tests.{eq-eqb, ne-eqb}
 use denote.Enum.Declared.{tagOf}
-use Rattle.privileges.specs.Sets.{has}
+use Rattle.privileges.specs.Sets.{privilegeCount, has}
 use Rattle.program.specs.Layout.{Types, authority, typesOf}
 use Rattle.program.specs.Terms.{Term, boolean, number, variable, function, letrec, call, if, check, enable, sign, test, binary, post, tree}
 use Rattle.program.specs.Records.{termRecord}
@@ -19,14 +19,15 @@ use Rattle.typing.specs.declared.answer.Inferred.{Inferred}
 use Rattle.typing.specs.declared.answer.Inferred.the-variants.{Typed}
 use Rattle.typing.proofs.answer.Inferred.{the-type}
 use Rattle.subtyping.specs.Known.{Known, Answered}
-use Rattle.rules.specs.Inference.{inferredModel, context, termJudgement, Ready}
+use Rattle.typing.specs.Verdicts.{termJudgement}
+use Rattle.rules.specs.Inference.{inferredModel, context, Ready}
 use Rattle.rules.specs.declared.bindings.Bindings.{Bindings}
-use Rattle.checker.specs.Internal.{Judged}
+use Rattle.checker.specs.Internal.{InferredAs}
 use Rattle.typing.specs.Places.{Placed, placed, Among, among-first, among-later}
 use Rattle.chains.specs.Explaining.{needing, needs, testsIt, followed, firstNeeding, next}
 use Rattle.places.specs.Internal.{placedAt, ReadyPlace, Children, childrenOf, childrenAt, childAt, Reached}
 use Rattle.chains.specs.Laws.Progress.{SomeNeeds, progress}
-use Rattle.following.specs.Internal.{FunctionType, followedOf, followedAt, needsAt, causeAt, nextAt, neededBy, Following, FollowingCall, FollowingOther, Stepped}
+use Rattle.following.specs.Internal.{FunctionTypePrivilege, followedOf, followedAt, needsAt, causeAt, nextAt, neededBy, Following, FollowingCall, FollowingOther, Stepped}
 use Rattle.places.specs.declared.Place.{Place}
 use Rattle.places.specs.declared.Child.{Child}
 use Rattle.places.proofs.PlaceLaws as each
@@ -125,7 +126,7 @@ module _ (s : List ℕ) (p : ℕ) where
   passed (some x) l e = rw e
 
 -- ---- one child after the other: the next place is among those that are left, and one of them needs the privilege
-pub record Left (s : List ℕ) (p : ℕ) (due : Option Placed) (os : List (Option Placed)) : Type 0 where
+pub record ChildrenLeft (s : List ℕ) (p : ℕ) (due : Option Placed) (os : List (Option Placed)) : Type 0 where
   due-is : due ≡ among s p (those os)
   someone : SomeNeeds (typesOf s) (authority s) p (those os)
 
@@ -137,7 +138,7 @@ cause-ends p at a e f = record { is = rw (f, sym a ∙ e); following = λ g. abs
 
 -- else one of the children is the next
 pub all-left : (s : List ℕ) (p : ℕ) (at : Place) {z : Bool} → needsAt s p at ≡ true → z ≡ causeAt s p at → z ≡ false
-    → Left s p (nextAt s p at) (in-order (followedAt s p at))
+    → ChildrenLeft s p (nextAt s p at) (in-order (followedAt s p at))
 unfolding next
 all-left s p at h a e = record {
   due-is = rw (sym a ∙ e) (ap (among s p) (followed-is (typesOf s) (authority s) p (placedAt s at)));
@@ -166,34 +167,34 @@ module _ (s : List ℕ) (p : ℕ) where
       go (some x) among-first f = f
 
 -- a child that does not need the privilege is passed
-passed-by : {s : List ℕ} {p : ℕ} {o : Option Placed} {os : List (Option Placed)} {due : Option Placed} → Left s p due (o ∷ os) → neededBy s p o ≡ false
-    → Left s p due os
+passed-by : {s : List ℕ} {p : ℕ} {o : Option Placed} {os : List (Option Placed)} {due : Option Placed} → ChildrenLeft s p due (o ∷ os) → neededBy s p o ≡ false
+    → ChildrenLeft s p due os
 passed-by {s} {p} {o} {os} q e = record {
   due-is = q .due-is ∙ sym (passed s p o (those os) e);
   someone = among-others s p o (those os) e (q .someone);
 }
 
 module _ {s : List ℕ} {c : Counts} {p t : ℕ} {o : Option Placed} {os : List (Option Placed)} {due : Option Placed} {y : Child} {l : List ℕ}
-    (q : Left s p due (o ∷ os)) (w : Reached s c t y o) where
-  next-is : p < 32 → Known (typesOf s) l → neededBy s p o ≡ true → Stepped s c p y due l
+    (q : ChildrenLeft s p due (o ∷ os)) (w : Reached s c t y o) where
+  next-is : p < privilegeCount → Known (typesOf s) l → neededBy s p o ≡ true → Stepped s c p y due l
   next-is small k e = record {
     is = w .is ∙ taken s p o (those os) e ∙ sym (q .due-is);
     following = λ g. record { ready = w .ready g; known = k; privilege = small; needing = rw g at (ap (neededBy s p) (w .is) ∙ e) };
   }
 
   -- the last that is there is the next
-  pub last-next : p < 32 → Known (typesOf s) l → those os ≡ [] → Stepped s c p y due l
+  pub last-next : p < privilegeCount → Known (typesOf s) l → those os ≡ [] → Stepped s c p y due l
   last-next small k e = next-is small k (the-last s p o (subst (λ (m : List Placed). SomeNeeds (typesOf s) (authority s) p (listed o m)) e (q .someone)))
 
   module _ {z : Bool} (a : Answered (typesOf s) z (neededBy s p (childAt s y)) l) where
     needed-is : neededBy s p o ≡ z
     needed-is = ap (neededBy s p) (sym (w .is)) ∙ sym (a .is)
 
-    pub others-left : z ≡ false → Left s p due os
+    pub others-left : z ≡ false → ChildrenLeft s p due os
     others-left e = passed-by q (needed-is ∙ e)
 
     -- one that does is the next
-    pub child-next : p < 32 → z ≡ true → Stepped s c p y due l
+    pub child-next : p < privilegeCount → z ≡ true → Stepped s c p y due l
     child-next small e = next-is small (a .known) (needed-is ∙ e)
 
 -- ---- a child that is not there
@@ -230,7 +231,7 @@ module _ {s : List ℕ} {c : Counts} {k : List ℕ} {p : ℕ} {at : Place} (F : 
   no-third : listed (followedAt s p at .third) [] ≡ []
   no-third = ap (λ (z : Term). listed (parts z .third) []) (tree-is ready h kind-is)
 
-  module _ {l : List ℕ} (j : Inferred) (a : Judged s (context (at .bindings)) (at .principal) (x .first) j l) where
+  module _ {l : List ℕ} (j : Inferred) (a : InferredAs s (context (at .bindings)) (at .principal) (x .first) j l) where
     part-needs : needing p (inferredModel j) ≡ neededBy s p (followedAt s p at .first)
     unfolding needs termJudgement
     part-needs = ap (needing p) (a .is) ∙ ap (λ (z : Term). neededBy s p (parts z .first)) (sym (tree-is ready h kind-is))
@@ -240,7 +241,7 @@ module _ {s : List ℕ} {c : Counts} {k : List ℕ} {p : ℕ} {at : Place} (F : 
     part-faulty g = absurd (part-typed ready h p kind-is j (a .is) (F .following .needing) g)
 
     module _ {φ N : ℕ} (g : j ≡ Typed φ N) where
-      pub part-type : FunctionType s c φ p
+      pub part-type : FunctionTypePrivilege s c φ p
       part-type = record {
         sheet = ready .sheet;
         is-function = part-function ready h p kind-is j (a .is) g (F .following .needing);
@@ -255,7 +256,7 @@ module _ {s : List ℕ} {c : Counts} {k : List ℕ} {p : ℕ} {at : Place} (F : 
         call-ends e d = cause-ends p at call-is-cause e d
 
         module _ (e : z ≡ false) {v : Bool} (d : v ≡ has p N) where
-          both-left : Left s p (nextAt s p at) (in-order (followedAt s p at))
+          both-left : ChildrenLeft s p (nextAt s p at) (in-order (followedAt s p at))
           both-left = all-left s p at (F .following .needing) call-is-cause e
 
           part-needed : neededBy s p (followedAt s p at .first) ≡ v

@@ -5,7 +5,7 @@ use mathlib.Core.Option.{Option, none, some}
 use mathlib.Core.Path.{_≡_}
 use Prim.Native.Nat.{ℕ, _<_}
 use lib.ListN.{replicate}
-use Rattle.privileges.specs.Sets.{has}
+use Rattle.privileges.specs.Sets.{privilegeCount, has}
 use Rattle.program.specs.Limits.{maxNesting}
 use Rattle.program.specs.Layout.{Types, authority, typesOf}
 use Rattle.program.specs.Records.{termRecord}
@@ -21,16 +21,16 @@ use Rattle.places.specs.declared.Place.{Place}
 use Rattle.places.specs.declared.Child.{Child}
 
 -- a function type of a readable sheet, and a privilege
-pub record FunctionType (s : List ℕ) (c : Counts) (t p : ℕ) : Type 0 where
+pub record FunctionTypePrivilege (s : List ℕ) (c : Counts) (t p : ℕ) : Type 0 where
   pub sheet : FormedSheet s c
   pub is-function : typesOf s .isFun t ≡ true
-  pub privilege : p < 32
+  pub privilege : p < privilegeCount
 
 -- a place whose term is no call, and a privilege
 pub record NoCall (s : List ℕ) (c : Counts) (p : ℕ) (x : Place) : Type 0 where
   pub ready : ReadyPlace s c x
   pub no-call : termRecord s c (x .term) .kind ≡ 5 → ⊥
-  pub privilege : p < 32
+  pub privilege : p < privilegeCount
 
 -- ---- the children that may be followed for privilege p: the first child of a test of p is its yes-branch
 abbrev pub followedOf : Types → (A : ℕ → ℕ) → (p : ℕ) → Placed → Children
@@ -61,7 +61,7 @@ neededBy s p (some x) = needs (typesOf s) (authority s) p x
 pub record Following (s : List ℕ) (c : Counts) (l : List ℕ) (p : ℕ) (x : Place) : Type 0 where
   pub ready : ReadyPlace s c x
   pub known : Known (typesOf s) l
-  pub privilege : p < 32
+  pub privilege : p < privilegeCount
   pub needing : needsAt s p x ≡ true
 
 -- one whose term is a call, and one whose term is none
@@ -74,10 +74,10 @@ pub record FollowingOther (s : List ℕ) (c : Counts) (l : List ℕ) (p : ℕ) (
   pub no-call : termRecord s c (x .term) .kind ≡ 5 → ⊥
 
 -- a child that may be the next
-pub record Candidate (s : List ℕ) (c : Counts) (l : List ℕ) (p : ℕ) (y : Child) : Type 0 where
+pub record JudgeableChild (s : List ℕ) (c : Counts) (l : List ℕ) (p : ℕ) (y : Child) : Type 0 where
   pub ready : y .present ≡ true → ReadyPlace s c (y .place)
   pub known : Known (typesOf s) l
-  pub privilege : p < 32
+  pub privilege : p < privilegeCount
 
 -- the next place as it is due
 pub record Stepped (s : List ℕ) (c : Counts) (p : ℕ) (r : Child) (due : Option Placed) (l : List ℕ) : Type 0 where
@@ -87,7 +87,7 @@ pub record Stepped (s : List ℕ) (c : Counts) (p : ℕ) (r : Child) (due : Opti
 -- a readable sheet whose root needs p
 pub record Followable (s : List ℕ) (c : Counts) (p : ℕ) : Type 0 where
   pub sheet : FormedSheet s c
-  pub privilege : p < 32
+  pub privilege : p < privilegeCount
   pub needing : needs (typesOf s) (authority s) p (rootOf s) ≡ true
 
 -- ---- the entry

@@ -8,11 +8,11 @@ use program::records::Counts;
 ghost use mathlib.Core.Path.{_≡_};
 ghost use Rattle.privileges.specs.Sets.{has};
 ghost use Rattle.program.specs.Layout.{typesOf};
-ghost use Rattle.following.specs.Internal.{FunctionType, NoCall, causeAt};
+ghost use Rattle.following.specs.Internal.{FunctionTypePrivilege, NoCall, causeAt};
 
 // Whether the latent set of a function type has privilege p.
 pub fn has_latent(s: &[u8], c: Counts, ty: u16, p: u8) -> bool
-    requires { ⌜ FunctionType (now s) c ty p ⌝ }
+    requires { ⌜ FunctionTypePrivilege (now s) c ty p ⌝ }
     ensures { λ r. ⌜ r ≡ has p (typesOf (now (s .entry)) .latent ty) ⌝ }
 {
     let f = type_record(s, c, ty);

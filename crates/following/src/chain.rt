@@ -24,11 +24,11 @@ ghost use Rattle.typing.specs.Places.{placedNumber};
 ghost use Rattle.chains.specs.Explaining.{explained, chainOf};
 ghost use Rattle.chains.specs.Answers.{ExplainedAs};
 ghost use Rattle.places.specs.Internal.{childAt, ReadyPlace, Reached};
-ghost use Rattle.following.specs.Internal.{followedAt, neededBy, nextAt, Candidate, Following, FollowingCall, FollowingOther, Stepped, Followable};
+ghost use Rattle.following.specs.Internal.{followedAt, neededBy, nextAt, JudgeableChild, Following, FollowingCall, FollowingOther, Stepped, Followable};
 
 // Whether there is a child that needs privilege p.
 fn child_needs(s: &[u8], c: Counts, known: &mut Known, y: Child, p: u8) -> bool
-    requires { ⌜ Candidate (now s) c (now known) p y ⌝ }
+    requires { ⌜ JudgeableChild (now s) c (now known) p y ⌝ }
     ensures { λ r. ⌜ Answered (typesOf (now (s .entry))) r (neededBy (now (s .entry)) p (childAt (now (s .entry)) y)) (now (known .exit)) ⌝ }
 {
     if !y.present {

@@ -6,6 +6,7 @@ use Prim.Native.Nat.{ℕ, _%_}
 use lib.Dec.{leb}
 use lib.ListN.{length}
 use borrow.Author.Tests.{leb-true, eqb-true}
+use Rattle.semantics.specs.Runs.{stackOk}
 use Rattle.privileges.specs.Booleans.{and-left, and-right}
 use Rattle.program.specs.Limits.{maxStart, maxCells, maxPosts, maxCalls, maxDepth}
 use Rattle.program.specs.Layout.{principals}
@@ -19,7 +20,7 @@ use Rattle.program.specs.declared.answer.Refusal.{Refusal}
 use Rattle.program.specs.declared.answer.Decoded.{Decoded}
 use Rattle.program.specs.declared.answer.Decoded.the-variants.{Readable as IsReadable, Refused as NotReadable}
 use Rattle.program.specs.declared.records.Counts.{Counts}
-use Rattle.interp.specs.Internal.{startRight, conditions, Cleared}
+use Rattle.interp.specs.Internal.{conditions, Cleared}
 
 -- the caller's part of the conditions
 abbrev callers : (start buffers limits : Bool) → List Condition
@@ -42,10 +43,10 @@ module _ (s start : List ℕ) (cells posts : ℕ) (frames : Bool) (calls depth :
   counted e k = subst (Counted s) e k
 
   -- ---- a readable one
-  module _ (r : Readable s) {c : Counts} (k : CountsOf s c) {a b d : Bool} (at-start : a ≡ startRight (c .principals) start)
+  module _ (r : Readable s) {c : Counts} (k : CountsOf s c) {a b d : Bool} (at-start : a ≡ stackOk (c .principals) start)
       (of-buffers : b ≡ (leb cells maxCells && leb posts maxPosts && frames)) (of-limits : d ≡ (leb calls maxCalls && leb depth maxDepth)) where
-    start-is : startRight (principals s) start ≡ a
-    start-is = sym (at-start ∙ ap (λ (n : ℕ). startRight n start) (k .principals-are))
+    start-is : stackOk (principals s) start ≡ a
+    start-is = sym (at-start ∙ ap (λ (n : ℕ). stackOk n start) (k .principals-are))
 
     answered-by : outcome ≡ screen (callers a b d)
     unfolding decoding
@@ -66,7 +67,7 @@ module _ (s start : List ℕ) (cells posts : ℕ) (frames : Bool) (calls depth :
     pub admitted : a ≡ true → b ≡ true → d ≡ true → Cleared s start cells posts frames calls depth c
     unfolding screen refuseAt
     admitted e f g =
-        let start-right : startRight (principals s) start ≡ true = start-is ∙ e in
+        let start-right : stackOk (principals s) start ≡ true = start-is ∙ e in
         let buffers-right : (leb cells maxCells && leb posts maxPosts && frames) ≡ true = sym of-buffers ∙ f in
         let limits-right : (leb calls maxCalls && leb depth maxDepth) ≡ true = sym of-limits ∙ g in
         record {

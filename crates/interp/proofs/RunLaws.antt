@@ -31,9 +31,9 @@ use Rattle.machine.specs.Store.{Done, storeOf, doneOf}
 use Rattle.refinement.specs.Claims.{outcomeOf, countsOf, laidOut, Refined}
 use Rattle.refinement.specs.Theorems.{eager-refined, lazy-refined}
 use Rattle.interp.specs.Answers.{refusalCause, refusalPlace, outcomeModel, countsModel, runModel, requestOf, buffersOf, after, afterRecording}
-use Rattle.interp.specs.Internal.{Cleared, Admits, StartAccess, rejectedRun, rootDone, Tallied, Evaluated}
-use Rattle.interp.specs.Laws.{access-may, access-is, tallied-at, tallied-after}
-use Rattle.interp.specs.declared.answer.Refusal.{Refusal}
+use Rattle.interp.specs.Internal.{Cleared, Admits, StartAccess, rejectedRun, rootDone, Tallied, RootEvaluated}
+use Rattle.interp.specs.Laws.{access-authorised, access-is, tallied-at, tallied-after}
+use Rattle.interp.specs.declared.answer.RunRefusal.{RunRefusal}
 use Rattle.interp.specs.declared.answer.Run.the-variants.{Refused, Ran as IsRan}
 use Rattle.interp.specs.declared.answer.RecordedRun.{RecordedRun}
 use Rattle.interp.specs.declared.answer.Tally.{Tally}
@@ -43,7 +43,7 @@ use Rattle.interp.specs.declared.answer.Admission.the-variants.{Admitted
 use Rattle.interp.proofs.StartLaws.{laid-length}
 
 -- ---- a run that is turned back
-pub refused-after : (s : List ℕ) (q : Request) (cells posts frames noted : List ℕ) (f : Refusal) {r : RecordedRun} → r ≡ rejectedRun f
+pub refused-after : (s : List ℕ) (q : Request) (cells posts frames noted : List ℕ) (f : RunRefusal) {r : RecordedRun} → r ≡ rejectedRun f
     → screen (runConditions s q (sizes (buffersOf cells posts frames))) ≡ found (refusalCause f) (refusalPlace f)
     → afterRecording r cells posts frames noted ≡ recording s q (buffersOf cells posts frames) noted
 refused-after s q cells posts frames noted f t e =
@@ -113,8 +113,8 @@ pub tallied-by : (calls : ℕ) {w : ℕ} {n cells posts frames noted cells′ : 
     }) (buffersOf cells′ posts frames) noted
 tallied-by calls e z = record {
   word-is = ap (λ (d : Done). d .out) e;
-  made-is = ap (λ (d : Done). countsOf calls (d .store .n)) e;
-  entries-are = ap (λ (d : Done). entriesMade (d .store .n)) e;
+  made-is = ap (λ (d : Done). countsOf calls (d .store .counters)) e;
+  entries-are = ap (λ (d : Done). entriesMade (d .store .counters)) e;
   cells-are = z ∙ ap (λ (d : Done). zerosLike (d .store .cells)) e;
   posts-are = ap (λ (d : Done). d .store .posts) e;
   frames-are = ap (λ (d : Done). d .store .frames) e;
@@ -141,8 +141,8 @@ same-laid s w (f ∷ fs) h =
 
 module _ (s start : List ℕ) (e : Bool) (cells posts noted : List ℕ) (calls depth : ℕ) {c : Counts} where
   -- the answer with the root by its number in the sheet, and a in the place of the number that it is
-  answers-at : (runner : Runner) (frames store : List ℕ) {mode acc a : ℕ} {r : RecordedRun} {b : Buffers} {t : List ℕ} → CountsOf s c → acc ≡ a
-      → (v : Evaluated s c mode acc calls depth (buffersOf cells posts store) noted r b t)
+  answers-at : (runner : Runner) (frames store : List ℕ) {mode access a : ℕ} {r : RecordedRun} {b : Buffers} {t : List ℕ} → CountsOf s c → access ≡ a
+      → (v : RootEvaluated s c mode access calls depth (buffersOf cells posts store) noted r b t)
       → Answers s (requestOf runner e start calls depth) cells posts frames store noted
       (rootDone (v .terms) (root s) mode a calls depth (buffersOf cells posts store) noted) r b t
   answers-at runner frames store {mode} k q v = record {
@@ -152,25 +152,25 @@ module _ (s start : List ℕ) (e : Bool) (cells posts noted : List ℕ) (calls d
     entries-are = v .entries-are;
   }
 
-  pub eager-after : (store : List ℕ) {mode acc : ℕ} {r : RecordedRun} {cells′ posts′ frames′ noted′ : List ℕ}
-      → Cleared s start (length cells) (length posts) true calls depth c → StartAccess s start acc → ModeIs false e false mode
-      → Evaluated s c mode acc calls depth (buffersOf cells posts store) noted r (buffersOf cells′ posts′ frames′) noted′
+  pub eager-after : (store : List ℕ) {mode access : ℕ} {r : RecordedRun} {cells′ posts′ frames′ noted′ : List ℕ}
+      → Cleared s start (length cells) (length posts) true calls depth c → StartAccess s start access → ModeIs false e false mode
+      → RootEvaluated s c mode access calls depth (buffersOf cells posts store) noted r (buffersOf cells′ posts′ frames′) noted′
       → afterRecording r cells′ posts′ [] noted′ ≡ recording s (requestOf eager e start calls depth) (buffersOf cells posts []) noted
   eager-after store {mode = mode} K a is v =
       let q = requestOf eager e start calls depth in
       let w = K .well-formed in
       ran-after s q cells posts [] store noted (K .none-found) (answers-at eager [] store (K .counts) (access-is w a (K .all-known)) v)
       (eager-refined s w c (K .counts) (v .terms) (v .table) q (buffersOf cells posts store) noted (K .depth-most) (K .cells-most) mode (is .enforce-is)
-      (is .interval-is) (a .may) (privs (authority s) (stack start)) (is .lazy-is) (a .may-small) (access-may w a))
+      (is .interval-is) (a .authorised) (privs (authority s) (stack start)) (is .lazy-is) (a .authorised-small) (access-authorised w a))
       refl
 
-  pub lazy-after : (frames : List ℕ) {store : List ℕ} {mode acc : ℕ} {r : RecordedRun} {cells′ posts′ frames′ last noted′ : List ℕ}
+  pub lazy-after : (frames : List ℕ) {store : List ℕ} {mode access : ℕ} {r : RecordedRun} {cells′ posts′ frames′ last noted′ : List ℕ}
       → Cleared s start (length cells) (length posts) (eqb (length frames) frameNumbers) calls depth c
-      → store ≡ laidOut (authorityRecord s) (stack start) ++ drop (length start) frames → acc ≡ length start → ModeIs true e false mode
-      → Evaluated s c mode acc calls depth (buffersOf cells posts store) noted r (buffersOf cells′ posts′ frames′) noted′
+      → store ≡ laidOut (authorityRecord s) (stack start) ++ drop (length start) frames → access ≡ length start → ModeIs true e false mode
+      → RootEvaluated s c mode access calls depth (buffersOf cells posts store) noted r (buffersOf cells′ posts′ frames′) noted′
       → last ≡ zerosLike frames′
       → afterRecording r cells′ posts′ last noted′ ≡ recording s (requestOf lazy e start calls depth) (buffersOf cells posts frames) noted
-  lazy-after frames {store = store} {mode = mode} {acc = acc} K g a is v l =
+  lazy-after frames {store = store} {mode = mode} {access = access} K g a is v l =
       let q = requestOf lazy e start calls depth in
       let w = K .well-formed in
       let two : length start ≡ length (stack start) * 2 = omega (arith, stack-length start (K .whole .even), K .whole .even) in
@@ -194,13 +194,13 @@ module _ (s start : List ℕ) (e : Bool) (cells posts noted : List ℕ) (calls d
 
 -- ---- each runner turned back
 module _ (s start : List ℕ) (e : Bool) (cells posts noted : List ℕ) (calls depth : ℕ) where
-  pub eager-refused : {a : Admission} {f : Refusal} {r : RecordedRun} → a ≡ NotAdmitted f → Admits s start (length cells) (length posts) true calls depth a
+  pub eager-refused : {a : Admission} {f : RunRefusal} {r : RecordedRun} → a ≡ NotAdmitted f → Admits s start (length cells) (length posts) true calls depth a
       → r ≡ rejectedRun f → afterRecording r cells posts [] noted ≡ recording s (requestOf eager e start calls depth) (buffersOf cells posts []) noted
   eager-refused {f = f} p h t =
       refused-after s (requestOf eager e start calls depth) cells posts [] noted f t
       (subst (Admits s start (length cells) (length posts) true calls depth) p h)
 
-  pub lazy-refused : (frames : List ℕ) {a : Admission} {f : Refusal} {r : RecordedRun} → a ≡ NotAdmitted f
+  pub lazy-refused : (frames : List ℕ) {a : Admission} {f : RunRefusal} {r : RecordedRun} → a ≡ NotAdmitted f
       → Admits s start (length cells) (length posts) (eqb (length frames) frameNumbers) calls depth a → r ≡ rejectedRun f
       → afterRecording r cells posts frames noted ≡ recording s (requestOf lazy e start calls depth) (buffersOf cells posts frames) noted
   lazy-refused frames {f = f} p h t =

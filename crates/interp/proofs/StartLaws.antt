@@ -9,9 +9,8 @@ use lib.ListN.{length, getD, set, drop, drop-of-length-le, length-append, length
 use borrow.Author.Tests.{lt-ltb, le-ltb, lt-leb, le-leb, eq-eqb, ne-eqb}
 use Rattle.privileges.specs.Sets.{meet, union}
 use Rattle.semantics.specs.Access.{Frame, frame, privs}
-use Rattle.semantics.specs.Runs.{stack, principalsKnown}
+use Rattle.semantics.specs.Runs.{stack, principalsKnown, stackOk}
 use Rattle.refinement.specs.Claims.{laidOut}
-use Rattle.interp.specs.Internal.{startRight}
 use Rattle.program.specs.Limits.{maxStart}
 
 -- ---- one frame
@@ -122,11 +121,11 @@ all-granted A l i h q =
 
 -- ---- 14, test by test
 module _ (count : ℕ) (l : List ℕ) where
-  pub start-long : maxStart < length l → false ≡ startRight count l
+  pub start-long : maxStart < length l → false ≡ stackOk count l
   start-long h = rw (lt-leb (length l) maxStart h) refl
 
-  pub start-half : length l ≤ maxStart → (length l % 2 ≡ 0 → ⊥) → false ≡ startRight count l
+  pub start-half : length l ≤ maxStart → (length l % 2 ≡ 0 → ⊥) → false ≡ stackOk count l
   start-half h e = rw (le-leb (length l) maxStart h, ne-eqb (length l % 2) 0 e) refl
 
-  pub start-whole : length l ≤ maxStart → length l % 2 ≡ 0 → principalsKnown count (stack l) ≡ startRight count l
+  pub start-whole : length l ≤ maxStart → length l % 2 ≡ 0 → principalsKnown count (stack l) ≡ stackOk count l
   start-whole h e = rw (le-leb (length l) maxStart h, eq-eqb (length l % 2) 0 e) refl

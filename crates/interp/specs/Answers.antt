@@ -4,13 +4,13 @@ use mathlib.Core.List.{List}
 use Prim.Native.Nat.{ℕ}
 use Rattle.program.specs.Answers.{decodingCause, decodingPlace}
 use Rattle.semantics.specs.Runs as runs
-use Rattle.semantics.specs.Runs.{Runner, Request, Buffers, Ground, ground-bool, ground-num, ended, stopped, RunCounts, Answer, refused, ran, After}
+use Rattle.semantics.specs.Runs.{Runner, Request, Buffers, ground-bool, ground-num, ended, stopped, RunCounts, Answer, refused, ran, After}
 use Rattle.semantics.specs.Recording.{Recorded}
 use Rattle.stores.specs.Stops.{stopCause, stopPlace}
-use Rattle.interp.specs.declared.answer.Refusal.{Refusal}
-use Rattle.interp.specs.declared.answer.Refusal.the-variants.{Unreadable, Start, Buffers as BadBuffers, Allowance}
-use Rattle.interp.specs.declared.answer.Value.{Value}
-use Rattle.interp.specs.declared.answer.Value.the-variants.{Bool as VBool, Num}
+use Rattle.interp.specs.declared.answer.RunRefusal.{RunRefusal}
+use Rattle.interp.specs.declared.answer.RunRefusal.the-variants.{Unreadable, Start, Buffers as BadBuffers, Allowance}
+use Rattle.interp.specs.declared.answer.Ground.{Ground}
+use Rattle.interp.specs.declared.answer.Ground.the-variants.{Bool as VBool, Num}
 use Rattle.interp.specs.declared.answer.Outcome.{Outcome}
 use Rattle.interp.specs.declared.answer.Outcome.the-variants.{End, Stop}
 use Rattle.interp.specs.declared.answer.Made.{Made}
@@ -19,25 +19,25 @@ use Rattle.interp.specs.declared.answer.Run.the-variants.{Refused, Ran}
 use Rattle.interp.specs.declared.answer.RecordedRun.{RecordedRun}
 
 -- "14 start stack", "15 buffers", "16 allowance", after the reader's 1 to 8 and 31
-abbrev pub refusalCause : Refusal → ℕ
+abbrev pub refusalCause : RunRefusal → ℕ
 refusalCause (Unreadable f) = decodingCause f
 refusalCause Start = 14
 refusalCause BadBuffers = 15
 refusalCause Allowance = 16
 
-abbrev pub refusalPlace : Refusal → ℕ
+abbrev pub refusalPlace : RunRefusal → ℕ
 refusalPlace (Unreadable f) = decodingPlace f
 refusalPlace Start = 0
 refusalPlace BadBuffers = 0
 refusalPlace Allowance = 0
 
 -- "an end carries a boolean or a number, a stop its cause and term"
-abbrev pub groundOf : Value → Ground
-groundOf (VBool b) = ground-bool b
-groundOf (Num n) = ground-num n
+abbrev pub groundModel : Ground → runs.Ground
+groundModel (VBool b) = ground-bool b
+groundModel (Num n) = ground-num n
 
 abbrev pub outcomeModel : Outcome → runs.Outcome
-outcomeModel (End v) = ended (groundOf v)
+outcomeModel (End v) = ended (groundModel v)
 outcomeModel (Stop x) = stopped (stopCause x) (stopPlace x)
 
 -- "both carry calls, cells and posts made"; 02, W10: "ends and stops carry that count beside the calls"

@@ -20,7 +20,7 @@ use Rattle.semantics.specs.Domains.{Domain}
 use Rattle.semantics.specs.Values.{Budget, budget, ResultOf}
 use Rattle.semantics.specs.Access.{Frame, privs}
 use Rattle.semantics.specs.Runs.{Request, Buffers, Sizes, sizes, stack, principalsKnown, started, RunCounts, OutcomeOf, ran, left, counts, AfterOf, answerOf, clearedFrames, buffersAfter}
-use Rattle.access.specs.Access.{pairOf}
+use Rattle.access.specs.Access.{packed}
 use Rattle.termtable.specs.Table.{Empty}
 use Rattle.machine.specs.Steps.{wrapped}
 use Rattle.machine.specs.Store.{Done}
@@ -47,20 +47,20 @@ same-privs s w (f ∷ fs) h =
     let rest : principalsKnown (principals s) fs ≡ true = search (and-left, and-right) in
     λ i. meet (authority-is s w (f .principal) (ltb-true (f .principal) (principals s) low) i) (union (f .enabled) (same-privs s w fs rest i))
 
-module _ {s start : List ℕ} {acc : ℕ} (w : WellFormed s) (a : StartAccess s start acc) where
-  pub access-may : a .may ≡ authority s 0
-  access-may = a .may-is ∙ authority-is s w 0 (omega (arith, w .principals-least))
+module _ {s start : List ℕ} {access : ℕ} (w : WellFormed s) (a : StartAccess s start access) where
+  pub access-authorised : a .authorised ≡ authority s 0
+  access-authorised = a .authorised-is ∙ authority-is s w 0 (omega (arith, w .principals-least))
 
-  pub access-is : principalsKnown (principals s) (stack start) ≡ true → acc ≡ pairOf (a .may) (privs (authority s) (stack start))
-  access-is h = a .acc-is ∙ ap (pairOf (a .may)) (a .granted-is ∙ same-privs s w (stack start) h)
+  pub access-is : principalsKnown (principals s) (stack start) ≡ true → access ≡ packed (a .authorised) (privs (authority s) (stack start))
+  access-is h = a .access-is ∙ ap (packed (a .authorised)) (a .granted-is ∙ same-privs s w (stack start) h)
 
 -- ---- the root by its number in the sheet, and another number in the place of the access that it is
-pub tallied-at : {s : List ℕ} {c : Counts} → CountsOf s c → (terms : List ℕ) (mode calls depth : ℕ) {acc a : ℕ} (b : Buffers) (noted : List ℕ) {t : Tally}
-    {b′ : Buffers} {noted′ : List ℕ} → acc ≡ a → Tallied calls (rootDone terms (c .terms - 1) mode acc calls depth b noted) t b′ noted′
+pub tallied-at : {s : List ℕ} {c : Counts} → CountsOf s c → (terms : List ℕ) (mode calls depth : ℕ) {access a : ℕ} (b : Buffers) (noted : List ℕ) {t : Tally}
+    {b′ : Buffers} {noted′ : List ℕ} → access ≡ a → Tallied calls (rootDone terms (c .terms - 1) mode access calls depth b noted) t b′ noted′
     → Tallied calls (rootDone terms (root s) mode a calls depth b noted) t b′ noted′
-tallied-at {s} k terms mode calls depth {acc} b noted {t} {b′} {noted′} e v =
+tallied-at {s} k terms mode calls depth {access} b noted {t} {b′} {noted′} e v =
     subst (λ x. Tallied calls (rootDone terms (root s) mode x calls depth b noted) t b′ noted′) e
-    (subst (λ n. Tallied calls (rootDone terms n mode acc calls depth b noted) t b′ noted′) (ap (λ (n : ℕ). n - 1) (k .terms-are)) v)
+    (subst (λ n. Tallied calls (rootDone terms n mode access calls depth b noted) t b′ noted′) (ap (λ (n : ℕ). n - 1) (k .terms-are)) v)
 
 -- ---- a run that starts: `store` is what the frame store holds when evaluation begins
 -- the counter of saturated results has room for every count that is told

@@ -6,7 +6,7 @@ ghost use Rattle.program.specs.Limits.{maxCells, maxPosts, maxCalls, maxDepth};
 ghost use Rattle.interp.specs.Internal.{Admits};
 ghost use Rattle.accessors.specs.Internal.{ReadableSheet};
 use crate::answer::Admission;
-use crate::answer::Refusal;
+use crate::answer::RunRefusal;
 use crate::start::start_ok;
 use program::answer::Decoded;
 use program::limits::MAX_CALLS;
@@ -42,13 +42,13 @@ fn admit_readable(
     ensures { λ r. ⌜ Admits (now (s .entry)) (now (start .entry)) cells posts frames calls depth r ⌝ }
 {
     if !start_ok(start, c.principals) {
-        return Admission::Refused(Refusal::Start);
+        return Admission::Refused(RunRefusal::Start);
     }
     if !buffers_ok(cells, posts, frames) {
-        return Admission::Refused(Refusal::Buffers);
+        return Admission::Refused(RunRefusal::Buffers);
     }
     if !limits_ok(calls, depth) {
-        return Admission::Refused(Refusal::Allowance);
+        return Admission::Refused(RunRefusal::Allowance);
     }
     Admission::Admitted(c)
 }
@@ -66,7 +66,7 @@ pub fn admit(
 {
     let d = decoder::decode(s);
     match d {
-        Decoded::Refused(f) => Admission::Refused(Refusal::Unreadable(f)),
+        Decoded::Refused(f) => Admission::Refused(RunRefusal::Unreadable(f)),
         Decoded::Readable(c) => admit_readable(s, c, start, cells, posts, frames, calls, depth),
     }
 }

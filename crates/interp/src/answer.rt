@@ -3,7 +3,7 @@ use program::records::Counts;
 use stores::state::Stop;
 
 // 1 to 8 and 31 are the reader's; 14 to 16 follow in this order.
-pub enum Refusal {
+pub enum RunRefusal {
     Unreadable(program::answer::Refusal),
     Start,
     Buffers,
@@ -13,16 +13,16 @@ pub enum Refusal {
 // Whether a run may start, on a readable sheet with these counts.
 pub enum Admission {
     Admitted(Counts),
-    Refused(Refusal),
+    Refused(RunRefusal),
 }
 
-pub enum Value {
+pub enum Ground {
     Bool(bool),
     Num(u16),
 }
 
 pub enum Outcome {
-    End(Value),
+    End(Ground),
     Stop(Stop),
 }
 
@@ -35,7 +35,7 @@ pub struct Made {
 }
 
 pub enum Run {
-    Refused(Refusal),
+    Refused(RunRefusal),
     Ran { outcome: Outcome, made: Made },
 }
 

@@ -1,5 +1,5 @@
 // Evaluation of a root over the words of its terms, however they were made.
-ghost use Rattle.evaluator.specs.Contracts.{Table};
+ghost use Rattle.evaluator.specs.Contracts.{TermTable};
 ghost use Rattle.interp.specs.Answers.{buffersOf};
 ghost use Rattle.interp.specs.Internal.{rootDone, Tallied};
 use crate::answer::Made;
@@ -15,12 +15,12 @@ pub fn evaluate_words(
     frames: &mut [u32],
     noted: &mut [u8],
     mode: usize,
-    acc: u64,
+    access: u64,
     calls: u32,
     depth: u32,
 ) -> Tally
-    requires { ⌜ Table (now terms) ⌝ }
-    ensures { λ r. ⌜ Tallied calls (rootDone (now (terms .entry)) root mode acc calls depth
+    requires { ⌜ TermTable (now terms) ⌝ }
+    ensures { λ r. ⌜ Tallied calls (rootDone (now (terms .entry)) root mode access calls depth
         (buffersOf (now (cells .entry)) (now (posts .entry)) (now (frames .entry))) (now (noted .entry))) r
         (buffersOf (now (cells .exit)) (now (posts .exit)) (now (frames .exit))) (now (noted .exit)) ⌝ }
 {
@@ -35,7 +35,7 @@ pub fn evaluate_words(
         noted,
         &mut n,
         root,
-        acc,
+        access,
         depth as usize,
         &mut word,
     );

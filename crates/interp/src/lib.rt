@@ -10,7 +10,7 @@ ghost use Rattle.program.specs.Limits.{frameNumbers};
 ghost use Rattle.accessors.specs.Internal.{FormedSheet};
 ghost use Rattle.refinement.specs.Claims.{outcomeOf};
 ghost use Rattle.interp.specs.Answers.{outcomeModel, requestOf, buffersOf, after, afterRecording};
-ghost use Rattle.interp.specs.Internal.{Cleared, rejectedRun, Evaluated};
+ghost use Rattle.interp.specs.Internal.{Cleared, rejectedRun, RootEvaluated};
 
 pub mod admission;
 pub mod answer;
@@ -23,8 +23,8 @@ use admission::admit;
 use answer::Admission;
 use answer::Outcome;
 use answer::RecordedRun;
-use answer::Refusal;
 use answer::Run;
+use answer::RunRefusal;
 use evaluation::evaluate_words;
 use program::limits::FRAME_NUMBERS;
 use program::limits::TERM_PLACES;
@@ -43,14 +43,14 @@ fn outcome_of(root: u16, out: Out) -> Outcome
     match out {
         Out::Stop(x) => Outcome::Stop(x),
         Out::Val(v) => match v {
-            stores::state::Value::Bool(b) => Outcome::End(answer::Value::Bool(b)),
-            stores::state::Value::Num(n) => Outcome::End(answer::Value::Num(n)),
+            stores::state::Value::Bool(b) => Outcome::End(answer::Ground::Bool(b)),
+            stores::state::Value::Num(n) => Outcome::End(answer::Ground::Num(n)),
             stores::state::Value::Fun { body, env } => Outcome::Stop(Stop::Stuck(root)),
         },
     }
 }
 
-fn rejected_run(f: Refusal) -> RecordedRun
+fn rejected_run(f: RunRefusal) -> RecordedRun
     ensures { λ r. ⌜ r ≡ rejectedRun f ⌝ }
 {
     RecordedRun {
@@ -68,12 +68,12 @@ fn evaluate(
     frames: &mut [u32],
     noted: &mut [u8],
     mode: usize,
-    acc: u64,
+    access: u64,
     calls: u32,
     depth: u32,
 ) -> RecordedRun
     requires { ⌜ FormedSheet (now s) c ⌝ }
-    ensures { λ r. ⌜ Evaluated (now (s .entry)) c mode acc calls depth (buffersOf (now (cells .entry)) (now (posts .entry)) (now (frames .entry)))
+    ensures { λ r. ⌜ RootEvaluated (now (s .entry)) c mode access calls depth (buffersOf (now (cells .entry)) (now (posts .entry)) (now (frames .entry)))
         (now (noted .entry)) r (buffersOf (now (cells .exit)) (now (posts .exit)) (now (frames .exit))) (now (noted .exit)) ⌝ }
 {
     let root = c.terms - 1;
@@ -87,7 +87,7 @@ fn evaluate(
         frames,
         noted,
         mode,
-        acc,
+        access,
         calls,
         depth,
     );
@@ -120,7 +120,7 @@ fn eager(
         ≡ recording (now (s .entry)) (requestOf eagerRunner enforce (now (start .entry)) calls depth)
         (buffersOf (now (cells .entry)) (now (posts .entry)) []) (now (noted .entry)) ⌝ }
 {
-    let acc = start_access(s, start);
+    let access = start_access(s, start);
     let mut frames = [0; 1];
     evaluate(
         s,
@@ -130,7 +130,7 @@ fn eager(
         &mut frames,
         noted,
         mode_of(false, enforce),
-        acc,
+        access,
         calls,
         depth,
     )

@@ -4,9 +4,9 @@ ghost use mathlib.Core.Path.{_≡_};
 ghost use lib.ListN.{length, drop};
 ghost use Rattle.program.specs.Records.{authorityRecord};
 ghost use Rattle.semantics.specs.Access.{privs};
-ghost use Rattle.semantics.specs.Runs.{stack, principalsKnown};
+ghost use Rattle.semantics.specs.Runs.{stack, principalsKnown, stackOk};
 ghost use Rattle.refinement.specs.Claims.{laidOut};
-ghost use Rattle.interp.specs.Internal.{Whole, Layable, startRight, StartAccess};
+ghost use Rattle.interp.specs.Internal.{Whole, StackFits, StartAccess};
 use access::pair;
 use program::limits::MAX_START;
 
@@ -27,7 +27,7 @@ fn principals_known(start: &[u32], count: u8) -> bool
 
 // Whether it is a stack of at most 16 whole frames of known principals.
 pub fn start_ok(start: &[u32], count: u8) -> bool
-    ensures { λ r. ⌜ r ≡ startRight count (now (start .entry)) ⌝ }
+    ensures { λ r. ⌜ r ≡ stackOk count (now (start .entry)) ⌝ }
 {
     if MAX_START < start.len() {
         return false;
@@ -47,8 +47,8 @@ pub fn start_grants(s: &[u8], start: &[u32]) -> u32
     let mut i = start.len();
     while 0 < i {
         i -= 2;
-        let may = accessors::authority(s, start[i]);
-        set = privileges::meet(may, privileges::union(start[i + 1], set));
+        let authorised = accessors::authority(s, start[i]);
+        set = privileges::meet(authorised, privileges::union(start[i + 1], set));
     }
     set
 }
@@ -63,7 +63,7 @@ pub fn start_access(s: &[u8], start: &[u32]) -> u64
 
 // Lays the stack into the frame store, the outermost frame first: the set that each frame's principal may use, and the enabled set.
 pub fn lay_frames(s: &[u8], start: &[u32], frames: &mut [u32])
-    requires { ⌜ Layable (now start) (now frames) ⌝ }
+    requires { ⌜ StackFits (now start) (now frames) ⌝ }
     ensures { λ _. ⌜ now (frames .exit) ≡ laidOut (authorityRecord (now (s .entry))) (stack (now (start .entry)))
         ++ drop (length (now (start .entry))) (now (frames .entry)) ⌝ }
 {

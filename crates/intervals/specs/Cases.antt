@@ -12,7 +12,7 @@ use Rattle.semantics.specs.Meaning.{evalWith, apply, eval}
 use Rattle.semantics.specs.Access.{addAuthorised}
 use Rattle.semantics.specs.Runs.{eager, Request, Buffers, ground-bool, ground-num, OutcomeOf, ended, stopped, refused, ran, AfterOf}
 use Rattle.intervals.specs.Intervals.{interval, intervals}
-use Rattle.intervals.specs.Runs.{rangeCourse, rangeRun}
+use Rattle.intervals.specs.Runs.{intervalCourse, intervalRun}
 
 -- ---- the sheets: one principal with A(0) = {1}, the boolean, the number and a function of numbers; and records of terms
 abbrev term : (kind small first second third : ℕ) → List ℕ
@@ -122,8 +122,8 @@ cases =
     ∷ refuses [] [] 4097 1 ∷ []
 
 unfoldable pub observed : Case → AfterOf intervals
-observed c = rangeRun (c .sheet) (c .pairs) (c .request) filled
+observed c = intervalRun (c .sheet) (c .pairs) (c .request) filled
 
 pub computed : map observed cases ≡ map (λ c. c .after) cases
-unfolding cases observed rangeRun rangeCourse screen refuseAt eval apply evalWith addAuthorised has meet union insert
+unfolding cases observed intervalRun intervalCourse screen refuseAt eval apply evalWith addAuthorised has meet union insert
 computed = refl

@@ -13,7 +13,7 @@ use Rattle.semantics.specs.Meaning.{evalWith, apply, eval}
 use Rattle.semantics.specs.Access.{addAuthorised}
 use Rattle.semantics.specs.Runs.{eager, Request, Buffers, ground-num, ended, OutcomeOf, Outcome, refused, ran, AfterOf, After, course, run}
 use Rattle.intervals.specs.Intervals.{interval, intervals}
-use Rattle.intervals.specs.Runs.{rangeCourse, rangeRun}
+use Rattle.intervals.specs.Runs.{intervalCourse, intervalRun}
 use Rattle.intervals.specs.Choosing.{withNumbersBelow, withNumbers}
 
 -- ---- the sheets: one principal with A(0) = {1}, the boolean, the number and a function of numbers; and records of terms
@@ -65,7 +65,7 @@ guarded n =
 -- ---- the table
 pub record Observed : Type 0 where
   pub bytes : List ℕ
-  pub over-ranges : AfterOf intervals
+  pub over-intervals : AfterOf intervals
   pub plainly : After
 
 -- a number for each term, in order; those of terms that are no numbers are not looked at
@@ -85,24 +85,24 @@ left ps = record { cells = 0 ∷ 0 ∷ 0 ∷ 0 ∷ 0 ∷ 0 ∷ 0 ∷ 0 ∷ []; p
 abbrev plainRequest : Request
 plainRequest = record { runner = eager; enforce = true; start = []; calls = maxCalls; depth = maxDepth }
 
-abbrev ranges : OutcomeOf intervals → (calls cells posts : ℕ) (list : List ℕ) → AfterOf intervals
-ranges o c d p l = record { answer = ran o (record { calls = c; cells = d; posts = p; saturated = 0 }); buffers = left l }
+abbrev intervalAfter : OutcomeOf intervals → (calls cells posts : ℕ) (list : List ℕ) → AfterOf intervals
+intervalAfter o c d p l = record { answer = ran o (record { calls = c; cells = d; posts = p; saturated = 0 }); buffers = left l }
 
 abbrev plainly : Outcome → (calls cells posts : ℕ) (list : List ℕ) → After
 plainly o c d p l = record { answer = ran o (record { calls = c; cells = d; posts = p; saturated = 0 }); buffers = left l }
 
 abbrev entry : (sheet pairs numbers bytes : List ℕ) → AfterOf intervals → After → Case
-entry s ps ns bytes over plain = record { sheet = s; pairs = ps; numbers = ns; due = record { bytes = bytes; over-ranges = over; plainly = plain } }
+entry s ps ns bytes over plain = record { sheet = s; pairs = ps; numbers = ns; due = record { bytes = bytes; over-intervals = over; plainly = plain } }
 
 unfoldable pub cases : List Case
 unfolding summed called guarded
 cases =
     -- "all numbers have their highest byte first"
     entry (summed (0 ∷ 5 ∷ []) (1 ∷ 44 ∷ [])) (1000 ∷ 1100 ∷ 500 ∷ 600 ∷ []) (1027 ∷ 515 ∷ []) (summed (4 ∷ 3 ∷ []) (2 ∷ 3 ∷ []))
-    (ranges (ended (ground-num (interval 1500 1700))) 0 0 1 (98305700 ∷ 8 ∷ [])) (plainly (ended (ground-num 1542)) 0 0 1 (1542 ∷ 8 ∷ []))
+    (intervalAfter (ended (ground-num (interval 1500 1700))) 0 0 1 (98305700 ∷ 8 ∷ [])) (plainly (ended (ground-num 1542)) 0 0 1 (1542 ∷ 8 ∷ []))
     -- the parts of other terms are kept, those of a variable too
     ∷ entry (called (0 ∷ 5 ∷ []) (1 ∷ 44 ∷ [])) (200 ∷ 300 ∷ 65000 ∷ 65535 ∷ []) (9 ∷ 256 ∷ 9 ∷ 9 ∷ 9 ∷ 65535 ∷ 9 ∷ 9 ∷ [])
-    (called (1 ∷ 0 ∷ []) (255 ∷ 255 ∷ [])) (ranges (ended (ground-num (interval 64700 65335))) 1 1 0 (8 ∷ 8 ∷ []))
+    (called (1 ∷ 0 ∷ []) (255 ∷ 255 ∷ [])) (intervalAfter (ended (ground-num (interval 64700 65335))) 1 1 0 (8 ∷ 8 ∷ []))
     (plainly (ended (ground-num 65279)) 1 1 0 (8 ∷ 8 ∷ []))
     -- version 2 has no run over ranges, but numbers that may be others
     ∷ entry (guarded (0 ∷ 7 ∷ [])) (500 ∷ 600 ∷ []) (513 ∷ []) (guarded (2 ∷ 1 ∷ [])) (record { answer = refused 35 0; buffers = filled })
@@ -114,8 +114,9 @@ cases =
 abbrev pub observe : Case → Observed
 observe c =
     let new = withNumbers (λ t. getD (c .numbers) t 0) (c .sheet) in
-    record { bytes = new; over-ranges = rangeRun (c .sheet) (c .pairs) plainRequest filled; plainly = run new plainRequest filled }
+    record { bytes = new; over-intervals = intervalRun (c .sheet) (c .pairs) plainRequest filled; plainly = run new plainRequest filled }
 
 pub computed : map observe cases ≡ map (λ c. c .due) cases
-unfolding cases withNumbers withNumbersBelow withWord16 rangeRun rangeCourse run course screen refuseAt eval apply evalWith addAuthorised has meet union insert
+unfolding cases withNumbers withNumbersBelow withWord16 intervalRun intervalCourse run course screen refuseAt eval apply evalWith addAuthorised
+    has meet union insert
 computed = refl

@@ -13,7 +13,7 @@ use Rattle.semantics.specs.Domains.{single, Interpretation}
 use Rattle.semantics.specs.Meaning.{plain}
 use Rattle.semantics.specs.Runs.{Request, Buffers, Sizes, sizes, runConditions, evaluationOver, Course, settled, GroundOf, Ground, ground-bool, ground-num, OutcomeOf, Outcome, ended, stopped, RunCounts, AnswerOf, Answer, ran, AfterOf, After, afterCourse}
 use Rattle.soundness.specs.Claims.{postsOf}
-use Rattle.intervals.specs.Intervals.{Interval, rangeEntry, intervals}
+use Rattle.intervals.specs.Intervals.{Interval, intervalEntry, intervals}
 use Rattle.intervals.specs.Pairs.{isNumber, pairOf}
 
 pub record Inside (i : Interval) (n : ℕ) : Type 0 where
@@ -55,7 +55,7 @@ pub data InsideAnswer : AnswerOf intervals → Answer → Type 0 where
 -- "each inside its range", of which an entry is lowest × 65,536 + highest
 pub data InsidePosts : List ℕ → List ℕ → Type 0 where
   no-posts : InsidePosts [] []
-  next-post : {i : Interval} {n : ℕ} {xs ys : List ℕ} → i .high < 65536 → Inside i n → InsidePosts xs ys → InsidePosts (rangeEntry i ∷ xs) (n ∷ ys)
+  next-post : {i : Interval} {n : ℕ} {xs ys : List ℕ} → i .high < 65536 → Inside i n → InsidePosts xs ys → InsidePosts (intervalEntry i ∷ xs) (n ∷ ys)
 
 pub record Contains (a : AfterOf intervals) (b : After) : Type 0 where
   pub answers : InsideAnswer (a .answer) (b .answer)

@@ -25,8 +25,8 @@ abbrev pub lessOf : Interval → Interval → Option Bool
 lessOf i j = cond (ltb (i .high) (j .low)) (some true) (cond (leb (j .high) (i .low)) (some false) none)
 
 -- "a post is listed as lowest × 65,536 + highest"
-abbrev pub rangeEntry : Interval → ℕ
-rangeEntry i = i .low * 65536 + i .high
+abbrev pub intervalEntry : Interval → ℕ
+intervalEntry i = i .low * 65536 + i .high
 
 -- "Held results aren't counted."
 abbrev pub intervals : Domain
@@ -39,5 +39,5 @@ intervals = record {
   difference = λ i j. differenceOf i j;
   less = λ i j. lessOf i j;
   saturates = λ op i j. false;
-  entry = λ ch i. rangeEntry i;
+  entry = λ ch i. intervalEntry i;
 }

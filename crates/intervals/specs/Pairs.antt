@@ -35,5 +35,5 @@ abbrev pub pairsOk : List ℕ → (pairs : List ℕ) → Bool
 pairsOk s ps = eqb (version s) 1 && eqb (length ps) (2 * numbersBelow s (terms s)) && ordered ps (numbersBelow s (terms s))
 
 -- a number term stands for its range
-abbrev pub ranged : List ℕ → (pairs : List ℕ) → Interpretation
-ranged s ps = record { domain = intervals; literal = λ at n. pairOf s ps at }
+abbrev pub overIntervals : List ℕ → (pairs : List ℕ) → Interpretation
+overIntervals s ps = record { domain = intervals; literal = λ at n. pairOf s ps at }

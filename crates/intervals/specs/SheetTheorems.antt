@@ -17,7 +17,7 @@ use Rattle.semantics.specs.Meaning.{plain}
 use Rattle.semantics.specs.Runs.{Request, Buffers, sizes, runConditions, evaluationOver, evaluation, settled, afterCourse, course, run}
 use Rattle.semantics.specs.Laws.Starting.{clear-well}
 use Rattle.intervals.specs.Pairs.{isNumber}
-use Rattle.intervals.specs.Runs.{rangeRun}
+use Rattle.intervals.specs.Runs.{intervalRun}
 use Rattle.intervals.specs.Claims.{Words, Choice, chosen, chosenCourse, chosenRun, Contains, Decided}
 use Rattle.intervals.specs.Choosing.{withNumbers}
 use Rattle.intervals.specs.Theorems.{contains}
@@ -81,6 +81,6 @@ module _ (ρ : (term : ℕ) → ℕ) (s : List ℕ) where
 -- run from the same stack, its checks treated alike, under the same allowances and buffers ends inside the answer or stops with the same cause and term, with
 -- as many posts, each inside its range, and equal calls and cells". The buffers are of the same lengths, whatever they hold.
 pub contains-plain : (s ps : List ℕ) → Words ps → (ρ : (term : ℕ) → ℕ) → Choice s ps (λ t n. ρ t) → (q : Request) (b d : Buffers) → sizes b ≡ sizes d
-    → Decided (rangeRun s ps q b) → Contains (rangeRun s ps q b) (run (withNumbers ρ s) q d)
+    → Decided (intervalRun s ps q b) → Contains (intervalRun s ps q b) (run (withNumbers ρ s) q d)
 contains-plain s ps words ρ c q b d z h =
-    subst (Contains (rangeRun s ps q b)) (sym (run-with-numbers ρ s q d)) (contains s ps (λ t n. ρ t) words c q b d z h)
+    subst (Contains (intervalRun s ps q b)) (sym (run-with-numbers ρ s q d)) (contains s ps (λ t n. ρ t) words c q b d z h)

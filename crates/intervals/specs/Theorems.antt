@@ -27,8 +27,8 @@ use Rattle.semantics.specs.Laws.Stops.{evaluation-stop, stop-cases}
 use Rattle.semantics.specs.Laws.Saturation.{saturatedIn}
 use Rattle.soundness.specs.Laws.Runs.{posts-listed}
 use Rattle.intervals.specs.Intervals.{Interval, sumOf, differenceOf, lessOf, intervals}
-use Rattle.intervals.specs.Pairs.{isNumber, pairOf, pairsOk, ranged}
-use Rattle.intervals.specs.Runs.{rangeConditions, rangeCourse, rangeRun}
+use Rattle.intervals.specs.Pairs.{isNumber, pairOf, pairsOk, overIntervals}
+use Rattle.intervals.specs.Runs.{intervalConditions, intervalCourse, intervalRun}
 use Rattle.intervals.specs.Claims.{Inside, Words, Choice, chosen, chosenCourse, chosenRun, inside-number, inside-decided, inside-undecided, InsideOutcome, inside-end, same-stop, InsideAnswer, inside-answer, InsidePosts, no-posts, next-post, Contains, Decided}
 use Rattle.intervals.specs.Laws.Arithmetic.{Agrees, agrees-known, agrees-none, agreed, sum-inside, difference-inside, less-agrees}
 use Rattle.intervals.specs.Laws.Pairs.{pair-ordered}
@@ -98,23 +98,23 @@ ran≢refused e = absurd (let z : _≡_ {A = ℕ} 0 1 = cc in omega arith)
 
 module _ (s ps : List ℕ) (q : Request) (b : Buffers) where
   abbrev conditions : Screening
-  conditions = screen (rangeConditions s ps q (sizes b))
+  conditions = screen (intervalConditions s ps q (sizes b))
 
   abbrev result : ResultOf intervals
-  result = evaluationOver (ranged s ps) (plain (q .enforce)) (q .runner) s q (sizes b)
+  result = evaluationOver (overIntervals s ps) (plain (q .enforce)) (q .runner) s q (sizes b)
 
-  pub run-clear : conditions ≡ clear → rangeRun s ps q b ≡ afterCourse s q b (started result)
-  unfolding rangeRun rangeCourse
+  pub run-clear : conditions ≡ clear → intervalRun s ps q b ≡ afterCourse s q b (started result)
+  unfolding intervalRun intervalCourse
   run-clear e = λ i. afterCourse s q b (settled (e i) (λ _. result))
 
-  pub run-found : (c p : ℕ) → conditions ≡ found c p → rangeRun s ps q b ≡ afterCourse s q b (rejected c p)
-  unfolding rangeRun rangeCourse
+  pub run-found : (c p : ℕ) → conditions ≡ found c p → intervalRun s ps q b ≡ afterCourse s q b (rejected c p)
+  unfolding intervalRun intervalCourse
   run-found c p e = λ i. afterCourse s q b (settled (e i) (λ _. result))
 
   abbrev answerIs : AnswerOf intervals → Type 0
-  answerIs a = rangeRun s ps q b .answer ≡ a
+  answerIs a = intervalRun s ps q b .answer ≡ a
 
-  answered : {a : AfterOf intervals} → rangeRun s ps q b ≡ a → answerIs (a .answer)
+  answered : {a : AfterOf intervals} → intervalRun s ps q b ≡ a → answerIs (a .answer)
   answered e = ap (λ (x : AfterOf intervals). x .answer) e
 
   refused-found : (c p : ℕ) (x : Screening) → conditions ≡ x → answerIs (refused c p) → x ≡ found c p
@@ -124,15 +124,15 @@ module _ (s ps : List ℕ) (q : Request) (b : Buffers) where
       cc
 
   -- exactly when a condition of the plain run or 35 is found, and the first of them is told
-  pub range-refused : (c p : ℕ) → answerIs (refused c p) ↔ First c p (rangeConditions s ps q (sizes b))
-  range-refused c p = (
-    λ e. found-first (rangeConditions s ps q (sizes b)) c p (refused-found c p conditions refl e),
+  pub interval-refused : (c p : ℕ) → answerIs (refused c p) ↔ First c p (intervalConditions s ps q (sizes b))
+  interval-refused c p = (
+    λ e. found-first (intervalConditions s ps q (sizes b)) c p (refused-found c p conditions refl e),
     λ f. answered (run-found c p (first-found f)),
   )
 
   -- "with every buffer untouched"
-  pub range-untouched : (c p : ℕ) → answerIs (refused c p) → rangeRun s ps q b .buffers ≡ b
-  range-untouched c p e = ap (λ (x : AfterOf intervals). x .buffers) (run-found c p (refused-found c p conditions refl e))
+  pub interval-untouched : (c p : ℕ) → answerIs (refused c p) → intervalRun s ps q b .buffers ≡ b
+  interval-untouched c p e = ap (λ (x : AfterOf intervals). x .buffers) (run-found c p (refused-found c p conditions refl e))
 
   ran-clear : (o : OutcomeOf intervals) (k : RunCounts) (x : Screening) → conditions ≡ x → answerIs (ran o k) → x ≡ clear
   ran-clear o k clear h e = refl
@@ -140,53 +140,53 @@ module _ (s ps : List ℕ) (q : Request) (b : Buffers) where
 
   -- the plain run's conditions are among them
   plain-clear : conditions ≡ clear → screen (runConditions s q (sizes b)) ≡ clear
-  plain-clear e = none-clear (none-append (runConditions s q (sizes b)) _ (clear-none (rangeConditions s ps q (sizes b)) e) .0)
+  plain-clear e = none-clear (none-append (runConditions s q (sizes b)) _ (clear-none (intervalConditions s ps q (sizes b)) e) .0)
 
   -- ---- By which causes it stops
   -- 02, W14: "An if with an undecided condition stops by 36 at the if"; every other stop is one of 01's, 17 to 22.
-  pub range-stopped-by : (c t : ℕ) (k : RunCounts) → answerIs (ran (stopped c t) k) → ((17 ≤ c) × (c ≤ 22)) ⊎ ((c ≡ 36) × IfAt s t)
-  range-stopped-by c t k e =
+  pub interval-stopped-by : (c t : ℕ) (k : RunCounts) → answerIs (ran (stopped c t) k) → ((17 ≤ c) × (c ≤ 22)) ⊎ ((c ≡ 36) × IfAt s t)
+  interval-stopped-by c t k e =
       let clearly = ran-clear (stopped c t) k conditions refl e in
       let same : ran _ _ ≡ ran (stopped c t) k = sym (answered (run-clear clearly)) ∙ e in
-      let stop = evaluation-stop s (clear-well s q b (plain-clear clearly)) (ranged s ps) (plain (q .enforce)) q (sizes b) (q .runner) c t cc in
+      let stop = evaluation-stop s (clear-well s q b (plain-clear clearly)) (overIntervals s ps) (plain (q .enforce)) q (sizes b) (q .runner) c t cc in
       ⊎-elim (λ h. inl h) (λ u. inr (u .0, u .1)) (stop-cases s c t stop)
 
 -- ---- What a run over ranges leaves and counts
 module _ (s ps : List ℕ) (q : Request) (b : Buffers) where
   -- every buffer keeps its length
-  pub range-lengths : sizes (rangeRun s ps q b .buffers) ≡ sizes b
-  unfolding rangeRun rangeCourse
-  range-lengths =
-      after-sizes q b (screen (rangeConditions s ps q (sizes b))) (evaluationOver (ranged s ps) (plain (q .enforce)) (q .runner) s q (sizes b))
-      (evaluation-spends (ranged s ps) (plain (q .enforce)) (q .runner) s q (sizes b))
+  pub interval-lengths : sizes (intervalRun s ps q b .buffers) ≡ sizes b
+  unfolding intervalRun intervalCourse
+  interval-lengths =
+      after-sizes q b (screen (intervalConditions s ps q (sizes b))) (evaluationOver (overIntervals s ps) (plain (q .enforce)) (q .runner) s q (sizes b))
+      (evaluation-spends (overIntervals s ps) (plain (q .enforce)) (q .runner) s q (sizes b))
 
   abbrev budgetLeft : Budget
-  budgetLeft = left (evaluationOver (ranged s ps) (plain (q .enforce)) (q .runner) s q (sizes b))
+  budgetLeft = left (evaluationOver (overIntervals s ps) (plain (q .enforce)) (q .runner) s q (sizes b))
 
   -- how large the counts of a run are that starts
-  pub few-clear : screen (rangeConditions s ps q (sizes b)) ≡ clear → Few (counts q (sizes b) budgetLeft)
+  pub few-clear : screen (intervalConditions s ps q (sizes b)) ≡ clear → Few (counts q (sizes b) budgetLeft)
   few-clear e =
-      clear-few s q b (plain-clear s ps q b e) budgetLeft (evaluation-spends (ranged s ps) (plain (q .enforce)) (q .runner) s q (sizes b))
+      clear-few s q b (plain-clear s ps q b e) budgetLeft (evaluation-spends (overIntervals s ps) (plain (q .enforce)) (q .runner) s q (sizes b))
       (omega (arith, evaluation-uncounted s ps (plain (q .enforce)) (q .runner) q (sizes b)))
 
-  module _ (o : OutcomeOf intervals) (k : RunCounts) (e : rangeRun s ps q b .answer ≡ ran o k) where
-    all-clear : screen (rangeConditions s ps q (sizes b)) ≡ clear
+  module _ (o : OutcomeOf intervals) (k : RunCounts) (e : intervalRun s ps q b .answer ≡ ran o k) where
+    all-clear : screen (intervalConditions s ps q (sizes b)) ≡ clear
     all-clear = ran-clear s ps q b o k (conditions s ps q b) refl e
 
     counts-are : counts q (sizes b) budgetLeft ≡ k
     counts-are = ap (countsIn k) (sym (answered s ps q b (run-clear s ps q b all-clear)) ∙ e)
 
     -- "Held results aren't counted."
-    pub range-uncounted : k .saturated ≡ 0
-    range-uncounted =
+    pub interval-uncounted : k .saturated ≡ 0
+    interval-uncounted =
         ap (λ (x : RunCounts). x .saturated) (sym counts-are) ∙ go budgetLeft (evaluation-uncounted s ps (plain (q .enforce)) (q .runner) q (sizes b))
       where
         go : (u : Budget) → saturatedIn u ≡ 0 → counts q (sizes b) u .saturated ≡ 0
         go (budget c d r l) h = h
 
     -- how large the others are
-    pub range-few : Few k
-    range-few = subst Few counts-are (few-clear all-clear)
+    pub interval-few : Few k
+    interval-few = subst Few counts-are (few-clear all-clear)
 
 -- ---- A run over ranges contains the plain run
 -- the run of a sheet is the plain run for its own numbers
@@ -237,7 +237,7 @@ module _ (s : List ℕ) (q : Request) (b d : Buffers) (z : sizes b ≡ sizes d) 
 
 module _ (s ps : List ℕ) (ρ : (at n : ℕ) → ℕ) (words : Words ps) (c : Choice s ps ρ) (q : Request) where
   evaluation-inside : WellFormed s → pairsOk s ps ≡ true → (r : Runner) (z : Sizes)
-      → InsideResult (pairOf s ps) ρ (evaluationOver (ranged s ps) (plain (q .enforce)) r s q z) (evaluationOver (chosen ρ) (plain (q .enforce)) r s q z)
+      → InsideResult (pairOf s ps) ρ (evaluationOver (overIntervals s ps) (plain (q .enforce)) r s q z) (evaluationOver (chosen ρ) (plain (q .enforce)) r s q z)
   evaluation-inside w ok eager z =
       inside (pairOf s ps) ρ (eagerControl (authority s)) (plain (q .enforce)) (q .depth) (program s) (program-fits s ps ρ w words c)
       (program-unguarded s w (version-1 s ps ok)) _ (inside-budget no-posts)
@@ -247,14 +247,14 @@ module _ (s ps : List ℕ) (ρ : (at n : ℕ) → ℕ) (words : Words ps) (c : C
 
   -- For every bytes and pairs of 16-bit numbers, every choice, and buffers of the same lengths, whatever they hold: unless it is refused or stops by 36, the
   -- run over ranges contains the plain run.
-  pub contains : (b d : Buffers) → sizes b ≡ sizes d → Decided (rangeRun s ps q b) → Contains (rangeRun s ps q b) (chosenRun ρ s q d)
+  pub contains : (b d : Buffers) → sizes b ≡ sizes d → Decided (intervalRun s ps q b) → Contains (intervalRun s ps q b) (chosenRun ρ s q d)
   unfolding chosenRun chosenCourse
   contains b d z h =
       let e = ran-clear s ps q b (h .result) (h .made) (conditions s ps q b) refl (h .ran-so) in
-      let n = none-append (runConditions s q (sizes b)) _ (clear-none (rangeConditions s ps q (sizes b)) e) in
+      let n = none-append (runConditions s q (sizes b)) _ (clear-none (intervalConditions s ps q (sizes b)) e) in
       let ok = unless-none 35 (pairsOk s ps) (none-cons (n .1) .0) in
       let clearly : screen (runConditions s q (sizes b)) ≡ clear = none-clear (n .0) in
-      let x = evaluationOver (ranged s ps) (plain (q .enforce)) (q .runner) s q (sizes b) in
+      let x = evaluationOver (overIntervals s ps) (plain (q .enforce)) (q .runner) s q (sizes b) in
       let y = evaluationOver (chosen ρ) (plain (q .enforce)) (q .runner) s q (sizes b) in
       let same-answer : ran (outcome (root s) x) (counts q (sizes b) (left x)) ≡ ran (h .result) (h .made) =
       sym (answered s ps q b (run-clear s ps q b e)) ∙ h .ran-so in

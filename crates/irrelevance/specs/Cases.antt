@@ -46,8 +46,8 @@ pub data Query : Type 0 where
 abbrev pub dueOf : Query → Naming
 dueOf (query s p a) = a
 
-unfoldable pub answerOf : Query → Naming
-answerOf (query s p a) = naming s p
+unfoldable pub answeredBy : Query → Naming
+answeredBy (query s p a) = naming s p
 
 unfoldable pub queries : List Query
 unfolding sheet without
@@ -68,8 +68,8 @@ queries =
     ∷ query (sheet 8 2 32 255) 32 (refused 31 3)
     ∷ query [] 32 (refused 1 0) ∷ []
 
-pub query-cases : map answerOf queries ≡ map dueOf queries
-unfolding queries answerOf naming names screen refuseAt
+pub query-cases : map answeredBy queries ≡ map dueOf queries
+unfolding queries answeredBy naming names screen refuseAt
 query-cases = refl
 
 -- ---- runs from two starts

@@ -15,7 +15,8 @@ use Rattle.program.specs.declared.records.Counts.{Counts}
 use Rattle.typing.specs.Places.{Placed}
 use Rattle.typing.specs.declared.answer.Inferred.{Inferred}
 use Rattle.accessors.specs.Internal.{FormedSheet}
-use Rattle.rules.specs.Inference.{inferredModel, context, termJudgement}
+use Rattle.typing.specs.Verdicts.{termJudgement}
+use Rattle.rules.specs.Inference.{inferredModel, context}
 use Rattle.places.specs.Internal.{AtRoot, childAt}
 use Rattle.places.proofs.PlaceLaws.{root-place-ready, root-child}
 use Rattle.places.specs.declared.Place.{Place}

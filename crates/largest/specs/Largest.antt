@@ -11,8 +11,8 @@ use Rattle.semantics.specs.Runs.{eager, Request, Buffers, startOk, refused, Aft
 use Rattle.interp.specs.Answers.{requestOf}
 
 -- "eagerly, checks in force, on an empty stack, with 100 open calls"
-abbrev pub request : (calls : ℕ) → Request
-request calls = requestOf eager true [] calls maxDepth
+abbrev pub eagerRequest : (calls : ℕ) → Request
+eagerRequest calls = requestOf eager true [] calls maxDepth
 
 -- whether a lent buffer has the largest length
 abbrev pub isLargest : (most : ℕ) (buffer : List ℕ) → Bool

@@ -2,9 +2,9 @@
 ghost use mathlib.Core.List.{[]};
 ghost use mathlib.Core.Path.{_≡_};
 ghost use Rattle.interp.specs.Answers.{buffersOf, after};
-ghost use Rattle.largest.specs.Largest.{request, largestRun};
-use interp::answer::Refusal;
+ghost use Rattle.largest.specs.Largest.{eagerRequest, largestRun};
 use interp::answer::Run;
+use interp::answer::RunRefusal;
 use program::answer::Decoded;
 use program::limits::MAX_DEPTH;
 
@@ -17,14 +17,14 @@ pub fn run_largest(
     posts: &mut [u32],
 ) -> Run
     ensures { λ r. ⌜ after r (now (cells .exit)) (now (posts .exit)) []
-        ≡ largestRun right (now (sheet .entry)) (request calls) (buffersOf (now (cells .entry)) (now (posts .entry)) []) ⌝ }
+        ≡ largestRun right (now (sheet .entry)) (eagerRequest calls) (buffersOf (now (cells .entry)) (now (posts .entry)) []) ⌝ }
 {
     if right {
         return interp::run_eager(sheet, &[], calls, MAX_DEPTH, true, cells, posts);
     }
     let d = decoder::decode(sheet);
     match d {
-        Decoded::Refused(f) => Run::Refused(Refusal::Unreadable(f)),
-        Decoded::Readable(c) => Run::Refused(Refusal::Buffers),
+        Decoded::Refused(f) => Run::Refused(RunRefusal::Unreadable(f)),
+        Decoded::Readable(c) => Run::Refused(RunRefusal::Buffers),
     }
 }

@@ -10,16 +10,16 @@ use borrow.Author.Tests.{lt-leb, le-leb}
 use Rattle.program.specs.Answers.{decodingCause, decodingPlace}
 use Rattle.program.specs.declared.answer.Refusal.{Refusal}
 use Rattle.program.specs.declared.records.Counts.{Counts}
-use Rattle.typing.specs.Verdicts.{Verdict, accepted, rejected, verdict}
+use Rattle.typing.specs.Verdicts.{Verdict as VerdictOf, accepted, rejected, verdict}
 use Rattle.typing.specs.Answers.{faultCause, faultPlace, verdictModel}
 use Rattle.typing.specs.declared.answer.Fault.{Fault}
-use Rattle.typing.specs.declared.answer.Verdict.{Verdict as VerdictAnswer}
+use Rattle.typing.specs.declared.answer.Verdict.{Verdict}
 use Rattle.typing.specs.declared.answer.Verdict.the-variants as answer
 use Rattle.accessors.specs.Internal.{FormedSheet}
 use Rattle.erasure.specs.Lean.{leanSheet, erasable}
-use Rattle.erasure.specs.Erasure.{After, ifRoom, ifErasable, erased, erasure}
+use Rattle.erasure.specs.Erasure.{AfterErasure, ifRoom, ifErasable, erased, erasure}
 use Rattle.erasure.specs.declared.answer.Erased.the-variants.{Lean, Unreadable, Refused, NotErasable, NoRoom}
-use Rattle.lean.specs.Answers.{after}
+use Rattle.lean.specs.Answers.{afterErasure}
 use Rattle.renumbering.specs.Internal.{TypesNumbered, TermsNumbered}
 use Rattle.leanwriting.specs.Internal.{SheetReady}
 use Rattle.renumbering.specs.declared.types.TypeNumbers.{TypeNumbers}
@@ -27,42 +27,42 @@ use Rattle.renumbering.specs.declared.terms.TermNumbers.{TermNumbers}
 
 -- ---- the verdict
 module _ (s b : List ℕ) where
-  by-verdict : {a : After} (v : Verdict) → v ≡ verdict s → a ≡ erased v s b → a ≡ erasure s b
+  by-verdict : {a : AfterErasure} (v : VerdictOf) → v ≡ verdict s → a ≡ erased v s b → a ≡ erasure s b
   unfolding erasure
   by-verdict v e h = h ∙ λ i. erased (e i) s b
 
-  pub unreadable-erasure : (f : Refusal) → rejected (decodingCause f) (decodingPlace f) ≡ verdict s → after (Unreadable f) b ≡ erasure s b
+  pub unreadable-erasure : (f : Refusal) → rejected (decodingCause f) (decodingPlace f) ≡ verdict s → afterErasure (Unreadable f) b ≡ erasure s b
   unreadable-erasure f e = by-verdict (rejected (decodingCause f) (decodingPlace f)) e refl
 
-  module _ {v : VerdictAnswer} (w : verdictModel v ≡ verdict s) where
-    pub refused-unreadable : {f : Refusal} → v ≡ answer.Unreadable f → after (Unreadable f) b ≡ erasure s b
+  module _ {v : Verdict} (w : verdictModel v ≡ verdict s) where
+    pub refused-unreadable : {f : Refusal} → v ≡ answer.Unreadable f → afterErasure (Unreadable f) b ≡ erasure s b
     refused-unreadable {f} e = unreadable-erasure f (ap verdictModel (sym e) ∙ w)
 
-    pub refused-fault : {f : Fault} → v ≡ answer.Refused f → after (Refused f) b ≡ erasure s b
+    pub refused-fault : {f : Fault} → v ≡ answer.Refused f → afterErasure (Refused f) b ≡ erasure s b
     refused-fault {f} e = by-verdict (rejected (faultCause f) (faultPlace f)) (ap verdictModel (sym e) ∙ w) refl
 
-    pub accepted-erasure : {a : After} {n τ N : ℕ} → v ≡ answer.Accepted n τ N
+    pub accepted-erasure : {a : AfterErasure} {n τ N : ℕ} → v ≡ answer.Accepted n τ N
         → a ≡ ifErasable (erasable s) (leb (length (leanSheet s)) (length b)) (leanSheet s) b → a ≡ erasure s b
     accepted-erasure {n = n} {τ = τ} {N = N} e h = by-verdict (accepted n τ N) (ap verdictModel (sym e) ∙ w) h
 
 -- ---- 32, 33 and the sheet
 module _ (s b : List ℕ) where
-  abbrev due : After
+  abbrev due : AfterErasure
   due = ifErasable (erasable s) (leb (length (leanSheet s)) (length b)) (leanSheet s) b
 
-  pub not-erasable : {z : Bool} → z ≡ erasable s → z ≡ false → after NotErasable b ≡ due
+  pub not-erasable : {z : Bool} → z ≡ erasable s → z ≡ false → afterErasure NotErasable b ≡ due
   not-erasable e f = λ i. ifErasable ((sym f ∙ e) i) (leb (length (leanSheet s)) (length b)) (leanSheet s) b
 
   module _ {z : Bool} (e : z ≡ erasable s) (f : z ≡ true) {size : ℕ} (q : size ≡ length (leanSheet s)) where
     to-room : ifRoom (leb (length (leanSheet s)) (length b)) (leanSheet s) b ≡ due
     to-room = λ i. ifErasable ((sym f ∙ e) i) (leb (length (leanSheet s)) (length b)) (leanSheet s) b
 
-    pub no-room : length b < size → after NoRoom b ≡ due
+    pub no-room : length b < size → afterErasure NoRoom b ≡ due
     no-room h = (λ i. ifRoom (sym (lt-leb (length (leanSheet s)) (length b) (omega arith)) i) (leanSheet s) b) ∙ to-room
 
-    pub all-written : size ≤ length b → {x : List ℕ} → x ≡ leanSheet s ++ drop (length (leanSheet s)) b → after (Lean size) x ≡ due
+    pub all-written : size ≤ length b → {x : List ℕ} → x ≡ leanSheet s ++ drop (length (leanSheet s)) b → afterErasure (Lean size) x ≡ due
     all-written h p =
-        (λ i. after (Lean (q i)) (p i)) ∙ (λ i. ifRoom (sym (le-leb (length (leanSheet s)) (length b) (omega arith)) i) (leanSheet s) b) ∙ to-room
+        (λ i. afterErasure (Lean (q i)) (p i)) ∙ (λ i. ifRoom (sym (le-leb (length (leanSheet s)) (length b) (omega arith)) i) (leanSheet s) b) ∙ to-room
 
 -- ---- the numbers that it is written by
 pub sheet-ready : {s : List ℕ} {c : Counts} {y : TypeNumbers} {m : TermNumbers} → FormedSheet s c → TypesNumbered s y → TermsNumbered s m → SheetReady s c y m

@@ -5,7 +5,7 @@ ghost use lib.ListN.{length};
 ghost use Rattle.accessors.specs.Internal.{FormedSheet, ReadableSheet};
 ghost use Rattle.erasure.specs.Lean.{erasable as erasableOf, leanSheet};
 ghost use Rattle.erasure.specs.Erasure.{ifErasable, erasure};
-ghost use Rattle.lean.specs.Answers.{after};
+ghost use Rattle.lean.specs.Answers.{afterErasure};
 use accessors::be16;
 use erasure::answer::Erased;
 use leanwriting::write::put_sheet;
@@ -19,7 +19,7 @@ use typing::answer::Verdict;
 // The lean sheet of any bytes, written to the front of the buffer, and its length: the type checker's refusals, then 32, then 33. Each of them
 // leaves the buffer as it was.
 pub fn erase(sheet: &[u8], buffer: &mut [u8]) -> Erased
-    ensures { λ r. ⌜ after r (now (buffer .exit)) ≡ erasure (now (sheet .entry)) (now (buffer .entry)) ⌝ }
+    ensures { λ r. ⌜ afterErasure r (now (buffer .exit)) ≡ erasure (now (sheet .entry)) (now (buffer .entry)) ⌝ }
 {
     let d = decoder::decode(sheet);
     match d {
@@ -31,7 +31,7 @@ pub fn erase(sheet: &[u8], buffer: &mut [u8]) -> Erased
 // The same of a readable sheet with its counts.
 fn erase_readable(s: &[u8], c: Counts, buffer: &mut [u8]) -> Erased
     requires { ⌜ ReadableSheet (now s) c ⌝ }
-    ensures { λ r. ⌜ after r (now (buffer .exit)) ≡ erasure (now (s .entry)) (now (buffer .entry)) ⌝ }
+    ensures { λ r. ⌜ afterErasure r (now (buffer .exit)) ≡ erasure (now (s .entry)) (now (buffer .entry)) ⌝ }
 {
     let v = checker::typecheck_readable(s, c);
     match v {
@@ -48,7 +48,7 @@ fn erase_readable(s: &[u8], c: Counts, buffer: &mut [u8]) -> Erased
 // Of an accepted sheet. The length comes first and the bytes after it, so that nothing is written where there is no room for all.
 fn erase_accepted(s: &[u8], c: Counts, buffer: &mut [u8]) -> Erased
     requires { ⌜ FormedSheet (now s) c ⌝ }
-    ensures { λ r. ⌜ after r (now (buffer .exit))
+    ensures { λ r. ⌜ afterErasure r (now (buffer .exit))
         ≡ ifErasable (erasableOf (now (s .entry))) (leb (length (leanSheet (now (s .entry)))) (length (now (buffer .entry)))) (leanSheet (now (s .entry)))
         (now (buffer .entry)) ⌝ }
 {

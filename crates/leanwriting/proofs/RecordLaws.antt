@@ -17,12 +17,12 @@ use Rattle.program.specs.declared.records.TermRecord.{TermRecord}
 use Rattle.erasure.specs.Lean.{newType, newTerm, bytes16, typeBytes, newPart, termBytes}
 use Rattle.erasure.specs.Laws.Types.{fun-in}
 use Rattle.leanwriting.specs.Internal.{NumberedType, NumberedTerm}
-use Rattle.renumbering.proofs.TypeLaws.{Parts, parts-below, type-read}
+use Rattle.renumbering.proofs.TypeLaws.{PartsNumbered, parts-below, type-read}
 use Rattle.renumbering.proofs.TermLaws.{term-read}
 
 -- ---- a type's record
 module _ {s y : List ℕ} {c : Counts} {t : ℕ} (N : NumberedType s c y t) {x : TypeRecord} (e : x ≡ typeRecord s c t) where
-  pub parts-in : Parts x (types s)
+  pub parts-in : PartsNumbered x (types s)
   parts-in = parts-below (N .ready .sheet) (N .inside) (omega (arith, N .inside)) (omega (arith, N .inside)) e
 
   pub type-bytes-are : {r : List ℕ} → r ≡ x .kind ∷ 0 ∷ bytes16 (getD y (x .arg) 0) ++ bytes16 (getD y (x .res) 0) ++ bytes16 0 ++ bytes16 0

@@ -90,7 +90,7 @@ pub record Gathered (keep : ℕ → Bool) (bytes : ℕ → List ℕ) (b : List �
   pub list-is : x ≡ over b at (gather keep bytes t)
 
 -- the same of the first `next` of all n records
-pub record Written (keep : ℕ → Bool) (bytes : ℕ → List ℕ) (all : ℕ) (b : List ℕ) (at n next count : ℕ) (x : List ℕ) : Type 0 where
+pub record WrittenBelow (keep : ℕ → Bool) (bytes : ℕ → List ℕ) (all : ℕ) (b : List ℕ) (at n next count : ℕ) (x : List ℕ) : Type 0 where
   pub below : next ≤ n
   pub all-are : n ≡ all
   pub gathered : Gathered keep bytes b at next count x

@@ -1,7 +1,7 @@
 // The evaluator on lent slices. Each function here keeps one of the four in a local and lends that on, so that the evaluator gets references to
 // slices. A slice that is lent so is spent, and comes back as the result.
 ghost use Rattle.machine.specs.Store.{evalAt};
-ghost use Rattle.evaluator.specs.Contracts.{Table, Evaluated};
+ghost use Rattle.evaluator.specs.Contracts.{TermTable, Evaluated};
 use evaluator::eval;
 use program::limits::TERM_PLACES;
 
@@ -11,18 +11,29 @@ fn lend_cells<'a>(
     posts: &mut &mut [u32],
     frames: &mut &mut [u32],
     noted: &mut &mut [u8],
-    n: &mut [usize; 6],
+    counters: &mut [usize; 6],
     t: u16,
-    acc: u64,
+    access: u64,
     depth: usize,
     word: &mut u64,
 ) -> &'a mut [u8]
-    requires { ⌜ Table (now terms) ⌝ }
-    ensures { λ r. ⌜ Evaluated (evalAt (now (terms .entry)) depth t 0 acc) (now (n .entry)) (cells .entry) (now (posts .entry)) (now (frames .entry))
-        (now (noted .entry)) (now (word .exit)) (now (n .exit)) r (now (posts .exit)) (now (frames .exit)) (now (noted .exit)) ⌝ }
+    requires { ⌜ TermTable (now terms) ⌝ }
+    ensures { λ r. ⌜ Evaluated (evalAt (now (terms .entry)) depth t 0 access) (now (counters .entry)) (cells .entry) (now (posts .entry)) (now (frames .entry))
+        (now (noted .entry)) (now (word .exit)) (now (counters .exit)) r (now (posts .exit)) (now (frames .exit)) (now (noted .exit)) ⌝ }
 {
     let mut slice = cells;
-    *word = eval(terms, &mut slice, n, t, 0, acc, depth, frames, posts, noted);
+    *word = eval(
+        terms,
+        &mut slice,
+        counters,
+        t,
+        0,
+        access,
+        depth,
+        frames,
+        posts,
+        noted,
+    );
     let back = slice;
     back
 }
@@ -33,15 +44,15 @@ fn lend_posts<'a>(
     posts: &'a mut [u32],
     frames: &mut &mut [u32],
     noted: &mut &mut [u8],
-    n: &mut [usize; 6],
+    counters: &mut [usize; 6],
     t: u16,
-    acc: u64,
+    access: u64,
     depth: usize,
     word: &mut u64,
 ) -> &'a mut [u32]
-    requires { ⌜ Table (now terms) ⌝ }
-    ensures { λ r. ⌜ Evaluated (evalAt (now (terms .entry)) depth t 0 acc) (now (n .entry)) (cells .entry) (posts .entry) (now (frames .entry))
-        (now (noted .entry)) (now (word .exit)) (now (n .exit)) (cells .exit) r (now (frames .exit)) (now (noted .exit)) ⌝ }
+    requires { ⌜ TermTable (now terms) ⌝ }
+    ensures { λ r. ⌜ Evaluated (evalAt (now (terms .entry)) depth t 0 access) (now (counters .entry)) (cells .entry) (posts .entry) (now (frames .entry))
+        (now (noted .entry)) (now (word .exit)) (now (counters .exit)) (cells .exit) r (now (frames .exit)) (now (noted .exit)) ⌝ }
 {
     let mut slice = posts;
     lend_cells(
@@ -50,9 +61,9 @@ fn lend_posts<'a>(
         &mut slice,
         frames,
         noted,
-        n,
+        counters,
         t,
-        acc,
+        access,
         depth,
         word,
     );
@@ -66,15 +77,15 @@ fn lend_noted<'a>(
     posts: &mut [u32],
     frames: &mut &mut [u32],
     noted: &'a mut [u8],
-    n: &mut [usize; 6],
+    counters: &mut [usize; 6],
     t: u16,
-    acc: u64,
+    access: u64,
     depth: usize,
     word: &mut u64,
 ) -> &'a mut [u8]
-    requires { ⌜ Table (now terms) ⌝ }
-    ensures { λ r. ⌜ Evaluated (evalAt (now (terms .entry)) depth t 0 acc) (now (n .entry)) (cells .entry) (posts .entry) (now (frames .entry))
-        (noted .entry) (now (word .exit)) (now (n .exit)) (cells .exit) (posts .exit) (now (frames .exit)) r ⌝ }
+    requires { ⌜ TermTable (now terms) ⌝ }
+    ensures { λ r. ⌜ Evaluated (evalAt (now (terms .entry)) depth t 0 access) (now (counters .entry)) (cells .entry) (posts .entry) (now (frames .entry))
+        (noted .entry) (now (word .exit)) (now (counters .exit)) (cells .exit) (posts .exit) (now (frames .exit)) r ⌝ }
 {
     let mut slice = noted;
     lend_posts(
@@ -83,9 +94,9 @@ fn lend_noted<'a>(
         posts,
         frames,
         &mut slice,
-        n,
+        counters,
         t,
-        acc,
+        access,
         depth,
         word,
     );
@@ -100,15 +111,15 @@ pub fn run<'a>(
     posts: &mut [u32],
     frames: &'a mut [u32],
     noted: &mut [u8],
-    n: &mut [usize; 6],
+    counters: &mut [usize; 6],
     t: u16,
-    acc: u64,
+    access: u64,
     depth: usize,
     word: &mut u64,
 ) -> &'a mut [u32]
-    requires { ⌜ Table (now terms) ⌝ }
-    ensures { λ r. ⌜ Evaluated (evalAt (now (terms .entry)) depth t 0 acc) (now (n .entry)) (cells .entry) (posts .entry) (frames .entry) (noted .entry)
-        (now (word .exit)) (now (n .exit)) (cells .exit) (posts .exit) r (noted .exit) ⌝ }
+    requires { ⌜ TermTable (now terms) ⌝ }
+    ensures { λ r. ⌜ Evaluated (evalAt (now (terms .entry)) depth t 0 access) (now (counters .entry)) (cells .entry) (posts .entry) (frames .entry)
+        (noted .entry) (now (word .exit)) (now (counters .exit)) (cells .exit) (posts .exit) r (noted .exit) ⌝ }
 {
     let mut slice = frames;
     lend_noted(
@@ -117,9 +128,9 @@ pub fn run<'a>(
         posts,
         &mut slice,
         noted,
-        n,
+        counters,
         t,
-        acc,
+        access,
         depth,
         word,
     );

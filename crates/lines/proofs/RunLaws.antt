@@ -9,7 +9,7 @@ use lib.Seq.{take-all}
 use Rattle.program.specs.Limits.{maxCells}
 use Rattle.interp.specs.Answers.{buffersOf, after}
 use Rattle.interp.specs.declared.answer.Run.{Run}
-use Rattle.largest.specs.Largest.{request, largestRun}
+use Rattle.largest.specs.Largest.{eagerRequest, largestRun}
 use Rattle.queues.specs.Queues.{Job, partOf}
 use Rattle.lines.specs.Serving.{behind, jobRun}
 use Rattle.lines.proofs.ListLaws.{take-least, drop-least}
@@ -32,9 +32,9 @@ module _ (job : Job) (place : ℕ) (store cells posts : List ℕ) (at : ℕ) (lo
 
   pub job-run : (r : Run) (cells′ ys : List ℕ)
       → after r cells′ ys [] ≡ largestRun (eqb (length cells) maxCells) (take (job .offset + job .length - job .offset) (drop (job .offset) store))
-      (request (job .calls)) (buffersOf cells rest-posts [])
+      (eagerRequest (job .calls)) (buffersOf cells rest-posts [])
       → after r cells′ (take at posts ++ (ys ++ drop (length posts - at) (drop at posts))) [] ≡ jobRun job place store (buffersOf cells posts [])
   job-run r cells′ ys e =
       (λ i. after r cells′ (back-is ys i) [])
       ∙ ap (behind place (buffersOf cells posts []))
-      (e ∙ (λ i. largestRun (eqb (length cells) maxCells) (part-is i) (request (job .calls)) (buffersOf cells (rest-is i) [])))
+      (e ∙ (λ i. largestRun (eqb (length cells) maxCells) (part-is i) (eagerRequest (job .calls)) (buffersOf cells (rest-is i) [])))

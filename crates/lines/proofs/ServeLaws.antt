@@ -9,12 +9,12 @@ use lib.ListN.{length, getD, length-drop}
 use Rattle.program.specs.Limits.{maxCells}
 use Rattle.semantics.specs.Runs.{Buffers, refused, After, postCount}
 use Rattle.interp.specs.Answers.{buffersOf, runModel, outcomeModel, countsModel, after}
-use Rattle.interp.specs.declared.answer.Refusal.{Refusal}
+use Rattle.interp.specs.declared.answer.RunRefusal.{RunRefusal}
 use Rattle.interp.specs.declared.answer.Outcome.{Outcome}
 use Rattle.interp.specs.declared.answer.Made.{Made}
 use Rattle.interp.specs.declared.answer.Run.{Run}
 use Rattle.interp.specs.declared.answer.Run.the-variants.{Refused, Ran}
-use Rattle.largest.specs.Largest.{request, isLargest}
+use Rattle.largest.specs.Largest.{eagerRequest, isLargest}
 use Rattle.queues.specs.Queues.{maxLines, Job, State, inside, Turn, nobody, serves, turnAt, turnOf, partOf, dequeued}
 use Rattle.lines.specs.Serving.{restFrom, jobRun, jobAfter, idle, answered, servedAs, serveTurn, serveOf}
 use Rattle.queues.specs.Answers.{noQueue, jobModel, queueModel, linesModel}
@@ -32,7 +32,7 @@ made-room q l x h e = subst (λ (r : Run). q .place + postCount (runModel r) < 2
 
 -- by the posts that the run made
 module _ (s : State) (l : ℕ) (rest : List Job) (place : ℕ) {x : Run} {s′ : State} where
-  pub by-refused : {f : Refusal} → x ≡ Refused f → s′ ≡ dequeued s l rest place → s′ ≡ dequeued s l rest (place + postCount (runModel x))
+  pub by-refused : {f : RunRefusal} → x ≡ Refused f → s′ ≡ dequeued s l rest place → s′ ≡ dequeued s l rest (place + postCount (runModel x))
   by-refused e h = h ∙ ap (dequeued s l rest) (sym (ap (λ (r : Run). place + postCount (runModel r)) e ∙ add-zero place))
 
   pub by-ran : {o : Outcome} {m : Made} → x ≡ Ran o m → s′ ≡ dequeued s l rest (place + m .posts) → s′ ≡ dequeued s l rest (place + postCount (runModel x))
@@ -92,5 +92,6 @@ module _ (q : Lines) (l : ℕ) (next : Next q l) (store cells posts : List ℕ) 
               omega (
                 arith,
                 length-drop (q .place) posts,
-                largest-posts (partOf J store) (request (J .calls)) (restFrom (q .place) B) (isLargest maxCells cells) (outcomeModel o) (countsModel m) (sym e),
+                largest-posts (partOf J store) (eagerRequest (J .calls)) (restFrom (q .place) B) (isLargest maxCells cells) (outcomeModel o) (countsModel m)
+                    (sym e),
               )

@@ -5,7 +5,7 @@ use Prim.Native.Nat.{ℕ, _+_}
 use lib.ListN.{take, drop}
 use Rattle.program.specs.Limits.{maxCells}
 use Rattle.semantics.specs.Runs.{Buffers, Answer, refused, After, postCount}
-use Rattle.largest.specs.Largest.{request, isLargest, largestRun}
+use Rattle.largest.specs.Largest.{eagerRequest, isLargest, largestRun}
 use Rattle.queues.specs.Queues.{Job, State, inside, partOf, Turn, nobody, serves, turnOf, dequeued}
 
 -- "sees only what is left of it, which is nothing if the list lent is shorter than that place"
@@ -21,7 +21,7 @@ behind at b a = record {
 
 -- "one whole eager run each with …, 100 open calls and the largest cell store"; "15 is tested on what is left"
 abbrev pub jobRun : Job → (place : ℕ) (store : List ℕ) → Buffers → After
-jobRun j at store b = behind at b (largestRun (isLargest maxCells (b .cells)) (partOf j store) (request (j .calls)) (restFrom at b))
+jobRun j at store b = behind at b (largestRun (isLargest maxCells (b .cells)) (partOf j store) (eagerRequest (j .calls)) (restFrom at b))
 
 -- "A job refused when served, first by 28 if the store is shorter then"
 abbrev pub jobAfter : (inside : Bool) → Job → (place : ℕ) (store : List ℕ) → Buffers → After

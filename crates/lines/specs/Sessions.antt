@@ -33,12 +33,12 @@ servesIn (serve store b ∷ os) = suc (servesIn os)
 abbrev pub only : (line other : ℕ) → Job → List Job
 only l k j = cond (eqb k l) (j ∷ []) []
 
-abbrev pub accepted : Screening → (line other : ℕ) → Job → List Job
-accepted clear l k j = only l k j
-accepted (found c p) l k j = []
+abbrev pub addedIf : Screening → (line other : ℕ) → Job → List Job
+addedIf clear l k j = only l k j
+addedIf (found c p) l k j = []
 
 abbrev pub addedBy : (line : ℕ) → Operation → State → List Job
-addedBy l (add k j store) s = accepted (addOf s k j store .answer) l k j
+addedBy l (add k j store) s = addedIf (addOf s k j store .answer) l k j
 addedBy l (serve store b) s = []
 
 abbrev pub inTurn : (line : ℕ) → Turn → List Job

@@ -21,12 +21,12 @@ use Rattle.program.specs.Decoding.{decodingConditions, decoding, Readable}
 use Rattle.program.specs.Laws.Screening.{found≢clear, found-first, first-found, clear-none, none-cons, screen-clear, unless-none}
 use Rattle.program.specs.Limits.{maxCells, maxPosts}
 use Rattle.semantics.specs.Values.{Budget, budget}
-use Rattle.semantics.specs.Runs.{Request, Buffers, Sizes, sizes, startOk, buffersOk, limitsOk, runConditions, Course, rejected, started, course, Outcome, RunCounts, Answer, refused, ran, left, counts, answerOf, inOrder, postsMade, buffersAfter, After, run, postCount}
+use Rattle.semantics.specs.Runs.{Request, Buffers, Sizes, sizes, startOk, buffersOk, limitsOk, runConditions, Course, rejected, started, course, Outcome, RunCounts, Answer, refused, ran, left, counts, answerOf, inOrder, coursePosts, buffersAfter, After, run, postCount}
 use Rattle.semantics.specs.Claims.{Few}
 use Rattle.semantics.specs.Laws.Starting.{countsIn}
 use Rattle.semantics.specs.Theorems.{refused-exactly}
-use Rattle.largest.specs.Largest.{request, isLargest, largestConditions, refusedWith, largestRun}
-use Rattle.lines.specs.Sessions.{Operation, add, serve, stepped, session, servesIn, only, accepted, addedBy, inTurn, servedBy, addedIn, servedIn, Sound}
+use Rattle.largest.specs.Largest.{eagerRequest, isLargest, largestConditions, refusedWith, largestRun}
+use Rattle.lines.specs.Sessions.{Operation, add, serve, stepped, session, servesIn, only, addedIf, addedBy, inTurn, servedBy, addedIn, servedIn, Sound}
 use Rattle.largest.specs.Theorems.{same-run, largest-few, largest-untouched, largest-lengths}
 use Rattle.queues.specs.Queues.{maxLines, maxJobs, Job, State, start, queueAt, addConditions, enqueued, addedTo, addOf, inside, Turn, nobody, serves, turnAt, nextLine, turnFrom, turnOf, partOf, dequeued}
 use Rattle.queues.specs.Answers.{noQueue, jobModel, queueModel, linesModel}
@@ -142,7 +142,7 @@ is-other {k} {l} j ne = λ i. cond (ne-eqb k l ne i) (j ∷ []) []
 
 module _ (l : ℕ) (s : State) (h : Sound s) where
   add-balance : (k : ℕ) (j : Job) (store : List ℕ) (x : Screening) → screen (addConditions s k j store) ≡ x
-      → queueAt s l ++ accepted (addedTo x s k j .answer) l k j ≡ queueAt (addedTo x s k j .state) l
+      → queueAt s l ++ addedIf (addedTo x s k j .answer) l k j ≡ queueAt (addedTo x s k j .state) l
   add-balance k j store (found c p) e = append-nil (queueAt s l)
   add-balance k j store clear e = go (ℕ-discrete k l)
     where
@@ -245,18 +245,20 @@ add-turn k j store s = go (screen (addConditions s k j store))
     go (found c p) = refl
 
 module _ (l : ℕ) (below : l < maxLines) where
-  abbrev Reached : List Operation → State → ℕ → Type 0
-  Reached os s n = n < length (queueAt s l) → distance (s .turn) l + 4 * n < servesIn os → n < length (servedIn l os s)
+  abbrev TurnReached : List Operation → State → ℕ → Type 0
+  TurnReached os s n = n < length (queueAt s l) → distance (s .turn) l + 4 * n < servesIn os → n < length (servedIn l os s)
 
   -- its own turn: one job less is before it
-  own-turn : (os : List Operation) (s s′ : State) (n : ℕ) (j : Job) → queueAt s l ≡ j ∷ queueAt s′ l → ((m : ℕ) → Reached os s′ m) → n < length (queueAt s l)
+  own-turn : (os : List Operation) (s s′ : State) (n : ℕ) (j : Job) → queueAt s l ≡ j ∷ queueAt s′ l → ((m : ℕ) → TurnReached os s′ m)
+      → n < length (queueAt s l)
       → distance (s .turn) l + 4 * n < suc (servesIn os) → n < suc (length (servedIn l os s′))
   own-turn os s s′ zero j e next h g = omega arith
   own-turn os s s′ (suc n) j e next h g = omega (arith, next n (omega (arith, ap length e)) (omega arith))
 
   -- a serve, of this line or of another one
-  serve-reached : (store : List ℕ) (b : Buffers) (os : List Operation) (s : State) → Sound s → ((s′ : State) → Sound s′ → (m : ℕ) → Reached os s′ m) → (n : ℕ)
-      → Reached (serve store b ∷ os) s n
+  serve-reached : (store : List ℕ) (b : Buffers) (os : List Operation) (s : State) → Sound s → ((s′ : State) → Sound s′ → (m : ℕ) → TurnReached os s′ m)
+      → (n : ℕ)
+      → TurnReached (serve store b ∷ os) s n
   unfolding serveOf
   serve-reached store b os s h next n w g = go (r .near)
     where
@@ -286,7 +288,7 @@ module _ (l : ℕ) (below : l < maxLines) where
           let other = ap (inTurn l) (r .turn-is) ∙ is-other (r .job) (another (r .line) (s .turn) l below y) in
           omega (arith, counted other, next s′ (step-sound (serve store b) s h) n (omega (arith, ap length (split other))) (omega (arith, turn-is)))
 
-  reached : (os : List Operation) (s : State) → Sound s → (n : ℕ) → Reached os s n
+  reached : (os : List Operation) (s : State) → Sound s → (n : ℕ) → TurnReached os s n
   reached [] s h n w g = absurd (omega arith)
   reached (add k j store ∷ os) s h n w g =
       reached os (stepped (add k j store) s) (step-sound (add k j store) s h) n
@@ -389,7 +391,7 @@ module _ (s : State) (store : List ℕ) (b : Buffers) where
       → jobRun j (s .place) store b ≡ record { answer = refused c p; buffers = b }
   run-left j c p e = whole-again (s .place) b c p _ λ i. record {
     answer = e i;
-    buffers = largest-untouched (partOf j store) (request (j .calls)) (restFrom (s .place) b) (isLargest maxCells (b .cells)) c p e i;
+    buffers = largest-untouched (partOf j store) (eagerRequest (j .calls)) (restFrom (s .place) b) (isLargest maxCells (b .cells)) c p e i;
   }
 
   job-left : (inside : Bool) (j : Job) (c p : ℕ) → jobAfter inside j (s .place) store b .answer ≡ refused c p
@@ -409,7 +411,7 @@ module _ (s : State) (store : List ℕ) (b : Buffers) where
 
   -- The counts that are told are those of a run.
   job-few : (inside : Bool) (j : Job) (o : Outcome) (k : RunCounts) → jobAfter inside j (s .place) store b .answer ≡ ran o k → Few k
-  job-few true j o k e = largest-few (partOf j store) (request (j .calls)) (restFrom (s .place) b) (isLargest maxCells (b .cells)) o k e
+  job-few true j o k e = largest-few (partOf j store) (eagerRequest (j .calls)) (restFrom (s .place) b) (isLargest maxCells (b .cells)) o k e
   job-few false j o k e = absurd (let y : _≡_ {A = ℕ} 0 1 = cc in omega arith)
 
   pub served-few : (o : Outcome) (k : RunCounts) → serveOf s store b .answer ≡ answered (ran o k) → Few k
@@ -421,11 +423,11 @@ module _ (s : State) (store : List ℕ) (b : Buffers) where
       go (serves l j js) e = job-few (inside j store) j o k (let f : jobAfter (inside j store) j (s .place) store b .answer ≡ ran o k = cc in f)
 
   -- Every buffer keeps its length, and the entries before the place stay.
-  pub record Kept (r : Served) : Type 0 where
+  pub record BuffersKept (r : Served) : Type 0 where
     pub lengths : sizes (r .buffers) ≡ sizes b
     pub before : take (s .place) (r .buffers .posts) ≡ take (s .place) (b .posts)
 
-  run-kept : (l : ℕ) (js : List Job) (a : After) → sizes (a .buffers) ≡ sizes (restFrom (s .place) b) → Kept (servedAs s l js (behind (s .place) b a))
+  run-kept : (l : ℕ) (js : List Job) (a : After) → sizes (a .buffers) ≡ sizes (restFrom (s .place) b) → BuffersKept (servedAs s l js (behind (s .place) b a))
   run-kept l js a h =
       let posts-are : length (a .buffers .posts) ≡ length (drop (s .place) (b .posts)) = ap (λ (z : Sizes). z .posts) h in
       let all-are : length (take (s .place) (b .posts) ++ a .buffers .posts) ≡ length (b .posts) =
@@ -440,16 +442,16 @@ module _ (s : State) (store : List ℕ) (b : Buffers) where
         before = take-front (s .place) (b .posts) (a .buffers .posts) posts-are;
       }
 
-  pub serve-keeps : Kept (serveOf s store b)
+  pub serve-keeps : BuffersKept (serveOf s store b)
   unfolding serveOf
   serve-keeps = go (turnOf s)
     where
-      by-inside : (inside : Bool) (l : ℕ) (j : Job) (js : List Job) → Kept (servedAs s l js (jobAfter inside j (s .place) store b))
+      by-inside : (inside : Bool) (l : ℕ) (j : Job) (js : List Job) → BuffersKept (servedAs s l js (jobAfter inside j (s .place) store b))
       by-inside true l j js =
-          run-kept l js _ (largest-lengths (partOf j store) (request (j .calls)) (restFrom (s .place) b) (isLargest maxCells (b .cells)))
+          run-kept l js _ (largest-lengths (partOf j store) (eagerRequest (j .calls)) (restFrom (s .place) b) (isLargest maxCells (b .cells)))
       by-inside false l j js = record { lengths = refl; before = refl }
 
-      go : (t : Turn) → Kept (serveTurn t s store b)
+      go : (t : Turn) → BuffersKept (serveTurn t s store b)
       go nobody = record { lengths = refl; before = refl }
       go (serves l j js) = by-inside (inside j store) l j js
 
@@ -462,38 +464,39 @@ fifteen-screened true false = (λ e. absurd (let z : _≡_ {A = ℕ} 16 15 = cc 
 fifteen-screened false y = (λ e. refl, λ e. refl)
 
 -- what a run that starts leaves in the list lent to it: its posts, as many as it tells, and then what stood there
-record Listed (made : List ℕ) (k : RunCounts) (before after : List ℕ) : Type 0 where
+record PostsListed (made : List ℕ) (k : RunCounts) (before after : List ℕ) : Type 0 where
   as-many : length made ≡ k .posts
   list-is : after ≡ made ++ drop (k .posts) before
 
 module _ (sheet : List ℕ) (q : Request) (b : Buffers) where
   run-listed : (o : Outcome) (k : RunCounts) → run sheet q b .answer ≡ ran o k
-      → Listed (postsMade (course sheet q (sizes b))) k (b .posts) (run sheet q b .buffers .posts)
+      → PostsListed (coursePosts (course sheet q (sizes b))) k (b .posts) (run sheet q b .buffers .posts)
   unfolding run
   run-listed o k = go (course sheet q (sizes b))
     where
-      by-budget : (u : Budget) → counts q (sizes b) u .posts ≡ k .posts → Listed (inOrder u) k (b .posts) (inOrder u ++ drop (length (inOrder u)) (b .posts))
+      by-budget : (u : Budget) → counts q (sizes b) u .posts ≡ k .posts
+          → PostsListed (inOrder u) k (b .posts) (inOrder u ++ drop (length (inOrder u)) (b .posts))
       by-budget (budget c d m log) e =
           let n : length (reverse (log .posts)) ≡ k .posts = length-reverse (log .posts) ∙ e in
           record { as-many = n; list-is = λ i. reverse (log .posts) ++ drop (n i) (b .posts) }
 
-      go : (x : Course) → answerOf (root sheet) q (sizes b) x ≡ ran o k → Listed (postsMade x) k (b .posts) (buffersAfter (q .runner) b x .posts)
+      go : (x : Course) → answerOf (root sheet) q (sizes b) x ≡ ran o k → PostsListed (coursePosts x) k (b .posts) (buffersAfter (q .runner) b x .posts)
       go (rejected c p) e = absurd (let y : _≡_ {A = ℕ} 0 1 = cc in omega arith)
       go (started x) e = by-budget (left x) (ap (λ (a : Answer). countsIn k a .posts) e)
 
   largest-listed : (right : Bool) (o : Outcome) (k : RunCounts) → largestRun right sheet q b .answer ≡ ran o k
-      → Listed (postsMade (course sheet q (sizes b))) k (b .posts) (largestRun right sheet q b .buffers .posts)
+      → PostsListed (coursePosts (course sheet q (sizes b))) k (b .posts) (largestRun right sheet q b .buffers .posts)
   unfolding largestRun
   largest-listed right o k = go (screen (largestConditions right sheet q))
     where
       go : (x : Screening) → unlessFound (refusedWith b) x (λ _. run sheet q b) .answer ≡ ran o k
-          → Listed (postsMade (course sheet q (sizes b))) k (b .posts) (unlessFound (refusedWith b) x (λ _. run sheet q b) .buffers .posts)
+          → PostsListed (coursePosts (course sheet q (sizes b))) k (b .posts) (unlessFound (refusedWith b) x (λ _. run sheet q b) .buffers .posts)
       go clear e = run-listed o k e
       go (found c p) e = absurd (let y : _≡_ {A = ℕ} 0 1 = cc in omega arith)
 
 -- the posts that a job's run makes, in order
 abbrev pub jobPosts : Job → (place : ℕ) (store : List ℕ) → Buffers → List ℕ
-jobPosts j at store b = postsMade (course (partOf j store) (request (j .calls)) (sizes (restFrom at b)))
+jobPosts j at store b = coursePosts (course (partOf j store) (eagerRequest (j .calls)) (sizes (restFrom at b)))
 
 -- "the next job writes from the place where the last one stopped": the place moves by the posts told, they stand in the list from the old place on, and what
 -- is behind them is as it was. What is before them: `serve-keeps`.
@@ -508,7 +511,7 @@ module _ (s : State) (store : List ℕ) (b : Buffers) (l : ℕ) (j : Job) (rest 
   P = partOf j store
 
   abbrev Q : Request
-  Q = request (j .calls)
+  Q = eagerRequest (j .calls)
 
   abbrev R : Buffers
   R = restFrom (s .place) b

@@ -3,7 +3,7 @@ use interp::answer::Run;
 use queues::state::Lines;
 
 // No job; 28 when a job is served; or its run's answer.
-pub enum Answer {
+pub enum ServeAnswer {
     Idle,
     Outside,
     Run(Run),
@@ -11,7 +11,7 @@ pub enum Answer {
 
 // The answer, the line that was served (0 if none was), and the queues afterwards.
 pub struct Served {
-    pub answer: Answer,
+    pub answer: ServeAnswer,
     pub line: u32,
     pub lines: Lines,
 }

@@ -13,7 +13,7 @@ ghost use Rattle.lines.specs.Internal.{Movable};
 
 pub mod answer;
 
-use answer::Answer;
+use answer::ServeAnswer;
 use answer::Served;
 use interp::answer::Run;
 use largest::run_largest;
@@ -65,7 +65,7 @@ pub fn serve(q: Lines, store: &[u8], cells: &mut [u8], posts: &mut [u32]) -> Ser
     let line = next_line(q);
     if MAX_LINES <= line {
         return Served {
-            answer: Answer::Idle,
+            answer: ServeAnswer::Idle,
             line: 0,
             lines: q,
         };
@@ -77,7 +77,7 @@ pub fn serve(q: Lines, store: &[u8], cells: &mut [u8], posts: &mut [u32]) -> Ser
     if !inside(job.offset, job.length, store.len()) {
         let lines = turned(q, line, rest, q.place);
         return Served {
-            answer: Answer::Outside,
+            answer: ServeAnswer::Outside,
             line: line as u32,
             lines: lines,
         };
@@ -85,7 +85,7 @@ pub fn serve(q: Lines, store: &[u8], cells: &mut [u8], posts: &mut [u32]) -> Ser
     let run = run_job(job, q.place, store, cells, posts);
     let lines = passed(q, line, rest, run);
     Served {
-        answer: Answer::Run(run),
+        answer: ServeAnswer::Run(run),
         line: line as u32,
         lines: lines,
     }

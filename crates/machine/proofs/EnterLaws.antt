@@ -9,6 +9,7 @@ use lib.Dec.{eqb}
 use lib.ListN.{length, set}
 use lib.Seq.{getD-set-other}
 use borrow.Author.Tests.{lt-ltb, le-ltb, eq-eqb, eqb-true, not-true}
+use Rattle.privileges.specs.Sets.{privilegeCount}
 use Rattle.machine.specs.declared.enter.Entered.{Entered}
 use Rattle.privileges.specs.Booleans.{and-left, and-right}
 use Rattle.traces.specs.Traces.{Event}
@@ -17,8 +18,8 @@ use Rattle.termtable.specs.Table.{wordKind, wordSmall, wordFirst, wordSecond, w
 use Rattle.stores.specs.Cells.{nextCell, Bound}
 use Rattle.access.specs.Access.{enforced, grantedOf, allowedOf, signAccess, signFrames}
 use Rattle.machine.specs.Steps.{callsLeft, cellsMade, modeOf, decisionOf, noteCounters, noteBytes, Noted}
-use Rattle.machine.specs.Store.{Done, storeOf, Runs, Applier, Shape, letrec, check, sign, test, shapeOf, hasRoom, letrecS, checkS, testS, signS, byShape}
-use Rattle.machine.specs.Lower.{Lower, readsPrivilege}
+use Rattle.machine.specs.Store.{Done, storeOf, Runs, Applier, Action, letrec, check, sign, test, actionOf, hasRoom, letrecS, checkS, testS, signS, byAction}
+use Rattle.machine.specs.Lower.{ChildrenLower, readsPrivilege}
 use Rattle.machine.specs.Enter.{Enterable, going, halting, goesTo, Enters}
 use Rattle.stores.proofs.CellLaws.{bound-full, bound-room}
 use Rattle.machine.proofs.NoteLaws.{note-others}
@@ -26,85 +27,85 @@ use Rattle.machine.proofs.NoteLaws.{note-others}
 stop-is : (c t : ℕ) → 2 < c → c < 65536 → isStop (stopWord c t) ≡ true
 stop-is c t h l = lt-ltb 2 ((c + 65536 * t) % 65536) (omega arith)
 
-module _ (t x env acc : ℕ) (n cells frames noted : List ℕ) where
-  -- at the shape h, what is entered is what the shape's clause gives
-  entered : {h : Shape} {e : Entered} {n′ cells′ frames′ noted′ : List ℕ} → shapeOf (wordKind x) ≡ h
-      → ((ev : ℕ → Runs) (ap : Applier) (posts : List ℕ) → byShape h ev ap t x env acc (storeOf n cells posts frames noted)
+module _ (t x env access : ℕ) (n cells frames noted : List ℕ) where
+  -- at the action h, what is entered is what the action's clause gives
+  entered : {h : Action} {e : Entered} {n′ cells′ frames′ noted′ : List ℕ} → actionOf (wordKind x) ≡ h
+      → ((ev : ℕ → Runs) (ap : Applier) (posts : List ℕ) → byAction h ev ap t x env access (storeOf n cells posts frames noted)
       ≡ goesTo e ev (storeOf n′ cells′ posts frames′ noted′))
-      → callsLeft n′ ≡ callsLeft n → ((b : ℕ) → Lower h b x → e .next < b) → Enters t x env acc n cells frames noted e n′ cells′ frames′ noted′
+      → callsLeft n′ ≡ callsLeft n → ((b : ℕ) → ChildrenLower h b x → e .next < b) → Enters t x env access n cells frames noted e n′ cells′ frames′ noted′
   entered {e = e} s g c l = record {
-    goes = λ ev ap posts. (λ i. byShape (s i) ev ap t x env acc (storeOf n cells posts frames noted)) ∙ g ev ap posts;
+    goes = λ ev ap posts. (λ i. byAction (s i) ev ap t x env access (storeOf n cells posts frames noted)) ∙ g ev ap posts;
     calls = c;
-    lower = λ b k. l b (subst (λ (h : Shape). Lower h b x) s k);
+    lower = λ b k. l b (subst (λ (h : Action). ChildrenLower h b x) s k);
   }
 
   calls-stay : {e : Event} {n′ noted′ : List ℕ} → Noted e n noted n′ noted′ → callsLeft n′ ≡ callsLeft n
   calls-stay d = ap callsLeft (d .counters-are) ∙ note-others true n noted 0 (λ e. omega (arith, e))
 
   module _ {k : ℕ} (kind : k ≡ wordKind x) where
-    shape-letrec : k ≡ 4 → shapeOf (wordKind x) ≡ letrec
-    unfolding shapeOf
-    shape-letrec is = ap shapeOf (sym kind ∙ is)
+    action-letrec : k ≡ 4 → actionOf (wordKind x) ≡ letrec
+    unfolding actionOf
+    action-letrec is = ap actionOf (sym kind ∙ is)
 
     module _ (is : k ≡ 4) {u f m : ℕ} {l : List ℕ} {e : Entered} (third : u ≡ wordThird x) (c : Bound (cellsMade n) f env cells m l) where
-      pub enter-full : {w : ℕ} → m ≡ 0 → w ≡ stopWord 21 t → e ≡ halting w u → Enters t x env acc n cells frames noted e n l frames noted
+      pub enter-full : {w : ℕ} → m ≡ 0 → w ≡ stopWord 21 t → e ≡ halting w u → Enters t x env access n cells frames noted e n l frames noted
       unfolding letrecS hasRoom
       enter-full {w} z q p =
           let h = bound-full _ _ _ _ c z in
-          entered (shape-letrec is)
+          entered (action-letrec is)
           (λ ev ap posts. simp (le-ltb (cellsMade n) (length cells / 8) (h .0)) (rw (p, h .1, q, stop-is 21 t (omega arith) (omega arith)) refl)) refl
           (λ b k. rw p (omega (arith, third, k .third-lower refl)))
 
-      pub enter-cell : {o b : ℕ} → (m ≡ 0 → ⊥) → o ≡ nextCell (cellsMade n) → b ≡ wordSecond x → f ≡ functionWord b o → e ≡ going u o acc
-          → Enters t x env acc n cells frames noted e (set n 1 m) l frames noted
+      pub enter-cell : {o b : ℕ} → (m ≡ 0 → ⊥) → o ≡ nextCell (cellsMade n) → b ≡ wordSecond x → f ≡ functionWord b o → e ≡ going u o access
+          → Enters t x env access n cells frames noted e (set n 1 m) l frames noted
       unfolding letrecS hasRoom
       enter-cell z o b f p =
           let h = bound-room _ _ _ _ c z in
-          entered (shape-letrec is)
+          entered (action-letrec is)
           (λ ev ap posts. simp (lt-ltb (cellsMade n) (length cells / 8) (h .0)) (rw (p, h .1 .0, h .1 .1, f, b, o, third) refl))
           (getD-set-other n 1 0 m 0 (λ e. omega (arith, e)))
           (λ b k. rw p (omega (arith, third, k .third-lower refl)))
 
-    pub enter-sign : {u m a : ℕ} {l : List ℕ} {e : Entered} → k ≡ 9 → u ≡ wordFirst x → m ≡ wordAuthority x → a ≡ signAccess (modeOf n) acc m → l
-        ≡ signFrames (modeOf n) acc frames m
-        → e ≡ going u env a → Enters t x env acc n cells frames noted e n cells l noted
-    unfolding shapeOf signS
+    pub enter-sign : {u m a : ℕ} {l : List ℕ} {e : Entered} → k ≡ 9 → u ≡ wordFirst x → m ≡ wordAuthority x → a ≡ signAccess (modeOf n) access m → l
+        ≡ signFrames (modeOf n) access frames m
+        → e ≡ going u env a → Enters t x env access n cells frames noted e n cells l noted
+    unfolding actionOf signS
     enter-sign is u m a l p =
-        entered {h = sign} (ap shapeOf (sym kind ∙ is)) (λ ev ap posts. rw (p, l, a, m, u) refl) refl (λ b k. rw p (omega (arith, u, k .first-lower refl)))
+        entered {h = sign} (ap actionOf (sym kind ∙ is)) (λ ev ap posts. rw (p, l, a, m, u) refl) refl (λ b k. rw p (omega (arith, u, k .first-lower refl)))
 
     -- a check that is passed over, and one that is decided
     module _ (is : k ≡ 7) {u : ℕ} {b : Bool} {e : Entered} (first : u ≡ wordFirst x) (m : b ≡ enforced (modeOf n)) where
-      pub enter-passed : b ≡ false → e ≡ going u env acc → Enters t x env acc n cells frames noted e n cells frames noted
-      unfolding shapeOf checkS allowedOf noteCounters noteBytes
+      pub enter-passed : b ≡ false → e ≡ going u env access → Enters t x env access n cells frames noted e n cells frames noted
+      unfolding actionOf checkS allowedOf noteCounters noteBytes
       enter-passed y p =
-          entered {h = check} (ap shapeOf (sym kind ∙ is)) (λ ev ap posts. rw (p, first, ← m, y) refl) refl
+          entered {h = check} (ap actionOf (sym kind ∙ is)) (λ ev ap posts. rw (p, first, ← m, y) refl) refl
           (λ b k. rw p (omega (arith, first, k .first-lower refl)))
 
-      module _ (on : b ≡ true) {s : ℕ} {a : Bool} {n′ l noted′ : List ℕ} (small : s ≡ wordSmall x) (q : a ≡ grantedOf (modeOf n) acc frames s)
+      module _ (on : b ≡ true) {s : ℕ} {a : Bool} {n′ l noted′ : List ℕ} (small : s ≡ wordSmall x) (q : a ≡ grantedOf (modeOf n) access frames s)
           (same : l ≡ frames) (d : Noted (decisionOf t s a) n noted n′ noted′) where
-        pub enter-allowed : a ≡ true → e ≡ going u env acc → Enters t x env acc n cells frames noted e n′ cells l noted′
-        unfolding shapeOf checkS allowedOf
+        pub enter-allowed : a ≡ true → e ≡ going u env access → Enters t x env access n cells frames noted e n′ cells l noted′
+        unfolding actionOf checkS allowedOf
         enter-allowed y p =
-            entered {h = check} (ap shapeOf (sym kind ∙ is))
+            entered {h = check} (ap actionOf (sym kind ∙ is))
             (λ ev ap posts. rw (p, same, first, d .counters-are, d .bytes-are, ← small, ← m, on, ← q, y) refl) (calls-stay d)
             (λ b k. rw p (omega (arith, first, k .first-lower refl)))
 
-        pub enter-refused : {w : ℕ} → a ≡ false → w ≡ stopWord 17 t → e ≡ halting w u → Enters t x env acc n cells frames noted e n′ cells l noted′
-        unfolding shapeOf checkS allowedOf
+        pub enter-refused : {w : ℕ} → a ≡ false → w ≡ stopWord 17 t → e ≡ halting w u → Enters t x env access n cells frames noted e n′ cells l noted′
+        unfolding actionOf checkS allowedOf
         enter-refused y w p =
-            entered {h = check} (ap shapeOf (sym kind ∙ is))
+            entered {h = check} (ap actionOf (sym kind ∙ is))
             (λ ev ap posts. rw (p, same, d .counters-are, d .bytes-are, ← small, ← m, on, ← q, y, w, stop-is 17 t (omega arith) (omega arith)) refl)
             (calls-stay d)
             (λ b k. rw p (omega (arith, first, k .first-lower refl)))
 
-    pub enter-test : {s u v o : ℕ} {b : Bool} {n′ l noted′ : List ℕ} {e : Entered} → k ≡ 10 → s ≡ wordSmall x → b ≡ grantedOf (modeOf n) acc frames s
-        → l ≡ frames → Noted (decisionOf t s b) n noted n′ noted′ → u ≡ wordFirst x → v ≡ wordSecond x → o ≡ cond b u v → e ≡ going o env acc
-        → Enters t x env acc n cells frames noted e n′ cells l noted′
-    unfolding shapeOf testS
+    pub enter-test : {s u v o : ℕ} {b : Bool} {n′ l noted′ : List ℕ} {e : Entered} → k ≡ 10 → s ≡ wordSmall x → b ≡ grantedOf (modeOf n) access frames s
+        → l ≡ frames → Noted (decisionOf t s b) n noted n′ noted′ → u ≡ wordFirst x → v ≡ wordSecond x → o ≡ cond b u v → e ≡ going o env access
+        → Enters t x env access n cells frames noted e n′ cells l noted′
+    unfolding actionOf testS
     enter-test {s = s} {u = u} {v = v} {b = b} {n′ = n′} {noted′ = noted′} is small q same d first second o p =
-        entered {h = test} (ap shapeOf (sym kind ∙ is))
+        entered {h = test} (ap actionOf (sym kind ∙ is))
         (λ ev ap posts. rw (p, same, o, d .counters-are, d .bytes-are, ← small, ← q, ← first, ← second)
-        (by b (λ (u : ℕ). ev u env acc (storeOf (noteCounters true n noted) cells posts frames (noteBytes true (decisionOf t s b) n noted)))))
+        (by b (λ (u : ℕ). ev u env access (storeOf (noteCounters true n noted) cells posts frames (noteBytes true (decisionOf t s b) n noted)))))
         (calls-stay d)
         (λ c k. rw (p, o) (least b c (omega (arith, first, k .first-lower refl)) (omega (arith, second, k .second-lower refl))))
       where
@@ -128,11 +129,11 @@ module _ (x : ℕ) {k : ℕ} (kind : k ≡ wordKind x) where
     pub only-check : (k ≡ 10 → ⊥) → k ≡ 7
     only-check n = ⊎-elim (λ e. e) (λ e. absurd (n e)) decides
 
-    pub privileged : {p : ℕ} → (readsPrivilege (shapeOf (wordKind x)) ≡ true → wordSmall x < 32) → p ≡ wordSmall x → p < 32
-    unfolding shapeOf
+    pub privileged : {p : ℕ} → (readsPrivilege (actionOf (wordKind x)) ≡ true → wordSmall x < privilegeCount) → p ≡ wordSmall x → p < privilegeCount
+    unfolding actionOf
     privileged low q =
-        let reads : (j : ℕ) → readsPrivilege (shapeOf j) ≡ true → k ≡ j → readsPrivilege (shapeOf (wordKind x)) ≡ true
-        = λ j r e. ap (λ (m : ℕ). readsPrivilege (shapeOf m)) (sym kind ∙ e) ∙ r in
+        let reads : (j : ℕ) → readsPrivilege (actionOf j) ≡ true → k ≡ j → readsPrivilege (actionOf (wordKind x)) ≡ true
+        = λ j r e. ap (λ (m : ℕ). readsPrivilege (actionOf m)) (sym kind ∙ e) ∙ r in
         omega (arith, q, low (⊎-elim (reads 7 refl) (reads 10 refl) decides))
 
 -- a check that is skipped, and a check that is not

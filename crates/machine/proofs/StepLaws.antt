@@ -8,20 +8,23 @@ use native.Mathlib.Omega.{arith}
 use lib.Dec.{ltb, eqb}
 use lib.ListN.{length, getD, set}
 use borrow.Author.Tests.{eq-eqb, ne-eqb, le-leb, lt-leb, lt-ltb, le-ltb, ltb-true}
+use Rattle.program.specs.Laws.Guards.{guard-privilege}
+use Rattle.program.specs.Decoding.{isGuard}
+use Rattle.privileges.specs.Sets.{privilegeCount}
 use Rattle.program.specs.Limits.{noGuard, maxNumber}
 use Rattle.stores.specs.Words.{booleanWord, numberWord, intervalWord, undecidedWord, stopWord, sortOf, payloadOf, envOf}
 use Rattle.access.specs.Access.{enforced, intervalMode, grantedOf, allowedOf}
 use Rattle.termtable.specs.Table.{wordSmall, wordGuard}
-use Rattle.machine.specs.Steps.{postsMade, modeOf, resultOf, lessOf, intervalResult, numbersResult, operateOf, saturatesOf, operateSaturates, countSaturated, operateCounters, Operated, decisionOf, noteCounters, noteBytes, Noted, Guard, guardPassed, numberDecides, Guarded, causeOf, entryOf, listedAs, postCause, postWord, postCounters, postList, Appended}
+use Rattle.machine.specs.Steps.{postsMade, modeOf, resultWord, lessWord, intervalResult, numbersResult, operateOf, saturatesOf, operateSaturates, countersSaturated, operateCounters, Operated, decisionOf, noteCounters, noteBytes, Noted, guardPassed, numberDecides, Guarded, causeOf, entryOf, listedAs, postCause, postWord, postCounters, postList, PostAppended}
 use Rattle.machine.proofs.NoteLaws.{note-others}
 
 -- ---- what two numbers give, by the kind
-sum-is : {k : ℕ} (x y : ℕ) → k ≡ 11 → resultOf k x y ≡ numberWord (min (x + y) maxNumber)
-unfolding resultOf
+sum-is : {k : ℕ} (x y : ℕ) → k ≡ 11 → resultWord k x y ≡ numberWord (min (x + y) maxNumber)
+unfolding resultWord
 sum-is {k} x y e = simp (eq-eqb k 11 e)
 
-difference-is : {k : ℕ} (x y : ℕ) → (k ≡ 11 → ⊥) → k ≡ 12 → resultOf k x y ≡ numberWord (x - y)
-unfolding resultOf
+difference-is : {k : ℕ} (x y : ℕ) → (k ≡ 11 → ⊥) → k ≡ 12 → resultWord k x y ≡ numberWord (x - y)
+unfolding resultWord
 difference-is {k} x y n e = simp (ne-eqb k 11 n, eq-eqb k 12 e)
 
 sum-saturates : {k : ℕ} (x y : ℕ) → k ≡ 11 → saturatesOf k x y ≡ ltb maxNumber (x + y)
@@ -41,16 +44,16 @@ module _ {x y : ℕ} where
   add-over h g = sym (min-eq-right (omega arith))
 
 module _ (a a′ b b′ : ℕ) {r : ℕ} where
-  pub less-yes : a′ < b → r ≡ booleanWord true → r ≡ lessOf a a′ b b′
-  unfolding lessOf
+  pub less-yes : a′ < b → r ≡ booleanWord true → r ≡ lessWord a a′ b b′
+  unfolding lessWord
   less-yes h q = q ∙ sym (simp (lt-ltb a′ b h))
 
-  pub less-no : b ≤ a′ → b′ ≤ a → r ≡ booleanWord false → r ≡ lessOf a a′ b b′
-  unfolding lessOf
+  pub less-no : b ≤ a′ → b′ ≤ a → r ≡ booleanWord false → r ≡ lessWord a a′ b b′
+  unfolding lessWord
   less-no h g q = q ∙ sym (simp (le-ltb a′ b h, le-leb b′ a g))
 
-  pub less-undecided : b ≤ a′ → a < b′ → r ≡ undecidedWord → r ≡ lessOf a a′ b b′
-  unfolding lessOf
+  pub less-undecided : b ≤ a′ → a < b′ → r ≡ undecidedWord → r ≡ lessWord a a′ b b′
+  unfolding lessWord
   less-undecided h g q = q ∙ sym (simp (le-ltb a′ b h, lt-leb b′ a g))
 
 module _ (k a b : ℕ) {x x′ y y′ r : ℕ} (u : x ≡ payloadOf a) (u′ : x′ ≡ envOf a) (v : y ≡ payloadOf b) (v′ : y′ ≡ envOf b) where
@@ -67,7 +70,7 @@ module _ (k a b : ℕ) {x x′ y y′ r : ℕ} (u : x ≡ payloadOf a) (u′ : x
   unfolding intervalResult
   interval-difference n e l h q = interval-of (q ∙ ap₂ intervalWord l h ∙ sym (simp (ne-eqb k 11 n, eq-eqb k 12 e)))
 
-  pub interval-less : (k ≡ 11 → ⊥) → (k ≡ 12 → ⊥) → r ≡ lessOf x x′ y y′ → r ≡ intervalResult k (payloadOf a) (envOf a) (payloadOf b) (envOf b)
+  pub interval-less : (k ≡ 11 → ⊥) → (k ≡ 12 → ⊥) → r ≡ lessWord x x′ y y′ → r ≡ intervalResult k (payloadOf a) (envOf a) (payloadOf b) (envOf b)
   unfolding intervalResult
   interval-less n m q = interval-of (q ∙ sym (simp (ne-eqb k 11 n, ne-eqb k 12 m)))
 
@@ -94,17 +97,17 @@ module _ (k t a b : ℕ) (n : List ℕ) {r : ℕ} where
       }
 
       module _ (plain : m ≡ false) {x y : ℕ} (u : x ≡ payloadOf a) (v : y ≡ payloadOf b) where
-        operate-both : {n′ : List ℕ} (over : Bool) → r ≡ resultOf k x y → over ≡ saturatesOf k x y → n′ ≡ cond over (countSaturated n) n
+        operate-both : {n′ : List ℕ} (over : Bool) → r ≡ resultWord k x y → over ≡ saturatesOf k x y → n′ ≡ cond over (countersSaturated n) n
             → Operated k t a b n r n′
         unfolding numbersResult operateOf operateSaturates operateCounters
         operate-both over e s c = record {
-          word-is = e ∙ (λ i. resultOf k (u i) (v i)) ∙ sym (simp (eq-eqb (sortOf a) 1 p, eq-eqb (sortOf b) 1 q, sym known ∙ plain));
+          word-is = e ∙ (λ i. resultWord k (u i) (v i)) ∙ sym (simp (eq-eqb (sortOf a) 1 p, eq-eqb (sortOf b) 1 q, sym known ∙ plain));
           counters-are =
               c ∙ ap counters (s ∙ (λ i. saturatesOf k (u i) (v i))) ∙ sym (simp (eq-eqb (sortOf a) 1 p, eq-eqb (sortOf b) 1 q, sym known ∙ plain));
         }
           where
             counters : Bool → List ℕ
-            counters o = cond o (countSaturated n) n
+            counters o = cond o (countersSaturated n) n
 
         module _ (sum : k ≡ 11) where
           pub sum-fits : y ≤ maxNumber - x → x ≤ maxNumber → r ≡ numberWord (x + y) → Operated k t a b n r n
@@ -113,7 +116,7 @@ module _ (k t a b : ℕ) (n : List ℕ) {r : ℕ} where
               operate-both false (e ∙ ap numberWord (add-fits h g) ∙ sym (sum-is x y sum))
               (sym (sum-saturates x y sum ∙ le-ltb maxNumber (x + y) l)) refl
 
-          pub sum-over : {n′ : List ℕ} → maxNumber - x < y → x ≤ maxNumber → r ≡ numberWord maxNumber → n′ ≡ countSaturated n → Operated k t a b n r n′
+          pub sum-over : {n′ : List ℕ} → maxNumber - x < y → x ≤ maxNumber → r ≡ numberWord maxNumber → n′ ≡ countersSaturated n → Operated k t a b n r n′
           sum-over h g e c =
               let l : maxNumber < x + y = omega arith in
               operate-both true (e ∙ ap numberWord (add-over h g) ∙ sym (sum-is x y sum))
@@ -124,23 +127,23 @@ module _ (k t a b : ℕ) (n : List ℕ) {r : ℕ} where
           difference-fits h e =
               operate-both false (e ∙ sym (difference-is x y no-sum difference)) (sym (difference-saturates x y no-sum difference ∙ le-ltb x y h)) refl
 
-          pub difference-under : {n′ : List ℕ} → x < y → r ≡ numberWord 0 → n′ ≡ countSaturated n → Operated k t a b n r n′
+          pub difference-under : {n′ : List ℕ} → x < y → r ≡ numberWord 0 → n′ ≡ countersSaturated n → Operated k t a b n r n′
           difference-under h e c =
               let z : 0 ≡ x - y = omega arith in
               operate-both true (e ∙ ap numberWord z ∙ sym (difference-is x y no-sum difference))
               (sym (difference-saturates x y no-sum difference ∙ lt-ltb x y h)) c
 
         pub less-is : (k ≡ 11 → ⊥) → (k ≡ 12 → ⊥) → r ≡ booleanWord (ltb x y) → Operated k t a b n r n
-        unfolding resultOf saturatesOf
+        unfolding resultWord saturatesOf
         less-is l m e = operate-both false (e ∙ sym (simp (ne-eqb k 11 l, ne-eqb k 12 m))) (sym (simp (ne-eqb k 11 l, ne-eqb k 12 m))) refl
 
 -- ---- a post
-pub guard-low : {g y : ℕ} → g ≡ y → (g ≡ noGuard → ⊥) → Guard y → g < 32
-guard-low e n h = omega (arith, e, h (λ z. n (e ∙ z)))
+pub guard-low : {g y : ℕ} → g ≡ y → (g ≡ noGuard → ⊥) → isGuard y ≡ true → g < privilegeCount
+guard-low {y = y} e n h = omega (arith, e, guard-privilege y h (λ z. n (e ∙ z)))
 
 -- the three ways of a guard: there is none, checks are passed over, or it is decided
-module _ (t x acc : ℕ) (n f noted : List ℕ) {g : ℕ} (e : g ≡ wordGuard x) where
-  pub guard-none : g ≡ noGuard → Guarded t x acc n f noted true n f noted
+module _ (t x access : ℕ) (n f noted : List ℕ) {g : ℕ} (e : g ≡ wordGuard x) where
+  pub guard-none : g ≡ noGuard → Guarded t x access n f noted true n f noted
   unfolding guardPassed noteCounters noteBytes
   guard-none h = record {
     answer-is = sym (simp (eq-eqb (wordGuard x) noGuard (sym e ∙ h)));
@@ -153,7 +156,7 @@ module _ (t x acc : ℕ) (n f noted : List ℕ) {g : ℕ} (e : g ≡ wordGuard x
     there-is : eqb (wordGuard x) noGuard ≡ false
     there-is = ne-eqb (wordGuard x) noGuard (λ z. some (e ∙ z))
 
-    pub guard-passed : b ≡ false → Guarded t x acc n f noted true n f noted
+    pub guard-passed : b ≡ false → Guarded t x access n f noted true n f noted
     unfolding guardPassed allowedOf noteCounters noteBytes
     guard-passed off = record {
       answer-is = sym (rw (there-is, ← m, off) refl);
@@ -162,8 +165,9 @@ module _ (t x acc : ℕ) (n f noted : List ℕ) {g : ℕ} (e : g ≡ wordGuard x
       noted-are = sym (rw (there-is, ← m, off) refl);
     }
 
-    pub guard-decided : {a : Bool} {n′ f′ noted′ : List ℕ} → b ≡ true → a ≡ grantedOf (modeOf n) acc f g → f′ ≡ f → Noted (decisionOf t g a) n noted n′ noted′
-        → Guarded t x acc n f noted a n′ f′ noted′
+    pub guard-decided : {a : Bool} {n′ f′ noted′ : List ℕ} → b ≡ true → a ≡ grantedOf (modeOf n) access f g → f′ ≡ f
+        → Noted (decisionOf t g a) n noted n′ noted′
+        → Guarded t x access n f noted a n′ f′ noted′
     unfolding guardPassed allowedOf
     guard-decided on q same d = record {
       answer-is = q ∙ sym (rw (there-is, ← m, on, e) refl);
@@ -201,9 +205,9 @@ module _ (a : Bool) {c : ℕ} where
   pub cause-room : (m k : ℕ) → c ≡ causeOf true a (ltb m k) → c ≡ 0 → m < k
   cause-room m k q e = ltb-true m k (room-known a (ltb m k) (sym q ∙ e))
 
-module _ (t x acc w : ℕ) (n l f noted : List ℕ) {s : ℕ} (e : s ≡ sortOf w) where
+module _ (t x access w : ℕ) (n l f noted : List ℕ) {s : ℕ} (e : s ≡ sortOf w) where
   -- what is no number is stuck, before its guard is looked at
-  pub post-stuck : {r : ℕ} → (s ≡ 1 → ⊥) → r ≡ stopWord 18 t → Appended t x acc w n l f noted r n l f noted
+  pub post-stuck : {r : ℕ} → (s ≡ 1 → ⊥) → r ≡ stopWord 18 t → PostAppended t x access w n l f noted r n l f noted
   unfolding postCause causeOf postWord postCounters postList noteCounters noteBytes
   post-stuck h r = let q = ne-eqb (sortOf w) 1 (λ z. h (e ∙ z)) in record {
     word-is = r ∙ sym (rw q refl);
@@ -213,16 +217,16 @@ module _ (t x acc w : ℕ) (n l f noted : List ℕ) {s : ℕ} (e : s ≡ sortOf 
     noted-are = sym (rw q refl);
   }
 
-  module _ (number : s ≡ 1) {b : Bool} {n′ f′ noted′ : List ℕ} (g : Guarded t x acc n f noted b n′ f′ noted′) {c : ℕ}
+  module _ (number : s ≡ 1) {b : Bool} {n′ f′ noted′ : List ℕ} (g : Guarded t x access n f noted b n′ f′ noted′) {c : ℕ}
       (q : c ≡ causeOf true b (ltb (postsMade n) (length l))) where
     is-number : eqb (sortOf w) 1 ≡ true
     is-number = eq-eqb (sortOf w) 1 (sym e ∙ number)
 
-    cause-is : c ≡ postCause x acc w n l f
+    cause-is : c ≡ postCause x access w n l f
     unfolding postCause
     cause-is = q ∙ (λ i. causeOf (sym is-number i) (g .answer-is i) (ltb (postsMade n) (length l)))
 
-    pub post-stopped : {r : ℕ} → (c ≡ 0 → ⊥) → r ≡ stopWord c t → Appended t x acc w n l f noted r n′ l f′ noted′
+    pub post-stopped : {r : ℕ} → (c ≡ 0 → ⊥) → r ≡ stopWord c t → PostAppended t x access w n l f noted r n′ l f′ noted′
     unfolding postWord postCounters postList
     post-stopped h r = record {
       word-is = rw (← cause-is) (r ∙ sym (simp (ne-eqb c 0 h)));
@@ -233,7 +237,7 @@ module _ (t x acc w : ℕ) (n l f noted : List ℕ) {s : ℕ} (e : s ≡ sortOf 
     }
 
     pub post-done : {y : ℕ} → c ≡ 0 → y ≡ listedAs (modeOf n′) x w
-        → Appended t x acc w n l f noted w (set n′ 2 (postsMade n + 1)) (set l (postsMade n) y) f′ noted′
+        → PostAppended t x access w n l f noted w (set n′ 2 (postsMade n + 1)) (set l (postsMade n) y) f′ noted′
     unfolding postWord postCounters postList
     post-done h y = record {
       word-is = rw (← cause-is) (simp (eq-eqb c 0 h));

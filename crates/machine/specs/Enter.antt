@@ -1,15 +1,16 @@
--- The shapes that end as one child of theirs: letrec, check, sign and test. What they do before that child is a step that evaluates no other term.
+-- The actions that end as one child of theirs: letrec, check, sign and test. What they do before that child is a step that evaluates no other term.
 use mathlib.Core.Bool.{true, cond}
 use mathlib.Core.List.{List}
 use mathlib.Core.Logic.{_⊎_}
 use mathlib.Core.Path.{_≡_}
 use Prim.Native.Nat.{ℕ, _<_}
+use Rattle.privileges.specs.Sets.{privilegeCount}
 use Rattle.machine.specs.declared.enter.Entered.{Entered}
 use Rattle.stores.specs.Words.{isStop}
 use Rattle.termtable.specs.Table.{wordKind, wordSmall}
 use Rattle.machine.specs.Steps.{callsLeft}
-use Rattle.machine.specs.Store.{Store, Done, storeOf, doneOf, Runs, Applier, shapeOf, byShape}
-use Rattle.machine.specs.Lower.{readsPrivilege, Lower}
+use Rattle.machine.specs.Store.{Store, Done, storeOf, doneOf, Runs, Applier, actionOf, byAction}
+use Rattle.machine.specs.Lower.{readsPrivilege, ChildrenLower}
 
 -- the kinds of letrec, check, sign and test
 abbrev pub Enterable : (kind : ℕ) → Type 0
@@ -18,20 +19,20 @@ Enterable k = (k ≡ 4) ⊎ ((k ≡ 7) ⊎ ((k ≡ 9) ⊎ (k ≡ 10)))
 -- the word of such a term
 pub record EntersWord (x : ℕ) : Type 0 where
   pub kind : Enterable (wordKind x)
-  pub privilege : readsPrivilege (shapeOf (wordKind x)) ≡ true → wordSmall x < 32
+  pub privilege : readsPrivilege (actionOf (wordKind x)) ≡ true → wordSmall x < privilegeCount
 
-abbrev pub going : (next env acc : ℕ) → Entered
-going u env acc = record { stop = 0; next = u; env = env; acc = acc }
+abbrev pub going : (next env access : ℕ) → Entered
+going u env access = record { stop = 0; next = u; env = env; access = access }
 
 abbrev pub halting : (stop next : ℕ) → Entered
-halting w u = record { stop = w; next = u; env = 0; acc = 0 }
+halting w u = record { stop = w; next = u; env = 0; access = 0 }
 
 -- a stop stays, or the child is evaluated
 abbrev pub goesTo : Entered → (ℕ → Runs) → Store → Done
-goesTo e ev st = cond (isStop (e .stop)) (doneOf (e .stop) st) (ev (e .next) (e .env) (e .acc) st)
+goesTo e ev st = cond (isStop (e .stop)) (doneOf (e .stop) st) (ev (e .next) (e .env) (e .access) st)
 
-pub record Enters (t x env acc : ℕ) (n cells frames noted : List ℕ) (e : Entered) (n′ cells′ frames′ noted′ : List ℕ) : Type 0 where
+pub record Enters (t x env access : ℕ) (n cells frames noted : List ℕ) (e : Entered) (n′ cells′ frames′ noted′ : List ℕ) : Type 0 where
   pub goes : (ev : ℕ → Runs) (ap : Applier) (posts : List ℕ)
-      → byShape (shapeOf (wordKind x)) ev ap t x env acc (storeOf n cells posts frames noted) ≡ goesTo e ev (storeOf n′ cells′ posts frames′ noted′)
+      → byAction (actionOf (wordKind x)) ev ap t x env access (storeOf n cells posts frames noted) ≡ goesTo e ev (storeOf n′ cells′ posts frames′ noted′)
   pub calls : callsLeft n′ ≡ callsLeft n
-  pub lower : (b : ℕ) → Lower (shapeOf (wordKind x)) b x → e .next < b
+  pub lower : (b : ℕ) → ChildrenLower (actionOf (wordKind x)) b x → e .next < b

@@ -1,12 +1,13 @@
--- Which parts of a word each shape evaluates, and which reads a privilege or a guard.
+-- Which parts of a word each action evaluates, and which reads a privilege or a guard.
 use mathlib.Core.Bool.{Bool, true, false}
 use mathlib.Core.Path.{_≡_}
 use Prim.Native.Nat.{ℕ, _<_}
+use Rattle.program.specs.Decoding.{isGuard}
+use Rattle.privileges.specs.Sets.{privilegeCount}
 use Rattle.termtable.specs.Table.{wordSmall, wordFirst, wordSecond, wordThird, wordGuard}
-use Rattle.machine.specs.Steps.{Guard}
-use Rattle.machine.specs.Store.{Shape, childless, letrec, call, if, check, enable, sign, test, binary, post}
+use Rattle.machine.specs.Store.{Action, childless, letrec, call, if, check, enable, sign, test, binary, post}
 
-abbrev pub evaluatesFirst : Shape → Bool
+abbrev pub evaluatesFirst : Action → Bool
 evaluatesFirst childless = false
 evaluatesFirst letrec = false
 evaluatesFirst call = true
@@ -18,7 +19,7 @@ evaluatesFirst test = true
 evaluatesFirst binary = true
 evaluatesFirst post = true
 
-abbrev pub evaluatesSecond : Shape → Bool
+abbrev pub evaluatesSecond : Action → Bool
 evaluatesSecond childless = false
 evaluatesSecond letrec = false
 evaluatesSecond call = true
@@ -30,7 +31,7 @@ evaluatesSecond test = true
 evaluatesSecond binary = true
 evaluatesSecond post = false
 
-abbrev pub evaluatesThird : Shape → Bool
+abbrev pub evaluatesThird : Action → Bool
 evaluatesThird childless = false
 evaluatesThird letrec = true
 evaluatesThird call = false
@@ -42,7 +43,7 @@ evaluatesThird test = false
 evaluatesThird binary = false
 evaluatesThird post = false
 
-abbrev pub readsPrivilege : Shape → Bool
+abbrev pub readsPrivilege : Action → Bool
 readsPrivilege childless = false
 readsPrivilege letrec = false
 readsPrivilege call = false
@@ -54,7 +55,7 @@ readsPrivilege test = true
 readsPrivilege binary = false
 readsPrivilege post = false
 
-abbrev pub readsGuard : Shape → Bool
+abbrev pub readsGuard : Action → Bool
 readsGuard childless = false
 readsGuard letrec = false
 readsGuard call = false
@@ -67,9 +68,9 @@ readsGuard binary = false
 readsGuard post = true
 
 -- what is evaluated has a lower number, and a privilege is below 32, also where it guards a channel
-pub record Lower (h : Shape) (t x : ℕ) : Type 0 where
+pub record ChildrenLower (h : Action) (t x : ℕ) : Type 0 where
   pub first-lower : evaluatesFirst h ≡ true → wordFirst x < t
   pub second-lower : evaluatesSecond h ≡ true → wordSecond x < t
   pub third-lower : evaluatesThird h ≡ true → wordThird x < t
-  pub privilege : readsPrivilege h ≡ true → wordSmall x < 32
-  pub guard : readsGuard h ≡ true → Guard (wordGuard x)
+  pub privilege : readsPrivilege h ≡ true → wordSmall x < privilegeCount
+  pub guard : readsGuard h ≡ true → isGuard (wordGuard x) ≡ true

@@ -3,7 +3,7 @@
 use mathlib.Core.Bool.{Bool, true, false, cond}
 use mathlib.Core.List.{List, _++_}
 use mathlib.Core.Path.{_≡_}
-use Prim.Native.Nat.{ℕ, _+_, _-_, _*_, _/_, _%_, _<_, min}
+use Prim.Native.Nat.{ℕ, _+_, _-_, _*_, _/_, _%_, min}
 use lib.Dec.{leb, ltb, eqb}
 use lib.ListN.{length, getD, set, take, drop}
 use Rattle.program.specs.Limits.{noGuard, maxNumber}
@@ -31,21 +31,21 @@ abbrev pub entriesMade : (counters : List ℕ) → ℕ
 entriesMade n = getD n 5 0
 
 -- sum, difference, less
-unfoldable pub resultOf : (kind a b : ℕ) → ℕ
-resultOf k a b = cond (eqb k 11) (numberWord (min (a + b) maxNumber)) (cond (eqb k 12) (numberWord (a - b)) (booleanWord (ltb a b)))
+unfoldable pub resultWord : (kind a b : ℕ) → ℕ
+resultWord k a b = cond (eqb k 11) (numberWord (min (a + b) maxNumber)) (cond (eqb k 12) (numberWord (a - b)) (booleanWord (ltb a b)))
 
 -- the same of two intervals, each by its lowest and highest number
-unfoldable pub lessOf : (a a′ b b′ : ℕ) → ℕ
-lessOf a a′ b b′ = cond (ltb a′ b) (booleanWord true) (cond (leb b′ a) (booleanWord false) undecidedWord)
+unfoldable pub lessWord : (a a′ b b′ : ℕ) → ℕ
+lessWord a a′ b b′ = cond (ltb a′ b) (booleanWord true) (cond (leb b′ a) (booleanWord false) undecidedWord)
 
 unfoldable pub intervalResult : (kind a a′ b b′ : ℕ) → ℕ
 intervalResult k a a′ b b′ =
-    cond (eqb k 11) (intervalWord (min (a + b) maxNumber) (min (a′ + b′) maxNumber)) (cond (eqb k 12) (intervalWord (a - b′) (a′ - b)) (lessOf a a′ b b′))
+    cond (eqb k 11) (intervalWord (min (a + b) maxNumber) (min (a′ + b′) maxNumber)) (cond (eqb k 12) (intervalWord (a - b′) (a′ - b)) (lessWord a a′ b b′))
 
 -- of two words of numbers
 unfoldable pub numbersResult : (mode kind a b : ℕ) → ℕ
 numbersResult mode k a b =
-    cond (intervalMode mode) (intervalResult k (payloadOf a) (envOf a) (payloadOf b) (envOf b)) (resultOf k (payloadOf a) (payloadOf b))
+    cond (intervalMode mode) (intervalResult k (payloadOf a) (envOf a) (payloadOf b) (envOf b)) (resultWord k (payloadOf a) (payloadOf b))
 
 unfoldable pub operateOf : (mode kind t a b : ℕ) → ℕ
 operateOf mode k t a b = cond (eqb (sortOf a) 1) (cond (eqb (sortOf b) 1) (numbersResult mode k a b) (stopWord 18 t)) (stopWord 18 t)
@@ -63,11 +63,11 @@ operateSaturates mode k a b =
 abbrev pub wrapped : (count : ℕ) → ℕ
 wrapped m = m % 18446744073709551616
 
-abbrev pub countSaturated : (counters : List ℕ) → List ℕ
-countSaturated n = set n 4 (wrapped (saturatedMade n + 1))
+abbrev pub countersSaturated : (counters : List ℕ) → List ℕ
+countersSaturated n = set n 4 (wrapped (saturatedMade n + 1))
 
 unfoldable pub operateCounters : (kind a b : ℕ) (counters : List ℕ) → List ℕ
-operateCounters k a b n = cond (operateSaturates (modeOf n) k a b) (countSaturated n) n
+operateCounters k a b n = cond (operateSaturates (modeOf n) k a b) (countersSaturated n) n
 
 pub record Operated (kind t a b : ℕ) (n : List ℕ) (r : ℕ) (n′ : List ℕ) : Type 0 where
   pub word-is : r ≡ operateOf (modeOf n) kind t a b
@@ -98,13 +98,9 @@ pub record Noted (e : Event) (n l n′ l′ : List ℕ) : Type 0 where
 
 -- ---- a post
 
--- 02, W8: "a privilege 0 to 31, or 255 for none"
-abbrev pub Guard : (guard : ℕ) → Type 0
-Guard g = (g ≡ noGuard → ⊥) → g < 32
-
 -- whether a post's guard passes: there is none, or a check of it goes on
-unfoldable pub guardPassed : (mode acc : ℕ) (frames : List ℕ) (guard : ℕ) → Bool
-guardPassed mode acc f g = cond (eqb g noGuard) true (allowedOf mode acc f g)
+unfoldable pub guardPassed : (mode access : ℕ) (frames : List ℕ) (guard : ℕ) → Bool
+guardPassed mode access f g = cond (eqb g noGuard) true (allowedOf mode access f g)
 
 -- whether the guard is decided where a number is posted: there is one, and checks are in force
 abbrev pub numberDecides : (mode x : ℕ) → Bool
@@ -115,14 +111,14 @@ abbrev pub guardDecides : (mode x w : ℕ) → Bool
 guardDecides mode x w = cond (eqb (sortOf w) 1) (numberDecides mode x) false
 
 -- the event of that decision
-abbrev pub guardEvent : (t x mode acc : ℕ) (frames : List ℕ) → Event
-guardEvent t x mode acc f = decisionOf t (wordGuard x) (grantedOf mode acc f (wordGuard x))
+abbrev pub guardEvent : (t x mode access : ℕ) (frames : List ℕ) → Event
+guardEvent t x mode access f = decisionOf t (wordGuard x) (grantedOf mode access f (wordGuard x))
 
-pub record Guarded (t x acc : ℕ) (n frames noted : List ℕ) (r : Bool) (n′ frames′ noted′ : List ℕ) : Type 0 where
-  pub answer-is : r ≡ guardPassed (modeOf n) acc frames (wordGuard x)
+pub record Guarded (t x access : ℕ) (n frames noted : List ℕ) (r : Bool) (n′ frames′ noted′ : List ℕ) : Type 0 where
+  pub answer-is : r ≡ guardPassed (modeOf n) access frames (wordGuard x)
   pub counters-are : n′ ≡ noteCounters (numberDecides (modeOf n) x) n noted
   pub frames-are : frames′ ≡ frames
-  pub noted-are : noted′ ≡ noteBytes (numberDecides (modeOf n) x) (guardEvent t x (modeOf n) acc frames) n noted
+  pub noted-are : noted′ ≡ noteBytes (numberDecides (modeOf n) x) (guardEvent t x (modeOf n) access frames) n noted
 
 -- why a value is not posted: "after 18 and before 22"; 0 if it is
 unfoldable pub causeOf : (number passes room : Bool) → ℕ
@@ -136,8 +132,8 @@ unfoldable pub listedAs : (mode x w : ℕ) → ℕ
 listedAs mode x w = cond (intervalMode mode) (entryOf (payloadOf w) (envOf w)) (entryOf (wordSmall x) (payloadOf w))
 
 -- a post of the word w, by the word x of its term: why it is not made, what it gives, and the counters and the list after it
-unfoldable pub postCause : (x acc w : ℕ) (counters posts frames : List ℕ) → ℕ
-postCause x acc w n l f = causeOf (eqb (sortOf w) 1) (guardPassed (modeOf n) acc f (wordGuard x)) (ltb (postsMade n) (length l))
+unfoldable pub postCause : (x access w : ℕ) (counters posts frames : List ℕ) → ℕ
+postCause x access w n l f = causeOf (eqb (sortOf w) 1) (guardPassed (modeOf n) access f (wordGuard x)) (ltb (postsMade n) (length l))
 
 unfoldable pub postWord : (t w cause : ℕ) → ℕ
 postWord t w c = cond (eqb c 0) w (stopWord c t)
@@ -148,9 +144,9 @@ postCounters c n = cond (eqb c 0) (set n 2 (postsMade n + 1)) n
 unfoldable pub postList : (x w cause : ℕ) (counters posts : List ℕ) → List ℕ
 postList x w c n l = cond (eqb c 0) (set l (postsMade n) (listedAs (modeOf n) x w)) l
 
-pub record Appended (t x acc w : ℕ) (n posts frames noted : List ℕ) (r : ℕ) (n′ posts′ frames′ noted′ : List ℕ) : Type 0 where
-  pub word-is : r ≡ postWord t w (postCause x acc w n posts frames)
-  pub counters-are : n′ ≡ postCounters (postCause x acc w n posts frames) (noteCounters (guardDecides (modeOf n) x w) n noted)
-  pub posts-are : posts′ ≡ postList x w (postCause x acc w n posts frames) n posts
+pub record PostAppended (t x access w : ℕ) (n posts frames noted : List ℕ) (r : ℕ) (n′ posts′ frames′ noted′ : List ℕ) : Type 0 where
+  pub word-is : r ≡ postWord t w (postCause x access w n posts frames)
+  pub counters-are : n′ ≡ postCounters (postCause x access w n posts frames) (noteCounters (guardDecides (modeOf n) x w) n noted)
+  pub posts-are : posts′ ≡ postList x w (postCause x access w n posts frames) n posts
   pub frames-are : frames′ ≡ frames
-  pub noted-are : noted′ ≡ noteBytes (guardDecides (modeOf n) x w) (guardEvent t x (modeOf n) acc frames) n noted
+  pub noted-are : noted′ ≡ noteBytes (guardDecides (modeOf n) x w) (guardEvent t x (modeOf n) access frames) n noted

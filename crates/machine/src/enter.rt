@@ -21,17 +21,17 @@ pub struct Entered {
     pub stop: u64,
     pub next: u16,
     pub env: u16,
-    pub acc: u64,
+    pub access: u64,
 }
 
-fn goes(next: u16, env: u16, acc: u64) -> Entered
-    ensures { λ r. ⌜ r ≡ going next env acc ⌝ }
+fn goes(next: u16, env: u16, access: u64) -> Entered
+    ensures { λ r. ⌜ r ≡ going next env access ⌝ }
 {
     Entered {
         stop: 0,
         next: next,
         env: env,
-        acc: acc,
+        access: access,
     }
 }
 
@@ -42,7 +42,7 @@ fn halts(stop: u64, next: u16) -> Entered
         stop: stop,
         next: next,
         env: 0,
-        acc: 0,
+        access: 0,
     }
 }
 
@@ -50,43 +50,47 @@ pub fn enter(
     cells: &mut [u8],
     frames: &mut [u32],
     noted: &mut [u8],
-    n: &mut [usize; 6],
+    counters: &mut [usize; 6],
     t: u16,
     x: u64,
     env: u16,
-    acc: u64,
+    access: u64,
 ) -> Entered
     requires { ⌜ EntersWord x ⌝ }
-    ensures { λ r. ⌜ Enters t x env acc (now (n .entry)) (now (cells .entry)) (now (frames .entry)) (now (noted .entry)) r (now (n .exit))
+    ensures { λ r. ⌜ Enters t x env access (now (counters .entry)) (now (cells .entry)) (now (frames .entry)) (now (noted .entry)) r (now (counters .exit))
         (now (cells .exit)) (now (frames .exit)) (now (noted .exit)) ⌝ }
 {
     let kind = kind_of(x);
     if kind == 4 {
-        let k = n[1];
+        let k = counters[1];
         let own = next_cell(k);
         let made = bind(cells, k, words::function(second_of(x), own), env);
         if made == 0 {
             return halts(words::stop(21, t), third_of(x));
         }
-        n[1] = made;
-        return goes(third_of(x), own, acc);
+        counters[1] = made;
+        return goes(third_of(x), own, access);
     }
-    let mode = n[3];
+    let mode = counters[3];
     if kind == 9 {
-        return goes(first_of(x), env, sign(frames, mode, acc, authority_of(x)));
+        return goes(
+            first_of(x),
+            env,
+            sign(frames, mode, access, authority_of(x)),
+        );
     }
     // A check that is skipped decides nothing; any other decides and notes as a test does.
     if (kind == 7) & !enforces(mode) {
-        return goes(first_of(x), env, acc);
+        return goes(first_of(x), env, access);
     }
     let p = small_of(x);
-    let yes = granted(frames, mode, acc, p);
-    note(noted, n, t, p, yes);
+    let yes = granted(frames, mode, access, p);
+    note(noted, counters, t, p, yes);
     if kind == 10 {
-        return goes(choose(yes, first_of(x), second_of(x)), env, acc);
+        return goes(choose(yes, first_of(x), second_of(x)), env, access);
     }
     if yes {
-        return goes(first_of(x), env, acc);
+        return goes(first_of(x), env, access);
     }
     halts(words::stop(17, t), first_of(x))
 }

@@ -23,12 +23,12 @@ fn put_entry(noted: &mut [u8], at: usize, t: u16, p: u8, yes: bool)
 }
 
 // Notes what is decided on privilege p at term t. A full record takes no more.
-pub fn note(noted: &mut [u8], n: &mut [usize; 6], t: u16, p: u8, yes: bool)
-    ensures { λ _. ⌜ Noted (decisionOf t p yes) (now (n .entry)) (now (noted .entry)) (now (n .exit)) (now (noted .exit)) ⌝ }
+pub fn note(noted: &mut [u8], counters: &mut [usize; 6], t: u16, p: u8, yes: bool)
+    ensures { λ _. ⌜ Noted (decisionOf t p yes) (now (counters .entry)) (now (noted .entry)) (now (counters .exit)) (now (noted .exit)) ⌝ }
 {
-    let made = n[5];
+    let made = counters[5];
     if made < noted.len() / 4 {
         put_entry(noted, 4 * made, t, p, yes);
-        n[5] = made + 1;
+        counters[5] = made + 1;
     }
 }

@@ -2,9 +2,10 @@
 ghost use mathlib.Core.Bool.{true, cond};
 ghost use mathlib.Core.Path.{_≡_};
 ghost use Prim.Native.Nat.{_+_, _-_, min};
+ghost use Rattle.program.specs.Decoding.{isGuard};
 ghost use Rattle.stores.specs.Words.{numberWord, payloadOf, envOf};
 ghost use Rattle.stores.specs.Returns.{Returned};
-ghost use Rattle.machine.specs.Steps.{countSaturated, lessOf, intervalResult, Operated, Guard, Guarded, causeOf, entryOf, listedAs, Appended};
+ghost use Rattle.machine.specs.Steps.{countersSaturated, lessWord, intervalResult, Operated, Guarded, causeOf, entryOf, listedAs, PostAppended};
 ghost use Rattle.termtable.specs.Table.{wordGuard};
 ghost use Rattle.program.specs.Limits.{maxNumber};
 use crate::notes::note;
@@ -26,10 +27,10 @@ pub fn choose(yes: bool, a: u16, b: u16) -> u16
 }
 
 // A limit in the place of a result past it, which is counted.
-fn saturate(n: &mut [usize; 6], limit: u16) -> u64
-    ensures { λ r. ⌜ Returned r (numberWord limit) (now (n .exit)) (countSaturated (now (n .entry))) ⌝ }
+fn saturate(counters: &mut [usize; 6], limit: u16) -> u64
+    ensures { λ r. ⌜ Returned r (numberWord limit) (now (counters .exit)) (countersSaturated (now (counters .entry))) ⌝ }
 {
-    n[4] = wrapping_add_usize(n[4], 1);
+    counters[4] = wrapping_add_usize(counters[4], 1);
     words::number(limit)
 }
 
@@ -53,7 +54,7 @@ fn subtract(x: u16, y: u16) -> u16
 
 // Less of two intervals: decided where all their numbers agree.
 fn less(a: u16, a_most: u16, b: u16, b_most: u16) -> u64
-    ensures { λ r. ⌜ r ≡ lessOf a «a_most» b «b_most» ⌝ }
+    ensures { λ r. ⌜ r ≡ lessWord a «a_most» b «b_most» ⌝ }
 {
     if a_most < b {
         return words::boolean(true);
@@ -82,8 +83,8 @@ fn operate_intervals(kind: u8, a: u64, b: u64) -> u64
 }
 
 // Sum, difference or less of two words.
-pub fn operate(n: &mut [usize; 6], kind: u8, t: u16, a: u64, b: u64) -> u64
-    ensures { λ r. ⌜ Operated kind t a b (now (n .entry)) r (now (n .exit)) ⌝ }
+pub fn operate(counters: &mut [usize; 6], kind: u8, t: u16, a: u64, b: u64) -> u64
+    ensures { λ r. ⌜ Operated kind t a b (now (counters .entry)) r (now (counters .exit)) ⌝ }
 {
     if words::sort(a) != 1 {
         return words::stop(18, t);
@@ -91,7 +92,7 @@ pub fn operate(n: &mut [usize; 6], kind: u8, t: u16, a: u64, b: u64) -> u64
     if words::sort(b) != 1 {
         return words::stop(18, t);
     }
-    if intervals(n[3]) {
+    if intervals(counters[3]) {
         return operate_intervals(kind, a, b);
     }
     let x = words::payload(a);
@@ -100,13 +101,13 @@ pub fn operate(n: &mut [usize; 6], kind: u8, t: u16, a: u64, b: u64) -> u64
         if y <= MAX_NUMBER - x {
             return words::number(x + y);
         }
-        return saturate(n, MAX_NUMBER);
+        return saturate(counters, MAX_NUMBER);
     }
     if kind == 12 {
         if y <= x {
             return words::number(x - y);
         }
-        return saturate(n, 0);
+        return saturate(counters, 0);
     }
     words::boolean(x < y)
 }
@@ -115,25 +116,25 @@ pub fn operate(n: &mut [usize; 6], kind: u8, t: u16, a: u64, b: u64) -> u64
 fn guard_passes(
     frames: &mut [u32],
     noted: &mut [u8],
-    n: &mut [usize; 6],
+    counters: &mut [usize; 6],
     t: u16,
     x: u64,
-    acc: u64,
+    access: u64,
 ) -> bool
-    requires { ⌜ Guard (wordGuard x) ⌝ }
-    ensures { λ r. ⌜ Guarded t x acc (now (n .entry)) (now (frames .entry)) (now (noted .entry)) r (now (n .exit)) (now (frames .exit))
+    requires { ⌜ isGuard (wordGuard x) ≡ true ⌝ }
+    ensures { λ r. ⌜ Guarded t x access (now (counters .entry)) (now (frames .entry)) (now (noted .entry)) r (now (counters .exit)) (now (frames .exit))
         (now (noted .exit)) ⌝ }
 {
     let guard = guard_of(x);
     if guard == NO_GUARD {
         return true;
     }
-    let mode = n[3];
+    let mode = counters[3];
     if !enforces(mode) {
         return true;
     }
-    let yes = granted(frames, mode, acc, guard);
-    note(noted, n, t, guard, yes);
+    let yes = granted(frames, mode, access, guard);
+    note(noted, counters, t, guard, yes);
     yes
 }
 
@@ -166,26 +167,26 @@ pub fn append(
     posts: &mut [u32],
     frames: &mut [u32],
     noted: &mut [u8],
-    n: &mut [usize; 6],
+    counters: &mut [usize; 6],
     t: u16,
     x: u64,
-    acc: u64,
+    access: u64,
     w: u64,
 ) -> u64
-    requires { ⌜ Guard (wordGuard x) ⌝ }
-    ensures { λ r. ⌜ Appended t x acc w (now (n .entry)) (now (posts .entry)) (now (frames .entry)) (now (noted .entry)) r (now (n .exit))
+    requires { ⌜ isGuard (wordGuard x) ≡ true ⌝ }
+    ensures { λ r. ⌜ PostAppended t x access w (now (counters .entry)) (now (posts .entry)) (now (frames .entry)) (now (noted .entry)) r (now (counters .exit))
         (now (posts .exit)) (now (frames .exit)) (now (noted .exit)) ⌝ }
 {
     if words::sort(w) != 1 {
         return words::stop(18, t);
     }
-    let at = n[2];
-    let passes = guard_passes(frames, noted, n, t, x, acc);
+    let at = counters[2];
+    let passes = guard_passes(frames, noted, counters, t, x, access);
     let cause = cause_of(passes, at < posts.len());
     if cause != 0 {
         return words::stop(cause as u8, t);
     }
-    posts[at] = listed(n[3], x, w);
-    n[2] = at + 1;
+    posts[at] = listed(counters[3], x, w);
+    counters[2] = at + 1;
     w
 }

@@ -15,7 +15,7 @@ use Rattle.program.specs.Screening.{unless, lowest, refuseAt, screen, unlessFou
 use Rattle.program.specs.Decoding.{decodingConditions, decoding}
 use Rattle.program.specs.Records.{termAtByte, termRecord, guardRecord}
 use Rattle.program.specs.Answers.{decodingCause, decodingPlace, decodedModel}
-use Rattle.program.specs.Laws.Kinds.{numbered, kind-number}
+use Rattle.program.specs.Laws.Kinds.{numberOfKind, kind-number}
 use Rattle.program.specs.Laws.Screening.{screen-clear, screen-found}
 use Rattle.program.specs.Laws.Search.{lowest-here, lowest-more, lowest-past, lowest-starts}
 use Rattle.program.specs.Laws.Records.{term-is, guard-is}
@@ -31,7 +31,7 @@ use Rattle.irrelevance.specs.Naming.{Naming, refused, unnamed, named, namingOf,
 use Rattle.naming.specs.Internal.{NamingSheet, NamingTerm}
 
 -- ---- a term of a kind that names none
-names-none : (G : ℕ → Option ℕ) (k : Kind) → (numbered k ≡ 7 → ⊥) → (numbered k ≡ 10 → ⊥) → (numbered k ≡ 14 → ⊥) → (p t x a b c : ℕ) (f : ℕ → Term)
+names-none : (G : ℕ → Option ℕ) (k : Kind) → (numberOfKind k ≡ 7 → ⊥) → (numberOfKind k ≡ 10 → ⊥) → (numberOfKind k ≡ 14 → ⊥) → (p t x a b c : ℕ) (f : ℕ → Term)
     → false ≡ contains p (namedBy (node G k t x a b c f))
 names-none G Boolean n7 n10 n14 p t x a b c f = refl
 names-none G Number n7 n10 n14 p t x a b c f = refl
@@ -89,7 +89,7 @@ module _ {s : List ℕ} {c : Counts} {p t : ℕ} (R : NamingTerm s c p t) {x : T
   pub no-names : (x .kind ≡ 7 → ⊥) → (x .kind ≡ 10 → ⊥) → (x .kind ≡ 14 → ⊥) → false ≡ names s p t
   no-names n7 n10 n14 =
       let low : x .kind ≤ 14 = omega (arith, kind-is, parts s (R .of-sheet .sheet .well-formed) t (R .inside) .kind-ok) in
-      let same : x .kind ≡ numbered (kindOf (x .kind)) = sym (kind-number (x .kind) low) in
+      let same : x .kind ≡ numberOfKind (kindOf (x .kind)) = sym (kind-number (x .kind) low) in
       names-none (guardOf s) (kindOf (x .kind)) (λ e. n7 (same ∙ e)) (λ e. n10 (same ∙ e)) (λ e. n14 (same ∙ e)) p t (x .small) (x .first) (x .second)
       (x .third) (tree s)
       ∙ names-is (x .kind) refl

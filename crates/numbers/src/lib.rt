@@ -70,20 +70,20 @@ pub fn of_fault(f: Fault) -> Code
 }
 
 // 1 to 8, 31, and 14 to 16.
-pub fn of_refusal(f: interp::answer::Refusal) -> Code
+pub fn of_refusal(f: interp::answer::RunRefusal) -> Code
     ensures { λ r. ⌜ CodeIs (refusalCause f) (refusalPlace f) r ⌝ }
 {
     match f {
-        interp::answer::Refusal::Unreadable(x) => of_reader(x),
-        interp::answer::Refusal::Start => Code {
+        interp::answer::RunRefusal::Unreadable(x) => of_reader(x),
+        interp::answer::RunRefusal::Start => Code {
             cause: 14,
             place: 0,
         },
-        interp::answer::Refusal::Buffers => Code {
+        interp::answer::RunRefusal::Buffers => Code {
             cause: 15,
             place: 0,
         },
-        interp::answer::Refusal::Allowance => Code {
+        interp::answer::RunRefusal::Allowance => Code {
             cause: 16,
             place: 0,
         },

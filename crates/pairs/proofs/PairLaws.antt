@@ -18,7 +18,7 @@ use Rattle.intervals.specs.Intervals.{Interval}
 use Rattle.intervals.specs.Pairs.{isNumber, numbersBelow, pairOf, ordered, pairsOk}
 use Rattle.intervals.specs.Laws.Pairs.{ordered-at}
 use Rattle.stores.specs.Words.{intervalWord}
-use Rattle.pairs.specs.Internal.{TermOf, RangeWord, Laid}
+use Rattle.pairs.specs.Internal.{TermOf, IntervalEncoded, PairsLaid}
 
 -- ---- a term's kind, by its record
 pub number-by : {s : List ℕ} {c : Counts} {t : ℕ} → TermOf s c t → {x : TermRecord} → x ≡ termRecord s c t → eqb (x .kind) 1 ≡ isNumber s t
@@ -95,30 +95,30 @@ module _ (s ps : List ℕ) where
         ∙ (λ i. tested (sym (eq-eqb (version s) 1 e) i) (sym (eq-eqb (length ps) (2 * count) many) i) (ordered ps count))
 
 -- ---- laying
-range-word : {i : Interval} {l h : ℕ} → l < 65536 → h < 65536 → l ≡ i .low → h ≡ i .high → RangeWord i (intervalWord l h)
-range-word p q e f = record { kind-is = omega arith; lowest-is = omega arith ∙ e; highest-is = omega arith ∙ f }
+interval-encoded : {i : Interval} {l h : ℕ} → l < 65536 → h < 65536 → l ≡ i .low → h ≡ i .high → IntervalEncoded i (intervalWord l h)
+interval-encoded p q e f = record { kind-is = omega arith; lowest-is = omega arith ∙ e; highest-is = omega arith ∙ f }
 
 -- of the first t of so many terms the number terms, n in all, have their pairs
 pub record LaidBelow (s ps old new : List ℕ) (count n t : ℕ) : Type 0 where
   pub below : t ≤ count
   pub count-is : n ≡ numbersBelow s t
-  pub laid : Laid s ps t old new
+  pub laid : PairsLaid s ps t old new
 
-pub laid-none : (s ps l : List ℕ) → Laid s ps 0 l l
+pub laid-none : (s ps l : List ℕ) → PairsLaid s ps 0 l l
 laid-none s ps l = record { long = refl; numbers = λ u h. absurd (omega arith); others = λ u h. refl }
 
-pub laid-all : (s ps old new : List ℕ) (t n : ℕ) → Laid s ps t old new → t ≡ n → Laid s ps n old new
-laid-all s ps old new t n h q = subst (λ k. Laid s ps k old new) q h
+pub laid-all : (s ps old new : List ℕ) (t n : ℕ) → PairsLaid s ps t old new → t ≡ n → PairsLaid s ps n old new
+laid-all s ps old new t n h q = subst (λ k. PairsLaid s ps k old new) q h
 
-module _ {s ps old new : List ℕ} {t : ℕ} (h : Laid s ps t old new) where
-  pub laid-other : {new′ : List ℕ} → false ≡ isNumber s t → new′ ≡ new → Laid s ps (t + 1) old new′
-  laid-other e same = subst (Laid s ps (t + 1) old) (sym same) record {
+module _ {s ps old new : List ℕ} {t : ℕ} (h : PairsLaid s ps t old new) where
+  pub laid-other : {new′ : List ℕ} → false ≡ isNumber s t → new′ ≡ new → PairsLaid s ps (t + 1) old new′
+  laid-other e same = subst (PairsLaid s ps (t + 1) old) (sym same) record {
     long = h .long;
     numbers = λ u l f. h .numbers u (elim (ℕ-discrete u t) [ yes p ↦ absurd (true≢false (sym f ∙ ap (isNumber s) p ∙ sym e)) | no p ↦ omega arith ]) f;
     others = λ u n. h .others u (λ l. n (omega arith));
   }
 
-  laid-number : {x : ℕ} → t < length old → true ≡ isNumber s t → RangeWord (pairOf s ps t) x → Laid s ps (t + 1) old (set new t x)
+  laid-number : {x : ℕ} → t < length old → true ≡ isNumber s t → IntervalEncoded (pairOf s ps t) x → PairsLaid s ps (t + 1) old (set new t x)
   laid-number {x} low e w = record {
     long = length-set new t x ∙ h .long;
     numbers = λ u l f. at u l f (ℕ-discrete u t);
@@ -127,16 +127,16 @@ module _ {s ps old new : List ℕ} {t : ℕ} (h : Laid s ps t old new) where
         ∙ h .others u (λ l. n (omega arith));
   }
     where
-      at : (u : ℕ) → u < t + 1 → isNumber s u ≡ true → Dec (u ≡ t) → RangeWord (pairOf s ps u) (getD (set new t x) u 0)
+      at : (u : ℕ) → u < t + 1 → isNumber s u ≡ true → Dec (u ≡ t) → IntervalEncoded (pairOf s ps u) (getD (set new t x) u 0)
       at u l f (yes p) =
-          subst (λ (k : ℕ). RangeWord (pairOf s ps k) (getD (set new t x) k 0)) (sym p)
-          (subst (RangeWord (pairOf s ps t)) (sym (getD-set-same new t x 0 (omega (arith, h .long)))) w)
-      at u l f (no p) = subst (RangeWord (pairOf s ps u)) (sym (getD-set-other new t u x 0 p)) (h .numbers u (omega (arith, p)) f)
+          subst (λ (k : ℕ). IntervalEncoded (pairOf s ps k) (getD (set new t x) k 0)) (sym p)
+          (subst (IntervalEncoded (pairOf s ps t)) (sym (getD-set-same new t x 0 (omega (arith, h .long)))) w)
+      at u l f (no p) = subst (IntervalEncoded (pairOf s ps u)) (sym (getD-set-other new t u x 0 p)) (h .numbers u (omega (arith, p)) f)
 
   -- the next pair, at the next number term
   pub laid-pair : {x n : ℕ} {new′ : List ℕ} → t < length old → true ≡ isNumber s t → n ≡ numbersBelow s t → getD ps (2 * n) 0 < 65536
-      → getD ps (2 * n + 1) 0 < 65536 → x ≡ intervalWord (getD ps (2 * n) 0) (getD ps (2 * n + 1) 0) → new′ ≡ set new t x → Laid s ps (t + 1) old new′
+      → getD ps (2 * n + 1) 0 < 65536 → x ≡ intervalWord (getD ps (2 * n) 0) (getD ps (2 * n + 1) 0) → new′ ≡ set new t x → PairsLaid s ps (t + 1) old new′
   laid-pair {x} low e q l m p same =
-      subst (Laid s ps (t + 1) old) (sym same)
-      (laid-number low e (subst (RangeWord (pairOf s ps t)) (sym p)
-      (range-word l m (ap (λ (k : ℕ). getD ps (2 * k) 0) q) (ap (λ (k : ℕ). getD ps (2 * k + 1) 0) q))))
+      subst (PairsLaid s ps (t + 1) old) (sym same)
+      (laid-number low e (subst (IntervalEncoded (pairOf s ps t)) (sym p)
+      (interval-encoded l m (ap (λ (k : ℕ). getD ps (2 * k) 0) q) (ap (λ (k : ℕ). getD ps (2 * k + 1) 0) q))))

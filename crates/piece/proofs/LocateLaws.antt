@@ -21,7 +21,7 @@ use Rattle.accessors.specs.Internal.{FormedSheet}
 use Rattle.subtyping.specs.Known.{Known}
 use Rattle.places.specs.Internal.{AtRoot, childAt}
 use Rattle.places.proofs.PlaceLaws.{root-place-ready, root-child}
-use Rattle.subterms.specs.Smallest.{subterms, Refused, smallestOf, Piece, unreadable, pieceFrom, pieceOf, recordLength, recordOf}
+use Rattle.subterms.specs.Smallest.{subterms, FaultyTerm, smallestOf, Piece, unreadable, pieceFrom, pieceOf, recordLength, recordOf}
 use Rattle.subterms.specs.Laws.Subterms.{subtermsIn}
 use Rattle.subterms.specs.Theorems.{record-inside, place-most, length-most}
 use Rattle.subterms.specs.declared.answer.Piece.the-variants.{Smallest, NoPiece, Unreadable}
@@ -66,14 +66,15 @@ module _ {s : List ℕ} {c : Counts} (S : FormedSheet s c) {y : Child} (at-root 
     pub nothing-located : tagOf the-type (v .smallest) ≡ 0 → {r : Located} → r ≡ record { piece = NoPiece; at = 0; len = 0 } → LocatedAs s (pieceIn s) r
     nothing-located e q =
         subst (LocatedAs s (pieceIn s)) (sym q)
-        (subst (λ (o : Option Refused). LocatedAs s (pieceFrom o) (record { piece = NoPiece; at = 0; len = 0 })) (sym (nothing-is (v .smallest) e) ∙ found-is)
+        (subst (λ (o : Option FaultyTerm). LocatedAs s (pieceFrom o) (record { piece = NoPiece; at = 0; len = 0 }))
+        (sym (nothing-is (v .smallest) e) ∙ found-is)
         (record { piece-is = refl; at-is = refl; len-is = refl }))
 
     pub smallest-located : {t n : ℕ} {g : Fault} → v .smallest ≡ candidate.Refused t n g
         → LocatedAs s (pieceIn s) (record { piece = Smallest t n g; at = 14 + 4 * c .principals + 10 * c .types + 8 * t; len = 8 })
     smallest-located {t} {n} {g} e =
         subst
-        (λ (o : Option Refused).
+        (λ (o : Option FaultyTerm).
         LocatedAs s (pieceFrom o) (record { piece = Smallest t n g; at = 14 + 4 * c .principals + 10 * c .types + 8 * t; len = 8 }))
         (sym (ap candidateModel e) ∙ found-is)
         (record { piece-is = refl; at-is = omega (arith, S .counts .principals-are, S .counts .types-are); len-is = refl })

@@ -27,7 +27,7 @@ use Rattle.rules.specs.Steps.{Pushed}
 use Rattle.rules.specs.declared.bindings.Bindings.{Bindings}
 use Rattle.checker.specs.Internal.{ReadyAt}
 use Rattle.checker.proofs.VerdictLaws.{root-ready}
-use Rattle.checker.proofs.TermLaws.{Child as Below, kind-most, check-child, enable-child, sign-child, post-child, call-first, call-second, test-first, test-second, binary-first, binary-second, if-first, if-second, if-third, function-room, function-child, letrec-room, letrec-body, letrec-rest}
+use Rattle.checker.proofs.TermLaws.{ChildReady, kind-most, check-child, enable-child, sign-child, post-child, call-first, call-second, test-first, test-second, binary-first, binary-second, if-first, if-second, if-third, function-room, function-child, letrec-room, letrec-body, letrec-rest}
 use Rattle.typing.specs.Places.{Placed, placed}
 use Rattle.places.specs.Internal.{placedAt, ReadyPlace, present, AtRoot, Children, childrenOf, given, childAt, Reached}
 use Rattle.places.specs.declared.Child.{Child}
@@ -35,11 +35,11 @@ use Rattle.accessors.specs.Internal.{FormedSheet}
 
 -- ---- what holds at each of the numbers from m on holds at every number among them
 infixr 10 _and_
-pub data Each (P : ℕ → Type 0) : (m count : ℕ) → Type 0 where
-  all : {m : ℕ} → Each P m zero
-  _and_ : {m n : ℕ} → P m → Each P (suc m) n → Each P m (suc n)
+pub data EachChild (P : ℕ → Type 0) : (m count : ℕ) → Type 0 where
+  all : {m : ℕ} → EachChild P m zero
+  _and_ : {m n : ℕ} → P m → EachChild P (suc m) n → EachChild P m (suc n)
 
-pub among : {P : ℕ → Type 0} {m n : ℕ} → Each P m n → (k : ℕ) → m ≤ k → k < m + n → P k
+pub among : {P : ℕ → Type 0} {m n : ℕ} → EachChild P m n → (k : ℕ) → m ≤ k → k < m + n → P k
 among all k h g = absurd (omega arith)
 among {P} {m} (x and xs) k h g = ⊎-elim (λ e. subst P e x) (λ l. among xs k l (omega arith)) (eq-or-lt-of-le {n = m} {m = k} h)
 
@@ -111,14 +111,14 @@ module _ {s : List ℕ} {c : Counts} {t : ℕ} {b : Bindings} {n : ℕ} (R : Rea
     gone f q e = record { is = rw f (q ∙ due-is e); lower = λ g. absurd (true≢false (sym g ∙ f)); ready = λ g. absurd (true≢false (sym g ∙ f)) }
 
     here : {y m k : ℕ} {d : Bindings} {r : Child} → r ≡ present y d m → some (placed (context d) m (tree s y)) ≡ child-of k
-        → (x .kind ≡ k → Below s c t y d m) → x .kind ≡ k → Reached s c t r due
+        → (x .kind ≡ k → ChildReady s c t y d m) → x .kind ≡ k → Reached s c t r due
     here g q w e = record { is = rw g (q ∙ due-is e); lower = λ _. rw g (w e .lower); ready = λ _. rw g (w e .ready) }
 
     -- by the kind's number, among several
-    abbrev Case : Child → (k : ℕ) → Type 0
-    Case r k = x .kind ≡ k → Reached s c t r due
+    abbrev KindCase : Child → (k : ℕ) → Type 0
+    KindCase r k = x .kind ≡ k → Reached s c t r due
 
-    cases : {r : Child} (m count : ℕ) → Each (Case r) m count → m ≤ x .kind → x .kind < m + count → Reached s c t r due
+    cases : {r : Child} (m count : ℕ) → EachChild (KindCase r) m count → m ≤ x .kind → x .kind < m + count → Reached s c t r due
     cases m count a l u = among a (x .kind) l u refl
 
   -- ---- the first

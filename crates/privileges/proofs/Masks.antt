@@ -7,7 +7,7 @@ use native.Mathlib.Omega.{arith}
 use lib.Bits.{bitAnd, bitOr, bitXor, and-mask, xor-add-and}
 use lib.Dec.{eqb}
 use lib.Pow.{pow-lt}
-use Rattle.privileges.specs.Sets.{isOne, has, meet, insert, remove}
+use Rattle.privileges.specs.Sets.{privilegeCount, isOne, has, meet, insert, remove}
 use Rattle.privileges.specs.Laws.{has-meet, has-xor, has-one, has-remove, has-ext}
 
 isOne-eqb : (x : ℕ) → x < 2 → eqb x 1 ≡ isOne x
@@ -20,10 +20,10 @@ unfolding has
 contains-is p m = ap (λ (z : ℕ). eqb z 1) (and-mask (m / 2 ^ p) 1) ∙ isOne-eqb (m / 2 ^ p % 2) (omega arith)
 
 -- one shifted by p, as a word of 32 digits
-shifted : (p : ℕ) → p < 32 → (1 * 2 ^ p) % 2 ^ 32 ≡ 2 ^ p
+shifted : (p : ℕ) → p < privilegeCount → (1 * 2 ^ p) % 2 ^ 32 ≡ 2 ^ p
 shifted p h = ap (λ (z : ℕ). z % 2 ^ 32) (one-mul (2 ^ p)) ∙ mod-eq-of-lt (pow-lt h)
 
-pub insert-is : (p m : ℕ) → p < 32 → bitOr m ((1 * 2 ^ p) % 2 ^ 32) ≡ insert p m
+pub insert-is : (p m : ℕ) → p < privilegeCount → bitOr m ((1 * 2 ^ p) % 2 ^ 32) ≡ insert p m
 unfolding insert
 insert-is p m h = ap (λ (z : ℕ). bitOr m z) (shifted p h)
 
@@ -38,7 +38,7 @@ flipped true b false h = absurd (false≢true h)
 flipped false true o h = refl
 flipped false false o h = refl
 
-pub remove-is : (p m : ℕ) → p < 32 → m < 2 ^ 32 → bitAnd m (2 ^ 32 - 1 - (1 * 2 ^ p) % 2 ^ 32) ≡ remove p m
+pub remove-is : (p m : ℕ) → p < privilegeCount → m < 2 ^ 32 → bitAnd m (2 ^ 32 - 1 - (1 * 2 ^ p) % 2 ^ 32) ≡ remove p m
 unfolding meet
 remove-is p m h k =
     ap (λ (z : ℕ). bitAnd m (2 ^ 32 - 1 - z)) (shifted p h) ∙ ap (bitAnd m) (complement (2 ^ p) (pow-lt h))

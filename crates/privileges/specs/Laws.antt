@@ -12,7 +12,7 @@ use lib.Dec.{eqb, eqb·zero-suc, eqb·suc-zero, eqb·suc-suc}
 use lib.Pow.{pow-mono, pow-lt}
 use borrow.Author.Tests.{eqb-true, eq-eqb}
 use Rattle.privileges.specs.Booleans.{or-left, or-right, or-cases, and-left, and-right, and-both, bool-ext}
-use Rattle.privileges.specs.Sets.{isOne, has, meet, union, insert, remove, subset, _⊆_}
+use Rattle.privileges.specs.Sets.{privilegeCount, isOne, has, meet, union, insert, remove, subset, _⊆_}
 
 -- ---- binary digits, one by one
 isOne-min : (x y : ℕ) → isOne (min x y) ≡ (isOne x && isOne y)
@@ -132,17 +132,17 @@ has-ext = bin-ind (λ a. (b : ℕ) → ((p : ℕ) → has p a ≡ has p b) → a
     let z : a % 2 ≡ b % 2 = isOne-same (a % 2) (b % 2) (omega arith) (omega arith) (sym (has-first a) ∙ h zero ∙ has-first b) in omega arith)
 
 -- ---- sets of the privileges 0 to 31 are the numbers below 2^32
-pub has-small : (p m : ℕ) → m < 2 ^ 32 → 32 ≤ p → has p m ≡ false
+pub has-small : (p m : ℕ) → m < 2 ^ 32 → privilegeCount ≤ p → has p m ≡ false
 unfolding has
 has-small p m h l = ap (λ (x : ℕ). isOne (x % 2)) (div-eq-of-lt (lt-of-lt-of-le h (pow-mono l)))
 
 -- extensionality: below 2^32 the privileges 0 to 31 decide
-pub small-ext : (a b : ℕ) → a < 2 ^ 32 → b < 2 ^ 32 → ((p : ℕ) → p < 32 → has p a ≡ has p b) → a ≡ b
+pub small-ext : (a b : ℕ) → a < 2 ^ 32 → b < 2 ^ 32 → ((p : ℕ) → p < privilegeCount → has p a ≡ has p b) → a ≡ b
 small-ext a b ha hb h = has-ext a b λ p. go p (decLt p 32)
   where
-    go : (p : ℕ) → Dec (p < 32) → has p a ≡ has p b
+    go : (p : ℕ) → Dec (p < privilegeCount) → has p a ≡ has p b
     go p (yes l) = h p l
-    go p (no n) = let l : 32 ≤ p = omega arith in has-small p a ha l ∙ sym (has-small p b hb l)
+    go p (no n) = let l : privilegeCount ≤ p = omega arith in has-small p a ha l ∙ sym (has-small p b hb l)
 
 pub meet-small : (a b : ℕ) → a < 2 ^ 32 → meet a b < 2 ^ 32
 unfolding meet
@@ -152,7 +152,7 @@ pub union-small : (a b : ℕ) → a < 2 ^ 32 → b < 2 ^ 32 → union a b < 2 ^ 
 unfolding union
 union-small a b h k = or-lt 32 a b h k
 
-pub insert-small : (p m : ℕ) → p < 32 → m < 2 ^ 32 → insert p m < 2 ^ 32
+pub insert-small : (p m : ℕ) → p < privilegeCount → m < 2 ^ 32 → insert p m < 2 ^ 32
 unfolding insert
 insert-small p m h k = or-lt 32 m (2 ^ p) k (pow-lt h)
 

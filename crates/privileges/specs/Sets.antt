@@ -6,6 +6,10 @@ use Prim.Native.Nat.{ℕ, zero, suc, _/_, _%_, _^_}
 use lib.Bits.{bitAnd, bitOr, bitXor}
 use lib.Dec.{eqb}
 
+-- "privilege k, 0 to 31", the bits of a set
+abbrev pub privilegeCount : ℕ
+privilegeCount = 32
+
 abbrev pub isOne : ℕ → Bool
 isOne zero = false
 isOne (suc n) = true

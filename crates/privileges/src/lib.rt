@@ -2,11 +2,11 @@
 // The other crates of the unit call these functions; a privilege above 31 cannot be passed to them.
 ghost use mathlib.Core.Path.{_≡_};
 ghost use Prim.Native.Nat.{_<_};
-ghost use Rattle.privileges.specs.Sets.{has, meet as meetOf, union as unionOf, insert as insertOf, remove as removeOf, subset as subsetOf};
+ghost use Rattle.privileges.specs.Sets.{privilegeCount, has, meet as meetOf, union as unionOf, insert as insertOf, remove as removeOf, subset as subsetOf};
 
 // Whether privilege p is in the set m.
 pub fn contains(p: u8, m: u32) -> bool
-    requires { ⌜ p < 32 ⌝ }
+    requires { ⌜ p < privilegeCount ⌝ }
     ensures { λ r. ⌜ r ≡ has p m ⌝ }
 {
     (m >> p) & 1 == 1
@@ -28,7 +28,7 @@ pub fn union(a: u32, b: u32) -> u32
 
 // The set m with privilege p.
 pub fn insert(p: u8, m: u32) -> u32
-    requires { ⌜ p < 32 ⌝ }
+    requires { ⌜ p < privilegeCount ⌝ }
     ensures { λ r. ⌜ r ≡ insertOf p m ⌝ }
 {
     m | (1u32 << p)
@@ -36,7 +36,7 @@ pub fn insert(p: u8, m: u32) -> u32
 
 // The set m without privilege p.
 pub fn remove(p: u8, m: u32) -> u32
-    requires { ⌜ p < 32 ⌝ }
+    requires { ⌜ p < privilegeCount ⌝ }
     ensures { λ r. ⌜ r ≡ removeOf p m ⌝ }
 {
     m & !(1u32 << p)

@@ -81,12 +81,13 @@ termOk s t =
 
 -- ---- 7: parents and signs
 
-abbrev pub counts : Part → (value x : ℕ) → ℕ
-counts part value x = cond (isChild part && eqb value x) 1 0
+abbrev pub childCount : Part → (value x : ℕ) → ℕ
+childCount part value x = cond (isChild part && eqb value x) 1 0
 
 -- how often x stands among the children of t
 abbrev pub timesIn : List ℕ → (x t : ℕ) → ℕ
-timesIn s x t = counts (formatAt s t .first) (first s t) x + counts (formatAt s t .second) (second s t) x + counts (formatAt s t .third) (third s t) x
+timesIn s x t =
+    childCount (formatAt s t .first) (first s t) x + childCount (formatAt s t .second) (second s t) x + childCount (formatAt s t .third) (third s t) x
 
 -- and among those of the first so many terms
 abbrev pub timesBelow : List ℕ → (x count : ℕ) → ℕ
@@ -128,8 +129,11 @@ nestedIn s (suc k) t = orElse (eqb t (root s)) λ _. nestedIn s k (parent s t (t
 -- ---- 31: guards
 
 -- 02, W8: "for each channel a privilege 0 to 31, or 255 for none. … any other privilege byte is 31 at its channel"
+abbrev pub isGuard : (byte : ℕ) → Bool
+isGuard x = leb x maxPrivilege || eqb x noGuard
+
 abbrev pub guardOk : List ℕ → (c : ℕ) → Bool
-guardOk s c = leb (guardByte s c) maxPrivilege || eqb (guardByte s c) noGuard
+guardOk s c = isGuard (guardByte s c)
 
 -- ---- all of them
 

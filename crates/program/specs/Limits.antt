@@ -11,7 +11,7 @@ maxTypes = 256
 abbrev pub maxTerms : ℕ
 maxTerms = 1024
 
--- "privilege k, 0 to 31"
+-- "privilege k, 0 to 31": the last of `privilegeCount`
 abbrev pub maxPrivilege : ℕ
 maxPrivilege = 31
 

@@ -1,2 +1,2 @@
 pub mod TableLaws
-pub mod RangeLaws
+pub mod IntervalLaws

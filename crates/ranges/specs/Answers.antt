@@ -9,14 +9,14 @@ use Rattle.stores.specs.Stops.{stopCause, stopPlace}
 use Rattle.interp.specs.Answers.{refusalCause, refusalPlace, countsModel, buffersOf}
 use Rattle.ranges.specs.declared.answer.Truth.{Truth}
 use Rattle.ranges.specs.declared.answer.Truth.the-variants.{Yes, No, Undecided}
-use Rattle.ranges.specs.declared.answer.Value.{Value}
-use Rattle.ranges.specs.declared.answer.Value.the-variants.{Truth as OfTruth, Interval as OfInterval}
-use Rattle.ranges.specs.declared.answer.Outcome.{Outcome}
-use Rattle.ranges.specs.declared.answer.Outcome.the-variants.{End, Stop}
-use Rattle.ranges.specs.declared.answer.Refusal.{Refusal}
-use Rattle.ranges.specs.declared.answer.Refusal.the-variants.{Run, Pairs}
-use Rattle.ranges.specs.declared.answer.RangeRun.{RangeRun}
-use Rattle.ranges.specs.declared.answer.RangeRun.the-variants.{Refused, Ran}
+use Rattle.ranges.specs.declared.answer.IntervalGround.{IntervalGround}
+use Rattle.ranges.specs.declared.answer.IntervalGround.the-variants.{Truth as OfTruth, Interval as OfInterval}
+use Rattle.ranges.specs.declared.answer.IntervalOutcome.{IntervalOutcome}
+use Rattle.ranges.specs.declared.answer.IntervalOutcome.the-variants.{End, Stop}
+use Rattle.ranges.specs.declared.answer.IntervalRefusal.{IntervalRefusal}
+use Rattle.ranges.specs.declared.answer.IntervalRefusal.the-variants.{Run, Pairs}
+use Rattle.ranges.specs.declared.answer.IntervalRun.{IntervalRun}
+use Rattle.ranges.specs.declared.answer.IntervalRun.the-variants.{Refused, Ran}
 
 -- "An end is a range, or yes, no or undecided"
 abbrev pub truthOf : Truth → Option Bool
@@ -24,27 +24,27 @@ truthOf Yes = some true
 truthOf No = some false
 truthOf Undecided = none
 
-abbrev pub groundOf : Value → GroundOf intervals
-groundOf (OfTruth t) = ground-bool (truthOf t)
-groundOf (OfInterval lowest highest) = ground-num (interval lowest highest)
+abbrev pub intervalGroundModel : IntervalGround → GroundOf intervals
+intervalGroundModel (OfTruth t) = ground-bool (truthOf t)
+intervalGroundModel (OfInterval lowest highest) = ground-num (interval lowest highest)
 
-abbrev pub outcomeModel : Outcome → OutcomeOf intervals
-outcomeModel (End v) = ended (groundOf v)
-outcomeModel (Stop x) = stopped (stopCause x) (stopPlace x)
+abbrev pub intervalOutcomeModel : IntervalOutcome → OutcomeOf intervals
+intervalOutcomeModel (End v) = ended (intervalGroundModel v)
+intervalOutcomeModel (Stop x) = stopped (stopCause x) (stopPlace x)
 
 -- "a wrong number of pairs, a lowest above its highest or a version 2 sheet is 35, after 16"
-abbrev pub rangeRefusalCause : Refusal → ℕ
-rangeRefusalCause (Run f) = refusalCause f
-rangeRefusalCause Pairs = 35
+abbrev pub intervalRefusalCause : IntervalRefusal → ℕ
+intervalRefusalCause (Run f) = refusalCause f
+intervalRefusalCause Pairs = 35
 
-abbrev pub rangeRefusalPlace : Refusal → ℕ
-rangeRefusalPlace (Run f) = refusalPlace f
-rangeRefusalPlace Pairs = 0
+abbrev pub intervalRefusalPlace : IntervalRefusal → ℕ
+intervalRefusalPlace (Run f) = refusalPlace f
+intervalRefusalPlace Pairs = 0
 
-abbrev pub rangeModel : RangeRun → AnswerOf intervals
-rangeModel (Refused f) = refused (rangeRefusalCause f) (rangeRefusalPlace f)
-rangeModel (Ran o m) = ran (outcomeModel o) (countsModel m)
+abbrev pub intervalModel : IntervalRun → AnswerOf intervals
+intervalModel (Refused f) = refused (intervalRefusalCause f) (intervalRefusalPlace f)
+intervalModel (Ran o m) = ran (intervalOutcomeModel o) (countsModel m)
 
 -- its answer and what the buffers then hold; an eager run has no frame store
-abbrev pub afterRange : RangeRun → (cells posts : List ℕ) → AfterOf intervals
-afterRange r cells posts = record { answer = rangeModel r; buffers = buffersOf cells posts [] }
+abbrev pub afterIntervals : IntervalRun → (cells posts : List ℕ) → AfterOf intervals
+afterIntervals r cells posts = record { answer = intervalModel r; buffers = buffersOf cells posts [] }

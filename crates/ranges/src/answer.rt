@@ -8,23 +8,26 @@ pub enum Truth {
     Undecided,
 }
 
-pub enum Value {
+pub enum IntervalGround {
     Truth(Truth),
     Interval { lowest: u16, highest: u16 },
 }
 
-pub enum Outcome {
-    End(Value),
+pub enum IntervalOutcome {
+    End(IntervalGround),
     Stop(Stop),
 }
 
 // The refusals of a plain run, then 35.
-pub enum Refusal {
-    Run(interp::answer::Refusal),
+pub enum IntervalRefusal {
+    Run(interp::answer::RunRefusal),
     Pairs,
 }
 
-pub enum RangeRun {
-    Refused(Refusal),
-    Ran { outcome: Outcome, made: Made },
+pub enum IntervalRun {
+    Refused(IntervalRefusal),
+    Ran {
+        outcome: IntervalOutcome,
+        made: Made,
+    },
 }

@@ -4,21 +4,21 @@ ghost use mathlib.Core.List.{[]};
 ghost use mathlib.Core.Path.{_≡_};
 ghost use lib.ListN.{length};
 ghost use Rattle.semantics.specs.Runs.{eager as eagerRunner};
-ghost use Rattle.intervals.specs.Runs.{rangeRun};
-ghost use Rattle.refinement.specs.Claims.{decidedBy, rangeOutcomeOf};
+ghost use Rattle.intervals.specs.Runs.{intervalRun};
+ghost use Rattle.refinement.specs.Claims.{decidedBy, intervalOutcomeOf};
 ghost use Rattle.interp.specs.Answers.{requestOf, buffersOf};
 ghost use Rattle.interp.specs.Internal.{Cleared};
-ghost use Rattle.ranges.specs.Answers.{truthOf, outcomeModel, afterRange};
+ghost use Rattle.ranges.specs.Answers.{truthOf, intervalOutcomeModel, afterIntervals};
 ghost use Rattle.ranges.specs.Internal.{PairedRun};
 
 pub mod answer;
 
 use access::interval_mode;
-use answer::Outcome;
-use answer::RangeRun;
-use answer::Refusal;
+use answer::IntervalGround;
+use answer::IntervalOutcome;
+use answer::IntervalRefusal;
+use answer::IntervalRun;
 use answer::Truth;
-use answer::Value;
 use interp::admission::admit;
 use interp::answer::Admission;
 use interp::evaluation::evaluate_words;
@@ -48,19 +48,21 @@ fn truth_of(payload: u16) -> Truth
 }
 
 // A root that gives a function is stuck.
-fn outcome_of(root: u16, word: u64) -> Outcome
-    ensures { λ r. ⌜ outcomeModel r ≡ rangeOutcomeOf root word ⌝ }
+fn outcome_of(root: u16, word: u64) -> IntervalOutcome
+    ensures { λ r. ⌜ intervalOutcomeModel r ≡ intervalOutcomeOf root word ⌝ }
 {
     let out = out_of(word);
     match out {
-        Out::Stop(x) => Outcome::Stop(x),
+        Out::Stop(x) => IntervalOutcome::Stop(x),
         Out::Val(v) => match v {
-            stores::state::Value::Bool(b) => { Outcome::End(Value::Truth(truth_of(payload(word)))) }
-            stores::state::Value::Num(n) => Outcome::End(Value::Interval {
+            stores::state::Value::Bool(b) => {
+                IntervalOutcome::End(IntervalGround::Truth(truth_of(payload(word))))
+            }
+            stores::state::Value::Num(n) => IntervalOutcome::End(IntervalGround::Interval {
                 lowest: payload(word),
                 highest: env(word),
             }),
-            stores::state::Value::Fun { body, env } => Outcome::Stop(Stop::Stuck(root)),
+            stores::state::Value::Fun { body, env } => IntervalOutcome::Stop(Stop::Stuck(root)),
         },
     }
 }
@@ -76,17 +78,17 @@ fn evaluate(
     enforce: bool,
     cells: &mut [u8],
     posts: &mut [u32],
-) -> RangeRun
+) -> IntervalRun
     requires { ⌜ PairedRun (now s) (now pairs) (now start) (length (now cells)) (length (now posts)) calls depth c ⌝ }
-    ensures { λ r. ⌜ afterRange r (now (cells .exit)) (now (posts .exit))
-        ≡ rangeRun (now (s .entry)) (now (pairs .entry)) (requestOf eagerRunner enforce (now (start .entry)) calls depth)
+    ensures { λ r. ⌜ afterIntervals r (now (cells .exit)) (now (posts .exit))
+        ≡ intervalRun (now (s .entry)) (now (pairs .entry)) (requestOf eagerRunner enforce (now (start .entry)) calls depth)
         (buffersOf (now (cells .entry)) (now (posts .entry)) []) ⌝ }
 {
     let root = c.terms - 1;
     let mut terms = [0; TERM_PLACES];
     decode_terms(s, c, &mut terms);
     lay_pairs(s, c, pairs, &mut terms);
-    let acc = start_access(s, start);
+    let access = start_access(s, start);
     let mut frames = [0; 1];
     let mut none = [0; 0];
     let t = evaluate_words(
@@ -97,12 +99,12 @@ fn evaluate(
         &mut frames,
         &mut none,
         interval_mode(enforce),
-        acc,
+        access,
         calls,
         depth,
     );
     let made = t.made;
-    RangeRun::Ran {
+    IntervalRun::Ran {
         outcome: outcome_of(root, t.word),
         made: made,
     }
@@ -119,14 +121,14 @@ fn run_admitted(
     enforce: bool,
     cells: &mut [u8],
     posts: &mut [u32],
-) -> RangeRun
+) -> IntervalRun
     requires { ⌜ Cleared (now s) (now start) (length (now cells)) (length (now posts)) true calls depth c ⌝ }
-    ensures { λ r. ⌜ afterRange r (now (cells .exit)) (now (posts .exit))
-        ≡ rangeRun (now (s .entry)) (now (pairs .entry)) (requestOf eagerRunner enforce (now (start .entry)) calls depth)
+    ensures { λ r. ⌜ afterIntervals r (now (cells .exit)) (now (posts .exit))
+        ≡ intervalRun (now (s .entry)) (now (pairs .entry)) (requestOf eagerRunner enforce (now (start .entry)) calls depth)
         (buffersOf (now (cells .entry)) (now (posts .entry)) []) ⌝ }
 {
     if !pairs_ok(s, c, pairs) {
-        return RangeRun::Refused(Refusal::Pairs);
+        return IntervalRun::Refused(IntervalRefusal::Pairs);
     }
     evaluate(s, c, pairs, start, calls, depth, enforce, cells, posts)
 }
@@ -141,14 +143,14 @@ pub fn run(
     enforce: bool,
     cells: &mut [u8],
     posts: &mut [u32],
-) -> RangeRun
-    ensures { λ r. ⌜ afterRange r (now (cells .exit)) (now (posts .exit))
-        ≡ rangeRun (now (sheet .entry)) (now (pairs .entry)) (requestOf eagerRunner enforce (now (start .entry)) calls depth)
+) -> IntervalRun
+    ensures { λ r. ⌜ afterIntervals r (now (cells .exit)) (now (posts .exit))
+        ≡ intervalRun (now (sheet .entry)) (now (pairs .entry)) (requestOf eagerRunner enforce (now (start .entry)) calls depth)
         (buffersOf (now (cells .entry)) (now (posts .entry)) []) ⌝ }
 {
     let a = admit(sheet, start, cells.len(), posts.len(), true, calls, depth);
     match a {
-        Admission::Refused(f) => RangeRun::Refused(Refusal::Run(f)),
+        Admission::Refused(f) => IntervalRun::Refused(IntervalRefusal::Run(f)),
         Admission::Admitted(c) => run_admitted(
             sheet,
             c,

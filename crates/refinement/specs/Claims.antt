@@ -20,7 +20,7 @@ use Rattle.stores.specs.declared.state.Value.the-variants.{Bool as VBool, Num, 
 use Rattle.stores.specs.declared.state.Out.{Out}
 use Rattle.stores.specs.declared.state.Out.the-variants.{Val, Stop as Stopped}
 use Rattle.stores.specs.Words.{sortOf, payloadOf, envOf, outBy, outOf}
-use Rattle.termtable.specs.Table.{wordKind, wordFirst, wordSecond, Holds}
+use Rattle.termtable.specs.Table.{wordKind, wordFirst, wordSecond, WordOf}
 use Rattle.machine.specs.Steps.{callsLeft, cellsMade, postsMade, saturatedMade, entriesMade, wrapped}
 use Rattle.machine.specs.Store.{Store, Done, storeOf}
 use Rattle.stores.specs.Stops.{stopCause, stopPlace}
@@ -37,21 +37,21 @@ abbrev pub decidedBy : (payload : ℕ) → Option Bool
 decidedBy n = cond (eqb n 2) none (some (ltb 0 n))
 
 -- what the word at the root tells of a run over ranges, by its parts; 02, W14: "An end is a range, or yes, no or undecided"
-abbrev pub rangeOutcomeIn : (root payload env : ℕ) → Out → OutcomeOf intervals
-rangeOutcomeIn r n e (Val (VBool b)) = ended (ground-bool (decidedBy n))
-rangeOutcomeIn r n e (Val (Num m)) = ended (ground-num (interval n e))
-rangeOutcomeIn r n e (Val (Fun body env)) = stopped 18 r
-rangeOutcomeIn r n e (Stopped x) = stopped (stopCause x) (stopPlace x)
+abbrev pub intervalOutcomeIn : (root payload env : ℕ) → Out → OutcomeOf intervals
+intervalOutcomeIn r n e (Val (VBool b)) = ended (ground-bool (decidedBy n))
+intervalOutcomeIn r n e (Val (Num m)) = ended (ground-num (interval n e))
+intervalOutcomeIn r n e (Val (Fun body env)) = stopped 18 r
+intervalOutcomeIn r n e (Stopped x) = stopped (stopCause x) (stopPlace x)
 
-unfoldable pub rangeOutcomeBy : (root sort payload env : ℕ) → OutcomeOf intervals
-rangeOutcomeBy r k n e = rangeOutcomeIn r n e (outBy k n e)
+unfoldable pub intervalOutcomeBy : (root sort payload env : ℕ) → OutcomeOf intervals
+intervalOutcomeBy r k n e = intervalOutcomeIn r n e (outBy k n e)
 
-abbrev pub rangeOutcomeOf : (root word : ℕ) → OutcomeOf intervals
-rangeOutcomeOf r w = rangeOutcomeBy r (sortOf w) (payloadOf w) (envOf w)
+abbrev pub intervalOutcomeOf : (root word : ℕ) → OutcomeOf intervals
+intervalOutcomeOf r w = intervalOutcomeBy r (sortOf w) (payloadOf w) (envOf w)
 
 -- the words of a sheet's terms, but that those of number terms have the pairs in the place of first and second
 pub record IntervalTable (s : List ℕ) (c : Counts) (pairs table : List ℕ) : Type 0 where
-  pub others : (t : ℕ) → t < terms s → (kindByte s t ≡ 1 → ⊥) → Holds s c t (getD table t 0)
+  pub others : (t : ℕ) → t < terms s → (kindByte s t ≡ 1 → ⊥) → WordOf s c t (getD table t 0)
   pub kind-is : (t : ℕ) → t < terms s → kindByte s t ≡ 1 → wordKind (getD table t 0) ≡ 1
   pub lowest-is : (t : ℕ) → t < terms s → kindByte s t ≡ 1 → wordFirst (getD table t 0) ≡ pairOf s pairs t .low
   pub highest-is : (t : ℕ) → t < terms s → kindByte s t ≡ 1 → wordSecond (getD table t 0) ≡ pairOf s pairs t .high
@@ -81,10 +81,10 @@ startOf mode q b t = storeOf (q .calls ∷ 0 ∷ 0 ∷ mode ∷ 0 ∷ 0 ∷ []) 
 pub record RefinedBy {D : Domain} (decodes : (root word : ℕ) → OutcomeOf D) (root : ℕ) (q : Request) (b : Buffers) (noted : List ℕ) (d : Done)
     (x : ResultOf D) (decided : List Event) : Type 0 where
   pub same-outcome : decodes root (d .out) ≡ outcome root x
-  pub same-counts : countsOf (q .calls) (d .store .n) ≡ wrappedCounts (counts q (sizes b) (left x))
+  pub same-counts : countsOf (q .calls) (d .store .counters) ≡ wrappedCounts (counts q (sizes b) (left x))
   pub same-posts : d .store .posts ≡ inOrder (left x) ++ drop (length (inOrder (left x))) (b .posts)
   pub same-sizes : sizesOf (d .store) ≡ sizes b
-  pub same-entries : entriesMade (d .store .n) ≡ length (recorded (length noted) decided)
+  pub same-entries : entriesMade (d .store .counters) ≡ length (recorded (length noted) decided)
   pub same-noted : d .store .noted ≡ withEntries (recorded (length noted) decided) noted
 
 -- of a plain run

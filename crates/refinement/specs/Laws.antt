@@ -8,5 +8,5 @@ pub mod Controls
 pub mod Simulation
 pub mod Trees
 pub mod Exact
-pub mod Ranges
+pub mod Intervals
 pub mod Runs

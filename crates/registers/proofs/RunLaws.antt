@@ -12,9 +12,9 @@ use Rattle.semantics.specs.Runs.{Buffers, areLargest, ran, After}
 use Rattle.interp.specs.Answers.{refusalCause, refusalPlace, runModel, outcomeModel, countsModel, buffersOf, after}
 use Rattle.interp.specs.declared.answer.Run.{Run}
 use Rattle.interp.specs.declared.answer.Run.the-variants.{Refused, Ran}
-use Rattle.interp.specs.declared.answer.Refusal as refusals
-use Rattle.interp.specs.declared.answer.Value.{Value}
-use Rattle.interp.specs.declared.answer.Value.the-variants.{Bool as VBool, Num}
+use Rattle.interp.specs.declared.answer.RunRefusal as refusals
+use Rattle.interp.specs.declared.answer.Ground.{Ground}
+use Rattle.interp.specs.declared.answer.Ground.the-variants.{Bool as VBool, Num}
 use Rattle.interp.specs.declared.answer.Outcome.{Outcome}
 use Rattle.interp.specs.declared.answer.Outcome.the-variants.{End, Stop as Stopped}
 use Rattle.interp.specs.declared.answer.Made.{Made}
@@ -22,9 +22,9 @@ use Rattle.stores.specs.Stops.{stopCause, stopPlace}
 use Rattle.stores.specs.declared.state.Stop.{Stop}
 use Rattle.numbers.specs.Codes.{CodeIs}
 use Rattle.numbers.specs.declared.Code.{Code}
-use Rattle.largest.specs.Largest.{request, largestRun}
+use Rattle.largest.specs.Largest.{eagerRequest, largestRun}
 use Rattle.largest.specs.Theorems.{largest-few}
-use Rattle.blocks.specs.Block.{allowance, RunRegisters, registersOf, without, afterRun, isKept, Register, kept, fixed}
+use Rattle.blocks.specs.Block.{maxAddress, allowance, RunRegisters, registersOf, without, afterRun, isKept, Register, kept, fixed}
 use Rattle.blocks.specs.Laws.{at-inside}
 use Rattle.blocks.specs.Internal.{keptOf}
 use Rattle.registers.specs.Writes.{Written, done, ranOn, commanded, writeTo, writeOf}
@@ -32,10 +32,10 @@ use Rattle.registers.specs.Internal.{endRegisters, FewCalls}
 
 -- its calls
 pub few-calls : (s : List ℕ) (calls : ℕ) (cells posts : List ℕ) (right : Bool) (x : Run) (cells′ posts′ : List ℕ)
-    → after x cells′ posts′ [] ≡ largestRun right s (request calls) (buffersOf cells posts []) → FewCalls x
+    → after x cells′ posts′ [] ≡ largestRun right s (eagerRequest calls) (buffersOf cells posts []) → FewCalls x
 few-calls s calls cells posts right (Refused f) cells′ posts′ e = tt
 few-calls s calls cells posts right (Ran o m) cells′ posts′ e =
-    largest-few s (request calls) (buffersOf cells posts []) right (outcomeModel o) (countsModel m) (sym (ap (λ (a : After). a .answer) e)) .calls-most
+    largest-few s (eagerRequest calls) (buffersOf cells posts []) right (outcomeModel o) (countsModel m) (sym (ap (λ (a : After). a .answer) e)) .calls-most
 
 -- ---- what its answer puts into the registers
 module _ (m : Made) where
@@ -45,7 +45,7 @@ module _ (m : Made) where
       (λ i. record { flag = 2; cause = k .cause-is i; value = 0; calls = m .calls; place = k .place-is i })
       ∙ sym (ap (λ (o : Outcome). registersOf (ran (outcomeModel o) (countsModel m))) e)
 
-  abbrev endsIn : Value → RunRegisters
+  abbrev endsIn : Ground → RunRegisters
   endsIn v = registersOf (ran (outcomeModel (End v)) (countsModel m))
 
   by-bool : (b : Bool) → endRegisters (boolByte b) (m .calls) ≡ endsIn (VBool b)
@@ -60,7 +60,7 @@ module _ (m : Made) where
       ≡ registersOf (ran (outcomeModel o) (countsModel m))
   num-registers e h = h ∙ sym (ap (λ (o : Outcome). registersOf (ran (outcomeModel o) (countsModel m))) e)
 
-pub refusal-registers : {x : Run} {f : refusals.Refusal} {c : Code} → x ≡ Refused f → CodeIs (refusalCause f) (refusalPlace f) c
+pub refusal-registers : {x : Run} {f : refusals.RunRefusal} {c : Code} → x ≡ Refused f → CodeIs (refusalCause f) (refusalPlace f) c
     → record { flag = 4; cause = c .cause; value = 0; calls = 0; place = c .place } ≡ registersOf (runModel x)
 refusal-registers e k =
     (λ i. record { flag = 4; cause = k .cause-is i; value = 0; calls = 0; place = k .place-is i }) ∙ sym (ap (λ (r : Run). registersOf (runModel r)) e)
@@ -74,11 +74,11 @@ module _ (block s cells posts : List ℕ) (v : ℕ) where
   not-run ne = sym (ap (λ (x : Bool). commanded x block s B) (ne-eqb v 1 ne))
 
   pub has-run : v ≡ 1 → (x : Run) {calls : ℕ} {cells′ posts′ : List ℕ} {t : RunRegisters} {block′ : List ℕ} → calls ≡ allowance block
-      → after x cells′ posts′ [] ≡ largestRun (areLargest B) s (request calls) B → t ≡ registersOf (runModel x) → block′ ≡ afterRun block t
+      → after x cells′ posts′ [] ≡ largestRun (areLargest B) s (eagerRequest calls) B → t ≡ registersOf (runModel x) → block′ ≡ afterRun block t
       → done block′ (buffersOf cells′ posts′ []) ≡ commanded (eqb v 1) block s B
   has-run e x {cells′ = cells′} {posts′ = posts′} f g h k =
       (λ i. done ((k ∙ ap (afterRun block) h) i) (buffersOf cells′ posts′ []))
-      ∙ ap (ranOn block) (g ∙ ap (λ (n : ℕ). largestRun (areLargest B) s (request n) B) f)
+      ∙ ap (ranOn block) (g ∙ ap (λ (n : ℕ). largestRun (areLargest B) s (eagerRequest n) B) f)
       ∙ sym (ap (λ (x : Bool). commanded x block s B) (eq-eqb v 1 e))
 
   module _ (a : ℕ) where
@@ -92,7 +92,7 @@ module _ (block s cells posts : List ℕ) (v : ℕ) where
     keeps true = refl
     keeps false = refl
 
-    pub to-kept : {block′ : List ℕ} → 2 ≤ a → a ≤ 15 → block′ ≡ keptOf (isKept a) block a v → done block′ B ≡ writeOf block a v s B
+    pub to-kept : {block′ : List ℕ} → 2 ≤ a → a ≤ maxAddress → block′ ≡ keptOf (isKept a) block a v → done block′ B ≡ writeOf block a v s B
     to-kept l h e =
         ap (λ (x : List ℕ). done x B) e ∙ keeps (isKept a)
         ∙ sym (ap (λ (r : Register). writeTo r block a v s B) (at-inside a l h))

@@ -13,15 +13,15 @@ use borrow.Author.Tests.{leb-true, ne-eqb}
 use Rattle.privileges.specs.Booleans.{and-left, and-right}
 use Rattle.program.specs.Bytes.{byte}
 use Rattle.semantics.specs.Runs.{Buffers, areLargest, refused}
-use Rattle.largest.specs.Largest.{request}
+use Rattle.largest.specs.Largest.{eagerRequest}
 use Rattle.largest.specs.Theorems.{largest-untouched}
-use Rattle.blocks.specs.Block.{newBlock, allowance, RunRegisters, registersOf, without, afterRun, access-refused, isKept, Register, command, status, kept, fixed, absent, registerAt}
+use Rattle.blocks.specs.Block.{blockBytes, maxAddress, newBlock, allowance, RunRegisters, registersOf, without, afterRun, access-refused, isKept, Register, command, status, kept, fixed, absent, registerAt}
 use Rattle.blocks.specs.Laws.{at-kept, at-fixed, at-absent}
 use Rattle.blocks.specs.Theorems.{run-keeps}
 use Rattle.registers.specs.Writes.{blockRun, done, ranOn, commanded, writeTo, writeOf}
 
 -- ---- "An address above 15 is answered with 23 and leaves the block."
-pub absent-written : (block : List ℕ) (a : ℕ) → 15 < a → (v : ℕ) (s : List ℕ) (b : Buffers)
+pub absent-written : (block : List ℕ) (a : ℕ) → maxAddress < a → (v : ℕ) (s : List ℕ) (b : Buffers)
     → writeOf block a v s b ≡ record { access = access-refused 23 0; block = block; buffers = b }
 absent-written block a above v s b = ap (λ (r : Register). writeTo r block a v s b) (at-absent a above)
 
@@ -36,7 +36,7 @@ module _ (block : List ℕ) (v : ℕ) (s : List ℕ) (b : Buffers) where
   pub two-unchanged : writeOf block 2 v s b ≡ done block b
   two-unchanged = refl
 
-  pub six-unchanged : (a : ℕ) → 6 ≤ a → a ≤ 15 → writeOf block a v s b ≡ done block b
+  pub six-unchanged : (a : ℕ) → 6 ≤ a → a ≤ maxAddress → writeOf block a v s b ≡ done block b
   six-unchanged a h l = ap (λ (r : Register). writeTo r block a v s b) (at-fixed a h l)
 
 -- ---- "3 to 5 keep what is written": by every sequence of writes that does not write them, with its runs
@@ -73,7 +73,7 @@ module _ (k : ℕ) (from : 3 ≤ k) (to : k ≤ 5) where
       survives (writeOf block (w .address) (w .value) (w .sheet) (w .buffers) .block) rest
       ∙ write-keeps (registerAt (w .address)) block (w .address) (w .value) (w .sheet) (w .buffers) ne
 
-  pub written-survives : (block : List ℕ) → length block ≡ 16 → (v : ℕ) (s : List ℕ) (b : Buffers) {ws : List Write} → Spares k ws
+  pub written-survives : (block : List ℕ) → length block ≡ blockBytes → (v : ℕ) (s : List ℕ) (b : Buffers) {ws : List Write} → Spares k ws
       → byte (afterAll (writeOf block k v s b .block) ws) k ≡ v
   written-survives block size v s b spared =
       survives (writeOf block k v s b .block) spared ∙ ap (λ (r : Register). byte (writeTo r block k v s b .block) k) (at-kept k from to)
@@ -91,7 +91,7 @@ module _ (k : ℕ) (apart : (a : ℕ) → 1 ≤ a → a ≤ 5 → k ≡ a → �
   commanded-zero false block s b e = e
 
   written-zero : (block : List ℕ) (a v : ℕ) (s : List ℕ) (b : Buffers) → byte block k ≡ 0 → byte (writeOf block a v s b .block) k ≡ 0
-  written-zero block a v s b e = go (eqb a 0) (eqb a 1) (leb a 15) (isKept a) refl
+  written-zero block a v s b e = go (eqb a 0) (eqb a 1) (leb a maxAddress) (isKept a) refl
     where
       go : (x y z u : Bool) → isKept a ≡ u
           → byte (writeTo (cond x command (cond y status (cond z (cond u kept fixed) absent))) block a v s b .block) k ≡ 0
@@ -114,7 +114,7 @@ pub command-reads-zero : (ws : List Write) → byte (afterAll newBlock ws) 0 ≡
 command-reads-zero ws = stays-zero 0 (λ a h l e. omega (arith, h, e)) (λ block t e. refl) ws newBlock refl
 
 -- the last four addresses
-from-twelve : (P : ℕ → Type 0) → P 12 → P 13 → P 14 → P 15 → (k : ℕ) → 12 ≤ k → k ≤ 15 → P k
+from-twelve : (P : ℕ → Type 0) → P 12 → P 13 → P 14 → P 15 → (k : ℕ) → 12 ≤ k → k ≤ maxAddress → P k
 from-twelve P p q r s k h l = go (ℕ-discrete k 12) (ℕ-discrete k 13) (ℕ-discrete k 14)
   where
     go : Dec (k ≡ 12) → Dec (k ≡ 13) → Dec (k ≡ 14) → P k
@@ -123,7 +123,7 @@ from-twelve P p q r s k h l = go (ℕ-discrete k 12) (ℕ-discrete k 13) (ℕ-di
     go (no a) (no b) (yes e) = subst P (sym e) r
     go (no a) (no b) (no c) = let e : k ≡ 15 = omega arith in subst P (sym e) s
 
-pub rest-zero : (ws : List Write) (k : ℕ) → 12 ≤ k → k ≤ 15 → byte (afterAll newBlock ws) k ≡ 0
+pub rest-zero : (ws : List Write) (k : ℕ) → 12 ≤ k → k ≤ maxAddress → byte (afterAll newBlock ws) k ≡ 0
 rest-zero ws = from-twelve (λ k. byte (afterAll newBlock ws) k ≡ 0)
     (stays-zero 12 (λ a h l e. omega (arith, l, e)) (λ block t e. e) ws newBlock refl)
     (stays-zero 13 (λ a h l e. omega (arith, l, e)) (λ block t e. e) ws newBlock refl)
@@ -143,23 +143,23 @@ module _ (block : List ℕ) (a v : ℕ) (s : List ℕ) (b : Buffers) where
 
   pub write-untouched : (a ≡ 0 → ⊥) → writeOf block a v s b .buffers ≡ b
   write-untouched ne =
-      ap (λ (x : Bool). writeTo (cond x command (beside (eqb a 1) (leb a 15) (isKept a))) block a v s b .buffers) (ne-eqb a 0 ne)
-      ∙ beside-untouched (eqb a 1) (leb a 15) (isKept a)
+      ap (λ (x : Bool). writeTo (cond x command (beside (eqb a 1) (leb a maxAddress) (isKept a))) block a v s b .buffers) (ne-eqb a 0 ne)
+      ∙ beside-untouched (eqb a 1) (leb a maxAddress) (isKept a)
 
 pub refusal-untouched : (block s : List ℕ) (b : Buffers) (c p : ℕ) → blockRun block s b .answer ≡ refused c p → writeOf block 0 1 s b .buffers ≡ b
-refusal-untouched block s b c p e = largest-untouched s (request (allowance block)) b (areLargest b) c p e
+refusal-untouched block s b c p e = largest-untouched s (eagerRequest (allowance block)) b (areLargest b) c p e
 
 -- ---- a block keeps its 16 bytes
-command-length : (x : Bool) (block s : List ℕ) (b : Buffers) → length block ≡ 16 → length (commanded x block s b .block) ≡ 16
+command-length : (x : Bool) (block s : List ℕ) (b : Buffers) → length block ≡ blockBytes → length (commanded x block s b .block) ≡ 16
 command-length true block s b e = refl
 command-length false block s b e = e
 
-write-length : (r : Register) (block : List ℕ) (a v : ℕ) (s : List ℕ) (b : Buffers) → length block ≡ 16 → length (writeTo r block a v s b .block) ≡ 16
+write-length : (r : Register) (block : List ℕ) (a v : ℕ) (s : List ℕ) (b : Buffers) → length block ≡ blockBytes → length (writeTo r block a v s b .block) ≡ 16
 write-length command block a v s b e = command-length (eqb v 1) block s b e
 write-length status block a v s b e = length-set block 1 (without (byte block 1) v) ∙ e
 write-length kept block a v s b e = length-set block a v ∙ e
 write-length fixed block a v s b e = e
 write-length absent block a v s b e = e
 
-pub length-kept : (block : List ℕ) → length block ≡ 16 → (a v : ℕ) (s : List ℕ) (b : Buffers) → length (writeOf block a v s b .block) ≡ 16
+pub length-kept : (block : List ℕ) → length block ≡ blockBytes → (a v : ℕ) (s : List ℕ) (b : Buffers) → length (writeOf block a v s b .block) ≡ 16
 length-kept block e a v s b = write-length (registerAt a) block a v s b e

@@ -6,12 +6,12 @@ use lib.Dec.{eqb}
 use lib.ListN.{set}
 use Rattle.program.specs.Bytes.{byte}
 use Rattle.semantics.specs.Runs.{Buffers, areLargest, After}
-use Rattle.largest.specs.Largest.{request, largestRun}
+use Rattle.largest.specs.Largest.{eagerRequest, largestRun}
 use Rattle.blocks.specs.Block.{allowance, registersOf, without, afterRun, Access, access-done, access-refused, Register, command, status, kept, fixed, absent, registerAt}
 
 -- "with 100 open calls and the largest buffers, which are lent"
 abbrev pub blockRun : (block s : List ℕ) → Buffers → After
-blockRun block s b = largestRun (areLargest b) s (request (allowance block)) b
+blockRun block s b = largestRun (areLargest b) s (eagerRequest (allowance block)) b
 
 -- what a write answers, and what it leaves
 pub record Written : Type 0 where

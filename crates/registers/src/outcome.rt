@@ -8,10 +8,10 @@ ghost use Rattle.blocks.specs.Block.{registersOf};
 ghost use Rattle.blocks.specs.Internal.{registersModel};
 ghost use Rattle.registers.specs.Internal.{endRegisters, FewCalls};
 use blocks::block::RunRegisters;
+use interp::answer::Ground;
 use interp::answer::Made;
 use interp::answer::Outcome;
 use interp::answer::Run;
-use interp::answer::Value;
 
 fn ended(value: u16, calls: u16) -> RunRegisters
     ensures { λ r. ⌜ registersModel r ≡ endRegisters value calls ⌝ }
@@ -42,8 +42,8 @@ fn of_outcome(o: Outcome, m: Made) -> RunRegisters
             }
         }
         Outcome::End(v) => match v {
-            Value::Bool(b) => ended(b as u16, calls),
-            Value::Num(n) => ended(n, calls),
+            Ground::Bool(b) => ended(b as u16, calls),
+            Ground::Num(n) => ended(n, calls),
         },
     }
 }

@@ -9,13 +9,13 @@ use lib.ListN.{length, getD, set}
 use lib.Seq.{getD-set-same, getD-set-other}
 use Rattle.erasure.specs.Kept.{keptBelow}
 use Rattle.erasure.specs.Laws.Kept.{kept-none, kept-yes, kept-no}
-use Rattle.renumbering.specs.Internal.{Table}
+use Rattle.renumbering.specs.Internal.{Tabulated}
 
 module _ (f : ℕ → ℕ) (l : List ℕ) where
-  pub table-none : Table f l 0
+  pub table-none : Tabulated f l 0
   table-none = record { each = λ x h. absurd (omega arith) }
 
-  pub table-more : (n v : ℕ) → n < length l → v ≡ f n → Table f l n → Table f (set l n v) (n + 1)
+  pub table-more : (n v : ℕ) → n < length l → v ≡ f n → Tabulated f l n → Tabulated f (set l n v) (n + 1)
   table-more n v h e T = record { each = go }
     where
       go : (x : ℕ) → x < n + 1 → getD (set l n v) x 0 ≡ f x
@@ -24,7 +24,7 @@ module _ (f : ℕ → ℕ) (l : List ℕ) where
         | no q ↦ getD-set-other l n x v 0 q ∙ T .each x (omega arith)
       ]
 
-  pub table-whole : {n m : ℕ} → n ≡ m → Table f l n → Table f l m
+  pub table-whole : {n m : ℕ} → n ≡ m → Tabulated f l n → Tabulated f l m
   table-whole e T = record { each = λ x h. T .each x (omega arith) }
 
 -- ---- how many are kept
@@ -43,12 +43,12 @@ count-none keep = sym (kept-none keep)
 
 -- ---- a loop over a table
 -- it has room for so many entries, and has the new numbers of the first t of all n; count of these are kept
-pub record Numbered (keep : ℕ → Bool) (new : ℕ → ℕ) (all places : ℕ) (l : List ℕ) (n count t : ℕ) : Type 0 where
+pub record NumberedBelow (keep : ℕ → Bool) (new : ℕ → ℕ) (all places : ℕ) (l : List ℕ) (n count t : ℕ) : Type 0 where
   pub below : t ≤ n
   pub all-are : n ≡ all
   pub room : length l ≡ places
   pub count-is : count ≡ keptBelow keep t
-  pub table : Table new l t
+  pub table : Tabulated new l t
 
 pub within : {t n m : ℕ} → t < n → n ≡ m → t < m
 within h e = omega arith

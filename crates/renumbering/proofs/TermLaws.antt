@@ -17,7 +17,7 @@ use Rattle.accessors.specs.Internal.{FormedSheet}
 use Rattle.erasure.specs.Kept.{keptBelow}
 use Rattle.erasure.specs.Lean.{idle, keptTerm, newTerm, untested, erasable}
 use Rattle.erasure.specs.Laws.Terms.{idle-kept, idle-gone, idle-child, term-kept, term-idle}
-use Rattle.renumbering.specs.Internal.{Table}
+use Rattle.renumbering.specs.Internal.{Tabulated}
 
 -- ---- a term whose record is read
 module _ {s : List ℕ} {c : Counts} (S : FormedSheet s c) {t : ℕ} (l : t < terms s) {x : TermRecord} (e : x ≡ termRecord s c t) where
@@ -41,7 +41,7 @@ module _ {s : List ℕ} {c : Counts} (S : FormedSheet s c) {t : ℕ} (l : t < te
     pub inner-below : b ≡ true → x .first < t
     inner-below h = rw term-read (idle-child s (S .well-formed) t l (sym idle-is ∙ h))
 
-    pub inner-number : b ≡ true → {m : List ℕ} → Table (newTerm s) m t → getD m (x .first) 0 ≡ newTerm s t
+    pub inner-number : b ≡ true → {m : List ℕ} → Tabulated (newTerm s) m t → getD m (x .first) 0 ≡ newTerm s t
     inner-number h T =
         T .each (x .first) (inner-below h) ∙ ap (λ (r : TermRecord). newTerm s (r .first)) term-read
         ∙ sym (term-idle s (S .well-formed) t l (sym idle-is ∙ h))

@@ -21,7 +21,7 @@ use Rattle.erasure.specs.Kept.{keptBelow}
 use Rattle.erasure.specs.Lean.{alike, orSelf, heads, head, keptType, newType}
 use Rattle.erasure.specs.Laws.Kept.{kept-strict}
 use Rattle.erasure.specs.Laws.Types.{lower, head-is, heads-head, head-of, head-kept, number-kept, number-merged, number-head}
-use Rattle.renumbering.specs.Internal.{Table, Merging, Pair, TypesReady}
+use Rattle.renumbering.specs.Internal.{Tabulated, MergingType, MergingPair, TypesReady}
 
 head-number : (s : List ℕ) (a b : ℕ) → head s a ≡ head s b → newType s a ≡ newType s b
 unfolding newType
@@ -32,17 +32,18 @@ pub type-read : {s : List ℕ} {c : Counts} → FormedSheet s c → {t : ℕ} �
 type-read {s} {c} S {t} l e = e ∙ type-laid s (S .well-formed .terms-inside) c (S .counts) t l
 
 -- its parts are lower than every type from t on, but for type 0
-pub record Parts (x : TypeRecord) (t : ℕ) : Type 0 where
+pub record PartsNumbered (x : TypeRecord) (t : ℕ) : Type 0 where
   pub arg-below : x .arg < t
   pub res-below : x .res < t
 
-pub parts-below : {s : List ℕ} {c : Counts} → FormedSheet s c → {u t : ℕ} → u < types s → u ≤ t → 1 ≤ t → {x : TypeRecord} → x ≡ typeRecord s c u → Parts x t
+pub parts-below : {s : List ℕ} {c : Counts} → FormedSheet s c → {u t : ℕ} → u < types s → u ≤ t → 1 ≤ t → {x : TypeRecord} → x ≡ typeRecord s c u
+    → PartsNumbered x t
 parts-below {s} S {u} {t} l h g e =
     let low = lower s (S .well-formed) u t l h g in
     rw (type-read S l e) (record { arg-below = low .arg; res-below = low .res })
 
 -- ---- two types of which the second is lower
-module _ {s l : List ℕ} {c : Counts} {t u : ℕ} (P : Pair s c l t u) where
+module _ {s l : List ℕ} {c : Counts} {t u : ℕ} (P : MergingPair s c l t u) where
   formed : WellFormed s
   formed = P .merging .sheet .well-formed
 
@@ -57,10 +58,10 @@ module _ {s l : List ℕ} {c : Counts} {t u : ℕ} (P : Pair s c l t u) where
       ∙ (λ k. eqb (sym (heads-head s formed t a i p) k) (sym (heads-head s formed t b i q) k))
 
   module _ {x y : TypeRecord} (ex : x ≡ typeRecord s c t) (ey : y ≡ typeRecord s c u) where
-    pub upper-parts : Parts x t
+    pub upper-parts : PartsNumbered x t
     upper-parts = parts-below (P .merging .sheet) (P .merging .inside) (omega arith) (omega (arith, P .below)) ex
 
-    pub lower-parts : Parts y t
+    pub lower-parts : PartsNumbered y t
     lower-parts = parts-below (P .merging .sheet) (omega (arith, P .below, P .merging .inside)) (omega (arith, P .below)) (omega (arith, P .below)) ey
 
     pub alike-is : (eqb (y .kind) (x .kind) && eqb (getD l (y .arg) 0) (getD l (x .arg) 0) && eqb (getD l (y .res) 0) (getD l (x .res) 0))
@@ -82,10 +83,10 @@ pub record NoneAlikeBelow (s : List ℕ) (t u : ℕ) : Type 0 where
   pub below : u ≤ t
   pub rest-is : lowest (differs s t) 0 t ≡ lowest (differs s t) u (t - u)
 
-pub merging : {s l : List ℕ} {c : Counts} {t n : ℕ} → FormedSheet s c → Table (newType s) l t → t < n → n ≡ types s → Merging s c l t
+pub merging : {s l : List ℕ} {c : Counts} {t n : ℕ} → FormedSheet s c → Tabulated (newType s) l t → t < n → n ≡ types s → MergingType s c l t
 merging S T h e = record { sheet = S; numbers = T; inside = omega arith }
 
-module _ {s l : List ℕ} {c : Counts} {t : ℕ} (M : Merging s c l t) where
+module _ {s l : List ℕ} {c : Counts} {t : ℕ} (M : MergingType s c l t) where
   pub found-head : {u : ℕ} → some u ≡ lowest (differs s t) 0 t → u ≡ head s t
   found-head e = ap (orSelf t) e ∙ sym (head-is s (M .sheet .well-formed) t (M .inside))
 

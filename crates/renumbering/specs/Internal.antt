@@ -11,33 +11,33 @@ use Rattle.renumbering.specs.declared.types.TypeNumbers.{TypeNumbers}
 use Rattle.renumbering.specs.declared.terms.TermNumbers.{TermNumbers}
 
 -- the first so many entries of a list are the values of a function
-pub record Table (f : ℕ → ℕ) (l : List ℕ) (count : ℕ) : Type 0 where
+pub record Tabulated (f : ℕ → ℕ) (l : List ℕ) (count : ℕ) : Type 0 where
   pub each : (x : ℕ) → x < count → getD l x 0 ≡ f x
 
 -- a type of a readable sheet, with the new numbers of those below it
-pub record Merging (s : List ℕ) (c : Counts) (l : List ℕ) (t : ℕ) : Type 0 where
+pub record MergingType (s : List ℕ) (c : Counts) (l : List ℕ) (t : ℕ) : Type 0 where
   pub sheet : FormedSheet s c
-  pub numbers : Table (newType s) l t
+  pub numbers : Tabulated (newType s) l t
   pub inside : t < types s
 
 -- and a lower one
-pub record Pair (s : List ℕ) (c : Counts) (l : List ℕ) (t u : ℕ) : Type 0 where
-  pub merging : Merging s c l t
+pub record MergingPair (s : List ℕ) (c : Counts) (l : List ℕ) (t u : ℕ) : Type 0 where
+  pub merging : MergingType s c l t
   pub below : u < t
 
 pub record TypesNumbered (s : List ℕ) (y : TypeNumbers) : Type 0 where
-  pub table : Table (newType s) (y .numbers) (types s)
+  pub table : Tabulated (newType s) (y .numbers) (types s)
   pub count-is : y .count ≡ newTypes s
 
 pub record TermsNumbered (s : List ℕ) (m : TermNumbers) : Type 0 where
-  pub table : Table (newTerm s) (m .numbers) (terms s)
+  pub table : Tabulated (newTerm s) (m .numbers) (terms s)
   pub count-is : m .count ≡ newTerms s
 
 -- all new numbers of types, and of terms
 pub record TypesReady (s : List ℕ) (c : Counts) (y : List ℕ) : Type 0 where
   pub sheet : FormedSheet s c
-  pub table : Table (newType s) y (types s)
+  pub table : Tabulated (newType s) y (types s)
 
 pub record TermsReady (s : List ℕ) (c : Counts) (y m : List ℕ) : Type 0 where
   pub types-ready : TypesReady s c y
-  pub table : Table (newTerm s) m (terms s)
+  pub table : Tabulated (newTerm s) m (terms s)

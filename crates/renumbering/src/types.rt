@@ -2,7 +2,7 @@
 ghost use mathlib.Core.Path.{_≡_};
 ghost use Rattle.accessors.specs.Internal.{FormedSheet};
 ghost use Rattle.erasure.specs.Lean.{alike as alikeOf, heads, head};
-ghost use Rattle.renumbering.specs.Internal.{Merging, Pair, TypesNumbered};
+ghost use Rattle.renumbering.specs.Internal.{MergingType, MergingPair, TypesNumbered};
 use accessors::type_record;
 use program::limits::TYPE_PLACES;
 use program::records::Counts;
@@ -16,7 +16,7 @@ pub struct TypeNumbers {
 // Whether the records of t and of the lower type u become equal. `numbers` has the new numbers of the types below t: two of them are equal where the
 // types are merged.
 fn alike(s: &[u8], c: Counts, numbers: &[u16; TYPE_PLACES], t: u16, u: u16) -> bool
-    requires { ⌜ Pair (now s) c (now numbers) t u ⌝ }
+    requires { ⌜ MergingPair (now s) c (now numbers) t u ⌝ }
     ensures { λ r. ⌜ r ≡ alikeOf (now (s .entry)) (heads (now (s .entry)) t) t u ⌝ }
 {
     let x = type_record(s, c, t);
@@ -30,7 +30,7 @@ fn alike(s: &[u8], c: Counts, numbers: &[u16; TYPE_PLACES], t: u16, u: u16) -> b
 
 // The type into which t is merged: the first whose record becomes equal to its own.
 fn first_alike(s: &[u8], c: Counts, numbers: &[u16; TYPE_PLACES], t: u16) -> u16
-    requires { ⌜ Merging (now s) c (now numbers) t ⌝ }
+    requires { ⌜ MergingType (now s) c (now numbers) t ⌝ }
     ensures { λ r. ⌜ r ≡ head (now (s .entry)) t ⌝ }
 {
     let mut u = 0;

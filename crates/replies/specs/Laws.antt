@@ -22,7 +22,7 @@ use Rattle.numbers.specs.declared.Code.{Code}
 use Rattle.interp.specs.declared.answer.Run.{Run}
 use Rattle.interp.specs.declared.answer.Run.the-variants.{Refused, Ran}
 use Rattle.replies.specs.Replies as replies
-use Rattle.replies.specs.Replies.{refusal, screened, decodeReply, unfit, runReply, written, writtenNine, notDone, replied, Called, called, left, leftAll}
+use Rattle.replies.specs.Replies.{refusal, screened, decodeReply, unfit, runReply, written, writtenNine, notDone, replied, Called, called, leftReply, leftAll}
 use Rattle.replies.specs.Internal.{replyOf, ofDecoded, Small, Put}
 use Rattle.replies.specs.declared.Reply.{Reply}
 
@@ -76,7 +76,7 @@ module _ (size least : ℕ) (list answer : List ℕ) where
 
 -- ---- the list is too short
 module _ (answer : List ℕ) (h : length answer < 8) where
-  pub short-answer : (r : replies.Reply) → left 3 answer ≡ replied answer r
+  pub short-answer : (r : replies.Reply) → leftReply 3 answer ≡ replied answer r
   short-answer r = λ i. cond (sym (lt-ltb (length answer) 8 h) i) (notDone answer) (written r answer)
 
   pub short-run : (b : Buffers) (a : After) → leftAll 3 answer b ≡ called answer b a
@@ -86,10 +86,10 @@ module _ (answer : List ℕ) (h : length answer < 8) where
 -- ---- it holds the reply
 module _ (answer : List ℕ) (h : 8 ≤ length answer) {x : Reply} {R : replies.Reply} (e : replyOf x ≡ R) {status : ℕ} {after : List ℕ}
     (put : Put x answer status after) where
-  pub in-place : left status after ≡ written R answer
-  in-place = (λ i. left (put .status-is i) (put .list-is i)) ∙ (λ i. written (e i) answer)
+  pub in-place : leftReply status after ≡ written R answer
+  in-place = (λ i. leftReply (put .status-is i) (put .list-is i)) ∙ (λ i. written (e i) answer)
 
-  pub given : left status after ≡ replied answer R
+  pub given : leftReply status after ≡ replied answer R
   given = in-place ∙ (λ i. cond (sym (le-ltb (length answer) 8 h) i) (notDone answer) (written R answer))
 
 module _ (answer : List ℕ) (h : 8 ≤ length answer) (b b′ : Buffers) (a : After) (r : Run) {x : Reply} (e : replyOf x ≡ runReply (runModel r)) {status : ℕ}
@@ -115,10 +115,10 @@ module _ (answer : List ℕ) (room : 9 ≤ length answer) (R : replies.Reply) (e
       ap (λ (r : List ℕ). set (R .numbers ++ r) 8 n) (drop-cons answer 8 0 (omega arith)) ∙ set-at (R .numbers) (getD answer 8 0) (drop 9 answer) n 8 eight
 
   pub in-nine : {x : Reply} → replyOf x ≡ R → {status : ℕ} {after : List ℕ} → Put x answer status after
-      → left status (set after 8 n) ≡ writtenNine R n answer
+      → leftReply status (set after 8 n) ≡ writtenNine R n answer
   in-nine e {status = status} {after = after} put =
-      let first : left status after ≡ written R answer = in-place answer (omega arith) e put in
-      (λ i. left (first i .status) (set (first i .numbers) 8 n)) ∙ ap (left (R .status)) nine
+      let first : leftReply status after ≡ written R answer = in-place answer (omega arith) e put in
+      (λ i. leftReply (first i .status) (set (first i .numbers) 8 n)) ∙ ap (leftReply (R .status)) nine
 
 -- ---- the reader's answer
 pub decoded-as : (s : List ℕ) (d : Decoded) → decodedModel d ≡ decoding s → Counted s d → ofDecoded d ≡ decodeReply s

@@ -90,8 +90,8 @@ abbrev pub enforces : (enforce : ℕ) → Bool
 enforces n = not (eqb n 0)
 
 -- what a C function returned and left, in these words
-abbrev pub left : (status : ℕ) (answer : List ℕ) → Reply
-left status answer = record { status = status; numbers = answer }
+abbrev pub leftReply : (status : ℕ) (answer : List ℕ) → Reply
+leftReply status answer = record { status = status; numbers = answer }
 
 abbrev pub leftAll : (status : ℕ) (answer : List ℕ) → Buffers → Called
-leftAll status answer b = record { reply = left status answer; buffers = b }
+leftAll status answer b = record { reply = leftReply status answer; buffers = b }

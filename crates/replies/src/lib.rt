@@ -7,10 +7,10 @@ ghost use Rattle.interp.specs.Answers.{runModel, outcomeModel, countsModel};
 ghost use Rattle.semantics.specs.Claims.{Few};
 ghost use Rattle.replies.specs.Replies.{answerNumbers, refusal, verdictReply, finished, runReply};
 ghost use Rattle.replies.specs.Internal.{replyOf, ofDecoded, withCounts, Small, Put};
+use interp::answer::Ground;
 use interp::answer::Made;
 use interp::answer::Outcome;
 use interp::answer::Run;
-use interp::answer::Value;
 use numbers::Code;
 use program::answer::Decoded;
 use typing::answer::Verdict;
@@ -97,8 +97,8 @@ fn of_outcome(o: Outcome, m: Made) -> Reply
     match o {
         Outcome::Stop(x) => counted(1, numbers::of_stop(x), 0, 0, m),
         Outcome::End(v) => match v {
-            Value::Bool(b) => counted(0, none, 0, b as u32, m),
-            Value::Num(n) => counted(0, none, 1, n as u32, m),
+            Ground::Bool(b) => counted(0, none, 0, b as u32, m),
+            Ground::Num(n) => counted(0, none, 1, n as u32, m),
         },
     }
 }

@@ -13,14 +13,14 @@ use Rattle.program.specs.Layout.{root}
 use Rattle.typing.specs.Verdicts.{Verdict, accepted, rejected, verdict}
 use Rattle.semantics.specs.Runs.{Buffers, Sizes, sizes, course, answerOf, After, run}
 use Rattle.interp.specs.Answers.{refusalCause, refusalPlace, outcomeModel, countsModel, runModel, buffersOf, after}
-use Rattle.interp.specs.declared.answer.Refusal.{Refusal}
+use Rattle.interp.specs.declared.answer.RunRefusal.{RunRefusal}
 use Rattle.interp.specs.declared.answer.Outcome.{Outcome}
 use Rattle.interp.specs.declared.answer.Made.{Made}
 use Rattle.interp.specs.declared.answer.Run.{Run}
 use Rattle.interp.specs.declared.answer.Run.the-variants.{Refused, Ran}
-use Rattle.text.specs.Text.{line, acceptanceText, outcomeText, countsText, refusalText, request, eagerSizes, answer, ofRun, ofVerdict, printed}
+use Rattle.text.specs.Text.{line, acceptanceText, outcomeText, countsText, refusalText, programRequest, eagerSizes, answer, ofRun, ofVerdict, printed}
 use Rattle.report.specs.Reports.{ReportAnswer, written, tooShort, unfit, Report, leaving, delivered, used, reported}
-use Rattle.drafts.specs.Internal.{contents, Holds, draftBytes}
+use Rattle.drafts.specs.Internal.{contents, DraftHolds, draftBytes}
 use Rattle.report.specs.Internal.{LargestBuffers, RunReported, Rendered, Delivered}
 use Rattle.report.specs.declared.answer.Reported.{Reported}
 use Rattle.report.specs.declared.answer.Reported.the-variants.{Written, TooShort, Unfit}
@@ -32,7 +32,7 @@ abbrev whole : ReportAnswer → Buffers → List ℕ → Report
 whole f b t = record { answer = f; buffers = b; text = t }
 
 -- the first i of n bytes are copied to the front of a text, which keeps its length and its other bytes
-pub record Copied (bytes old new : List ℕ) (n i : ℕ) : Type 0 where
+pub record ReportCopied (bytes old new : List ℕ) (n i : ℕ) : Type 0 where
   pub below : i ≤ n
   pub long : length new ≡ length old
   pub copied : new ≡ take i bytes ++ drop i old
@@ -61,14 +61,15 @@ module _ (d : Draft) (t : List ℕ) (size : length (d .bytes) ≡ draftBytes) (r
   }
 
 -- ---- the run of an accepted sheet
-module _ (s : List ℕ) (terms type needs : ℕ) (b : Buffers) (cells posts : List ℕ) {x : Run} (h : after x cells posts [] ≡ run s request b) where
-  reported-by : (z : Run) → x ≡ z → ofRun (acceptanceText terms type needs) (runModel z) ≡ ofRun (acceptanceText terms type needs) (run s request b .answer)
+module _ (s : List ℕ) (terms type needs : ℕ) (b : Buffers) (cells posts : List ℕ) {x : Run} (h : after x cells posts [] ≡ run s programRequest b) where
+  reported-by : (z : Run) → x ≡ z → ofRun (acceptanceText terms type needs) (runModel z)
+      ≡ ofRun (acceptanceText terms type needs) (run s programRequest b .answer)
   reported-by z e = ap (λ (y : Run). ofRun (acceptanceText terms type needs) (runModel y)) (sym e)
       ∙ ap (λ (a : After). ofRun (acceptanceText terms type needs) (a .answer)) h
 
   -- 53 bytes at most, as `refusal` tells
-  pub refused-reported : {f : Refusal} {n : Code} {r : Draft} → x ≡ Refused f → CodeIs (refusalCause f) (refusalPlace f) n
-      → Holds (refusalText (n .cause) (n .place)) 53 r → RunReported s terms type needs b (buffersOf cells posts []) r
+  pub refused-reported : {f : RunRefusal} {n : Code} {r : Draft} → x ≡ Refused f → CodeIs (refusalCause f) (refusalPlace f) n
+      → DraftHolds (refusalText (n .cause) (n .place)) 53 r → RunReported s terms type needs b (buffersOf cells posts []) r
   refused-reported {f = f} e k p = record {
     contents-are = p .contents-are ∙ (λ i. refusalText (k .cause-is i) (k .place-is i)) ∙ reported-by (Refused f) e;
     len-most = omega (arith, p .len-most);
@@ -77,7 +78,7 @@ module _ (s : List ℕ) (terms type needs : ℕ) (b : Buffers) (cells posts : Li
 
   -- 209 bytes at most, as `accepted` tells
   pub ran-reported : {o : Outcome} {m : Made} {r : Draft} → x ≡ Ran o m
-      → Holds (acceptanceText terms type needs ++ line (outcomeText (outcomeModel o) ++ countsText (countsModel m))) 209 r
+      → DraftHolds (acceptanceText terms type needs ++ line (outcomeText (outcomeModel o) ++ countsText (countsModel m))) 209 r
       → RunReported s terms type needs b (buffersOf cells posts []) r
   ran-reported {o = o} {m = m} e p = record {
     contents-are = p .contents-are ∙ reported-by (Ran o m) e;
@@ -87,7 +88,7 @@ module _ (s : List ℕ) (terms type needs : ℕ) (b : Buffers) (cells posts : Li
 
 -- ---- the text from the verdict
 module _ (s : List ℕ) (b : Buffers) where
-  pub rejected-reported : {c p : ℕ} {n : Code} {r : Draft} → rejected c p ≡ verdict s → CodeIs c p n → Holds (refusalText (n .cause) (n .place)) 53 r
+  pub rejected-reported : {c p : ℕ} {n : Code} {r : Draft} → rejected c p ≡ verdict s → CodeIs c p n → DraftHolds (refusalText (n .cause) (n .place)) 53 r
       → Rendered s b b r
   unfolding printed
   rejected-reported e k p = record {
@@ -97,9 +98,9 @@ module _ (s : List ℕ) (b : Buffers) where
   }
 
   -- the answer depends on the buffers' lengths alone
-  same-answer : sizes b ≡ eagerSizes → run s request b .answer ≡ answer s
+  same-answer : sizes b ≡ eagerSizes → run s programRequest b .answer ≡ answer s
   unfolding run
-  same-answer e = ap (λ (z : Sizes). answerOf (root s) request z (course s request z)) e
+  same-answer e = ap (λ (z : Sizes). answerOf (root s) programRequest z (course s programRequest z)) e
 
   pub accepted-reported : {n τ N : ℕ} {b′ : Buffers} {r : Draft} → accepted n τ N ≡ verdict s → sizes b ≡ eagerSizes → RunReported s n τ N b b′ r
       → Rendered s b b′ r

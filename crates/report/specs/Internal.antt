@@ -8,7 +8,7 @@ use Rattle.program.specs.Limits.{maxCells, maxPosts}
 use Rattle.typing.specs.Verdicts.{verdict}
 use Rattle.semantics.specs.Runs.{Buffers, run}
 use Rattle.interp.specs.Answers.{buffersOf}
-use Rattle.text.specs.Text.{acceptanceText, request, ofRun, printed}
+use Rattle.text.specs.Text.{acceptanceText, programRequest, ofRun, printed}
 use Rattle.drafts.specs.Internal.{contents, draftBytes}
 use Rattle.drafts.specs.declared.draft.Draft.{Draft}
 use Rattle.report.specs.Reports.{leaving, delivered, used}
@@ -21,9 +21,9 @@ pub record LargestBuffers (cells posts : List ℕ) : Type 0 where
 
 -- the text of an accepted sheet and its run, which leaves the buffers so
 pub record RunReported (s : List ℕ) (terms type needs : ℕ) (b b′ : Buffers) (r : Draft) : Type 0 where
-  pub contents-are : contents r ≡ ofRun (acceptanceText terms type needs) (run s request b .answer)
+  pub contents-are : contents r ≡ ofRun (acceptanceText terms type needs) (run s programRequest b .answer)
   pub len-most : r .len ≤ draftBytes
-  pub buffers-are : b′ ≡ run s request b .buffers
+  pub buffers-are : b′ ≡ run s programRequest b .buffers
 
 pub record Rendered (s : List ℕ) (b b′ : Buffers) (r : Draft) : Type 0 where
   pub contents-are : contents r ≡ printed s

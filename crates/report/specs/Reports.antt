@@ -7,7 +7,7 @@ use lib.ListN.{length, drop}
 use Rattle.typing.specs.Verdicts.{Verdict, accepted, rejected, verdict}
 use Rattle.semantics.specs.Runs.{Buffers, areLargest, run}
 use Rattle.interp.specs.Answers.{buffersOf}
-use Rattle.text.specs.Text.{request, printed}
+use Rattle.text.specs.Text.{programRequest, printed}
 use Rattle.report.specs.declared.answer.Reported.{Reported}
 use Rattle.report.specs.declared.answer.Reported.the-variants.{Written, TooShort, Unfit}
 
@@ -37,7 +37,7 @@ delivered false p text b = record { answer = tooShort (length p); buffers = b; t
 
 -- the buffers after a sheet with this verdict: a refused one is not run
 abbrev pub used : Verdict → List ℕ → Buffers → Buffers
-used (accepted n τ N) s b = run s request b .buffers
+used (accepted n τ N) s b = run s programRequest b .buffers
 used (rejected c p) s b = b
 
 -- "with the largest … buffers"

@@ -16,7 +16,6 @@ use Rattle.program.specs.Records.{typeRecord}
 use Rattle.program.specs.declared.records.Counts.{Counts}
 use Rattle.program.specs.declared.records.TermRecord.{TermRecord}
 use Rattle.program.specs.declared.records.TypeRecord.{TypeRecord}
-use Rattle.program.specs.Laws.Guards.{guard-low}
 use Rattle.typing.specs.Subtyping.{subtype, wider}
 use Rattle.typing.specs.Rules.{bound, postNeeds}
 use Rattle.typing.specs.Checking.{Judgement, typed, fault, _next_, require, variableType, joined}
@@ -24,7 +23,7 @@ use Rattle.program.specs.Search.{foundOf}
 use Rattle.accessors.specs.Internal.{FormedSheet}
 use Rattle.subtyping.specs.Laws.Records.{function-is, TypeParts, type-parts}
 use Rattle.rules.specs.Inference.{inferredModel}
-use Rattle.rules.specs.Steps.{leafBy, leafStep, checkStep, enableStep, signStep, postStep, GuardByte, testStep, ifStep, binaryStep, bodyStep, functionStep, letrecStep, callStep, resultOf}
+use Rattle.rules.specs.Steps.{leafBy, leafStep, checkStep, enableStep, signStep, postStep, testStep, ifStep, binaryStep, bodyStep, functionStep, letrecStep, callStep, binaryResult}
 use Rattle.typing.specs.declared.answer.Inferred.{Inferred}
 use Rattle.typing.specs.declared.answer.Inferred.the-variants.{Typed, Faulty}
 use Rattle.program.specs.declared.search.Found.{Found}
@@ -59,12 +58,12 @@ module _ (x : TermRecord) (t : ℕ) (Γ : List ℕ) where
     unfolding leafStep
     leaf-unbound e = ap (variableType t) (sym (ap foundOf e) ∙ p) ∙ other (x .kind) (variableType t (bound Γ (x .first))) n m
 
-pub result-less : (k : ℕ) → k ≡ 13 → 0 ≡ resultOf k
-unfolding resultOf
+pub result-less : (k : ℕ) → k ≡ 13 → 0 ≡ binaryResult k
+unfolding binaryResult
 result-less k e = rw e refl
 
-pub result-number : (k : ℕ) → (k ≡ 13 → ⊥) → 1 ≡ resultOf k
-unfolding resultOf
+pub result-number : (k : ℕ) → (k ≡ 13 → ⊥) → 1 ≡ binaryResult k
+unfolding binaryResult
 result-number k n = rw (ne-eqb k 13 n) refl
 
 -- ---- the guard of a post, by its byte
@@ -74,9 +73,6 @@ module _ (x : ℕ) where
 
   guard-some : (x ≡ noGuard → ⊥) → guardIn x ≡ some x
   guard-some n = rw (ne-eqb x noGuard n) refl
-
-  pub guard-privilege : GuardByte x → (x ≡ noGuard → ⊥) → x < 32
-  guard-privilege h n = guard-low x h x (guard-some n) .1
 
   pub unguarded-needs : (N : ℕ) → x ≡ noGuard → N ≡ postNeeds (guardIn x) N
   unguarded-needs N e = ap (λ (g : Option ℕ). postNeeds g N) (sym (guard-none e))
@@ -98,21 +94,22 @@ module _ {j : Inferred} {τ N : ℕ} (e : j ≡ Typed τ N) where
   unfolding checkStep
   check-typed p g = rw (e, g) refl
 
-  pub enable-removes : (may p : ℕ) {M : ℕ} {b : Bool} → b ≡ has p may → b ≡ true → M ≡ remove p N → typed τ M ≡ enableStep may p (inferredModel j)
+  pub enable-removes : (authorised p : ℕ) {M : ℕ} {b : Bool} → b ≡ has p authorised → b ≡ true → M ≡ remove p N
+      → typed τ M ≡ enableStep authorised p (inferredModel j)
   unfolding enableStep
-  enable-removes may p r h g = rw (e, ← r, h, g) refl
+  enable-removes authorised p r h g = rw (e, ← r, h, g) refl
 
-  pub enable-keeps : (may p : ℕ) {b : Bool} → b ≡ has p may → b ≡ false → typed τ N ≡ enableStep may p (inferredModel j)
+  pub enable-keeps : (authorised p : ℕ) {b : Bool} → b ≡ has p authorised → b ≡ false → typed τ N ≡ enableStep authorised p (inferredModel j)
   unfolding enableStep
-  enable-keeps may p r h = rw (e, ← r, h) refl
+  enable-keeps authorised p r h = rw (e, ← r, h) refl
 
-  pub sign-inside : (may t : ℕ) {b : Bool} → b ≡ subset N may → b ≡ true → typed τ N ≡ signStep may t (inferredModel j)
+  pub sign-inside : (authorised t : ℕ) {b : Bool} → b ≡ subset N authorised → b ≡ true → typed τ N ≡ signStep authorised t (inferredModel j)
   unfolding signStep
-  sign-inside may t r h = rw (e, ← r, h) refl
+  sign-inside authorised t r h = rw (e, ← r, h) refl
 
-  pub sign-outside : (may t : ℕ) {b : Bool} → b ≡ subset N may → b ≡ false → fault 11 t ≡ signStep may t (inferredModel j)
+  pub sign-outside : (authorised t : ℕ) {b : Bool} → b ≡ subset N authorised → b ≡ false → fault 11 t ≡ signStep authorised t (inferredModel j)
   unfolding signStep
-  sign-outside may t r h = rw (e, ← r, h) refl
+  sign-outside authorised t r h = rw (e, ← r, h) refl
 
   pub post-number : (g : Option ℕ) (t : ℕ) {M : ℕ} → τ ≡ 1 → M ≡ postNeeds g N → typed 1 M ≡ postStep g t (inferredModel j)
   unfolding postStep

@@ -3,10 +3,10 @@ use mathlib.Core.List.{List, [], _∷_}
 use Prim.Native.Nat.{ℕ, zero, suc, _+_, _<_, _≤_, max}
 use lib.ListN.{getD}
 use Rattle.program.specs.Limits.{maxNesting}
-use Rattle.program.specs.Layout.{principals, terms, authority, typesOf}
+use Rattle.program.specs.Layout.{principals, terms}
 use Rattle.program.specs.Terms.{Term, boolean, number, variable, function, letrec, call, if, check, enable, sign, test, binary, post, tree}
 use Rattle.program.specs.declared.records.Counts.{Counts}
-use Rattle.typing.specs.Checking.{Judgement, typed, fault, infer}
+use Rattle.typing.specs.Checking.{Judgement, typed, fault}
 use Rattle.typing.specs.Answers.{faultCause, faultPlace}
 use Rattle.typing.specs.declared.answer.Inferred.{Inferred}
 use Rattle.typing.specs.declared.answer.Inferred.the-variants.{Typed, Faulty}
@@ -24,9 +24,6 @@ lastFirst l (suc k) = getD l k 0 ∷ lastFirst l k
 
 abbrev pub context : Bindings → List ℕ
 context b = lastFirst (b .types) (b .len)
-
-unfoldable pub termJudgement : List ℕ → (Γ : List ℕ) (n t : ℕ) → Judgement
-termJudgement s Γ n t = infer (typesOf s) (authority s) Γ n (tree s t)
 
 -- how many bindings judging a term adds; of a term of a readable sheet it is less than the term's height (Laws/Room.antt)
 abbrev pub room : Term → ℕ

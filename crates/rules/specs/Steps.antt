@@ -1,12 +1,11 @@
 -- What the contracts of internal functions say. No reader of the public promise needs this file.
-use mathlib.Core.Bool.{true, cond, _&&_, _||_}
+use mathlib.Core.Bool.{cond, _&&_}
 use mathlib.Core.List.{List, _∷_}
 use mathlib.Core.Option.{Option}
 use mathlib.Core.Path.{_≡_}
 use Prim.Native.Nat.{ℕ, zero, suc, _+_}
-use lib.Dec.{leb, eqb}
+use lib.Dec.{eqb}
 use Rattle.privileges.specs.Sets.{has, union, insert, remove, subset}
-use Rattle.program.specs.Limits.{noGuard, maxPrivilege}
 use Rattle.program.specs.Layout.{Types}
 use Rattle.program.specs.declared.records.TermRecord.{TermRecord}
 use Rattle.program.specs.declared.records.TypeRecord.{TypeRecord}
@@ -33,18 +32,14 @@ leafStep x at Γ = leafBy (x .kind) (variableType at (bound Γ (x .first)))
 unfoldable pub checkStep : (p : ℕ) → Judgement → Judgement
 checkStep p j = j next λ τ N. typed τ (insert p N)
 
-unfoldable pub enableStep : (may p : ℕ) → Judgement → Judgement
-enableStep may p j = j next λ τ N. typed τ (cond (has p may) (remove p N) N)
+unfoldable pub enableStep : (authorised p : ℕ) → Judgement → Judgement
+enableStep authorised p j = j next λ τ N. typed τ (cond (has p authorised) (remove p N) N)
 
-unfoldable pub signStep : (may at : ℕ) → Judgement → Judgement
-signStep may at j = j next λ τ N. require (subset N may) 11 at (typed τ N)
+unfoldable pub signStep : (authorised at : ℕ) → Judgement → Judgement
+signStep authorised at j = j next λ τ N. require (subset N authorised) 11 at (typed τ N)
 
 unfoldable pub postStep : (guard : Option ℕ) (at : ℕ) → Judgement → Judgement
 postStep g at j = j next λ τ N. require (eqb τ 1) 10 at (typed 1 (postNeeds g N))
-
--- a readable sheet's guard byte: 02, W8, "a privilege 0 to 31, or 255 for none"
-abbrev pub GuardByte : ℕ → Type 0
-GuardByte x = (leb x maxPrivilege || eqb x noGuard) ≡ true
 
 unfoldable pub testStep : Types → (p at τ N : ℕ) → Judgement → Judgement
 testStep T p at τ N j = j next λ ρ M. joined at (wider T τ ρ) (union (remove p N) M)
@@ -69,5 +64,5 @@ callStep T at φ N j = j next λ α M.
     require (T .isFun φ) 24 at (require (subtype T α (T .arg φ)) 25 at (typed (T .res φ) (union (T .latent φ) (union N M))))
 
 -- the result of a sum (kind 11), a difference (12) or a less (13)
-unfoldable pub resultOf : (kind : ℕ) → ℕ
-resultOf k = cond (eqb k 13) 0 1
+unfoldable pub binaryResult : (kind : ℕ) → ℕ
+binaryResult k = cond (eqb k 13) 0 1

@@ -12,12 +12,15 @@ use subtyping::subtypes::subtype;
 use subtyping::subtypes::wider;
 use typing::answer::Fault;
 use typing::answer::Inferred;
+ghost use mathlib.Core.Bool.{true};
 ghost use mathlib.Core.Path.{_≡_};
 ghost use Prim.Native.Nat.{_<_, _≤_};
+ghost use Rattle.privileges.specs.Sets.{privilegeCount};
 ghost use Rattle.program.specs.Limits.{maxNesting};
 ghost use Rattle.program.specs.Layout.{typesOf, guardIn};
 ghost use Rattle.typing.specs.Rules.{postNeeds};
 ghost use Rattle.typing.specs.Checking.{joined as joinedOf};
+ghost use Rattle.program.specs.Decoding.{isGuard};
 ghost use Rattle.program.specs.Search.{foundOf};
 ghost use Rattle.subtyping.specs.Known.{KnownSheet, KnownSheetPrivilege, Answered};
 ghost use Rattle.rules.specs.Inference.{inferredModel, context};
@@ -27,7 +30,6 @@ ghost use Rattle.rules.specs.Steps.{
   enableStep,
   signStep,
   postStep,
-  GuardByte,
   testStep,
   ifStep,
   binaryStep,
@@ -35,7 +37,7 @@ ghost use Rattle.rules.specs.Steps.{
   functionStep,
   letrecStep,
   callStep,
-  resultOf,
+  binaryResult,
 };
 
 // A boolean, a number or a variable.
@@ -59,7 +61,7 @@ pub fn leaf(t: u16, x: TermRecord, b: Bindings) -> Inferred
 
 // Of a check of privilege p: its child's judgement.
 pub fn checked(p: u8, j: Inferred) -> Inferred
-    requires { ⌜ p < 32 ⌝ }
+    requires { ⌜ p < privilegeCount ⌝ }
     ensures { λ r. ⌜ inferredModel r ≡ checkStep p (inferredModel j) ⌝ }
 {
     let Inferred::Typed { ty, needs } = j else {
@@ -72,14 +74,14 @@ pub fn checked(p: u8, j: Inferred) -> Inferred
 }
 
 // Of an enable of privilege p, where the signing principal may use the set `may`: its child's judgement.
-pub fn enabled(may: u32, p: u8, j: Inferred) -> Inferred
-    requires { ⌜ p < 32 ⌝ }
-    ensures { λ r. ⌜ inferredModel r ≡ enableStep may p (inferredModel j) ⌝ }
+pub fn enabled(authorised: u32, p: u8, j: Inferred) -> Inferred
+    requires { ⌜ p < privilegeCount ⌝ }
+    ensures { λ r. ⌜ inferredModel r ≡ enableStep authorised p (inferredModel j) ⌝ }
 {
     let Inferred::Typed { ty, needs } = j else {
         return j;
     };
-    if privileges::contains(p, may) {
+    if privileges::contains(p, authorised) {
         return Inferred::Typed {
             ty: ty,
             needs: privileges::remove(p, needs),
@@ -92,13 +94,13 @@ pub fn enabled(may: u32, p: u8, j: Inferred) -> Inferred
 }
 
 // Of a sign, whose principal may use the set `may`: its child's judgement.
-pub fn signed(may: u32, t: u16, j: Inferred) -> Inferred
-    ensures { λ r. ⌜ inferredModel r ≡ signStep may t (inferredModel j) ⌝ }
+pub fn signed(authorised: u32, t: u16, j: Inferred) -> Inferred
+    ensures { λ r. ⌜ inferredModel r ≡ signStep authorised t (inferredModel j) ⌝ }
 {
     let Inferred::Typed { ty, needs } = j else {
         return j;
     };
-    if privileges::subset(needs, may) {
+    if privileges::subset(needs, authorised) {
         return Inferred::Typed {
             ty: ty,
             needs: needs,
@@ -109,7 +111,7 @@ pub fn signed(may: u32, t: u16, j: Inferred) -> Inferred
 
 // The needs of a post whose channel has this guard byte: its number's, with the privilege of the guard.
 fn guarded(guard: u8, needs: u32) -> u32
-    requires { ⌜ GuardByte guard ⌝ }
+    requires { ⌜ isGuard guard ≡ true ⌝ }
     ensures { λ r. ⌜ r ≡ postNeeds (guardIn guard) needs ⌝ }
 {
     if guard == NO_GUARD {
@@ -120,7 +122,7 @@ fn guarded(guard: u8, needs: u32) -> u32
 
 // Of a post whose channel has this guard byte: its child's judgement.
 pub fn posted(guard: u8, t: u16, j: Inferred) -> Inferred
-    requires { ⌜ GuardByte guard ⌝ }
+    requires { ⌜ isGuard guard ≡ true ⌝ }
     ensures { λ r. ⌜ inferredModel r ≡ postStep (guardIn guard) t (inferredModel j) ⌝ }
 {
     let Inferred::Typed { ty, needs } = j else {
@@ -202,7 +204,7 @@ pub fn branched(
 
 // Less gives a boolean, sum and difference a number.
 pub fn result_of(kind: u8) -> u16
-    ensures { λ r. ⌜ r ≡ resultOf kind ⌝ }
+    ensures { λ r. ⌜ r ≡ binaryResult kind ⌝ }
 {
     if kind == 13 { 0 } else { 1 }
 }

@@ -9,3 +9,4 @@ pub mod Posts
 pub mod Starting
 pub mod Tracing
 pub mod Refusals
+pub mod Related

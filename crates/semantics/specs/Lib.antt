@@ -7,7 +7,7 @@ pub mod Runs
 pub mod Recording
 pub mod Claims
 pub mod Blunders
-pub mod Decisions
+pub mod DecisionCases
 pub mod Laws
 pub mod Theorems
 pub mod RecordTheorems

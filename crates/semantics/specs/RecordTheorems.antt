@@ -8,6 +8,7 @@ use native.Mathlib.Omega.{arith}
 use lib.ListN.{length, take, drop, length-take, length-reverse}
 use lib.Seq.{length-front, length-take-le, take-nil, take-append-seam, drop-append-seam}
 use borrow.Author.Tests.{leb-true}
+use Rattle.privileges.specs.Sets.{privilegeCount}
 use Rattle.program.specs.Limits.{maxTerms, maxEvaluations, maxPrivilege}
 use Rattle.program.specs.Bytes.{Bytes}
 use Rattle.program.specs.Layout.{terms, root, small, kindByte}
@@ -135,19 +136,19 @@ abbrev pub IsDecision : (s : List ℕ) → Event → Type 0
 IsDecision s e = Decision s (e .term) (e .privilege)
 
 module _ (s : List ℕ) (w : WellFormed s) where
-  small-privilege : (t : ℕ) → t < terms s → (k : Kind) → kindOf (kindByte s t) ≡ k → format k .small ≡ privilege → small s t < 32
+  small-privilege : (t : ℕ) → t < terms s → (k : Kind) → kindOf (kindByte s t) ≡ k → format k .small ≡ privilege → small s t < privilegeCount
   small-privilege t l k e h =
       let ok : partOk s t (format k .small) (small s t) ≡ true =
       subst (λ (k : Kind). partOk s t (format k .small) (small s t) ≡ true) e (parts s w t l .small-ok) in
       omega (arith, leb-true (small s t) maxPrivilege (subst (λ (x : Part). partOk s t x (small s t) ≡ true) h ok))
 
   -- a term below 1,024 and a privilege below 32
-  decision-low : (t p : ℕ) → Decision s t p → (t < maxTerms) × (p < 32)
+  decision-low : (t p : ℕ) → Decision s t p → (t < maxTerms) × (p < privilegeCount)
   decision-low t p d = (omega (arith, d .a-term, w .terms-most), go (d .queries))
     where
-      go : Queries s t p → p < 32
-      go (by-check k e) = subst (λ (x : ℕ). x < 32) e (small-privilege t (d .a-term) Check k refl)
-      go (by-test k e) = subst (λ (x : ℕ). x < 32) e (small-privilege t (d .a-term) Test k refl)
+      go : Queries s t p → p < privilegeCount
+      go (by-check k e) = subst (λ (x : ℕ). x < privilegeCount) e (small-privilege t (d .a-term) Check k refl)
+      go (by-test k e) = subst (λ (x : ℕ). x < privilegeCount) e (small-privilege t (d .a-term) Test k refl)
       go (by-guard k e) =
           guard-below s w (small s t) (channel-below s w t (d .a-term) (ap (λ (k : Kind). format k .small) k)) p e
 

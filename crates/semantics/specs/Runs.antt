@@ -57,8 +57,11 @@ principalsKnown count (f ∷ fs) = ltb (f .principal) count && principalsKnown c
 -- ---- what turns a run back, "after 1 to 8 and in this order"; 02, W8: 31 comes "straight after 8 and before all else"
 
 -- "14 start stack: more than 16 frames, half a frame, or an unknown principal"
+abbrev pub stackOk : (principals : ℕ) (start : List ℕ) → Bool
+stackOk n start = leb (length start) maxStart && eqb (length start % 2) 0 && principalsKnown n (stack start)
+
 abbrev pub startOk : List ℕ → Request → Bool
-startOk s q = leb (length (q .start)) maxStart && eqb (length (q .start) % 2) 0 && principalsKnown (principals s) (stack (q .start))
+startOk s q = stackOk (principals s) (q .start)
 
 -- "a lazy run's frame store not of 6,496 32-bit numbers"
 abbrev pub framesOk : Runner → ℕ → Bool
@@ -173,9 +176,9 @@ abbrev pub inOrder : Budget → List ℕ
 inOrder (budget c d r l) = reverse (l .posts)
 
 -- the posts made, in order
-abbrev pub postsMade : {D : Domain} → CourseOf D → List ℕ
-postsMade (rejected c p) = []
-postsMade (started x) = inOrder (left x)
+abbrev pub coursePosts : {D : Domain} → CourseOf D → List ℕ
+coursePosts (rejected c p) = []
+coursePosts (started x) = inOrder (left x)
 
 abbrev pub zeros : ℕ → List ℕ
 zeros n = replicate n 0

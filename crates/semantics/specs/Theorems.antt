@@ -26,10 +26,10 @@ use Rattle.semantics.specs.Domains.{saturates, postEntry, single, standa
 use Rattle.semantics.specs.Values.{num, Env, Log, logPost, Budget, budget, Result, ends}
 use Rattle.semantics.specs.Meaning.{Control, Mode, plain, _then_, postValue, eventIf, listsChecks, evalWith, eval}
 use Rattle.semantics.specs.Access.{Frame, chk, privs}
-use Rattle.semantics.specs.Runs.{Runner, eager, lazy, Request, Buffers, Sizes, sizes, runConditions, evaluation, Course, rejected, started, settled, course, Outcome, stopped, RunCounts, refused, ran, left, counts, answerOf, inOrder, postsMade, zeros, clearedFrames, buffersAfter, After, run}
-use Rattle.semantics.specs.Laws.Bodies.{Stop}
+use Rattle.semantics.specs.Runs.{Runner, eager, lazy, Request, Buffers, Sizes, sizes, runConditions, evaluation, Course, rejected, started, settled, course, Outcome, stopped, RunCounts, refused, ran, left, counts, answerOf, inOrder, coursePosts, zeros, clearedFrames, buffersAfter, After, run}
+use Rattle.semantics.specs.Laws.Bodies.{StopsAt}
 use Rattle.semantics.specs.Claims.{Each, MayRefuse, at-check, at-guard, OnChannel, Few}
-use Rattle.semantics.specs.Laws.Stops.{Recorded, evaluation-stop, refusing, stop-single}
+use Rattle.semantics.specs.Laws.Stops.{StopRecord, evaluation-stop, refusing, stop-single}
 use Rattle.semantics.specs.Laws.Access.{privs-chk}
 use Rattle.semantics.specs.Laws.Saturation.{evaluation-load}
 use Rattle.semantics.specs.Laws.Starting.{clear-well, evaluation-spends, after-sizes, clear-few, countsIn}
@@ -101,7 +101,7 @@ module _ (s : List ℕ) (q : Request) (b : Buffers) where
 
 -- ---- By which causes a run stops
 module _ (s : List ℕ) (q : Request) (b : Buffers) where
-  stop-of : (c t : ℕ) (k : RunCounts) → run s q b .answer ≡ ran (stopped c t) k → Stop single (Recorded s) c t
+  stop-of : (c t : ℕ) (k : RunCounts) → run s q b .answer ≡ ran (stopped c t) k → StopsAt single (StopRecord s) c t
   stop-of c t k e =
       let st : Starts s q b = (_, _, e) in
       let same : ran _ _ ≡ ran (stopped c t) k = sym (answer-course s q b _ (course-clear s q b (starts-screened s q b st))) ∙ e in
@@ -118,9 +118,9 @@ module _ (s : List ℕ) (bytes : Bytes s) (q : Request) (b : Buffers) where
   refused-by-17 t k e = refusing s t (stop-of s q b 17 t k e)
 
   -- Every post is a channel of the sheet's version and a 16-bit number: "channel × 65,536 + number".
-  pub posts-on-channels : Starts s q b → Each (OnChannel s) (postsMade (course s q (sizes b)))
+  pub posts-on-channels : Starts s q b → Each (OnChannel s) (coursePosts (course s q (sizes b)))
   posts-on-channels st =
-      subst (λ (x : Course). Each (OnChannel s) (postsMade x)) (sym (course-clear s q b (starts-screened s q b st)))
+      subst (λ (x : Course). Each (OnChannel s) (coursePosts x)) (sym (course-clear s q b (starts-screened s q b st)))
       (evaluation-posts s bytes (started-well s q b st) (plain (q .enforce)) (q .runner) q (sizes b))
 
   -- "Version 1 posts on channel 0 without a guard": it is refused at checks alone, and its list holds 16-bit numbers.
@@ -131,9 +131,9 @@ module _ (s : List ℕ) (bytes : Bytes s) (q : Request) (b : Buffers) where
       go (at-check h) = h
       go (at-guard p h g) = absurd (Option·none-ne-some p (sym (without-guards s one .none-guarded (small s t)) ∙ g))
 
-  pub version-1-posts : version s ≡ 1 → Starts s q b → Each (λ x. x < 65536) (postsMade (course s q (sizes b)))
+  pub version-1-posts : version s ≡ 1 → Starts s q b → Each (λ x. x < 65536) (coursePosts (course s q (sizes b)))
   version-1-posts one st =
-      each-all (λ x. x < 65536) (λ x h. omega (arith, h .below, without-guards s one .one-channel)) (postsMade (course s q (sizes b))) (posts-on-channels st)
+      each-all (λ x. x < 65536) (λ x h. omega (arith, h .below, without-guards s one .one-channel)) (coursePosts (course s q (sizes b))) (posts-on-channels st)
 
 no-event : (listed : Bool) (at : ℕ) (grants : ℕ → Bool) → eventIf listed at grants none ≡ none
 no-event true at grants = refl
@@ -188,7 +188,7 @@ pub record Leaves (r : Runner) (made : List ℕ) (b d : Buffers) : Type 0 where
   -- an eager run has no frame store
   pub frames-kept : r ≡ eager → d .frames ≡ b .frames
 
-leaves : (r : Runner) (b : Buffers) (x : Result) → Leaves r (postsMade (started x)) b (buffersAfter r b (started x))
+leaves : (r : Runner) (b : Buffers) (x : Result) → Leaves r (coursePosts (started x)) b (buffersAfter r b (started x))
 leaves r b x =
     let made = inOrder (left x) in
     record {
@@ -204,11 +204,12 @@ posts-counted q z (budget c d r l) = sym (length-reverse (l .posts))
 
 -- The list is that of the posts made, in order, and the count told is its length.
 pub run-leaves : (s : List ℕ) (q : Request) (b : Buffers) (o : Outcome) (k : RunCounts) → run s q b .answer ≡ ran o k
-    → (k .posts ≡ length (postsMade (course s q (sizes b)))) × Leaves (q .runner) (postsMade (course s q (sizes b))) b (run s q b .buffers)
+    → (k .posts ≡ length (coursePosts (course s q (sizes b)))) × Leaves (q .runner) (coursePosts (course s q (sizes b))) b (run s q b .buffers)
 unfolding run
 run-leaves s q b o k e =
     let x = evaluation (q .runner) s q (sizes b) in
     let goes : started x ≡ course s q (sizes b) = sym (course-clear s q b (starts-screened s q b (o, k, e))) in (
-      ap (λ (c : RunCounts). c .posts) (sym (answer-counts s q b o k e)) ∙ posts-counted q (sizes b) (left x) ∙ ap (λ (c : Course). length (postsMade c)) goes,
-      subst (λ (c : Course). Leaves (q .runner) (postsMade c) b (buffersAfter (q .runner) b c)) goes (leaves (q .runner) b x),
+      ap (λ (c : RunCounts). c .posts) (sym (answer-counts s q b o k e)) ∙ posts-counted q (sizes b) (left x)
+          ∙ ap (λ (c : Course). length (coursePosts c)) goes,
+      subst (λ (c : Course). Leaves (q .runner) (coursePosts c) b (buffersAfter (q .runner) b c)) goes (leaves (q .runner) b x),
     )

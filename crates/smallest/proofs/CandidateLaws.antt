@@ -9,7 +9,7 @@ use Rattle.typing.specs.declared.answer.Fault.{Fault}
 use Rattle.typing.specs.declared.answer.Inferred.{Inferred}
 use Rattle.typing.specs.declared.answer.Inferred.the-variants.{Typed, Faulty}
 use Rattle.rules.specs.Inference.{inferredModel}
-use Rattle.subterms.specs.Smallest.{Refused, smaller}
+use Rattle.subterms.specs.Smallest.{FaultyTerm, smaller}
 use Rattle.smallest.specs.Internal.{candidateModel, ownOf, orOwn}
 use Rattle.smallest.specs.declared.candidates.Candidate.{Candidate}
 use Rattle.smallest.specs.declared.candidates.Candidate.the-variants as candidate
@@ -48,11 +48,11 @@ module _ (t n : ℕ) {j : Inferred} where
   pub own-faulty : {f : Fault} → j ≡ Faulty f → candidateModel (candidate.Refused t n f) ≡ ownOf t n (inferredModel j)
   own-faulty e = ap (λ (j : Inferred). ownOf t n (inferredModel j)) (sym e)
 
-pub none-below : (below : Candidate) {m own : Option Refused} → tagOf the-type below ≡ 0 → m ≡ own → m ≡ orOwn (candidateModel below) own
+pub none-below : (below : Candidate) {m own : Option FaultyTerm} → tagOf the-type below ≡ 0 → m ≡ own → m ≡ orOwn (candidateModel below) own
 none-below Nothing h q = q
 none-below (candidate.Refused t n f) h q = absurd (omega (arith, h))
 
 -- of what is refused below, and the term's own
-pub of-three : {m two below : Option Refused} (own a b c : Option Refused) → m ≡ orOwn below own → below ≡ smaller two c → two ≡ smaller a b
+pub of-three : {m two below : Option FaultyTerm} (own a b c : Option FaultyTerm) → m ≡ orOwn below own → below ≡ smaller two c → two ≡ smaller a b
     → m ≡ orOwn (smaller (smaller a b) c) own
-of-three own a b c p q r = p ∙ ap (λ (o : Option Refused). orOwn o own) (q ∙ ap (λ (o : Option Refused). smaller o c) r)
+of-three own a b c p q r = p ∙ ap (λ (o : Option FaultyTerm). orOwn o own) (q ∙ ap (λ (o : Option FaultyTerm). smaller o c) r)

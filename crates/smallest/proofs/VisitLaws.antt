@@ -18,15 +18,16 @@ use Rattle.typing.specs.Checking.{Judgement, typed, fault, infer}
 use Rattle.typing.specs.declared.answer.Inferred.{Inferred}
 use Rattle.typing.specs.declared.answer.Inferred.the-variants.{Typed}
 use Rattle.subtyping.specs.Known.{Known, Answered}
-use Rattle.rules.specs.Inference.{inferredModel, context, termJudgement}
+use Rattle.typing.specs.Verdicts.{termJudgement}
+use Rattle.rules.specs.Inference.{inferredModel, context}
 use Rattle.places.specs.Internal.{placedAt, ReadyPlace, childrenOf, childrenAt, childAt, Reached}
 use Rattle.places.specs.declared.Place.{Place}
 use Rattle.places.specs.declared.Child.{Child}
-use Rattle.subterms.specs.Smallest.{subterms, Refused, refusedAs, smaller, refusedAt, smallestOf}
+use Rattle.subterms.specs.Smallest.{subterms, FaultyTerm, refusedAs, smaller, refusedAt, smallestOf}
 use Rattle.subterms.specs.Laws.Subterms.{subtermsIn}
 use Rattle.subterms.specs.Laws.Order.{smaller-one, smaller-none, passed, smallest-append}
 use Rattle.subterms.specs.Laws.Pieces.{listed-count}
-use Rattle.smallest.specs.Internal.{ownOf, orOwn, judgementOf, Judgeable, sizeIn, VisitedAs, ConcludedFrom}
+use Rattle.smallest.specs.Internal.{ownOf, orOwn, placeJudgement, Judgeable, sizeIn, VisitedAs, ConcludedFrom}
 use Rattle.smallest.specs.declared.candidates.Candidate.the-variants.{Nothing}
 use Rattle.smallest.specs.declared.visit.Visited.{Visited}
 
@@ -49,24 +50,24 @@ module _ (T : Types) where
   size-is Γ n (post at ch g c) = omega arith
 
 module _ (T : Types) (A : ℕ → ℕ) where
-  abbrev smallestIn : Option Placed → Option Refused
+  abbrev smallestIn : Option Placed → Option FaultyTerm
   smallestIn o = smallestOf T A (subtermsIn T o)
 
-  abbrev below : (Γ : List ℕ) (n : ℕ) → Term → Option Refused
+  abbrev below : (Γ : List ℕ) (n : ℕ) → Term → Option FaultyTerm
   below Γ n c = smaller (smaller (smallestIn (childrenOf T (placed Γ n c) .first)) (smallestIn (childrenOf T (placed Γ n c) .second)))
       (smallestIn (childrenOf T (placed Γ n c) .third))
 
   -- one child, at the first or the second position, two, or three
   alone : (l : List Placed) → smallestOf T A l ≡ smaller (smaller (smallestOf T A l) none) none
-  alone l = sym (ap (λ (o : Option Refused). smaller o none) (smaller-none (smallestOf T A l)) ∙ smaller-none (smallestOf T A l))
+  alone l = sym (ap (λ (o : Option FaultyTerm). smaller o none) (smaller-none (smallestOf T A l)) ∙ smaller-none (smallestOf T A l))
 
   both : (l m : List Placed) → smallestOf T A (l ++ m) ≡ smaller (smaller (smallestOf T A l) (smallestOf T A m)) none
   both l m = smallest-append T A l m ∙ sym (smaller-none (smaller (smallestOf T A l) (smallestOf T A m)))
 
   three : (l m k : List Placed) → smallestOf T A (l ++ m ++ k) ≡ smaller (smaller (smallestOf T A l) (smallestOf T A m)) (smallestOf T A k)
-  three l m k = smallest-append T A (l ++ m) k ∙ ap (λ (o : Option Refused). smaller o (smallestOf T A k)) (smallest-append T A l m)
+  three l m k = smallest-append T A (l ++ m) k ∙ ap (λ (o : Option FaultyTerm). smaller o (smallestOf T A k)) (smallest-append T A l m)
 
-  own-then : (x : Placed) {o p : Option Refused} → o ≡ p → smaller (refusedAt T A x) o ≡ smaller (refusedAt T A x) p
+  own-then : (x : Placed) {o p : Option FaultyTerm} → o ≡ p → smaller (refusedAt T A x) o ≡ smaller (refusedAt T A x) p
   own-then x e = ap (smaller (refusedAt T A x)) e
 
   below-is : (Γ : List ℕ) (n : ℕ) (c : Term) → smallestOf T A (subterms T Γ n c) ≡ smaller (refusedAt T A (placed Γ n c)) (below Γ n c)
@@ -87,12 +88,12 @@ module _ (T : Types) (A : ℕ → ℕ) where
   below-is Γ n (post at ch g c) = own-then (placed Γ n (post at ch g c)) (alone (subterms T Γ n c))
 
   -- what is refused below a term has fewer terms in it
-  count-in : (o : Option Placed) (y : Refused) → smallestIn o ≡ some y → y .count ≤ sizeIn o
+  count-in : (o : Option Placed) (y : FaultyTerm) → smallestIn o ≡ some y → y .count ≤ sizeIn o
   unfolding smallestOf
   count-in none y e = absurd (Option·none-ne-some y e)
   count-in (some (placed Γ n c)) y e = listed-count T A Γ n c e
 
-  below-fewer : (Γ : List ℕ) (n : ℕ) (c : Term) (y : Refused) → below Γ n c ≡ some y → y .count < size c
+  below-fewer : (Γ : List ℕ) (n : ℕ) (c : Term) (y : FaultyTerm) → below Γ n c ≡ some y → y .count < size c
   below-fewer Γ n c y e =
       ⊎-elim
       (λ f. ⊎-elim (λ g. omega (arith, size-is T Γ n c, count-in (childrenOf T (placed Γ n c) .first) y g))
@@ -103,7 +104,7 @@ module _ (T : Types) (A : ℕ → ℕ) where
       (smallestIn (childrenOf T (placed Γ n c) .third)) y e)
 
   -- so the term itself counts only where none is
-  or-own : (c : Term) (j : Judgement) (o : Option Refused) → ((y : Refused) → o ≡ some y → y .count < size c)
+  or-own : (c : Term) (j : Judgement) (o : Option FaultyTerm) → ((y : FaultyTerm) → o ≡ some y → y .count < size c)
       → smaller (refusedAs c j) o ≡ orOwn o (refusedAs c j)
   or-own c (typed τ N) none h = refl
   or-own c (typed τ N) (some y) h = refl
@@ -156,7 +157,7 @@ module _ {s : List ℕ} {c : Counts} {at : Place} (R : ReadyPlace s c at) {i j k
   pub counts-fit : 1 + i .count + j .count + k .count ≤ maxTerms
   counts-fit = omega (arith, counts-are, size-most s (R .sheet .well-formed) (at .term) (R .inside))
 
-  pub found-there : {r : Inferred} {l‴ : List ℕ} → Answered (typesOf s) (inferredModel r) (judgementOf s at) l‴ → {x : Visited}
+  pub found-there : {r : Inferred} {l‴ : List ℕ} → Answered (typesOf s) (inferredModel r) (placeJudgement s at) l‴ → {x : Visited}
       → ConcludedFrom (at .term) r i j k x → VisitedAs s (some (placedAt s at)) x l‴
   unfolding termJudgement
   found-there {r} a {x} q =

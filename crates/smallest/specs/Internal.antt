@@ -12,11 +12,12 @@ use Rattle.typing.specs.Checking.{Judgement, typed, fault}
 use Rattle.typing.specs.Answers.{faultCause, faultPlace}
 use Rattle.typing.specs.declared.answer.Inferred.{Inferred}
 use Rattle.subtyping.specs.Known.{Known}
-use Rattle.rules.specs.Inference.{inferredModel, context, termJudgement}
+use Rattle.typing.specs.Verdicts.{termJudgement}
+use Rattle.rules.specs.Inference.{inferredModel, context}
 use Rattle.places.specs.Internal.{ReadyPlace, childrenAt}
 use Rattle.places.specs.declared.Place.{Place}
 use Rattle.places.specs.declared.Child.{Child}
-use Rattle.subterms.specs.Smallest.{Refused, smaller, smallestOf}
+use Rattle.subterms.specs.Smallest.{FaultyTerm, smaller, smallestOf}
 use Rattle.subterms.specs.Claims.{judgementAt}
 use Rattle.subterms.specs.Laws.Subterms.{subtermsIn}
 use Rattle.smallest.specs.declared.candidates.Candidate.{Candidate}
@@ -25,22 +26,22 @@ use Rattle.smallest.specs.declared.candidates.Candidate.the-variants.{No
 use Rattle.smallest.specs.declared.visit.Visited.{Visited}
 
 -- ---- candidates
-abbrev pub candidateModel : Candidate → Option Refused
+abbrev pub candidateModel : Candidate → Option FaultyTerm
 candidateModel Nothing = none
 candidateModel (candidate.Refused t n f) = some (record { term = t; count = n; cause = faultCause f; place = faultPlace f })
 
 -- term t with so many terms in it, if that is its judgement
-abbrev pub ownOf : (t count : ℕ) → Judgement → Option Refused
+abbrev pub ownOf : (t count : ℕ) → Judgement → Option FaultyTerm
 ownOf t n (typed τ N) = none
 ownOf t n (fault cause at) = some (record { term = t; count = n; cause = cause; place = at })
 
-abbrev pub orOwn : (below own : Option Refused) → Option Refused
+abbrev pub orOwn : (below own : Option FaultyTerm) → Option FaultyTerm
 orOwn none own = own
 orOwn (some x) own = some x
 
 -- ---- judgements
-abbrev pub judgementOf : List ℕ → Place → Judgement
-judgementOf s at = termJudgement s (context (at .bindings)) (at .principal) (at .term)
+abbrev pub placeJudgement : List ℕ → Place → Judgement
+placeJudgement s at = termJudgement s (context (at .bindings)) (at .principal) (at .term)
 
 -- a judgement is that of a child, if there is one
 abbrev pub Judges : List ℕ → Option Placed → Judgement → Type 0

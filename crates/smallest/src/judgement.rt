@@ -13,9 +13,9 @@ ghost use mathlib.Core.Path.{_≡_};
 ghost use Rattle.program.specs.Layout.{typesOf};
 ghost use Rattle.subtyping.specs.Known.{KnownSheet, KnownSheetPrivilege, Answered};
 ghost use Rattle.rules.specs.Inference.{inferredModel};
-ghost use Rattle.rules.specs.Steps.{letrecStep, callStep, ifStep, testStep, binaryStep, resultOf};
+ghost use Rattle.rules.specs.Steps.{letrecStep, callStep, ifStep, testStep, binaryStep, binaryResult};
 ghost use Rattle.typing.specs.Checking.{_next_};
-ghost use Rattle.smallest.specs.Internal.{Judgeable, judgementOf};
+ghost use Rattle.smallest.specs.Internal.{Judgeable, placeJudgement};
 
 // Of a letrec whose function's type has the record f: the body's judgement and the rest's.
 fn letrec(f: TypeRecord, t: u16, j: Inferred, k: Inferred) -> Inferred
@@ -80,7 +80,7 @@ fn test(s: &[u8], c: Counts, known: &mut Known, p: u8, t: u16, i: Inferred, j: I
 
 // Of an operation on numbers, by its kind: the judgements of the operands.
 fn binary(kind: u8, t: u16, i: Inferred, j: Inferred) -> Inferred
-    ensures { λ r. ⌜ inferredModel r ≡ (inferredModel i next λ τ N. binaryStep (resultOf kind) t τ N (inferredModel j)) ⌝ }
+    ensures { λ r. ⌜ inferredModel r ≡ (inferredModel i next λ τ N. binaryStep (binaryResult kind) t τ N (inferredModel j)) ⌝ }
 {
     let Inferred::Typed { ty, needs } = i else {
         return i;
@@ -100,7 +100,7 @@ pub fn judgement(
     k: Inferred,
 ) -> Inferred
     requires { ⌜ Judgeable (now s) c (now known) at i j k ⌝ }
-    ensures { λ r. ⌜ Answered (typesOf (now (s .entry))) (inferredModel r) (judgementOf (now (s .entry)) at) (now (known .exit)) ⌝ }
+    ensures { λ r. ⌜ Answered (typesOf (now (s .entry))) (inferredModel r) (placeJudgement (now (s .entry)) at) (now (known .exit)) ⌝ }
 {
     let t = at.term;
     let x = term(s, c, t);

@@ -14,7 +14,7 @@ use Rattle.typing.specs.Checking.{infer}
 use Rattle.typing.specs.Verdicts.{Verdict, accepted, rejected, verdict}
 use Rattle.semantics.specs.Meaning.{evalWith, apply, eval}
 use Rattle.semantics.specs.Access.{privs, addAuthorised}
-use Rattle.semantics.specs.Runs.{Runner, eager, lazy, Request, Buffers, Sizes, sizes, stack, course, ended, stopped, ground-num, RunCounts, Answer, ran, answerOf, postsMade, run}
+use Rattle.semantics.specs.Runs.{Runner, eager, lazy, Request, Buffers, Sizes, sizes, stack, course, ended, stopped, ground-num, RunCounts, Answer, ran, answerOf, coursePosts, run}
 use Rattle.soundness.specs.Claims.{postsOf}
 use Rattle.soundness.specs.Laws.Runs.{posts-listed}
 
@@ -199,7 +199,7 @@ observed b (granting s start set) = grants (privs (authority s) (stack start))
 -- the same from the buffers' lengths alone
 unfoldable pub observedBy : Sizes → Case → Observed
 observedBy z (deciding s v) = decided (verdict s)
-observedBy z (running s q a ps) = answered (answerOf (root s) q z (course s q z)) (postsMade (course s q z))
+observedBy z (running s q a ps) = answered (answerOf (root s) q z (course s q z)) (coursePosts (course s q z))
 observedBy z (granting s start set) = grants (privs (authority s) (stack start))
 
 observed-sizes : (b : Buffers) (c : Case) → observed b c ≡ observedBy (sizes b) c

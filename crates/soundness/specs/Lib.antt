@@ -5,4 +5,4 @@ pub mod Records
 pub mod Cases
 pub mod Pages
 pub mod Saturation
-pub mod Recorded
+pub mod RecordingCases

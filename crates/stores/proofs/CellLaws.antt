@@ -10,7 +10,7 @@ use lib.Dec.{ltb}
 use borrow.Author.Tests.{eq-eqb, ne-eqb, le-leb, lt-leb, le-ltb, lt-ltb, ltb-true, ltb-false}
 use Rattle.program.specs.Bytes.{word16}
 use Rattle.stores.specs.Words.{stopWord}
-use Rattle.stores.specs.Cells.{behindOf, walkOf, heldOf, lookOf, cellSet, madeWith, storeWith, Bound}
+use Rattle.stores.specs.Cells.{behindOf, walkOf, cellWord, lookOf, cellSet, madeWith, storeWith, Bound}
 
 module _ (cells : List ℕ) (e : ℕ) where
   pub behind-none : e ≡ 0 → 0 ≡ behindOf cells e
@@ -25,14 +25,14 @@ module _ (cells : List ℕ) (e : ℕ) where
   unfolding behindOf
   behind-in n h q = q ∙ sym (simp (ne-eqb e 0 n, le-leb (e * 8) (length cells) h))
 
-  pub held-out : length cells < e * 8 → 0 ≡ heldOf cells e
-  unfolding heldOf
-  held-out h = simp (lt-leb (e * 8) (length cells) h)
+  pub cell-outside : length cells < e * 8 → 0 ≡ cellWord cells e
+  unfolding cellWord
+  cell-outside h = simp (lt-leb (e * 8) (length cells) h)
 
-  pub held-in : {n m : ℕ} → e * 8 ≤ length cells → n ≡ word16 cells (e * 8 - 7) → m ≡ word16 cells (e * 8 - 5)
-      → getD cells (e * 8 - 8) 0 + 65536 * n + 4294967296 * m ≡ heldOf cells e
-  unfolding heldOf
-  held-in h p q = (λ i. getD cells (e * 8 - 8) 0 + 65536 * p i + 4294967296 * q i) ∙ sym (simp (le-leb (e * 8) (length cells) h))
+  pub cell-inside : {n m : ℕ} → e * 8 ≤ length cells → n ≡ word16 cells (e * 8 - 7) → m ≡ word16 cells (e * 8 - 5)
+      → getD cells (e * 8 - 8) 0 + 65536 * n + 4294967296 * m ≡ cellWord cells e
+  unfolding cellWord
+  cell-inside h p q = (λ i. getD cells (e * 8 - 8) 0 + 65536 * p i + 4294967296 * q i) ∙ sym (simp (le-leb (e * 8) (length cells) h))
 
 walk-end : (cells : List ℕ) (e left : ℕ) → left ≤ 0 → walkOf cells e left ≡ e
 unfolding walkOf
@@ -52,7 +52,7 @@ module _ (cells : List ℕ) (t env k e : ℕ) (p : e ≡ walkOf cells env k) whe
   unfolding lookOf
   look-none r q = q ∙ sym (simp (eq-eqb (walkOf cells env k) 0 (sym p ∙ r)))
 
-  pub look-some : {w : ℕ} → (e ≡ 0 → ⊥) → w ≡ heldOf cells e → w ≡ lookOf cells t env k
+  pub look-some : {w : ℕ} → (e ≡ 0 → ⊥) → w ≡ cellWord cells e → w ≡ lookOf cells t env k
   unfolding lookOf
   look-some ne q = simp (ne-eqb (walkOf cells env k) 0 (λ z. ne (p ∙ z))) (rw p at q)
 
@@ -88,7 +88,7 @@ module _ (made w behind : ℕ) (l : List ℕ) {r : ℕ} {l′ : List ℕ} (b : B
       go false e = absurd (n (by-room false e .0))
 
 -- so many are zero, and the others as they were
-pub record Cleared (old new : List ℕ) (i : ℕ) : Type 0 where
+pub record ClearedBelow (old new : List ℕ) (i : ℕ) : Type 0 where
   pub below : i ≤ length old
   pub long : length new ≡ length old
   pub cleared : new ≡ replicate i 0 ++ drop i old

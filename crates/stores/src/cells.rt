@@ -4,7 +4,7 @@ ghost use mathlib.Core.Path.{_≡_};
 ghost use Prim.Native.Nat.{_+_, _*_, _<_, _≤_};
 ghost use lib.ListN.{length};
 ghost use Rattle.program.specs.Bytes.{word16, withWord16};
-ghost use Rattle.stores.specs.Cells.{behindOf, walkOf, heldOf, lookOf, cellSet, nextCell, Bound, zerosLike};
+ghost use Rattle.stores.specs.Cells.{behindOf, walkOf, cellWord, lookOf, cellSet, nextCell, Bound, zerosLike};
 ghost use Rattle.stores.specs.Returns.{Returned};
 use crate::words;
 
@@ -38,9 +38,9 @@ fn behind(cells: &[u8], e: u16) -> u16
 }
 
 // The word in cell e.
-fn held(cells: &[u8], e: u16) -> u64
+fn cell_word(cells: &[u8], e: u16) -> u64
     requires { ⌜ 0 < e ⌝ }
-    ensures { λ r. ⌜ r ≡ heldOf (now (cells .entry)) e ⌝ }
+    ensures { λ r. ⌜ r ≡ cellWord (now (cells .entry)) e ⌝ }
 {
     let end = (e as usize) * 8;
     if cells.len() < end {
@@ -72,7 +72,7 @@ pub fn look(cells: &mut [u8], t: u16, env: u16, k: u16) -> u64
     if e == 0 {
         return words::stop(18, t);
     }
-    held(cells, e)
+    cell_word(cells, e)
 }
 
 // Cell number i, from 0, gets a word and the cell behind it.

@@ -18,9 +18,9 @@ use Rattle.program.specs.Laws.Types.{lower-types}
 use Rattle.program.specs.Laws.Trees.{program-standard}
 use Rattle.typing.specs.Places.{placed}
 use Rattle.typing.specs.Rules.{current, Derives}
-use Rattle.typing.specs.Checking.{Judgement, typed, fault, infer}
+use Rattle.typing.specs.Checking.{Judgement, typed, fault}
 use Rattle.typing.specs.Faults.{here}
-use Rattle.typing.specs.Verdicts.{Verdict, accepted, rejected, concluded, judgement, verdict}
+use Rattle.typing.specs.Verdicts.{Verdict, accepted, rejected, concluded, termJudgement, judgement, verdict}
 use Rattle.typing.specs.Theorems.{acceptance}
 use Rattle.typing.specs.Laws.Checking.{infer-derives, derives-least}
 use Rattle.typing.specs.Laws.Faults.{decoding-readers}
@@ -30,10 +30,6 @@ use Rattle.subterms.specs.Claims.{byRules, HasFault, has-fault, Stands}
 use Rattle.subterms.specs.Laws.Judgements.{ruled, within-fault}
 use Rattle.subterms.specs.Laws.Numbers.{number-stands, number-past, within-standard}
 use Rattle.subterms.specs.Laws.Standing.{place}
-
--- the judgement of term t in these bindings and under this principal
-abbrev pub judgementOf : List ℕ → (Γ : List ℕ) (n t : ℕ) → Judgement
-judgementOf s Γ n t = infer (typesOf s) (authority s) Γ n (tree s t)
 
 -- the verdict from what is told of the root: "13 type of the root" comes last
 abbrev pub concludedFrom : (terms root : ℕ) → JudgedTerm → Verdict
@@ -56,22 +52,24 @@ module _ (s : List ℕ) (t : ℕ) where
   readable-judging r = λ i. unlessFound refused (r i) (λ _. judgedOf (typesOf s) (authority s) (withNumber t (subterms (typesOf s) [] 0 (program s))))
 
   -- "in the bindings and under the principal it has in the sheet": wherever term t stands in a readable sheet, it is judged there
-  pub judged-there : Readable s → (Γ : List ℕ) (n : ℕ) → Stands s Γ n t → judging s t ≡ judgedAs n (judgementOf s Γ n t)
+  pub judged-there : Readable s → (Γ : List ℕ) (n : ℕ) → Stands s Γ n t → judging s t ≡ judgedAs n (termJudgement s Γ n t)
+  unfolding termJudgement
   judged-there r Γ n v = readable-judging r ∙ ap (judgedOf (typesOf s) (authority s)) (number-stands s (well-formed s r) Γ n t v)
 
   -- every number below the count of terms is that of a term which stands in the sheet, in one place (`every-term-stands`, `stands-once`) and is judged there
-  pub every-term-judged : Readable s → t < terms s → (Γ : List ℕ) × (n : ℕ) × Stands s Γ n t × (judging s t ≡ judgedAs n (judgementOf s Γ n t))
+  pub every-term-judged : Readable s → t < terms s → (Γ : List ℕ) × (n : ℕ) × Stands s Γ n t × (judging s t ≡ judgedAs n (termJudgement s Γ n t))
   every-term-judged r l =
       let p = place s (well-formed s r) t l in
       (p .bindings, p .principal, p .stands, judged-there r (p .bindings) (p .principal) (p .stands))
 
   -- a term is refused by the rules' numbers, 9 to 12 or 24 to 26
   pub fault-by-rules : Readable s → t < terms s → {cause place : ℕ} → judging s t ≡ refused cause place → byRules cause ≡ true
+  unfolding termJudgement
   fault-by-rules r l {cause} {place} e =
       let p = every-term-judged r l in
-      go (p .0) (p .1) (judgementOf s (p .0) (p .1) t) refl (sym (p .3) ∙ e)
+      go (p .0) (p .1) (termJudgement s (p .0) (p .1) t) refl (sym (p .3) ∙ e)
     where
-      go : (Γ : List ℕ) (n : ℕ) (j : Judgement) → judgementOf s Γ n t ≡ j → judgedAs n j ≡ refused cause place → byRules cause ≡ true
+      go : (Γ : List ℕ) (n : ℕ) (j : Judgement) → termJudgement s Γ n t ≡ j → judgedAs n j ≡ refused cause place → byRules cause ≡ true
       go Γ n (typed τ N) f h = typed≢refused h
       go Γ n (fault c at) f h = ap byRules (sym (refused-cause h)) ∙ ruled (typesOf s) (authority s) Γ n (tree s t) f
 
@@ -105,11 +103,12 @@ module _ (s : List ℕ) (t : ℕ) where
     pub least : (σ M : ℕ) → Derives current (typesOf s) (authority s) Γ n (tree s t) σ M → N ⊆ M
 
   pub least-judged : Readable s → t < terms s → {n τ N : ℕ} → judging s t ≡ typed-under n τ N → (Γ : List ℕ) × LeastThere Γ n τ N
+  unfolding termJudgement
   least-judged r l {n} {τ} {N} e =
       let p = every-term-judged r l in
-      (p .0, go (p .0) (p .1) (p .2) (judgementOf s (p .0) (p .1) t) refl (sym (p .3) ∙ e))
+      (p .0, go (p .0) (p .1) (p .2) (termJudgement s (p .0) (p .1) t) refl (sym (p .3) ∙ e))
     where
-      least-there : (Γ : List ℕ) → Stands s Γ n t → judgementOf s Γ n t ≡ typed τ N → LeastThere Γ n τ N
+      least-there : (Γ : List ℕ) → Stands s Γ n t → termJudgement s Γ n t ≡ typed τ N → LeastThere Γ n τ N
       least-there Γ v f =
           let w = well-formed s r in
           let T = typesOf s in
@@ -121,18 +120,18 @@ module _ (s : List ℕ) (t : ℕ) where
             least = λ σ M d. derives-least T A (lower-types s w) f d .1;
           }
 
-      go : (Γ : List ℕ) (m : ℕ) → Stands s Γ m t → (j : Judgement) → judgementOf s Γ m t ≡ j → judgedAs m j ≡ typed-under n τ N → LeastThere Γ n τ N
+      go : (Γ : List ℕ) (m : ℕ) → Stands s Γ m t → (j : Judgement) → termJudgement s Γ m t ≡ j → judgedAs m j ≡ typed-under n τ N → LeastThere Γ n τ N
       go Γ m v (fault cause at) f h = typed≢refused (sym h)
       go Γ m v (typed σ M) f h =
           let a : m ≡ n = cc in
           let b : σ ≡ τ = cc in
           let c : M ≡ N = cc in
           least-there Γ (subst (λ (k : ℕ). Stands s Γ k t) a v)
-          (ap (λ (k : ℕ). judgementOf s Γ k t) (sym a) ∙ f ∙ λ i. typed (b i) (c i))
+          (ap (λ (k : ℕ). termJudgement s Γ k t) (sym a) ∙ f ∙ λ i. typed (b i) (c i))
 
 -- what is told of the root is the type checker's judgement, and the verdict follows from it, on any bytes
 pub verdict-from-root : (s : List ℕ) → verdict s ≡ concludedFrom (terms s) (root s) (judging s (root s))
-unfolding verdict
+unfolding verdict termJudgement
 verdict-from-root s = go (decoding s) refl
   where
     concluded-from : (j : Judgement) → concluded (terms s) (root s) j ≡ concludedFrom (terms s) (root s) (judgedAs 0 j)
@@ -147,10 +146,10 @@ verdict-from-root s = go (decoding s) refl
 -- where the type checker accepts the sheet each term has a type where it stands
 pub accepted-typed : (s : List ℕ) {k σ M : ℕ} → verdict s ≡ accepted k σ M → (t : ℕ) → t < terms s
     → (n : ℕ) × (τ : ℕ) × (N : ℕ) × (judging s t ≡ typed-under n τ N)
-unfolding verdict
+unfolding verdict termJudgement
 accepted-typed s {k} {σ} {M} e t l =
     let p = every-term-judged s t r l in
-    go (p .0) (p .1) (p .2) (judgementOf s (p .0) (p .1) t) refl (p .3)
+    go (p .0) (p .1) (p .2) (termJudgement s (p .0) (p .1) t) refl (p .3)
   where
     r : Readable s
     r = acceptance s k σ M e .readable
@@ -161,7 +160,7 @@ accepted-typed s {k} {σ} {M} e t l =
         let y : _≡_ {A = ℕ} 0 1 = cc in
         omega arith
 
-    go : (Γ : List ℕ) (n : ℕ) → Stands s Γ n t → (j : Judgement) → judgementOf s Γ n t ≡ j → judging s t ≡ judgedAs n (judgementOf s Γ n t)
+    go : (Γ : List ℕ) (n : ℕ) → Stands s Γ n t → (j : Judgement) → termJudgement s Γ n t ≡ j → judging s t ≡ judgedAs n (termJudgement s Γ n t)
         → (n : ℕ) × (τ : ℕ) × (N : ℕ) × (judging s t ≡ typed-under n τ N)
     go Γ n v (typed τ N) f h = (n, τ, N, h ∙ ap (judgedAs n) f)
     go Γ n v (fault cause at) f h = absurd (refuted (within-fault (typesOf s) (authority s) v (has-fault f)))

@@ -29,30 +29,30 @@ subterms T Γ n (binary at op a b) = placed Γ n (binary at op a b) ∷ subterms
 subterms T Γ n (post at ch g c) = placed Γ n (post at ch g c) ∷ subterms T Γ n c
 
 -- a term that is refused where it stands: its number, how many terms there are in it, "itself counted", and what the rules say of it there
-pub record Refused : Type 0 where
+pub record FaultyTerm : Type 0 where
   pub term : ℕ
   pub count : ℕ
   pub cause : ℕ
   pub place : ℕ
 
-abbrev pub refusedAs : Term → Judgement → Option Refused
+abbrev pub refusedAs : Term → Judgement → Option FaultyTerm
 refusedAs c (typed τ N) = none
 refusedAs c (fault cause at) = some (record { term = numberOf c; count = size c; cause = cause; place = at })
 
 -- "the term with the fewest terms in it, …, ties to the lowest number"
-abbrev pub before : (x y : Refused) → Bool
+abbrev pub before : (x y : FaultyTerm) → Bool
 before x y = ltb (x .count) (y .count) || (eqb (x .count) (y .count) && ltb (x .term) (y .term))
 
-abbrev pub smaller : (x y : Option Refused) → Option Refused
+abbrev pub smaller : (x y : Option FaultyTerm) → Option FaultyTerm
 smaller none y = y
 smaller (some x) none = some x
 smaller (some x) (some y) = some (cond (before y x) y x)
 
 module _ (T : Types) (A : ℕ → ℕ) where
-  unfoldable pub refusedAt : Placed → Option Refused
+  unfoldable pub refusedAt : Placed → Option FaultyTerm
   refusedAt (placed Γ n c) = refusedAs c (infer T A Γ n c)
 
-  unfoldable pub smallestOf : List Placed → Option Refused
+  unfoldable pub smallestOf : List Placed → Option FaultyTerm
   smallestOf [] = none
   smallestOf (x ∷ l) = smaller (refusedAt x) (smallestOf l)
 
@@ -62,7 +62,7 @@ pub data Piece : Type 0 where
   no-piece : Piece
   unreadable : (cause place : ℕ) → Piece
 
-abbrev pub pieceFrom : Option Refused → Piece
+abbrev pub pieceFrom : Option FaultyTerm → Piece
 pieceFrom none = no-piece
 pieceFrom (some x) = smallest (x .term) (x .count) (x .cause) (x .place)
 

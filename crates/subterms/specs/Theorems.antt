@@ -22,7 +22,7 @@ use Rattle.typing.specs.Checking.{Judgement, typed, fault, infer}
 use Rattle.typing.specs.Verdicts.{accepted, rejected, concluded, judgement, verdict}
 use Rattle.typing.specs.Laws.Checking.{infer-complete, infer-derives}
 use Rattle.typing.specs.Laws.Faults.{decoding-readers}
-use Rattle.subterms.specs.Smallest.{subterms, Refused, smallestOf, Piece, smallest, no-piece, unreadable, pieceFrom, pieceOf, recordPlace, recordLength}
+use Rattle.subterms.specs.Smallest.{subterms, FaultyTerm, smallestOf, Piece, smallest, no-piece, unreadable, pieceFrom, pieceOf, recordPlace, recordLength}
 use Rattle.subterms.specs.Claims.{byRules, HasFault, has-fault, Stands, Faulty, SmallestPiece}
 use Rattle.subterms.specs.Laws.Judgements.{ruled}
 use Rattle.subterms.specs.Laws.Numbers.{within-standard}
@@ -68,11 +68,11 @@ pub record NotByRules (s : List ℕ) : Type 0 where
   pub other : RefusedByRules s → ⊥
 
 -- each answer with what holds where it is given
-data Given (s : List ℕ) : Piece → Type 0 where
-  given-smallest : {x : Refused} → SmallestPiece s (x .term) (x .count) (x .cause) → x .place ≡ x .term → RefusedByRules s
-      → Given s (smallest (x .term) (x .count) (x .cause) (x .place))
-  given-none : NotByRules s → Given s no-piece
-  given-unreadable : {cause place : ℕ} → decoding s ≡ found cause place → Given s (unreadable cause place)
+data PieceGiven (s : List ℕ) : Piece → Type 0 where
+  given-smallest : {x : FaultyTerm} → SmallestPiece s (x .term) (x .count) (x .cause) → x .place ≡ x .term → RefusedByRules s
+      → PieceGiven s (smallest (x .term) (x .count) (x .cause) (x .place))
+  given-none : NotByRules s → PieceGiven s no-piece
+  given-unreadable : {cause place : ℕ} → decoding s ≡ found cause place → PieceGiven s (unreadable cause place)
 
 -- ---- the verdict on a readable sheet, and whether the root is refused
 module _ (s : List ℕ) (r : Readable s) where
@@ -116,11 +116,12 @@ root-faulty s h = screened (decoding s) refl (h .verdict-is)
         ⊎-elim (λ l. absurd (reader-other cause l b)) (λ q. absurd (true≢false (sym b ∙ ap byRules q))) (decoding-readers s cause place e)
 
 module _ (s : List ℕ) where
-  given : Given s (pieceOf s)
+  given : PieceGiven s (pieceOf s)
   unfolding pieceOf
   given = screened (decoding s) refl
     where
-      listed : Readable s → (o : Option Refused) → smallestOf (typesOf s) (authority s) (subterms (typesOf s) [] 0 (program s)) ≡ o → Given s (pieceFrom o)
+      listed : Readable s → (o : Option FaultyTerm) → smallestOf (typesOf s) (authority s) (subterms (typesOf s) [] 0 (program s)) ≡ o
+          → PieceGiven s (pieceFrom o)
       listed r none e = given-none (record {
         readable = r;
         other = λ h. let x = some-refused s (root-faulty s h .1) in Option·none-ne-some (x .0) (sym e ∙ x .1);
@@ -130,23 +131,23 @@ module _ (s : List ℕ) where
           given-smallest (h .0) (h .1) (refused-by-rules s r (root-refused s e (well-formed s r)))
 
       screened : (d : Screening) → decoding s ≡ d
-          → Given s (unlessFound unreadable d λ _. pieceFrom (smallestOf (typesOf s) (authority s) (subterms (typesOf s) [] 0 (program s))))
+          → PieceGiven s (unlessFound unreadable d λ _. pieceFrom (smallestOf (typesOf s) (authority s) (subterms (typesOf s) [] 0 (program s))))
       screened clear e = listed e (smallestOf (typesOf s) (authority s) (subterms (typesOf s) [] 0 (program s))) refl
       screened (found cause place) e = given-unreadable e
 
   -- The piece that is told is the smallest one, as each sentence says, and its fault is its own: the place that the rules tell there is the term itself.
   pub smallest-answered : (t count cause place : ℕ) → pieceOf s ≡ smallest t count cause place → SmallestPiece s t count cause × (place ≡ t)
-  smallest-answered t count cause place e = go (subst (Given s) e given)
+  smallest-answered t count cause place e = go (subst (PieceGiven s) e given)
     where
-      go : {t count cause place : ℕ} → Given s (smallest t count cause place) → SmallestPiece s t count cause × (place ≡ t)
+      go : {t count cause place : ℕ} → PieceGiven s (smallest t count cause place) → SmallestPiece s t count cause × (place ≡ t)
       go (given-smallest h p r) = (h, p)
 
   -- "For a sheet refused by the rules 9 to 12 or 24 to 26 …"
   pub smallest-exactly : ((t : ℕ) × (count : ℕ) × (cause : ℕ) × (place : ℕ) × (pieceOf s ≡ smallest t count cause place)) ↔ RefusedByRules s
   unfolding pieceOf
-  smallest-exactly = (λ e. forth (subst (Given s) (e .4) given), back)
+  smallest-exactly = (λ e. forth (subst (PieceGiven s) (e .4) given), back)
     where
-      forth : {t count cause place : ℕ} → Given s (smallest t count cause place) → RefusedByRules s
+      forth : {t count cause place : ℕ} → PieceGiven s (smallest t count cause place) → RefusedByRules s
       forth (given-smallest h p r) = r
 
       back : RefusedByRules s → (t : ℕ) × (count : ℕ) × (cause : ℕ) × (place : ℕ) × (pieceOf s ≡ smallest t count cause place)
@@ -159,21 +160,21 @@ module _ (s : List ℕ) where
   pub unreadable-exactly : (cause place : ℕ) → (pieceOf s ≡ unreadable cause place) ↔ (decoding s ≡ found cause place)
   unfolding pieceOf
   unreadable-exactly cause place = (
-    λ e. forth (subst (Given s) e given),
+    λ e. forth (subst (PieceGiven s) e given),
     λ e. λ i. unlessFound unreadable (e i) (λ _. pieceFrom (smallestOf (typesOf s) (authority s) (subterms (typesOf s) [] 0 (program s)))),
   )
     where
-      forth : {cause place : ℕ} → Given s (unreadable cause place) → decoding s ≡ found cause place
+      forth : {cause place : ℕ} → PieceGiven s (unreadable cause place) → decoding s ≡ found cause place
       forth (given-unreadable e) = e
 
   -- "any other has 'no piece'"
   pub no-piece-exactly : (pieceOf s ≡ no-piece) ↔ NotByRules s
-  no-piece-exactly = (λ e. forth (subst (Given s) e given), λ h. back h given)
+  no-piece-exactly = (λ e. forth (subst (PieceGiven s) e given), λ h. back h given)
     where
-      forth : Given s no-piece → NotByRules s
+      forth : PieceGiven s no-piece → NotByRules s
       forth (given-none h) = h
 
-      back : NotByRules s → {a : Piece} → Given s a → a ≡ no-piece
+      back : NotByRules s → {a : Piece} → PieceGiven s a → a ≡ no-piece
       back h (given-smallest p q r) = absurd (h .other r)
       back h (given-none g) = refl
       back h (given-unreadable e) = absurd (let z : clear ≡ found _ _ = sym (h .readable) ∙ e in let y : _≡_ {A = ℕ} 0 1 = cc in omega arith)
@@ -182,7 +183,7 @@ module _ (s : List ℕ) where
   pub record-inside : recordPlace s (pieceOf s) + recordLength (pieceOf s) ≤ length s
   record-inside = go given
     where
-      go : {a : Piece} → Given s a → recordPlace s a + recordLength a ≤ length s
+      go : {a : Piece} → PieceGiven s a → recordPlace s a + recordLength a ≤ length s
       go (given-smallest h p r) = omega (arith, h .inside, well-formed s (root-faulty s r .0) .terms-inside)
       go (given-none h) = omega arith
       go (given-unreadable e) = omega arith
@@ -191,7 +192,7 @@ module _ (s : List ℕ) where
   pub place-most : recordPlace s (pieceOf s) ≤ 65535
   place-most = go given
     where
-      go : {a : Piece} → Given s a → recordPlace s a ≤ 65535
+      go : {a : Piece} → PieceGiven s a → recordPlace s a ≤ 65535
       go (given-smallest h p r) =
           let w = well-formed s (root-faulty s r .0) in
           omega (arith, h .inside, w .terms-most, w .types-most, w .principals-most)
@@ -201,7 +202,7 @@ module _ (s : List ℕ) where
   pub length-most : recordLength (pieceOf s) ≤ 8
   length-most = go given
     where
-      go : {a : Piece} → Given s a → recordLength a ≤ 8
+      go : {a : Piece} → PieceGiven s a → recordLength a ≤ 8
       go (given-smallest h p r) = omega arith
       go (given-none h) = omega arith
       go (given-unreadable e) = omega arith

@@ -14,7 +14,7 @@ use Rattle.program.specs.Records.{typeRecord}
 use Rattle.program.specs.declared.records.Counts.{Counts}
 use Rattle.program.specs.declared.records.TypeRecord.{TypeRecord}
 use Rattle.program.specs.Limits.{maxTypes}
-use Rattle.program.specs.Laws.Types.{Lower, function-type, lower-types}
+use Rattle.program.specs.Laws.Types.{PartsLower, function-type, lower-types}
 use Rattle.typing.specs.Subtyping.{subtypeIn, subtype, wider}
 use Rattle.typing.specs.Laws.Subtyping.{subtype-sound, subtype-complete}
 use Rattle.accessors.specs.Internal.{FormedSheet}
@@ -37,7 +37,7 @@ same-parts false false b c x y z w h = refl
 same-parts false true false c x y z w h = refl
 same-parts false true true c x y z w h = let q = h refl refl in λ i. also (q .0 i) λ _. also c λ _. q .1 i
 
-module _ (T : Types) (L : Lower T) where
+module _ (T : Types) (L : PartsLower T) where
   steps-more : (k a b : ℕ) → a + b ≤ k → subtypeIn T (suc k) a b ≡ subtypeIn T k a b
   unfolding subtypeIn
   steps-more zero a b h = let e : a ≡ b = omega arith in rw (eq-eqb a b e) refl
@@ -75,7 +75,7 @@ pub small : {s : List ℕ} {c : Counts} → FormedSheet s c → (t : ℕ) {u : B
 small {s} S t h e = omega (arith, function-type s (S .well-formed) t (sym (function-is S t h) ∙ e) .inside, S .well-formed .types-most)
 
 module _ {s : List ℕ} {c : Counts} (S : FormedSheet s c) (a b : ℕ) where
-  lower : Lower (typesOf s)
+  lower : PartsLower (typesOf s)
   lower = lower-types s (S .well-formed)
 
   pub sub-known : {l : List ℕ} {k : Bool} → Known (typesOf s) l → a < maxTypes → b < maxTypes → k ≡ knows l a b → k ≡ true

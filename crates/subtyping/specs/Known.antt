@@ -4,7 +4,7 @@ use mathlib.Core.List.{List}
 use mathlib.Core.Path.{_≡_}
 use Prim.Native.Nat.{ℕ, _+_, _*_, _/_, _%_, _<_}
 use lib.ListN.{length, getD, set}
-use Rattle.privileges.specs.Sets.{has, insert}
+use Rattle.privileges.specs.Sets.{privilegeCount, has, insert}
 use Rattle.program.specs.Limits.{maxTypes}
 use Rattle.program.specs.Layout.{Types, typesOf}
 use Rattle.program.specs.declared.records.Counts.{Counts}
@@ -38,7 +38,7 @@ pub record KnownSheet (s : List ℕ) (c : Counts) (l : List ℕ) : Type 0 where
 -- and a privilege
 pub record KnownSheetPrivilege (s : List ℕ) (c : Counts) (l : List ℕ) (p : ℕ) : Type 0 where
   pub judging : KnownSheet s c l
-  pub privilege : p < 32
+  pub privilege : p < privilegeCount
 
 -- an answer as it is due, and what is known then
 pub record Answered {A : Type 0} (T : Types) (answer due : A) (l : List ℕ) : Type 0 where

@@ -13,7 +13,7 @@ use Rattle.program.specs.Formats.{Part, unused, flag, anyNumber, privilege, pri
 use Rattle.program.specs.Decoding.{partOk, formatAt, termOk}
 use Rattle.program.specs.Records.{CountsOf, termRecord}
 use Rattle.accessors.specs.Internal.{Laid}
-use Rattle.termrecords.specs.Internal.{partIn, recordOk, childrenOf, shapeIf, shapeFrom, shapeOf, shapeAt, isWrong}
+use Rattle.termrecords.specs.Internal.{partIn, recordOk, kindShape, shapeIf, shapeFrom, shapeOf, shapeAt, isWrong}
 use Rattle.program.specs.Laws.Readable.{fields-ok}
 use Rattle.program.specs.Laws.Records.{term-laid}
 use Rattle.program.specs.declared.records.Counts.{Counts}
@@ -52,7 +52,7 @@ module _ (c : Counts) (t : ℕ) (r : TermRecord) where
   pub kinds-above : 15 ≤ r .kind → Wrong ≡ shapeOf c t r
   unfolding shapeOf
   kinds-above l = sym (ap (λ (b : Bool). shapeIf (b && rest .0 && rest .1 && rest .2 && rest .3)
-      (childrenOf (kindOf (r .kind)) (r .first) (r .second) (r .third))) (lt-leb (r .kind) 14 l))
+      (kindShape (kindOf (r .kind)) (r .first) (r .second) (r .third))) (lt-leb (r .kind) 14 l))
     where
       rest : Bool × Bool × Bool × Bool
       rest = (
@@ -85,10 +85,10 @@ pub shape-is : (s : List ℕ) (c : Counts) (t : ℕ) → Laid s c → t < terms 
 unfolding shapeOf shapeAt
 shape-is s c t L h e g =
     g ∙ ap (shapeOf c t) (e ∙ term-laid s (fields-ok s (L .none-found) .terms-in) c (L .counts-are) t h)
-    ∙ ap (λ (b : Bool). shapeIf b (childrenOf (kindOf (kindByte s t)) (first s t) (second s t) (third s t))) (record-ok s c (L .counts-are) t)
+    ∙ ap (λ (b : Bool). shapeIf b (kindShape (kindOf (kindByte s t)) (first s t) (second s t) (third s t))) (record-ok s c (L .counts-are) t)
 
 -- ---- a wrong shape is a wrong record
-children-right : (k : Kind) (a b d : ℕ) → isWrong (childrenOf k a b d) ≡ false
+children-right : (k : Kind) (a b d : ℕ) → isWrong (kindShape k a b d) ≡ false
 children-right Boolean a b d = refl
 children-right Number a b d = refl
 children-right Variable a b d = refl

@@ -37,35 +37,35 @@ recordOk c t k x a b d =
     && partIn c t (format (kindOf k) .third) d
 
 -- the children of each kind
-abbrev pub childrenOf : Kind → (first second third : ℕ) → Shape
-childrenOf Boolean a b d = Leaf
-childrenOf Number a b d = Leaf
-childrenOf Variable a b d = Leaf
-childrenOf Function a b d = FunctionShape b
-childrenOf Letrec a b d = LetrecShape b d
-childrenOf Call a b d = Two a b
-childrenOf If a b d = Three a b d
-childrenOf Check a b d = One a
-childrenOf Enable a b d = One a
-childrenOf Sign a b d = One a
-childrenOf Test a b d = Two a b
-childrenOf Sum a b d = Two a b
-childrenOf Difference a b d = Two a b
-childrenOf Less a b d = Two a b
-childrenOf Post a b d = One a
+abbrev pub kindShape : Kind → (first second third : ℕ) → Shape
+kindShape Boolean a b d = Leaf
+kindShape Number a b d = Leaf
+kindShape Variable a b d = Leaf
+kindShape Function a b d = FunctionShape b
+kindShape Letrec a b d = LetrecShape b d
+kindShape Call a b d = Two a b
+kindShape If a b d = Three a b d
+kindShape Check a b d = One a
+kindShape Enable a b d = One a
+kindShape Sign a b d = One a
+kindShape Test a b d = Two a b
+kindShape Sum a b d = Two a b
+kindShape Difference a b d = Two a b
+kindShape Less a b d = Two a b
+kindShape Post a b d = One a
 
 abbrev pub shapeIf : Bool → Shape → Shape
 shapeIf true x = x
 shapeIf false x = Wrong
 
 abbrev pub shapeFrom : Counts → (t kind small first second third : ℕ) → Shape
-shapeFrom c t k x a b d = shapeIf (recordOk c t k x a b d) (childrenOf (kindOf k) a b d)
+shapeFrom c t k x a b d = shapeIf (recordOk c t k x a b d) (kindShape (kindOf k) a b d)
 
 unfoldable pub shapeOf : Counts → (t : ℕ) → TermRecord → Shape
 shapeOf c t r = shapeFrom c t (r .kind) (r .small) (r .first) (r .second) (r .third)
 
 unfoldable pub shapeAt : List ℕ → (t : ℕ) → Shape
-shapeAt s t = shapeIf (termOk s t) (childrenOf (kindOf (kindByte s t)) (first s t) (second s t) (third s t))
+shapeAt s t = shapeIf (termOk s t) (kindShape (kindOf (kindByte s t)) (first s t) (second s t) (third s t))
 
 abbrev pub isWrong : Shape → Bool
 isWrong Leaf = false

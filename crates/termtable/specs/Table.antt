@@ -32,17 +32,17 @@ abbrev pub wordGuard : ℕ → ℕ
 wordGuard x = x / 4294967296 % 256
 
 -- a record whose kind is 9 is a sign, and one whose kind is 14 a post
-pub record Plain (kind : ℕ) : Type 0 where
+pub record OwnParts (kind : ℕ) : Type 0 where
   pub no-sign : kind ≡ 9 → ⊥
   pub no-post : kind ≡ 14 → ⊥
 
 -- x is the word of term t
-pub record Holds (s : List ℕ) (c : Counts) (t x : ℕ) : Type 0 where
+pub record WordOf (s : List ℕ) (c : Counts) (t x : ℕ) : Type 0 where
   pub kind-is : wordKind x ≡ termRecord s c t .kind
   pub small-is : wordSmall x ≡ termRecord s c t .small
   pub first-is : wordFirst x ≡ termRecord s c t .first
-  pub second-is : Plain (termRecord s c t .kind) → wordSecond x ≡ termRecord s c t .second
-  pub third-is : Plain (termRecord s c t .kind) → wordThird x ≡ termRecord s c t .third
+  pub second-is : OwnParts (termRecord s c t .kind) → wordSecond x ≡ termRecord s c t .second
+  pub third-is : OwnParts (termRecord s c t .kind) → wordThird x ≡ termRecord s c t .third
   pub authority-is : termRecord s c t .kind ≡ 9 → wordAuthority x ≡ authorityRecord s (termRecord s c t .small)
   pub guard-is : termRecord s c t .kind ≡ 14 → wordGuard x ≡ guardRecord s c (termRecord s c t .small)
 
@@ -58,6 +58,6 @@ pub record Decodable (s : List ℕ) (c : Counts) (terms : List ℕ) : Type 0 whe
   pub empty : Empty terms
 
 -- the words of all terms; a number past the table has the word 0
-pub record Decoded (s : List ℕ) (c : Counts) (terms : List ℕ) : Type 0 where
+pub record TermWords (s : List ℕ) (c : Counts) (terms : List ℕ) : Type 0 where
   pub long : length terms ≡ maxTerms
-  pub holds : (t : ℕ) → Holds s c t (getD terms t 0)
+  pub holds : (t : ℕ) → WordOf s c t (getD terms t 0)

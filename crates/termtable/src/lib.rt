@@ -4,7 +4,7 @@
 ghost use mathlib.Core.Path.{_≡_};
 ghost use lib.ListN.{length, getD};
 ghost use Rattle.program.specs.Limits.{maxTerms};
-ghost use Rattle.termtable.specs.Table.{wordKind, wordSmall, wordFirst, wordSecond, wordThird, wordAuthority, wordGuard, Holds, Decodable, Decoded};
+ghost use Rattle.termtable.specs.Table.{wordKind, wordSmall, wordFirst, wordSecond, wordThird, wordAuthority, wordGuard, WordOf, Decodable, TermWords};
 use program::limits::MAX_TERMS;
 use program::limits::TERM_PLACES;
 use program::records::Counts;
@@ -53,7 +53,7 @@ pub fn guard_of(x: u64) -> u8
 
 // The word of term t.
 fn term_word(s: &[u8], c: Counts, t: u16) -> u64
-    ensures { λ r. ⌜ Holds (now (s .entry)) c t r ⌝ }
+    ensures { λ r. ⌜ WordOf (now (s .entry)) c t r ⌝ }
 {
     let x = accessors::term(s, c, t);
     let low = (x.kind as u64) + 256 * (x.small as u64) + 65536 * (x.first as u64);
@@ -69,7 +69,7 @@ fn term_word(s: &[u8], c: Counts, t: u16) -> u64
 // Fills the table. Past the sheet's terms it stays zero.
 pub fn decode_terms(s: &[u8], c: Counts, terms: &mut [u64; TERM_PLACES])
     requires { ⌜ Decodable (now s) c (now terms) ⌝ }
-    ensures { λ _. ⌜ Decoded (now (s .entry)) c (now (terms .exit)) ⌝ }
+    ensures { λ _. ⌜ TermWords (now (s .entry)) c (now (terms .exit)) ⌝ }
 {
     let count = c.terms;
     let mut t = 0;

@@ -77,14 +77,14 @@ refusalText c t = line (labelled "refused " c ++ placeText t)
 -- ---- the text
 
 -- "judges it and runs it eagerly, checks in force, on an empty stack with the largest allowances and buffers"; an eager run has no frame store
-abbrev pub request : Request
-request = requestOf eager true [] maxCalls maxDepth
+abbrev pub programRequest : Request
+programRequest = requestOf eager true [] maxCalls maxDepth
 
 abbrev pub eagerSizes : Sizes
 eagerSizes = record { cells = maxCells; posts = maxPosts; frames = 0 }
 
 abbrev pub answer : List ℕ → Answer
-answer s = answerOf (root s) request eagerSizes (course s request eagerSizes)
+answer s = answerOf (root s) programRequest eagerSizes (course s programRequest eagerSizes)
 
 -- The run of an accepted sheet is never turned back (Theorems: accepted-runs).
 abbrev pub ofRun : (accepted : List ℕ) → Answer → List ℕ

@@ -22,7 +22,7 @@ use Rattle.typing.specs.Theorems.{acceptance}
 use Rattle.semantics.specs.Runs.{eager, startOk, buffersOk, limitsOk, runConditions, evaluation, settled, course, ground-bool, ground-num}
 use Rattle.semantics.specs.Runs.{Outcome, ended, stopped, RunCounts, Answer, refused, ran, answerOf}
 use Rattle.text.specs.Text.{ascii, digit, hexadecimal, decimalIn, decimal, line, labelled, typeLine, acceptanceText, placeText, outcomeText, countsText, refusalText}
-use Rattle.text.specs.Text.{request, eagerSizes, answer, ofRun, ofVerdict, printed}
+use Rattle.text.specs.Text.{programRequest, eagerSizes, answer, ofRun, ofVerdict, printed}
 
 -- ---- the decimal digits of a number of 64 bits, however long
 -- a number below 10 ^ k has no more than k digits
@@ -43,16 +43,18 @@ tenth n g h = ap (λ (b : Bool). cond b [] (decimalIn 19 (n / 10)) ++ (digit (n 
     ∙ ap (λ (xs : List ℕ). xs ++ (digit (n % 10) ∷ [])) (enough 18 (n / 10) (omega (arith, h)))
 
 -- ---- an accepted sheet is run: its run is never turned back
-starts : (s : List ℕ) → Readable s → screen (runConditions s request eagerSizes) ≡ clear
+starts : (s : List ℕ) → Readable s → screen (runConditions s programRequest eagerSizes) ≡ clear
 unfolding decoding screen refuseAt
-starts s r = screen-clear (decodingConditions s) (unless 14 (startOk s request) ∷ unless 15 (buffersOk eager eagerSizes) ∷ unless 16 (limitsOk request) ∷ []) r
+starts s r =
+    screen-clear (decodingConditions s) (unless 14 (startOk s programRequest) ∷ unless 15 (buffersOk eager eagerSizes)
+    ∷ unless 16 (limitsOk programRequest) ∷ []) r
 
 pub accepted-runs : (s : List ℕ) (n τ N : ℕ) → verdict s ≡ accepted n τ N → (o : Outcome) × (k : RunCounts) × (answer s ≡ ran o k)
 unfolding course
 accepted-runs s n τ N e = (
   _,
   _,
-  λ i. answerOf (root s) request eagerSizes (settled (starts s (acceptance s n τ N e .readable) i) (λ _. evaluation eager s request eagerSizes)),
+  λ i. answerOf (root s) programRequest eagerSizes (settled (starts s (acceptance s n τ N e .readable) i) (λ _. evaluation eager s programRequest eagerSizes)),
 )
 
 -- ---- an input longer than any sheet

@@ -8,7 +8,7 @@ use lib.Dec.{eqb}
 use lib.ListN.{length, take}
 use Rattle.program.specs.Tests.{also, orElse}
 use Rattle.program.specs.Screening.{lowest}
-use Rattle.traces.specs.Traces.{Event, wellFormed, trace}
+use Rattle.traces.specs.Traces.{Event, wellFormedRecord, trace}
 
 -- "occur there in that order": each of the unit's events stands in the office's list behind the one before it; others may stand between them
 pub data Subsequence : (unit office : List Event) → Type 0 where
@@ -47,4 +47,4 @@ ifBoth false u o = refused 34 0
 
 -- "Either record with a part of an entry or a yes-or-no byte above 1 is 34", at place 0, "as wherever a number has none named" (01)
 unfoldable pub comparison : (unit office : List ℕ) → Comparison
-comparison u o = ifBoth (wellFormed u && wellFormed o) u o
+comparison u o = ifBoth (wellFormedRecord u && wellFormedRecord o) u o

@@ -10,9 +10,9 @@ use lib.ListN.{length, take}
 use lib.Seq.{take-all, take-length, take-take}
 use Rattle.privileges.specs.Booleans.{and-left, and-right, and-both}
 use Rattle.program.specs.Bytes.{Bytes}
-use Rattle.traces.specs.Traces.{Event, traceBytes, recorded, wellFormed, trace}
+use Rattle.traces.specs.Traces.{Event, traceBytes, recorded, wellFormedRecord, trace}
 use Rattle.traces.specs.Comparing.{Subsequence, occurs, Comparison, refused, fits, diverges, compared, ifBoth, comparison}
-use Rattle.traces.specs.Claims.{WellFormed, Storable, Fits, Diverges}
+use Rattle.traces.specs.Claims.{WellFormedRecord, Storable, Fits, Diverges}
 use Rattle.traces.specs.Laws.Subsequences.{whole, beginning, no-longer, occurs-decides}
 use Rattle.traces.specs.Laws.Greedy.{placed, placed-occurs, placed-least, compared-fits, compared-diverges}
 use Rattle.traces.specs.Laws.Records.{bytes-well-formed, bytes-trace, bytes-take, bytes-below, trace-back, well-formed-true, true-well-formed}
@@ -75,22 +75,25 @@ module _ (u o : List Event) where
 -- ---- two records
 
 -- The test of a record's form decides it.
-pub well-formed-decides : (s : List ℕ) → (wellFormed s ≡ true) ↔ WellFormed s
+pub well-formed-decides : (s : List ℕ) → (wellFormedRecord s ≡ true) ↔ WellFormedRecord s
 well-formed-decides s = (well-formed-true s, true-well-formed s)
 
 module _ (u o : List ℕ) where
   abbrev pub Both : Type 0
-  Both = WellFormed u × WellFormed o
+  Both = WellFormedRecord u × WellFormedRecord o
 
-  both : (wellFormed u && wellFormed o) ≡ true → Both
-  both w = (well-formed-true u (and-left (wellFormed u) (wellFormed o) w), well-formed-true o (and-right (wellFormed u) (wellFormed o) w))
+  both : (wellFormedRecord u && wellFormedRecord o) ≡ true → Both
+  both w = (
+    well-formed-true u (and-left (wellFormedRecord u) (wellFormedRecord o) w),
+    well-formed-true o (and-right (wellFormedRecord u) (wellFormedRecord o) w),
+  )
 
   as-compared : Both → comparison u o ≡ compared (trace u) (trace o)
   unfolding comparison
   as-compared b = λ i. ifBoth (and-both (true-well-formed u (b .0)) (true-well-formed o (b .1)) i) u o
 
   -- either both are well formed, or the answer is 34
-  by-form : (b : Bool) → (wellFormed u && wellFormed o) ≡ b → Both ⊎ (comparison u o ≡ refused 34 0)
+  by-form : (b : Bool) → (wellFormedRecord u && wellFormedRecord o) ≡ b → Both ⊎ (comparison u o ≡ refused 34 0)
   unfolding comparison
   by-form true w = inl (both w)
   by-form false w = inr (λ i. ifBoth (w i) u o)
@@ -116,14 +119,14 @@ module _ (u o : List ℕ) where
       not-both e b = never-refused c p (sym (as-compared b) ∙ e)
 
       there : comparison u o ≡ refused c p → (Both → ⊥) × (c ≡ 34) × (p ≡ 0)
-      there e = go (by-form (wellFormed u && wellFormed o) refl)
+      there e = go (by-form (wellFormedRecord u && wellFormedRecord o) refl)
         where
           go : Both ⊎ (comparison u o ≡ refused 34 0) → (Both → ⊥) × (c ≡ 34) × (p ≡ 0)
           go (inl b) = absurd (not-both e b)
           go (inr f) = let g : refused c p ≡ refused 34 0 = sym e ∙ f in (not-both e, cc, cc)
 
       back : (Both → ⊥) × (c ≡ 34) × (p ≡ 0) → comparison u o ≡ refused c p
-      back n = go (by-form (wellFormed u && wellFormed o) refl)
+      back n = go (by-form (wellFormedRecord u && wellFormedRecord o) refl)
         where
           go : Both ⊎ (comparison u o ≡ refused 34 0) → comparison u o ≡ refused c p
           go (inl b) = absurd (n .0 b)
@@ -131,7 +134,7 @@ module _ (u o : List ℕ) where
 
   -- an answer that is no refusal is that of two well-formed records
   accepted : (x : Comparison) → (refused 34 0 ≡ x → ⊥) → (comparison u o ≡ x) → Both × (compared (trace u) (trace o) ≡ x)
-  accepted x n e = go (by-form (wellFormed u && wellFormed o) refl)
+  accepted x n e = go (by-form (wellFormedRecord u && wellFormedRecord o) refl)
     where
       go : Both ⊎ (comparison u o ≡ refused 34 0) → Both × (compared (trace u) (trace o) ≡ x)
       go (inl b) = (b, sym (as-compared b) ∙ e)
@@ -159,7 +162,7 @@ module _ (u o : List ℕ) where
 
 -- A record of events is read as those events, and is well formed; of events that fit into its entries it holds bytes.
 pub record ReadBack (t : List Event) : Type 0 where
-  pub well-formed : WellFormed (traceBytes t)
+  pub well-formed : WellFormedRecord (traceBytes t)
   pub same-events : trace (traceBytes t) ≡ t
 
 pub read-back : (t : List Event) → ReadBack t
@@ -169,10 +172,10 @@ pub storable-bytes : {t : List Event} → Storable t → Bytes (traceBytes t)
 storable-bytes s = bytes-below s
 
 -- Well-formed bytes are those of the events read from them, so that two such records are equal exactly if their events are.
-pub same-bytes : (s : List ℕ) → Bytes s → WellFormed s → traceBytes (trace s) ≡ s
+pub same-bytes : (s : List ℕ) → Bytes s → WellFormedRecord s → traceBytes (trace s) ≡ s
 same-bytes s b w = trace-back s b (true-well-formed s w)
 
-pub equal-records : (s t : List ℕ) → Bytes s → Bytes t → WellFormed s → WellFormed t → (trace s ≡ trace t) ↔ (s ≡ t)
+pub equal-records : (s t : List ℕ) → Bytes s → Bytes t → WellFormedRecord s → WellFormedRecord t → (trace s ≡ trace t) ↔ (s ≡ t)
 equal-records s t b d w x = (λ e. sym (same-bytes s b w) ∙ ap traceBytes e ∙ same-bytes t d x, ap trace)
 
 -- ---- which records of a run fit

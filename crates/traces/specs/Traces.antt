@@ -37,12 +37,12 @@ abbrev pub eventAt : List ℕ → (at : ℕ) → Event
 eventAt s i = eventOf (byte s i) (byte s (i + 1)) (byte s (i + 2)) (byte s (i + 3))
 
 -- neither "a part of an entry" nor "a yes-or-no byte above 1"
-unfoldable pub wellFormed : List ℕ → Bool
-wellFormed [] = true
-wellFormed (h ∷ []) = false
-wellFormed (h ∷ l ∷ []) = false
-wellFormed (h ∷ l ∷ p ∷ []) = false
-wellFormed (h ∷ l ∷ p ∷ d ∷ s) = leb d 1 && wellFormed s
+unfoldable pub wellFormedRecord : List ℕ → Bool
+wellFormedRecord [] = true
+wellFormedRecord (h ∷ []) = false
+wellFormedRecord (h ∷ l ∷ []) = false
+wellFormedRecord (h ∷ l ∷ p ∷ []) = false
+wellFormedRecord (h ∷ l ∷ p ∷ d ∷ s) = leb d 1 && wellFormedRecord s
 
 -- the events of a record, an event for each whole entry
 unfoldable pub trace : List ℕ → List Event

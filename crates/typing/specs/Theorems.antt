@@ -19,7 +19,7 @@ use Rattle.program.specs.Terms.{Term, post, program}
 use Rattle.program.specs.Screening.{Screening, clear, found, unlessFound}
 use Rattle.program.specs.Decoding.{decoding, Readable}
 use Rattle.program.specs.Laws.Readable.{WellFormed, well-formed}
-use Rattle.program.specs.Laws.Types.{Lower, function-type, lower-types, distinct-types}
+use Rattle.program.specs.Laws.Types.{PartsLower, function-type, lower-types, distinct-types}
 use Rattle.program.specs.Laws.Trees.{program-standard}
 use Rattle.program.specs.Laws.Guards.{program-in-range, program-unguarded}
 use Rattle.typing.specs.Subtyping.{Subtype, sub-same, Wider, wider-second, wider-first, subtype}
@@ -85,7 +85,7 @@ pub record Acceptance (s : List ℕ) (n τ N : ℕ) : Type 0 where
   pub root-type : τ < 2
   pub needs : LeastNeeds s τ N
 
-record Inferred (s : List ℕ) (n τ N : ℕ) : Type 0 where
+record InferredRoot (s : List ℕ) (n τ N : ℕ) : Type 0 where
   readable : Readable s
   count : n ≡ terms s
   root-type : τ < 2
@@ -96,22 +96,22 @@ rejected≢accepted e = absurd (let z : _≡_ {A = ℕ} 0 1 = cc in omega arith)
 
 module _ (s : List ℕ) (n τ N : ℕ) where
   root-accepted : (σ M : ℕ) (b : Bool) → ltb σ 2 ≡ b → Readable s → judgement s ≡ typed σ M
-      → cond b (accepted (terms s) σ M) (rejected 13 (root s)) ≡ accepted n τ N → Inferred s n τ N
+      → cond b (accepted (terms s) σ M) (rejected 13 (root s)) ≡ accepted n τ N → InferredRoot s n τ N
   root-accepted σ M true h r j e =
       let p : σ ≡ τ = cc in
       let q : M ≡ N = cc in
       record { readable = r; count = (let c : n ≡ terms s = cc in c); root-type = subst (λ x. x < 2) p (ltb-true σ 2 h); is = j ∙ λ i. typed (p i) (q i) }
   root-accepted σ M false h r j e = rejected≢accepted e
 
-  concluded-accepted : (j : Judgement) → judgement s ≡ j → Readable s → concluded (terms s) (root s) j ≡ accepted n τ N → Inferred s n τ N
+  concluded-accepted : (j : Judgement) → judgement s ≡ j → Readable s → concluded (terms s) (root s) j ≡ accepted n τ N → InferredRoot s n τ N
   concluded-accepted (typed σ M) h r e = root-accepted σ M (ltb σ 2) refl r h e
   concluded-accepted (fault c at) h r e = rejected≢accepted e
 
-  inferred : verdict s ≡ accepted n τ N → Inferred s n τ N
+  inferred : verdict s ≡ accepted n τ N → InferredRoot s n τ N
   unfolding verdict
   inferred e = go (decoding s) refl e
     where
-      go : (d : Screening) → decoding s ≡ d → unlessFound rejected d (λ _. concluded (terms s) (root s) (judgement s)) ≡ accepted n τ N → Inferred s n τ N
+      go : (d : Screening) → decoding s ≡ d → unlessFound rejected d (λ _. concluded (terms s) (root s) (judgement s)) ≡ accepted n τ N → InferredRoot s n τ N
       go clear h f = concluded-accepted (judgement s) refl h f
       go (found c p) h f = rejected≢accepted f
 
@@ -309,7 +309,7 @@ thirteen-exactly s r at = (λ e. judged (judgement s) refl (sym (readable-verdic
     w : WellFormed s
     w = well-formed s r
 
-    L : Lower (typesOf s)
+    L : PartsLower (typesOf s)
     L = lower-types s w
 
     rooted : (b : Bool) (τ N : ℕ) → ltb τ 2 ≡ b → judgement s ≡ typed τ N

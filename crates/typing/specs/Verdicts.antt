@@ -5,7 +5,7 @@ use mathlib.Core.List.{List, []}
 use Prim.Native.Nat.{ℕ}
 use lib.Dec.{ltb}
 use Rattle.program.specs.Layout.{authority, terms, root, typesOf}
-use Rattle.program.specs.Terms.{program}
+use Rattle.program.specs.Terms.{tree, program}
 use Rattle.program.specs.Screening.{unlessFound}
 use Rattle.program.specs.Decoding.{decoding}
 use Rattle.typing.specs.Rules.{Variant, current, Derives}
@@ -19,6 +19,10 @@ pub data Verdict : Type 0 where
 abbrev pub concluded : (terms root : ℕ) → Judgement → Verdict
 concluded n r (typed τ N) = cond (ltb τ 2) (accepted n τ N) (rejected 13 r)
 concluded n r (fault c at) = rejected c at
+
+-- the judgement of term t in these bindings and under this principal
+unfoldable pub termJudgement : List ℕ → (Γ : List ℕ) (n t : ℕ) → Judgement
+termJudgement s Γ n t = infer (typesOf s) (authority s) Γ n (tree s t)
 
 -- The program is judged without bindings. It is a sign, so that the principal named here is never looked at.
 abbrev pub judgement : List ℕ → Judgement

@@ -3,7 +3,7 @@ use Prim.Native.Nat.{ℕ, _≤_}
 use Rattle.vector_io.specs.declared.input.Vector.{Vector}
 
 -- no length is above that of the buffer for it
-pub record Within (start sheet cells posts frames : ℕ) (v : Vector) : Type 0 where
+pub record VectorFits (start sheet cells posts frames : ℕ) (v : Vector) : Type 0 where
   pub start-most : v .start ≤ start
   pub sheet-most : v .sheet ≤ sheet
   pub cells-most : v .cells ≤ cells

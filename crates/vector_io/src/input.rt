@@ -1,7 +1,7 @@
 // The recorded vectors: a header of 25 bytes, the start stack's numbers, the sheet and the pairs of its number terms, every number with its highest byte
 // first.
 ghost use Prim.Native.Nat.{_≤_};
-ghost use Rattle.vector_io.specs.Internal.{Within};
+ghost use Rattle.vector_io.specs.Internal.{VectorFits};
 
 // One vector's header, with lengths that the buffers at hand have. The numbers of the pairs come last, and their count is as it was read.
 pub struct Vector {
@@ -41,7 +41,7 @@ fn quad(a: u8, b: u8, c: u8, d: u8) -> u32 {
 
 // The next vector's header; at the end of the input it is not whole.
 pub fn read_vector(start: usize, sheet: usize, cells: usize, posts: usize, frames: usize) -> Vector
-    ensures { λ r. ⌜ Within start sheet cells posts frames r ⌝ }
+    ensures { λ r. ⌜ VectorFits start sheet cells posts frames r ⌝ }
 {
     let mut h = [0u8; 25];
     let got = io::read_full(0, &mut h);

@@ -302,7 +302,7 @@ fn rangings(
 }
 
 // On a part of the largest list.
-fn ranged(
+fn over_intervals(
     numbers: usize,
     sheet: &[u8],
     start: &[u32],
@@ -326,7 +326,7 @@ fn runs(
 ) {
     eagers(sheet, start, v.calls, v.depth, cells, posts);
     lazies(sheet, start, v.calls, v.depth, cells, posts, frames);
-    ranged(v.pairs, sheet, start, v.calls, v.depth, cells, posts);
+    over_intervals(v.pairs, sheet, start, v.calls, v.depth, cells, posts);
 }
 
 // One vector, on buffers of the lengths that it asks for.

@@ -1,10 +1,10 @@
 //! The names in the documents exist. In the tables of `docs/ARCHITECTURE.md`
 //! each definition and theorem is made in the file that is given for it, and
 //! each function in its module; what is defined has code or a theorem, and
-//! each crate has a row. The names that the templates of the definitions' rows
-//! import exist too, and every link of a document leads to a file and to a
-//! heading of it. Where the repository is not around this workspace, there is
-//! nothing to compare.
+//! each crate has a row. The definitions that a text speaks of exist, and so
+//! do the names that the templates of the definitions' rows import, and every
+//! link of a document leads to a file and to a heading of it. Where the
+//! repository is not around this workspace, there is nothing to compare.
 
 mod repository;
 
@@ -14,12 +14,14 @@ use std::fmt::Debug;
 use std::fs;
 use std::path::{Path, PathBuf};
 
-/// The documents whose paths `crate::module::item` are looked up.
-const DOCUMENTS: [&str; 4] = [
+/// The documents whose paths `crate::module::item` and whose definitions are
+/// looked up.
+const DOCUMENTS: [&str; 5] = [
     "README.md",
     "CONTRIBUTING.md",
     "docs/ARCHITECTURE.md",
     "docs/DECISIONS.md",
+    "reference/README.md",
 ];
 
 /// The cells of a table's row, each under the header of its column.
@@ -41,6 +43,22 @@ fn functions_exist() {
         let text = document(name);
         let paths = text.lines().flat_map(quoted).filter(|it| it.contains("::"));
         none("not found", paths.filter(|path| !item_exists(path)));
+    }
+}
+
+/// A word of letters with a capital inside it is the name of a definition.
+#[test]
+fn definitions_in_text_exist() {
+    let sources: Vec<String> = every_source("specs").collect();
+    for name in DOCUMENTS {
+        let text = document(name);
+        let quoted = text.lines().flat_map(quoted);
+        let words = quoted.flat_map(|text| text.split(|c| !part_of_name(c)));
+        let words = words.filter(|word| word.chars().all(char::is_alphanumeric));
+        let words = words.filter(|word| word.starts_with(char::is_lowercase));
+        let words = words.filter(|word| word.contains(char::is_uppercase));
+        let lacks = |word: &&str| !sources.iter().any(|source| has_word(source, word));
+        none(name, words.filter(lacks));
     }
 }
 

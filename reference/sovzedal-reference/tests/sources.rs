@@ -1,11 +1,13 @@
 //! How the files of the crates are laid out, which no prover asks about: lines
-//! that fit a page, files that say at their beginning what they hold, imports
-//! that are used, and must-fail edits whose text is there once. Where the
-//! repository is not around this workspace, there is nothing to look at.
+//! that fit a page, files that say at their beginning what they hold, names
+//! that mean one thing, imports that are used, and must-fail edits whose text
+//! is there once. Where the repository is not around this workspace, there is
+//! nothing to look at.
 
 mod repository;
 
 use repository::{files_below, repository};
+use std::collections::BTreeMap;
 use std::fs;
 use std::path::{Path, PathBuf};
 
@@ -45,6 +47,28 @@ fn files_say_what_they_hold() {
     );
 }
 
+/// No two files give one name to a type or to a public definition. A struct or
+/// an enum may be called what its model is called, and each table of examples,
+/// in a file whose name ends in `Cases`, has rows and results of its own.
+#[test]
+fn a_name_means_one_thing() {
+    let models = files("antt").into_iter().filter(|path| !is_table(path));
+    for kind in [models.collect(), files("rt")] {
+        let mut places: BTreeMap<String, Vec<PathBuf>> = BTreeMap::new();
+        for path in kind {
+            for name in defined(&read(&path)) {
+                let of_name = places.entry(name).or_default();
+                if !of_name.contains(&path) {
+                    of_name.push(path.clone());
+                }
+            }
+        }
+        assert!(!repository().join("crates").exists() || places.len() > 50);
+        places.retain(|_, paths| paths.len() > 1);
+        assert!(places.is_empty(), "in several files: {places:#?}");
+    }
+}
+
 #[test]
 fn imports_are_used() {
     let mut unused = Vec::new();
@@ -81,6 +105,31 @@ fn edits_apply() {
         assert!(pairs > 0, "{}: nothing is edited", edit.display());
     }
     assert!(!repository().join("crates").exists() || edits.len() > 200);
+}
+
+/// Whether a file holds a table of examples.
+fn is_table(path: &Path) -> bool {
+    let name = path.file_stem().and_then(|name| name.to_str());
+    name.is_some_and(|name| name.ends_with("Cases"))
+}
+
+/// The types and the public definitions of a file.
+fn defined(text: &str) -> Vec<String> {
+    let heads = [
+        "record ",
+        "data ",
+        "abbrev pub ",
+        "unfoldable pub ",
+        "struct ",
+        "enum ",
+    ];
+    let lines = text.lines().map(str::trim_start);
+    let lines = lines.map(|line| line.strip_prefix("pub ").unwrap_or(line));
+    let rests = lines.filter_map(|line| heads.iter().find_map(|head| line.strip_prefix(head)));
+    rests
+        .map(|rest| rest.chars().take_while(|&c| part_of_name(c)).collect())
+        .filter(|name: &String| name.contains(char::is_alphanumeric))
+        .collect()
 }
 
 /// What stands in the braces of a line that imports names.

@@ -7,12 +7,12 @@ use mathlib.Core.List.{List}
 use Prim.Native.Nat.{ℕ, _-_}
 use lib.ListN.{length, set, length-set}
 use borrow.Author.Fill.{fill-more}
-use Rattle.stores.proofs.CellLaws.{Cleared, filled}
+use Rattle.stores.proofs.CellLaws.{ClearedBelow, filled}
 use Rattle.access.proofs.clear_frames.Statement.{statement}
 use Rattle.access.proofs.clear_frames.Tie as tie
 
 abbrev Inv-loop : tie.InvT-loop
-Inv-loop a₀ i₀ a i = Cleared a₀ a i
+Inv-loop a₀ i₀ a i = ClearedBelow a₀ a i
 
 abbrev μ-loop : tie.MeasureT-loop
 μ-loop a₀ i₀ a i = length a₀ - i

@@ -5,7 +5,7 @@ use borrow.Author.Needs.{needs}
 use mathlib.Core.Path.{refl, subst}
 use Rattle.replies.specs.Laws.{by, refused-as}
 use Rattle.chains.specs.declared.answer.Explanation.{Explanation}
-use Rattle.capi_explain.specs.Internal.{Listed, replyFor}
+use Rattle.capi_explain.specs.Internal.{ChainFits, explanationReply}
 use Rattle.capi_explain.proofs.of_explained.Statement.{statement}
 use Rattle.capi_explain.proofs.of_explained.Tie as tie
 
@@ -13,7 +13,7 @@ enum-known-x : tie.Need-enum-known-x
 enum-known-x c = search needs
 
 counted-requires : tie.Need-counted-requires
-counted-requires c κs = omega (arith, subst (λ (a : Explanation). Listed a) (c .before .x .given .1) (c .before .before .before .pre))
+counted-requires c κs = omega (arith, subst (λ (a : Explanation). ChainFits a) (c .before .x .given .1) (c .before .before .before .pre))
 
 enum-told : tie.Need-enum-told
 enum-told c = search needs
@@ -43,21 +43,21 @@ enum-told-2 : tie.Need-enum-told-2
 enum-told-2 c = search needs
 
 returns : tie.Need-returns
-returns c = by (λ (a : Explanation). replyFor a) (c .before .before .x .given .1) (c .counted .ensures)
+returns c = by (λ (a : Explanation). explanationReply a) (c .before .before .x .given .1) (c .counted .ensures)
 
 returns-2 : tie.Need-returns-2
-returns-2 c = by (λ (a : Explanation). replyFor a) (c .before .enum-told .given .1) (c .counted2 .ensures)
+returns-2 c = by (λ (a : Explanation). explanationReply a) (c .before .enum-told .given .1) (c .counted2 .ensures)
 
 returns-3 : tie.Need-returns-3
-returns-3 c = by (λ (a : Explanation). replyFor a) (c .before .before .before .x2 .given .1)
+returns-3 c = by (λ (a : Explanation). explanationReply a) (c .before .before .before .x2 .given .1)
     (refused-as _ _ (c .refused .ensures) (c .before .of-reader .ensures))
 
 returns-4 : tie.Need-returns-4
-returns-4 c = by (λ (a : Explanation). replyFor a) (c .before .before .before .x3 .given .1)
+returns-4 c = by (λ (a : Explanation). explanationReply a) (c .before .before .before .x3 .given .1)
     (refused-as _ _ (c .refused2 .ensures) (c .before .of-fault .ensures))
 
 returns-5 : tie.Need-returns-5
-returns-5 c = by (λ (a : Explanation). replyFor a) (c .enum-told2 .given .1) refl
+returns-5 c = by (λ (a : Explanation). explanationReply a) (c .enum-told2 .given .1) refl
 
 pub of-explained-spec : {M : Type 1} → statement M
 of-explained-spec =

@@ -3,13 +3,13 @@
 use borrow.Author.Needs.{needs}
 use mathlib.Core.Path.{_∙_, ap}
 use Rattle.interp.specs.Answers.{countsModel}
-use Rattle.ranges.specs.Answers.{outcomeModel}
-use Rattle.ranges.specs.declared.answer.Value.{Value}
-use Rattle.ranges.specs.declared.answer.Outcome.{Outcome}
-use Rattle.ranges.specs.declared.answer.Outcome.the-variants.{End}
+use Rattle.ranges.specs.Answers.{intervalOutcomeModel}
+use Rattle.ranges.specs.declared.answer.IntervalGround.{IntervalGround}
+use Rattle.ranges.specs.declared.answer.IntervalOutcome.{IntervalOutcome}
+use Rattle.ranges.specs.declared.answer.IntervalOutcome.the-variants.{End}
 use Rattle.replies.specs.Laws.{by}
-use Rattle.capi_ranges.specs.Entries.{rangeFinished}
-use Rattle.capi_ranges.proofs.EntryLaws.{stopped-as, ended-truth, ended-range}
+use Rattle.capi_ranges.specs.Entries.{intervalFinished}
+use Rattle.capi_ranges.proofs.EntryLaws.{stopped-as, ended-truth, ended-interval}
 use Rattle.capi_ranges.proofs.of_outcome.Statement.{statement}
 use Rattle.capi_ranges.proofs.of_outcome.Tie as tie
 
@@ -61,7 +61,7 @@ counted-requires-3 c κs =
 returns : tie.Need-returns
 returns c =
     let start = c .before .before .before .before .before in
-    by (λ (o : Outcome). rangeFinished (outcomeModel o) (countsModel (start .args .m))) (c .before .before .before .o .given .1)
+    by (λ (o : IntervalOutcome). intervalFinished (intervalOutcomeModel o) (countsModel (start .args .m))) (c .before .before .before .o .given .1)
     (stopped-as (start .args .m) (start .pre) _ _ (c .counted .ensures) (c .before .of-stop .ensures))
 
 returns-2 : tie.Need-returns-2
@@ -69,7 +69,8 @@ returns-2 c =
     let at-v = c .before .before .before in
     let at-o2 = at-v .before .before .before in
     let start = at-o2 .before .before in
-    by (λ (o : Outcome). rangeFinished (outcomeModel o) (countsModel (start .args .m))) (at-o2 .o2 .given .1 ∙ ap (λ (v : Value). End v) (at-v .v .given .1))
+    by (λ (o : IntervalOutcome). intervalFinished (intervalOutcomeModel o) (countsModel (start .args .m)))
+    (at-o2 .o2 .given .1 ∙ ap (λ (v : IntervalGround). End v) (at-v .v .given .1))
     (ended-truth (start .args .m) (start .pre) (at-v .v .given .0 .0) (c .before .truth-number .ensures) (c .counted2 .ensures))
 
 returns-3 : tie.Need-returns-3
@@ -77,8 +78,9 @@ returns-3 c =
     let at-v2 = c .before .before in
     let at-o2 = at-v2 .before .before .before in
     let start = at-o2 .before .before in
-    by (λ (o : Outcome). rangeFinished (outcomeModel o) (countsModel (start .args .m))) (at-o2 .o2 .given .1 ∙ ap (λ (v : Value). End v) (at-v2 .v2 .given .1))
-    (ended-range (start .args .m) (start .pre) (at-v2 .v2 .given .0 .0) (at-v2 .v2 .given .0 .1 .0) (c .counted3 .ensures))
+    by (λ (o : IntervalOutcome). intervalFinished (intervalOutcomeModel o) (countsModel (start .args .m)))
+    (at-o2 .o2 .given .1 ∙ ap (λ (v : IntervalGround). End v) (at-v2 .v2 .given .1))
+    (ended-interval (start .args .m) (start .pre) (at-v2 .v2 .given .0 .0) (at-v2 .v2 .given .0 .1 .0) (c .counted3 .ensures))
 
 pub of-outcome-spec : {M : Type 1} → statement M
 of-outcome-spec =

@@ -2,11 +2,11 @@
 -- outcome and counts, of which the precondition says that they are few and that none is of saturated results.
 use borrow.Author.Needs.{needs}
 use mathlib.Core.Path.{subst}
-use Rattle.ranges.specs.Answers.{rangeModel}
-use Rattle.ranges.specs.declared.answer.RangeRun.{RangeRun}
+use Rattle.ranges.specs.Answers.{intervalModel}
+use Rattle.ranges.specs.declared.answer.IntervalRun.{IntervalRun}
 use Rattle.replies.specs.Laws.{by, refused-as}
-use Rattle.capi_ranges.specs.Entries.{rangeReply}
-use Rattle.capi_ranges.specs.Internal.{RangeReplyFits}
+use Rattle.capi_ranges.specs.Entries.{intervalReply}
+use Rattle.capi_ranges.specs.Internal.{IntervalReplyFits}
 use Rattle.capi_ranges.proofs.of_run.Statement.{statement}
 use Rattle.capi_ranges.proofs.of_run.Tie as tie
 
@@ -23,14 +23,14 @@ enum-known-x-2 : tie.Need-enum-known-x-2
 enum-known-x-2 c = search needs
 
 of-outcome-requires : tie.Need-of-outcome-requires
-of-outcome-requires c κs = subst RangeReplyFits (c .before .x2 .given .1) (c .before .before .before .pre)
+of-outcome-requires c κs = subst IntervalReplyFits (c .before .x2 .given .1) (c .before .before .before .pre)
 
 returns : tie.Need-returns
-returns c = by (λ (r : RangeRun). rangeReply (rangeModel r)) (c .before .before .before .x .given .1)
+returns c = by (λ (r : IntervalRun). intervalReply (intervalModel r)) (c .before .before .before .x .given .1)
     (refused-as _ _ (c .refused .ensures) (c .before .of-refusal .ensures))
 
 returns-2 : tie.Need-returns-2
-returns-2 c = by (λ (r : RangeRun). rangeReply (rangeModel r)) (c .before .before .x2 .given .1) (c .of-outcome .ensures)
+returns-2 c = by (λ (r : IntervalRun). intervalReply (intervalModel r)) (c .before .before .x2 .given .1) (c .of-outcome .ensures)
 
 pub of-run-spec : {M : Type 1} → statement M
 of-run-spec =

@@ -14,7 +14,7 @@ use Rattle.program.specs.Terms.{Term, boolean, number, variable, function, letr
 use Rattle.program.specs.Laws.Nesting.{height}
 use Rattle.typing.specs.Checking.{Judgement, typed, fault, infer}
 use Rattle.typing.specs.Places.{Placed, placed, childrenIn, children, Among, among-first, among-later}
-use Rattle.chains.specs.Explaining.{needs, latentOf, isCause, testsIt, followed, firstNeeding, orLater, unlessCause, next, onward, chain}
+use Rattle.chains.specs.Explaining.{needs, latentOf, isCause, testsIt, followed, firstNeeding, orLater, unlessCause, next, followedBy, chain}
 use Rattle.chains.specs.Chains.{Neighbours, side-by-side, further, Last, last-alone, last-later, Cause, check-names, call-holds, letrec-holds, post-guarded, Lowest, lowest-first, lowest-later}
 use Rattle.typing.specs.Laws.Places.{EachOf, each-among}
 use Rattle.chains.specs.Laws.Progress.{progress}
@@ -132,13 +132,13 @@ module _ (T : Types) (A : ℕ → ℕ) (p : ℕ) where
 
   chain-ends : (k : ℕ) (x : Placed) → isCause T A p x ≡ true → chain T A p (suc k) x ≡ x ∷ []
   unfolding chain next
-  chain-ends k x e = λ i. x ∷ onward T A p (unlessCause T A p (e i) λ _. firstNeeding T A p (followed T A p x)) λ y. chain T A p k y
+  chain-ends k x e = λ i. x ∷ followedBy T A p (unlessCause T A p (e i) λ _. firstNeeding T A p (followed T A p x)) λ y. chain T A p k y
 
   chain-goes : (k : ℕ) (x y : Placed) → isCause T A p x ≡ false → Lowest T A p y (followed T A p x) → chain T A p (suc k) x ≡ x ∷ chain T A p k y
   unfolding chain next
   chain-goes k x y e r =
-      (λ i. x ∷ onward T A p (unlessCause T A p (e i) λ _. firstNeeding T A p (followed T A p x)) λ z. chain T A p k z)
-      ∙ λ i. x ∷ onward T A p (lowest-found r i) λ z. chain T A p k z
+      (λ i. x ∷ followedBy T A p (unlessCause T A p (e i) λ _. firstNeeding T A p (followed T A p x)) λ z. chain T A p k z)
+      ∙ λ i. x ∷ followedBy T A p (lowest-found r i) λ z. chain T A p k z
 
   -- with as many terms as a term is high, the search ends at a cause
   pub chain-way : (k : ℕ) (x : Placed) → heightOf x ≤ k → needs T A p x ≡ true → Way x (chain T A p k x)

@@ -24,15 +24,15 @@ use Rattle.erasure.specs.Laws.Terms.{idle-named, idle-kept, inner-of, te
 use Rattle.erasure.specs.Laws.Places.{stands-child, new-times-in, new-times}
 
 -- the parent that is found has x as a child
-record Parent (s : List ℕ) (x n p : ℕ) : Type 0 where
+record ParentFound (s : List ℕ) (x n p : ℕ) : Type 0 where
   below : p < n
   has-child : 0 < timesIn s x p
 
-parent-has : (s : List ℕ) (x n : ℕ) → 0 < timesBelow s x n → Parent s x n (parent s x n)
+parent-has : (s : List ℕ) (x n : ℕ) → 0 < timesBelow s x n → ParentFound s x n (parent s x n)
 parent-has s x zero h = absurd (omega arith)
 parent-has s x (suc n) h = go (eqb (timesIn s x n) 0) refl (parent-has s x n)
   where
-    go : (b : Bool) → eqb (timesIn s x n) 0 ≡ b → (0 < timesBelow s x n → Parent s x n (parent s x n)) → Parent s x (suc n) (pick b (parent s x n) n)
+    go : (b : Bool) → eqb (timesIn s x n) 0 ≡ b → (0 < timesBelow s x n → ParentFound s x n (parent s x n)) → ParentFound s x (suc n) (pick b (parent s x n) n)
     go true e rest =
         let z : timesIn s x n ≡ 0 = eqb-true (timesIn s x n) 0 e in
         let r = rest (omega arith) in
@@ -101,7 +101,7 @@ module _ (s : List ℕ) (w : WellFormed s) where
           p : ℕ
           p = parent s x (terms s)
 
-          has : Parent s x (terms s) p
+          has : ParentFound s x (terms s) p
           has = parent-has s x (terms s) (omega (arith, one-parent s w x (omega (arith, q, root-lower s w))))
 
           deep : nestedIn (leanSheet s) k (newTerm s p) ≡ true

@@ -15,7 +15,7 @@ use borrow.Author.Tests.{eqb-true, eq-eqb, ne-eqb, lt-ltb, le-ltb}
 use Rattle.privileges.specs.Booleans.{and-both, bool-ext}
 use Rattle.program.specs.Layout.{terms, root, kindByte, first, second, third}
 use Rattle.program.specs.Formats.{Part, unused, flag, anyNumber, privilege, principal, channel, functionType, child, bodyChild, isChild, Kind, Check, Enable, kindOf, format}
-use Rattle.program.specs.Decoding.{formatAt, counts, timesIn, timesBelow, isSign, signedBody, placedOk}
+use Rattle.program.specs.Decoding.{formatAt, childCount, timesIn, timesBelow, isSign, signedBody, placedOk}
 use Rattle.program.specs.Laws.Readable.{WellFormed}
 use Rattle.program.specs.Laws.Trees.{below, placed}
 use Rattle.erasure.specs.Kept.{keptBelow}
@@ -26,8 +26,8 @@ use Rattle.erasure.specs.Laws.Terms.{idle-named, kept-idle, idle-kept, i
 
 -- ---- sums over the terms that x replaces
 module _ (s : List ℕ) (x : ℕ) where
-  abbrev pub one : Bool → ℕ
-  one b = cond b 1 0
+  abbrev pub countIf : Bool → ℕ
+  countIf b = cond b 1 0
 
   abbrev pub replaces : (y : ℕ) → Bool
   replaces y = eqb (inner s y) x
@@ -62,46 +62,46 @@ module _ (s : List ℕ) (x : ℕ) where
       go false e = omega arith
 
   -- of one term
-  chosen-past : (v n : ℕ) → n ≤ v → chosen (λ y. one (eqb v y)) n ≡ 0
+  chosen-past : (v n : ℕ) → n ≤ v → chosen (λ y. countIf (eqb v y)) n ≡ 0
   chosen-past v n h =
-      chosen-ext (λ y. one (eqb v y)) (λ y. 0) n (λ y l e. ap one (ne-eqb v y (λ q. omega (arith, q)))) ∙ chosen-zero n
+      chosen-ext (λ y. countIf (eqb v y)) (λ y. 0) n (λ y l e. ap countIf (ne-eqb v y (λ q. omega (arith, q)))) ∙ chosen-zero n
 
-  chosen-single : (v n : ℕ) → v < n → chosen (λ y. one (eqb v y)) n ≡ one (replaces v)
+  chosen-single : (v n : ℕ) → v < n → chosen (λ y. countIf (eqb v y)) n ≡ countIf (replaces v)
   chosen-single v zero h = absurd (omega arith)
   chosen-single v (suc n) h = go (ℕ-discrete v n) (chosen-single v n)
     where
-      go : Dec (v ≡ n) → (v < n → chosen (λ y. one (eqb v y)) n ≡ one (replaces v))
-          → chosen (λ y. one (eqb v y)) n + cond (replaces n) (one (eqb v n)) 0 ≡ one (replaces v)
+      go : Dec (v ≡ n) → (v < n → chosen (λ y. countIf (eqb v y)) n ≡ countIf (replaces v))
+          → chosen (λ y. countIf (eqb v y)) n + cond (replaces n) (countIf (eqb v n)) 0 ≡ countIf (replaces v)
       go (yes e) rest =
-          let z : 0 + one (replaces n) ≡ one (replaces n) = omega arith in
-          (λ i. chosen-past v n (omega arith) i + cond (replaces n) (one (eq-eqb v n e i)) 0) ∙ z ∙ ap (λ (y : ℕ). one (replaces y)) (sym e)
+          let z : 0 + countIf (replaces n) ≡ countIf (replaces n) = omega arith in
+          (λ i. chosen-past v n (omega arith) i + cond (replaces n) (countIf (eq-eqb v n e i)) 0) ∙ z ∙ ap (λ (y : ℕ). countIf (replaces y)) (sym e)
       go (no e) rest =
-          (λ i. rest (omega arith) i + cond (replaces n) (one (ne-eqb v n e i)) 0) ∙ last (replaces n)
+          (λ i. rest (omega arith) i + cond (replaces n) (countIf (ne-eqb v n e i)) 0) ∙ last (replaces n)
         where
-          last : (b : Bool) → one (replaces v) + cond b 0 0 ≡ one (replaces v)
+          last : (b : Bool) → countIf (replaces v) + cond b 0 0 ≡ countIf (replaces v)
           last true = omega arith
           last false = omega arith
 
   -- ---- the children that x replaces
   -- a part that holds a child which x replaces
   abbrev pub stands : Part → (value : ℕ) → ℕ
-  stands p v = one (isChild p && replaces v)
+  stands p v = countIf (isChild p && replaces v)
 
   abbrev pub standsIn : (t : ℕ) → ℕ
   standsIn t = stands (formatAt s t .first) (first s t) + stands (formatAt s t .second) (second s t) + stands (formatAt s t .third) (third s t)
 
-  chosen-part : (b : Bool) (v n : ℕ) → (b ≡ true → v < n) → chosen (λ y. one (b && eqb v y)) n ≡ one (b && replaces v)
+  chosen-part : (b : Bool) (v n : ℕ) → (b ≡ true → v < n) → chosen (λ y. countIf (b && eqb v y)) n ≡ countIf (b && replaces v)
   chosen-part true v n h = chosen-single v n (h refl)
   chosen-part false v n h = chosen-zero n
 
   chosen-in : WellFormed s → (t n : ℕ) → t < terms s → t ≤ n → chosen (λ y. timesIn s y t) n ≡ standsIn t
   chosen-in w t n l h =
       let c = below s w t l in
-      let part : (p : Part) (v : ℕ) → (isChild p ≡ true → v < t) → chosen (λ y. counts p v y) n ≡ stands p v =
+      let part : (p : Part) (v : ℕ) → (isChild p ≡ true → v < t) → chosen (λ y. childCount p v y) n ≡ stands p v =
       λ p v g. chosen-part (isChild p) v n (λ e. omega (arith, g e)) in
-      chosen-add (λ y. counts (formatAt s t .first) (first s t) y + counts (formatAt s t .second) (second s t) y)
-      (λ y. counts (formatAt s t .third) (third s t) y) n
-      ∙ (λ i. chosen-add (λ y. counts (formatAt s t .first) (first s t) y) (λ y. counts (formatAt s t .second) (second s t) y) n i
+      chosen-add (λ y. childCount (formatAt s t .first) (first s t) y + childCount (formatAt s t .second) (second s t) y)
+      (λ y. childCount (formatAt s t .third) (third s t) y) n
+      ∙ (λ i. chosen-add (λ y. childCount (formatAt s t .first) (first s t) y) (λ y. childCount (formatAt s t .second) (second s t) y) n i
       + part (formatAt s t .third) (third s t) (c .third-below) i)
       ∙ λ i. part (formatAt s t .first) (first s t) (c .first-below) i + part (formatAt s t .second) (second s t) (c .second-below) i
       + stands (formatAt s t .third) (third s t)
@@ -113,21 +113,21 @@ module _ (s : List ℕ) (x : ℕ) where
 
   abbrev idleStands : (count : ℕ) → ℕ
   idleStands zero = 0
-  idleStands (suc t) = idleStands t + cond (idle s t) (one (replaces t)) 0
+  idleStands (suc t) = idleStands t + cond (idle s t) (countIf (replaces t)) 0
 
   -- a check or enable has one child, which is replaced by the same term
-  idle-stands : WellFormed s → (t : ℕ) → t < terms s → idle s t ≡ true → standsIn t ≡ one (replaces t)
+  idle-stands : WellFormed s → (t : ℕ) → t < terms s → idle s t ≡ true → standsIn t ≡ countIf (replaces t)
   idle-stands w t l e =
       let same : (K : Kind) → kindOf (kindByte s t) ≡ K → isChild (format K .first) ≡ true → isChild (format K .second) ≡ false
-      → isChild (format K .third) ≡ false → standsIn t ≡ one (replaces t) =
-      λ K q a b c. (λ i. one (ap (λ (k : Kind). isChild (format k .first)) q i && replaces (first s t))
-      + one (ap (λ (k : Kind). isChild (format k .second)) q i && replaces (second s t))
-      + one (ap (λ (k : Kind). isChild (format k .third)) q i && replaces (third s t)))
-      ∙ (λ i. one (a i && replaces (first s t)) + one (b i && replaces (second s t)) + one (c i && replaces (third s t)))
-      ∙ only (replaces (first s t)) ∙ ap (λ (y : ℕ). one (eqb y x)) (sym (inner-idle s w t l e)) in
+      → isChild (format K .third) ≡ false → standsIn t ≡ countIf (replaces t) =
+      λ K q a b c. (λ i. countIf (ap (λ (k : Kind). isChild (format k .first)) q i && replaces (first s t))
+      + countIf (ap (λ (k : Kind). isChild (format k .second)) q i && replaces (second s t))
+      + countIf (ap (λ (k : Kind). isChild (format k .third)) q i && replaces (third s t)))
+      ∙ (λ i. countIf (a i && replaces (first s t)) + countIf (b i && replaces (second s t)) + countIf (c i && replaces (third s t)))
+      ∙ only (replaces (first s t)) ∙ ap (λ (y : ℕ). countIf (eqb y x)) (sym (inner-idle s w t l e)) in
       ⊎-elim (λ q. same Check q refl refl refl) (λ q. same Enable q refl refl refl) (idle-named s t e)
     where
-      only : (b : Bool) → one b + 0 + 0 ≡ one b
+      only : (b : Bool) → countIf b + 0 + 0 ≡ countIf b
       only b = omega arith
 
   balance : WellFormed s → (n : ℕ) → n ≤ terms s → chosen (λ y. timesBelow s y n) (terms s) ≡ keptStands n + idleStands n
@@ -138,31 +138,31 @@ module _ (s : List ℕ) (x : ℕ) where
       ∙ (λ i. chosen-in w t (terms s) l (omega arith) i + balance w t (omega arith) i) ∙ go (idle s t) refl
     where
       go : (b : Bool) → idle s t ≡ b → standsIn t + (keptStands t + idleStands t)
-          ≡ cond b 0 (standsIn t) + keptStands t + (idleStands t + cond b (one (replaces t)) 0)
+          ≡ cond b 0 (standsIn t) + keptStands t + (idleStands t + cond b (countIf (replaces t)) 0)
       go true e = omega (arith, idle-stands w t (omega arith) e)
       go false e = omega arith
 
   -- ---- the terms that x replaces: itself, and checks and enables
-  past-more : (y : ℕ) → (y ≡ x → ⊥) → one (ltb x (suc y)) ≡ one (ltb x y)
+  past-more : (y : ℕ) → (y ≡ x → ⊥) → countIf (ltb x (suc y)) ≡ countIf (ltb x y)
   past-more y q = elim (decLt x y) [
-    | yes l ↦ ap one (lt-ltb x (suc y) (omega arith) ∙ sym (lt-ltb x y l))
-    | no l ↦ ap one (le-ltb x (suc y) (omega (arith, q)) ∙ sym (le-ltb x y (omega arith)))
+    | yes l ↦ ap countIf (lt-ltb x (suc y) (omega arith) ∙ sym (lt-ltb x y l))
+    | no l ↦ ap countIf (le-ltb x (suc y) (omega (arith, q)) ∙ sym (le-ltb x y (omega arith)))
   ]
 
-  total : keptTerm s x ≡ true → WellFormed s → (n : ℕ) → n ≤ terms s → chosen (λ y. 1) n ≡ idleStands n + one (ltb x n)
-  total k w zero h = omega (arith, ap one (le-ltb x 0 (omega arith)))
+  total : keptTerm s x ≡ true → WellFormed s → (n : ℕ) → n ≤ terms s → chosen (λ y. 1) n ≡ idleStands n + countIf (ltb x n)
+  total k w zero h = omega (arith, ap countIf (le-ltb x 0 (omega arith)))
   total k w (suc y) h = go (idle s y) refl (ℕ-discrete y x) (total k w y (omega arith))
     where
-      go : (b : Bool) → idle s y ≡ b → Dec (y ≡ x) → chosen (λ y. 1) y ≡ idleStands y + one (ltb x y)
-          → chosen (λ y. 1) y + one (replaces y) ≡ idleStands y + cond b (one (replaces y)) 0 + one (ltb x (suc y))
+      go : (b : Bool) → idle s y ≡ b → Dec (y ≡ x) → chosen (λ y. 1) y ≡ idleStands y + countIf (ltb x y)
+          → chosen (λ y. 1) y + countIf (replaces y) ≡ idleStands y + cond b (countIf (replaces y)) 0 + countIf (ltb x (suc y))
       go true e (yes q) rest = absurd (true≢false (sym e ∙ ap (idle s) q ∙ kept-idle s x k))
       go true e (no q) rest = omega (arith, rest, past-more y q)
       go false e (yes q) rest =
           let m : inner s y ≡ x = inner-kept s w y (idle-kept s y e) ∙ q in
-          omega (arith, rest, ap one (eq-eqb (inner s y) x m), ap one (lt-ltb x (suc y) (omega arith)), ap one (le-ltb x y (omega arith)))
+          omega (arith, rest, ap countIf (eq-eqb (inner s y) x m), ap countIf (lt-ltb x (suc y) (omega arith)), ap countIf (le-ltb x y (omega arith)))
       go false e (no q) rest =
           let m : (inner s y ≡ x → ⊥) = λ r. q (sym (inner-kept s w y (idle-kept s y e)) ∙ r) in
-          omega (arith, rest, past-more y q, ap one (ne-eqb (inner s y) x m))
+          omega (arith, rest, past-more y q, ap countIf (ne-eqb (inner s y) x m))
 
   -- ---- so one child of a kept term is left to be replaced by x, and none by the root
   times : WellFormed s → (y : ℕ) → y < terms s → timesBelow s y (terms s) ≡ cond (eqb y (root s)) 0 1
@@ -186,7 +186,7 @@ module _ (s : List ℕ) (x : ℕ) where
           chosen-ext (λ y. timesBelow s y (terms s)) (λ y. 1) (terms s)
           (λ y h e. times w y h ∙ ap (λ (b : Bool). cond b 0 1)
           (ne-eqb y (root s) (λ r. q (sym e ∙ ap (inner s) r ∙ inner-kept s w (root s) (root-kept s w))))) in
-          let one-is : keptStands (terms s) ≡ 1 = omega (arith, even, each, total k w (terms s) (omega arith), ap one (lt-ltb x (terms s) l)) in
+          let one-is : keptStands (terms s) ≡ 1 = omega (arith, even, each, total k w (terms s) (omega arith), ap countIf (lt-ltb x (terms s) l)) in
           one-is ∙ ap (λ (b : Bool). cond b 0 1) (sym (ne-eqb x (root s) q))
 
 -- a child of t is one that its own inner term replaces
@@ -194,7 +194,7 @@ pub stands-child : (s : List ℕ) (x t : ℕ) → 0 < timesIn s x t → 0 < stan
 stands-child s x t h =
     omega (arith, part (formatAt s t .first) (first s t), part (formatAt s t .second) (second s t), part (formatAt s t .third) (third s t))
   where
-    part : (p : Part) (v : ℕ) → counts p v x ≤ stands s (inner s x) p v
+    part : (p : Part) (v : ℕ) → childCount p v x ≤ stands s (inner s x) p v
     part p v = go (isChild p) (eqb v x) refl
       where
         go : (a b : Bool) → eqb v x ≡ b → cond (a && b) 1 0 ≤ cond (a && eqb (inner s v) (inner s x)) 1 0
@@ -214,7 +214,7 @@ module _ (s : List ℕ) (w : WellFormed s) where
       (λ e. eq-eqb (keptBelow (keptTerm s) (inner s v)) (keptBelow (keptTerm s) x) (ap (keptBelow (keptTerm s)) (eqb-true (inner s v) x e)))
 
   part-counts : (x : ℕ) → keptTerm s x ≡ true → (p : Part) (v : ℕ) → (isChild p ≡ true → v < terms s)
-      → counts p (newPart s p v) (keptBelow (keptTerm s) x) ≡ stands s x p v
+      → childCount p (newPart s p v) (keptBelow (keptTerm s) x) ≡ stands s x p v
   part-counts x k unused v h = refl
   part-counts x k flag v h = refl
   part-counts x k anyNumber v h = refl
@@ -230,8 +230,8 @@ module _ (s : List ℕ) (w : WellFormed s) where
   new-times-in x t k g l =
       let c = below s w t l in
       let n : ℕ = keptBelow (keptTerm s) x in
-      (λ i. counts (same-format s w t g l i .first) (term-first s w t g l i) n + counts (same-format s w t g l i .second) (term-second s w t g l i) n
-      + counts (same-format s w t g l i .third) (term-third s w t g l i) n)
+      (λ i. childCount (same-format s w t g l i .first) (term-first s w t g l i) n + childCount (same-format s w t g l i .second) (term-second s w t g l i) n
+      + childCount (same-format s w t g l i .third) (term-third s w t g l i) n)
       ∙ λ i. part-counts x k (formatAt s t .first) (first s t) (λ e. omega (arith, c .first-below e)) i
       + part-counts x k (formatAt s t .second) (second s t) (λ e. omega (arith, c .second-below e)) i
       + part-counts x k (formatAt s t .third) (third s t) (λ e. omega (arith, c .third-below e)) i

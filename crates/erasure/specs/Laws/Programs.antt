@@ -14,7 +14,7 @@ use Rattle.program.specs.Layout.{version, terms, guardOf, root, kindByte, small
 use Rattle.program.specs.Formats.{Kind, Boolean, Number, Variable, Function, Letrec, Call, If, Check, Enable, Sign, Test, Sum, Difference, Less, Post, kindOf, format}
 use Rattle.program.specs.Terms.{Term, post, node, tree, program}
 use Rattle.program.specs.Decoding.{formatAt, Readable}
-use Rattle.program.specs.Laws.Kinds.{numbered, kind-number}
+use Rattle.program.specs.Laws.Kinds.{numberOfKind, kind-number}
 use Rattle.program.specs.Laws.Readable.{WellFormed, well-formed}
 use Rattle.program.specs.Laws.Trees.{Below, below, parts, tree-node, root-lower}
 use Rattle.program.specs.Laws.Guards.{without-guards}
@@ -71,8 +71,8 @@ module _ (s : List ℕ) (r : Readable s) (version-1 : version s ≡ 1) (no-test 
   w′ = well-formed (leanSheet s) (lean-readable s r version-1)
 
   -- a kept term's kind
-  kind-is : (t : ℕ) → t < terms s → (K : Kind) → kindOf (kindByte s t) ≡ K → kindByte s t ≡ numbered K
-  kind-is t l K e = sym (kind-number (kindByte s t) (parts s w t l .kind-ok)) ∙ ap numbered e
+  kind-is : (t : ℕ) → t < terms s → (K : Kind) → kindOf (kindByte s t) ≡ K → kindByte s t ≡ numberOfKind K
+  kind-is t l K e = sym (kind-number (kindByte s t) (parts s w t l .kind-ok)) ∙ ap numberOfKind e
 
   not-idle : (t n : ℕ) → idle s t ≡ false → kindByte s t ≡ n → (leb 7 n && leb n 8) ≡ true → ⊥
   not-idle t n e q h = true≢false (sym h ∙ ap (λ (k : ℕ). leb 7 k && leb k 8) (sym q) ∙ e)

@@ -37,11 +37,11 @@ field-none s o tag ok b c d =
     (none-next (none-unless 2 (eq-eqb (byte s o) tag b))
     (none-next (none-unless 4 c) (none-next (none-unless 1 (le-leb (o + 3 + word16 s (o + 1)) (length s) d)) none-end)))
 
-record Field (s : List ℕ) (o tag : ℕ) (ok : ℕ → Bool) : Type 0 where
+record FieldRead (s : List ℕ) (o tag : ℕ) (ok : ℕ → Bool) : Type 0 where
   tagged : byte s o ≡ tag
   sized : ok (word16 s (o + 1)) ≡ true
 
-field-has : (s : List ℕ) (o tag : ℕ) (ok : ℕ → Bool) → None (field s o tag ok) → Field s o tag ok
+field-has : (s : List ℕ) (o tag : ℕ) (ok : ℕ → Bool) → None (field s o tag ok) → FieldRead s o tag ok
 field-has s o tag ok (none-next a (none-next b (none-next c (none-next d none-end)))) = record {
   tagged = eqb-true (byte s o) tag (unless-none 2 _ b);
   sized = unless-none 4 _ c;
@@ -68,11 +68,11 @@ module _ (s : List ℕ) (r : Readable s) (version-1 : version s ≡ 1) where
   w : WellFormed s
   w = well-formed s r
 
-  record Copied : Type 0 where
-    first-field : Field s 0 1 (holds 2 1 1)
-    second-field : Field s 5 2 (holds 4 1 maxPrincipals)
+  record FieldCopied : Type 0 where
+    first-field : FieldRead s 0 1 (holds 2 1 1)
+    second-field : FieldRead s 5 2 (holds 4 1 maxPrincipals)
 
-  copied-fields : Copied
+  copied-fields : FieldCopied
   unfolding decoding
   copied-fields =
       let n = none-append (fieldConditions s) (tableConditions s) (clear-none (decodingConditions s) r) .0 in

@@ -28,7 +28,8 @@ use Rattle.soundness.specs.Laws.Runs.{posts-listed, removed}
 use Rattle.erasure.specs.Claims.{renumberedOutcome, LikeRun}
 use Rattle.erasure.specs.Laws.Erases.{Erases}
 use Rattle.erasure.specs.Laws.Typing.{Renames, derived}
-use Rattle.erasure.specs.Laws.Runs.{v-bool, v-num, v-closure, ErasesResult, r-ends, r-stops, runs-erased}
+use Rattle.semantics.specs.Laws.Related.{v-bool, v-num, v-closure, r-ends, r-stops}
+use Rattle.erasure.specs.Laws.Runs.{ErasesResult, runs-erased}
 
 -- the second sheet is the first one's lean sheet, with types renumbered by ρ and terms by ν
 pub record Leaner (s s′ : List ℕ) (ρ ν : ℕ → ℕ) : Type 0 where

@@ -83,18 +83,18 @@ heads-at s (suc n) t h = go (decLt t n) (heads-at s n t)
         getD-at (heads s n) (firstAlike s (heads s n) n) [] 0 t (heads-length s n ∙ e) ∙ ap (λ (x : ℕ). firstAlike s (heads s x) x) e
 
 -- the records of two types become equal
-pub record Same (s : List ℕ) (t u : ℕ) : Type 0 where
+pub record BecomeEqual (s : List ℕ) (t u : ℕ) : Type 0 where
   pub kinds : byte s (typeAt s u) ≡ byte s (typeAt s t)
   pub args : head s (typesOf s .arg u) ≡ head s (typesOf s .arg t)
   pub results : head s (typesOf s .res u) ≡ head s (typesOf s .res t)
 
-same-refl : (s : List ℕ) (t : ℕ) → Same s t t
+same-refl : (s : List ℕ) (t : ℕ) → BecomeEqual s t t
 same-refl s t = record { kinds = refl; args = refl; results = refl }
 
-same-sym : {s : List ℕ} {t u : ℕ} → Same s t u → Same s u t
+same-sym : {s : List ℕ} {t u : ℕ} → BecomeEqual s t u → BecomeEqual s u t
 same-sym h = record { kinds = sym (h .kinds); args = sym (h .args); results = sym (h .results) }
 
-same-trans : {s : List ℕ} {t u v : ℕ} → Same s t u → Same s u v → Same s t v
+same-trans : {s : List ℕ} {t u v : ℕ} → BecomeEqual s t u → BecomeEqual s u v → BecomeEqual s t v
 same-trans h g = record { kinds = g .kinds ∙ h .kinds; args = g .args ∙ h .args; results = g .results ∙ h .results }
 
 module _ (s : List ℕ) (w : WellFormed s) where
@@ -102,13 +102,13 @@ module _ (s : List ℕ) (w : WellFormed s) where
   is-function : (t : ℕ) → 2 ≤ t → t < types s → typesOf s .isFun t ≡ true
   is-function t h l = and-both (le-leb 2 t h) (lt-ltb t (types s) l)
 
-  record Base (t : ℕ) : Type 0 where
+  record BaseType (t : ℕ) : Type 0 where
     kind : byte s (typeAt s t) ≡ t
     zero-is : byte s (typeAt s t + 1) ≡ 0
     arg : typesOf s .arg t ≡ 0
     res : typesOf s .res t ≡ 0
 
-  base : (t : ℕ) → t < 2 → Base t
+  base : (t : ℕ) → t < 2 → BaseType t
   base t h =
       let ok : baseOk s t ≡ true = (λ i. cond (sym (lt-ltb t 2 h) i) (baseOk s t) (functionOk s t && shallow s maxTypeDepth t && fresh s t t))
       ∙ w .type-ok t (omega (arith, w .types-least)) in
@@ -120,14 +120,14 @@ module _ (s : List ℕ) (w : WellFormed s) where
       }
 
   -- parts are lower than every type from their own on, but for type 0
-  pub record Lower (u t : ℕ) : Type 0 where
+  pub record PartsBelow (u t : ℕ) : Type 0 where
     pub arg : typesOf s .arg u < t
     pub res : typesOf s .res u < t
 
-  pub lower : (u t : ℕ) → u < types s → u ≤ t → 1 ≤ t → Lower u t
+  pub lower : (u t : ℕ) → u < types s → u ≤ t → 1 ≤ t → PartsBelow u t
   lower u t l h g = go (decLt u 2)
     where
-      go : Dec (u < 2) → Lower u t
+      go : Dec (u < 2) → PartsBelow u t
       go (yes b) = record { arg = omega (arith, base u b .arg); res = omega (arith, base u b .res) }
       go (no b) =
           let f = function-type s w u (is-function u (omega arith) l) in
@@ -142,7 +142,7 @@ module _ (s : List ℕ) (w : WellFormed s) where
   unfolding head
   heads-head t x l h = heads-at s t x h ∙ sym (heads-at s (types s) x (omega arith))
 
-  alike-same : (t u : ℕ) → t < types s → u < t → alike s (heads s t) t u ≡ true → Same s t u
+  alike-same : (t u : ℕ) → t < types s → u < t → alike s (heads s t) t u ≡ true → BecomeEqual s t u
   alike-same t u l h e =
       let a = lower u t (omega arith) (omega arith) (omega arith) in
       let b = lower t t l (omega arith) (omega arith) in
@@ -156,7 +156,7 @@ module _ (s : List ℕ) (w : WellFormed s) where
             ∙ heads-head t (typesOf s .res t) l (b .res);
       }
 
-  same-alike : (t u : ℕ) → t < types s → u < t → Same s t u → alike s (heads s t) t u ≡ true
+  same-alike : (t u : ℕ) → t < types s → u < t → BecomeEqual s t u → alike s (heads s t) t u ≡ true
   same-alike t u l h e =
       let a = lower u t (omega arith) (omega arith) (omega arith) in
       let b = lower t t l (omega arith) (omega arith) in
@@ -166,8 +166,8 @@ module _ (s : List ℕ) (w : WellFormed s) where
 
   pub record Head (t : ℕ) : Type 0 where
     pub low : head s t ≤ t
-    pub same : Same s t (head s t)
-    pub least : (u : ℕ) → Same s t u → head s t ≤ u
+    pub same : BecomeEqual s t (head s t)
+    pub least : (u : ℕ) → BecomeEqual s t u → head s t ≤ u
 
   pub head-of : (t : ℕ) → t < types s → Head t
   head-of t l = go (lowest (λ u. not (alike s (heads s t) t u)) 0 t) refl
@@ -176,16 +176,16 @@ module _ (s : List ℕ) (w : WellFormed s) where
       is o e = head-is t l ∙ ap (orSelf t) e
 
       -- none below x becomes equal
-      none-below : (x : ℕ) → x ≤ t → ((u : ℕ) → u < x → not (alike s (heads s t) t u) ≡ true) → (u : ℕ) → Same s t u → x ≤ u
+      none-below : (x : ℕ) → x ≤ t → ((u : ℕ) → u < x → not (alike s (heads s t) t u) ≡ true) → (u : ℕ) → BecomeEqual s t u → x ≤ u
       none-below x g h u q = elim (decLt u x) [
         | yes m ↦ absurd (true≢false (sym (same-alike t u l (omega arith) q) ∙ not-true _ (h u m)))
         | no m ↦ omega arith
       ]
 
-      at : (x : ℕ) → head s t ≡ x → x ≤ t → Same s t x → ((u : ℕ) → u < x → not (alike s (heads s t) t u) ≡ true) → Head t
+      at : (x : ℕ) → head s t ≡ x → x ≤ t → BecomeEqual s t x → ((u : ℕ) → u < x → not (alike s (heads s t) t u) ≡ true) → Head t
       at x e g q h = record {
         low = omega arith;
-        same = subst (Same s t) (sym e) q;
+        same = subst (BecomeEqual s t) (sym e) q;
         least = λ u r. omega (arith, none-below x g h u r);
       }
 
@@ -198,7 +198,7 @@ module _ (s : List ℕ) (w : WellFormed s) where
           (alike-same t x l (omega (arith, r .inside)) (not-false _ (r .fails))) (λ u h. r .least u (omega arith) h)
 
   -- types whose records become equal have the same head, which is kept
-  pub heads-same : (t u : ℕ) → t < types s → u < types s → Same s t u → head s t ≡ head s u
+  pub heads-same : (t u : ℕ) → t < types s → u < types s → BecomeEqual s t u → head s t ≡ head s u
   heads-same t u l m q =
       let a = head-of t l in
       let b = head-of u m in
@@ -440,7 +440,7 @@ module _ (s : List ℕ) (w : WellFormed s) where
 
       back : head s t ≡ head s u → typeBytes s t ≡ typeBytes s u
       back e =
-          let q = same-trans (head-of t l .same) (subst (λ (x : ℕ). Same s x u) (sym e) (same-sym (head-of u m .same))) in
+          let q = same-trans (head-of t l .same) (subst (λ (x : ℕ). BecomeEqual s x u) (sym e) (same-sym (head-of u m .same))) in
           λ i. sym (q .kinds) i ∷ 0 ∷ bytes16 (keptBelow (keptType s) (sym (q .args) i)) ++ bytes16 (keptBelow (keptType s) (sym (q .results) i))
           ++ 0 ∷ 0 ∷ 0 ∷ 0 ∷ []
 

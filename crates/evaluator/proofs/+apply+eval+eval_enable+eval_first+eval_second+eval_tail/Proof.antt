@@ -1,7 +1,7 @@
--- The evaluator's functions give and leave what the interpreter's clause for their shape says; each answer cites the law of its shape (ShapeLaws) and puts
+-- The evaluator's functions give and leave what the interpreter's clause for their action says; each answer cites the law of its action (ActionLaws) and puts
 -- together what its calls gave (ContractLaws). `start` is a function's entry, `at-X` the place where X was bound last.
 --
--- What falls is `workLeft`: the calls left, then the term's number. A child has a lower number and does not raise the calls left, the function of a shape
+-- What falls is `workLeft`: the calls left, then the term's number. A child has a lower number and does not raise the calls left, the function of an action
 -- stands one step below `eval` and that of a second operand two; `apply` has no term and stands below them all, and the body that it evaluates begins with
 -- one call less.
 use native.Mathlib.Omega.{arith}
@@ -10,14 +10,14 @@ use mathlib.Core.Logic.{inl, inr, ⊎-elim}
 use mathlib.Core.Path.{refl, sym, _∙_}
 use native.Mathlib.Nat.{le-refl}
 use lib.Dec.{ltb}
-use Rattle.machine.specs.Store.{shapeOf}
+use Rattle.machine.specs.Store.{actionOf}
 use Rattle.evaluator.specs.Contracts.{workLeft}
 use Rattle.evaluator.proofs.ContractLaws.{ends, ends-same, goes-on, stays, follows, same-cells}
-use Rattle.evaluator.proofs.ShapeLaws.{node-of, node-leaf, tail-of, tail-kind, first-of, first-kind, boolean-is, number-is, variable-is, function-is, enable-is}
-use Rattle.evaluator.proofs.ShapeLaws.{first-below, leading-below, operand-below, branch-below, next-below, privilege-below, lower, guard-of}
-use Rattle.evaluator.proofs.ShapeLaws.{tail-stops, tail-goes, first-is, first-posts, first-branches, first-seconds, pair-of, second-is, pair-applies, pair-operates}
-use Rattle.evaluator.proofs.ShapeLaws.{branch-stuck, branch-undecided, branch-to, apply-stuck, apply-deep, apply-spent, apply-full, apply-runs, one-call-less}
-use Rattle.evaluator.proofs.ShapeLaws.{operate-calls, post-done, post-calls}
+use Rattle.evaluator.proofs.ActionLaws.{node-of, node-leaf, tail-of, tail-kind, first-of, first-kind, boolean-is, number-is, variable-is, function-is, enable-is}
+use Rattle.evaluator.proofs.ActionLaws.{first-below, leading-below, operand-below, branch-below, next-below, privilege-below, lower, guard-of}
+use Rattle.evaluator.proofs.ActionLaws.{tail-stops, tail-goes, first-is, first-posts, first-branches, first-seconds, pair-of, second-is, pair-applies, pair-operates}
+use Rattle.evaluator.proofs.ActionLaws.{branch-stuck, branch-undecided, branch-to, apply-stuck, apply-deep, apply-spent, apply-full, apply-runs, one-call-less}
+use Rattle.evaluator.proofs.ActionLaws.{operate-calls, post-done, post-calls}
 use Rattle.stores.proofs.CellLaws.{bound-full}
 use Prim.Native.Nat.{ℕ, _<_}
 use borrow.Fn.Kinds.{In}
@@ -206,14 +206,14 @@ apply-returns-4 t c =
     (apply-full _ _ _ _ _ _ _ (at-sort .sort .ensures) (at-if1 .if1 .left) (at-if2 .if2 .left) (at-if3 .if3 .left)
     (bound-full _ _ _ _ (at-bind .bind .ensures) (at-if4 .if4 .taken) .0) (c .stop4 .ensures))
 
-apply-sub-n : (t : ℕ) → apply-lts.Need-sub-n (apply-claims t) (apply-at t) apply.Post
-apply-sub-n t c = search needs
+apply-sub-counters : (t : ℕ) → apply-lts.Need-sub-counters (apply-claims t) (apply-at t) apply.Post
+apply-sub-counters t c = search needs
 
-apply-element-write-n : (t : ℕ) → apply-lts.Need-element-write-n (apply-claims t) (apply-at t) apply.Post
-apply-element-write-n t c = search needs
+apply-element-write-counters : (t : ℕ) → apply-lts.Need-element-write-counters (apply-claims t) (apply-at t) apply.Post
+apply-element-write-counters t c = search needs
 
-apply-element-write-n-2 : (t : ℕ) → apply-lts.Need-element-write-n-2 (apply-claims t) (apply-at t) apply.Post
-apply-element-write-n-2 t c = search needs
+apply-element-write-counters-2 : (t : ℕ) → apply-lts.Need-element-write-counters-2 (apply-claims t) (apply-at t) apply.Post
+apply-element-write-counters-2 t c = search needs
 
 apply-payload-requires : (t : ℕ) → apply-lts.Need-payload-requires (apply-claims t) (apply-at t) apply.Post
 apply-payload-requires t c κs = search needs
@@ -229,8 +229,10 @@ apply-eval-requires t c κs =
     let at-payload = c .before .before .before .before .before .before in
     let at-bind = at-payload .before .before in
     let at-if3 = at-bind .before .before .before .before in
-    let start = at-if3 .before .before .before .before .before in
-    (omega (arith, start .pre .0, at-payload .payload .ensures, one-call-less (start .args .n .now) (at-bind .bind .result) (at-if3 .if3 .left)), start .pre .1)
+    let start = at-if3 .before .before .before .before .before in (
+      omega (arith, start .pre .0, at-payload .payload .ensures, one-call-less (start .args .counters .now) (at-bind .bind .result) (at-if3 .if3 .left)),
+      start .pre .1,
+    )
 
 apply-returns-5 : (t : ℕ) → apply-lts.Need-returns-5 (apply-claims t) (apply-at t) apply.Post
 apply-returns-5 t c =
@@ -246,7 +248,7 @@ apply-returns-5 t c =
     let start = at-sort .before in
     goes-on (apply-runs _ _ _ _ _ _ _ (at-sort .sort .ensures) (at-if1 .if1 .left) (at-if2 .if2 .left) (at-if3 .if3 .left) (at-bind .bind .ensures)
     (at-if4 .if4 .left) (at-payload .payload .ensures) (at-env .env .ensures) (at-next-cell .next-cell .ensures))
-    (omega (arith, one-call-less (start .args .n .now) (at-bind .bind .result) (at-if3 .if3 .left))) refl (c .eval .ensures)
+    (omega (arith, one-call-less (start .args .counters .now) (at-bind .bind .result) (at-if3 .if3 .left))) refl (c .eval .ensures)
 
 abbrev eval-claims : ℕ → eval-lts.Claims
 eval-claims t = (
@@ -313,7 +315,7 @@ eval-function-requires : (t : ℕ) → eval-lts.Need-function-requires (eval-cla
 eval-function-requires t c κs = search needs
 
 eval-eval-enable-requires : (t : ℕ) → eval-lts.Need-eval-enable-requires (eval-claims t) (eval-at t) eval.Post
-unfolding shapeOf
+unfolding actionOf
 eval-eval-enable-requires t c κs =
     let at-match = c .before .before .before .before .before in
     let at-kind-of = at-match .before in
@@ -785,7 +787,7 @@ eval-tail-eval-requires t c κs =
         arith,
         start .pre .0,
         at-enter .enter .ensures .calls,
-        next-below (start .pre .1) 0 (start .args .env) (start .args .acc)
+        next-below (start .pre .1) 0 (start .args .env) (start .args .access)
             (at-enter .enter .ensures),
       ),
       start .pre .1 .node .ready,
@@ -819,9 +821,9 @@ pub +apply+eval+eval-enable+eval-first+eval-second+eval-tail-spec : {M : Type 1}
     (apply-bind-requires t)
     (apply-stop-requires-4 t)
     (apply-returns-4 t)
-    (apply-sub-n t)
-    (apply-element-write-n t)
-    (apply-element-write-n-2 t)
+    (apply-sub-counters t)
+    (apply-element-write-counters t)
+    (apply-element-write-counters-2 t)
     (apply-payload-requires t)
     (apply-next-cell-requires t)
     (apply-sub-eval t)

@@ -92,7 +92,7 @@ module _ (ρ : ℕ → ℕ) (s : List ℕ) where
       go false e b′ = b′
 
 -- ---- what two sheets share that differ in the numbers of number terms alone
-pub record Alike (s s′ : List ℕ) : Type 0 where
+pub record SameButNumbers (s s′ : List ℕ) : Type 0 where
   pub lengths : length s′ ≡ length s
   pub front : (i : ℕ) → i < termField s + 3 → byte s′ i ≡ byte s i
   pub kinds : (t : ℕ) → byte s′ (termAt s t) ≡ byte s (termAt s t)
@@ -151,7 +151,7 @@ module _ (ρ : ℕ → ℕ) (s : List ℕ) where
       ap (byte (withNumbers ρ s)) e ∙ h (j + 1) (omega arith) (omega arith) ∙ ap (byte s) (sym e) in
       λ i. h j (omega arith) (omega arith) i * 256 + low i
 
-  pub alike : Alike s (withNumbers ρ s)
+  pub alike : SameButNumbers s (withNumbers ρ s)
   alike = record {
     lengths = same-length;
     front = front-kept;

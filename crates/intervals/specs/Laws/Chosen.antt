@@ -30,7 +30,8 @@ use Rattle.intervals.specs.Choosing.{withNumbers}
 use Rattle.intervals.specs.Laws.Sheets.{number-kind}
 use Rattle.intervals.specs.Laws.Bytes.{alike, number-is}
 use Rattle.intervals.specs.Laws.Reading.{same-principals, same-termAt, same-root, same-kind, same-small, same-first, same-second, same-third, same-authority, same-guardOf, same-conditions}
-use Rattle.intervals.specs.Laws.Replacing.{Replaced, p-boolean, p-number, p-variable, p-function, p-letrec, p-call, p-if, p-check, p-enable, p-sign, p-test, p-binary, p-post, v-bool, v-num, v-closure, ReplacedResult, r-ends, r-stops, eager-agrees, eager-start, lazy-agrees, lazy-start, runs-replaced}
+use Rattle.semantics.specs.Laws.Related.{v-bool, v-num, v-closure, r-ends, r-stops}
+use Rattle.intervals.specs.Laws.Replacing.{Replaced, p-boolean, p-number, p-variable, p-function, p-letrec, p-call, p-if, p-check, p-enable, p-sign, p-test, p-binary, p-post, ReplacedResult, eager-agrees, eager-start, lazy-agrees, lazy-start, runs-replaced}
 
 -- ---- one record over related terms
 module _ (ρ : ℕ → ℕ) (count : ℕ) (G : ℕ → Option ℕ) (f g : ℕ → Term) (t : ℕ) (under : (y : ℕ) → y < t → Replaced ρ count (f y) (g y)) where

@@ -11,12 +11,12 @@ use Rattle.traces.specs.Traces.{Event}
 use Rattle.semantics.specs.Domains.{saturates, postEntry, Interpretation}
 use Rattle.semantics.specs.Values.{ValueOf, Value, bool, num, closure, EnvOf, Env, empty, bind, lookup, entered, Log, Budget, budget, ResultOf, Result, ends, stops}
 use Rattle.semantics.specs.Meaning.{Control, Mode, _then_, choose, variableValue, branch, operate, countSaturated, compute, appendPost, note, postValue, takeCell, beginCall, tooDeep, enter, passes, guardPasses, eventIf, listsChecks, Application, evalWith, apply, eval}
-use Rattle.intervals.specs.Intervals.{Interval, rangeEntry, intervals}
+use Rattle.intervals.specs.Intervals.{Interval, intervalEntry, intervals}
 use Rattle.intervals.specs.Claims.{Inside, chosen, InsidePosts, next-post}
 use Rattle.intervals.specs.Laws.Arithmetic.{Agrees, agrees-known, agrees-none, sum-inside, difference-inside, less-agrees}
 
 -- a range of 16-bit numbers, and one of them
-pub record Word (i : Interval) (n : ℕ) : Type 0 where
+pub record NumberInside (i : Interval) (n : ℕ) : Type 0 where
   pub inside : Inside i n
   pub low : i .high < 65536
 
@@ -29,26 +29,26 @@ module _ (L : ℕ → Interval) (ρ : (at n : ℕ) → ℕ) where
   abbrev over : Interpretation
   over = record { domain = intervals; literal = λ at n. L at }
 
-  abbrev pub Fits : Term → Type 0
-  Fits (boolean at b) = Unit {0}
-  Fits (number at n) = Word (L at) (ρ at n)
-  Fits (variable at i) = Unit {0}
-  Fits (function at ty body) = Unit {0}
-  Fits (letrec at ty body rest) = Unit {0}
-  Fits (call at f a) = Unit {0}
-  Fits (if at c y n) = Unit {0}
-  Fits (check at p c) = Unit {0}
-  Fits (enable at p c) = Unit {0}
-  Fits (sign at n c) = Unit {0}
-  Fits (test at p y n) = Unit {0}
-  Fits (binary at op a b) = Unit {0}
-  Fits (post at ch g c) = Unit {0}
+  abbrev pub LiteralsInside : Term → Type 0
+  LiteralsInside (boolean at b) = Unit {0}
+  LiteralsInside (number at n) = NumberInside (L at) (ρ at n)
+  LiteralsInside (variable at i) = Unit {0}
+  LiteralsInside (function at ty body) = Unit {0}
+  LiteralsInside (letrec at ty body rest) = Unit {0}
+  LiteralsInside (call at f a) = Unit {0}
+  LiteralsInside (if at c y n) = Unit {0}
+  LiteralsInside (check at p c) = Unit {0}
+  LiteralsInside (enable at p c) = Unit {0}
+  LiteralsInside (sign at n c) = Unit {0}
+  LiteralsInside (test at p y n) = Unit {0}
+  LiteralsInside (binary at op a b) = Unit {0}
+  LiteralsInside (post at ch g c) = Unit {0}
 
   mutual
     pub data InsideValue : ValueOf intervals → Value → Type 0 where
       v-truth : {t : Option Bool} {b : Bool} → Agrees t b → InsideValue (bool t) (bool b)
-      v-number : {i : Interval} {n : ℕ} → Word i n → InsideValue (num i) (num n)
-      v-closure : {r : Bool} {ty : ℕ} {body : Term} {e : EnvOf intervals} {e′ : Env} → Every Fits body → Unguarded body → InsideEnv e e′
+      v-number : {i : Interval} {n : ℕ} → NumberInside i n → InsideValue (num i) (num n)
+      v-closure : {r : Bool} {ty : ℕ} {body : Term} {e : EnvOf intervals} {e′ : Env} → Every LiteralsInside body → Unguarded body → InsideEnv e e′
           → InsideValue (closure r ty body e) (closure r ty body e′)
 
     pub data InsideEnv : EnvOf intervals → Env → Type 0 where
@@ -87,7 +87,7 @@ module _ (L : ℕ → Interval) (ρ : (at n : ℕ) → ℕ) where
   inside-branch at (v-number w) y n y′ n′ u u′ h hy hn = r-stops h
   inside-branch at (v-closure c p e) y n y′ n′ u u′ h hy hn = r-stops h
 
-  inside-operate : (op : Op) (i j : Interval) (m n : ℕ) → Word i m → Word j n → InsideValue (operate op i j) (operate op m n)
+  inside-operate : (op : Op) (i j : Interval) (m n : ℕ) → NumberInside i m → NumberInside j n → InsideValue (operate op i j) (operate op m n)
   inside-operate sum i j m n v w = v-number (record { inside = sum-inside i j m n (v .inside) (w .inside); low = omega arith })
   inside-operate difference i j m n v w = v-number (record { inside = difference-inside i j m n (v .inside) (w .inside); low = omega (arith, v .low) })
   inside-operate less i j m n v w = v-truth (less-agrees i j m n (v .inside) (w .inside))
@@ -116,13 +116,13 @@ module _ (L : ℕ → Interval) (ρ : (at n : ℕ) → ℕ) where
   inside-decision o true y n y′ n′ hy hn h = hy _ _ (inside-noted o h)
   inside-decision o false y n y′ n′ hy hn h = hn _ _ (inside-noted o h)
 
-  inside-append : (at : ℕ) {ch : ℕ} → ch ≡ 0 → {i : Interval} {n : ℕ} → Word i n → {u u′ : Budget} → InsideBudget u u′
+  inside-append : (at : ℕ) {ch : ℕ} → ch ≡ 0 → {i : Interval} {n : ℕ} → NumberInside i n → {u u′ : Budget} → InsideBudget u u′
       → InsideResult (appendPost at ch i u) (appendPost at ch n u′)
   inside-append at z w (inside-budget {r = zero} p) = r-stops (inside-budget p)
   inside-append at {ch} z {i} {n} w (inside-budget {r = suc r} {l = l} {m = m} p) =
       let same : postEntry ch n ≡ n = omega (arith, z) in
       r-ends (v-number w)
-      (inside-budget (subst (λ (x : ℕ). InsidePosts (rangeEntry i ∷ l .posts) (x ∷ m .posts)) (sym same) (next-post (w .low) (w .inside) p)))
+      (inside-budget (subst (λ (x : ℕ). InsidePosts (intervalEntry i ∷ l .posts) (x ∷ m .posts)) (sym same) (next-post (w .low) (w .inside) p)))
 
   inside-post : (at : ℕ) {ch : ℕ} → ch ≡ 0 → (allowed : Bool) (o : Option Event) {v : ValueOf intervals} {w : Value} → InsideValue v w → {u u′ : Budget}
       → InsideBudget u u′ → InsideResult (postValue at ch allowed o v u) (postValue at ch allowed o w u′)
@@ -147,14 +147,15 @@ module _ (L : ℕ → Interval) (ρ : (at n : ℕ) → ℕ) where
   inside-deep at (v-truth t) b = r-stops b
   inside-deep at (v-number w) b = r-stops b
 
-  inside-entered : (r : Bool) (ty : ℕ) (body : Term) {e : EnvOf intervals} {e′ : Env} {v : ValueOf intervals} {w : Value} → Every Fits body → Unguarded body
+  inside-entered : (r : Bool) (ty : ℕ) (body : Term) {e : EnvOf intervals} {e′ : Env} {v : ValueOf intervals} {w : Value} → Every LiteralsInside body
+      → Unguarded body
       → InsideEnv e e′ → InsideValue v w → InsideEnv (entered r ty body e v) (entered r ty body e′ w)
   inside-entered true ty body c p e v = env-bind v (env-bind (v-closure c p e) e)
   inside-entered false ty body c p e v = env-bind v e
 
   inside-enter : (at : ℕ) {v w : ValueOf intervals} {v′ w′ : Value} → InsideValue v v′ → InsideValue w w′
       → (k : Term → EnvOf intervals → Budget → ResultOf intervals) (l : Term → Env → Budget → Result)
-      → ((c : Term) (e : EnvOf intervals) (e′ : Env) → Every Fits c → Unguarded c → InsideEnv e e′ → (u u′ : Budget) → InsideBudget u u′
+      → ((c : Term) (e : EnvOf intervals) (e′ : Env) → Every LiteralsInside c → Unguarded c → InsideEnv e e′ → (u u′ : Budget) → InsideBudget u u′
       → InsideResult (k c e u) (l c e′ u′)) → {u u′ : Budget} → InsideBudget u u′ → InsideResult (enter at v w k u) (enter at v′ w′ l u′)
   inside-enter at (v-closure {r} {ty} {body} c p e) w k l h b =
       inside-begin at _ _ (λ u u′ b₁. h body _ _ c p (inside-entered r ty body c p e w) u u′ b₁) b
@@ -168,7 +169,7 @@ module _ (L : ℕ → Interval) (ρ : (at n : ℕ) → ℕ) where
         → InsideBudget u u′ → InsideResult (f at v w st u) (g at v′ w′ st u′)
 
     module _ (f : Application over X) (g : Application (chosen ρ) X) (h : InsideApplication f g) where
-      eval-inside : (c : Term) → Every Fits c → Unguarded c → (st : X .State) {e : EnvOf intervals} {e′ : Env} → InsideEnv e e′ → {u u′ : Budget}
+      eval-inside : (c : Term) → Every LiteralsInside c → Unguarded c → (st : X .State) {e : EnvOf intervals} {e′ : Env} → InsideEnv e e′ → {u u′ : Budget}
           → InsideBudget u u′ → InsideResult (evalWith over X M f c st e u) (evalWith (chosen ρ) X M g c st e′ u′)
       unfolding evalWith
       eval-inside (boolean at b) k p st e u = r-ends (v-truth agrees-known) u
@@ -205,7 +206,7 @@ module _ (L : ℕ → Interval) (ρ : (at n : ℕ) → ℕ) where
         inside-enter at v w _ _
         (λ c _ _ h p e _ _ u₁. eval-inside (apply over X M k) (apply (chosen ρ) X M k) (apply-inside k) c h p st e u₁) u
 
-    pub inside : (depth : ℕ) (c : Term) → Every Fits c → Unguarded c → (st : X .State) {u u′ : Budget} → InsideBudget u u′
+    pub inside : (depth : ℕ) (c : Term) → Every LiteralsInside c → Unguarded c → (st : X .State) {u u′ : Budget} → InsideBudget u u′
         → InsideResult (eval over X M depth c st empty u) (eval (chosen ρ) X M depth c st empty u′)
     unfolding eval
     inside k c h p st u = eval-inside (apply over X M k) (apply (chosen ρ) X M k) (apply-inside k) c h p st env-empty u

@@ -14,22 +14,22 @@ use Rattle.semantics.specs.Runs.{Runner, eager, lazy, Request, Sizes, stack, in
 use Rattle.semantics.specs.Laws.Budgets.{Steps, leaves-related}
 use Rattle.semantics.specs.Laws.Saturation.{saturatedIn}
 use Rattle.intervals.specs.Intervals.{intervals}
-use Rattle.intervals.specs.Pairs.{ranged}
+use Rattle.intervals.specs.Pairs.{overIntervals}
 
-record Uncounted (u v : Budget) : Type 0 where
+record NoneCounted (u v : Budget) : Type 0 where
   same : saturatedIn v ≡ saturatedIn u
 
-follows : {u v w : Budget} → Uncounted u v → Uncounted v w → Uncounted u w
+follows : {u v w : Budget} → NoneCounted u v → NoneCounted v w → NoneCounted u w
 follows a b = record { same = b .same ∙ a .same }
 
-noted : (o : Option Event) (u : Budget) → Uncounted u (note o u)
+noted : (o : Option Event) (u : Budget) → NoneCounted u (note o u)
 noted none u = record { same = refl }
 noted (some e) (budget c d r l) = record { same = refl }
 
-unchanged : (u : Budget) → Uncounted u (countSaturated false u)
+unchanged : (u : Budget) → NoneCounted u (countSaturated false u)
 unchanged (budget c d r l) = record { same = refl }
 
-uncounted-steps : Steps intervals Uncounted
+uncounted-steps : Steps intervals NoneCounted
 uncounted-steps = record {
   stays = λ u. record { same = refl };
   follows = follows;
@@ -41,10 +41,11 @@ uncounted-steps = record {
 }
 
 pub evaluation-uncounted : (s ps : List ℕ) (M : Mode) (r : Runner) (q : Request) (z : Sizes)
-    → saturatedIn (left (evaluationOver (ranged s ps) M r s q z)) ≡ 0
+    → saturatedIn (left (evaluationOver (overIntervals s ps) M r s q z)) ≡ 0
 evaluation-uncounted s ps M eager q z =
-    leaves-related intervals Uncounted uncounted-steps (ranged s ps .literal) (eagerControl (authority s)) M (q .depth) (program s)
+    leaves-related intervals NoneCounted uncounted-steps (overIntervals s ps .literal) (eagerControl (authority s)) M (q .depth) (program s)
     (rights 0 (privs (authority s) (stack (q .start)))) empty (initial q z) .same
 evaluation-uncounted s ps M lazy q z =
-    leaves-related intervals Uncounted uncounted-steps (ranged s ps .literal) (lazyControl (authority s)) M (q .depth) (program s) (stack (q .start)) empty
+    leaves-related intervals NoneCounted uncounted-steps (overIntervals s ps .literal) (lazyControl (authority s)) M (q .depth) (program s)
+    (stack (q .start)) empty
     (initial q z) .same

@@ -9,15 +9,15 @@ use native.Mathlib.Omega.{arith}
 use lib.Dec.{leb, ltb, eqb}
 use borrow.Author.Tests.{ltb-true, ltb-false, le-ltb, eqb-true}
 use Rattle.privileges.specs.Booleans.{and-left, and-right}
-use Rattle.program.specs.Limits.{maxPrincipals, maxTypes, maxTerms, maxChannels, noGuard, maxTypeDepth, maxNesting, maxPrivilege}
+use Rattle.program.specs.Limits.{maxPrincipals, maxTypes, maxTerms, maxChannels, noGuard, maxTypeDepth, maxNesting}
 use Rattle.program.specs.Tests.{also, orElse}
 use Rattle.program.specs.Bytes.{byte, word16, word32}
 use Rattle.program.specs.Layout.{version, hasGuards, principals, authority, typeField, types, typeAt, termField, terms, termAt, guardField, guardAt, sheetEnd, channels, guardByte, guardIn, guardOf, root, kindByte, small, first, second, third, typesOf}
 use Rattle.program.specs.Formats.{Part, unused, flag, anyNumber, privilege, principal, channel, functionType, child, bodyChild, kindOf, format}
 use Rattle.program.specs.Screening.{onward, lowest, unless, seek}
-use Rattle.program.specs.Decoding.{holds, field, baseOk, functionOk, shallow, sameBytes, fresh, typeOk, partOk, formatAt, termOk, counts, timesIn, timesBelow, isSign, signedBody, placedOk, parent, nestedIn, guardOk, fieldConditions, tableConditions, decodingConditions}
+use Rattle.program.specs.Decoding.{holds, field, baseOk, functionOk, shallow, sameBytes, fresh, typeOk, partOk, formatAt, termOk, childCount, timesIn, timesBelow, isSign, signedBody, placedOk, parent, nestedIn, guardOk, fieldConditions, tableConditions, decodingConditions, isGuard}
 use Rattle.intervals.specs.Pairs.{isNumber}
-use Rattle.intervals.specs.Laws.Bytes.{Alike}
+use Rattle.intervals.specs.Laws.Bytes.{SameButNumbers}
 
 -- tests that agree on each number if all lower ones pass fail first at the same
 lowest-alike : (ok ok′ : ℕ → Bool) (i n : ℕ) → ((y : ℕ) → y < i → ok y ≡ true)
@@ -31,7 +31,7 @@ lowest-alike ok ok′ i (suc n) passed h =
     go true e rest = rest (λ y l. elim (ℕ-discrete y i) [ yes q ↦ ap ok q ∙ e | no q ↦ passed y (omega arith) ])
     go false e rest = refl
 
-module _ (s s′ : List ℕ) (a : Alike s s′) where
+module _ (s s′ : List ℕ) (a : SameButNumbers s s′) where
   -- ---- counts and places
   word-front : (i : ℕ) → i + 1 < termField s + 3 → word16 s′ i ≡ word16 s i
   word-front i h = λ k. a .front i (omega arith) k * 256 + a .front (i + 1) h k
@@ -244,18 +244,18 @@ module _ (s s′ : List ℕ) (a : Alike s s′) where
       && same-part t (λ j. same-format t j .second) (same-second t) i && same-part t (λ j. same-format t j .third) (same-third t) i
 
   -- ---- 7
-  first-counts : (x t : ℕ) → counts (formatAt s′ t .first) (first s′ t) x ≡ counts (formatAt s t .first) (first s t) x
+  first-counts : (x t : ℕ) → childCount (formatAt s′ t .first) (first s′ t) x ≡ childCount (formatAt s t .first) (first s t) x
   first-counts x t = go (isNumber s t) refl
     where
-      go : (b : Bool) → isNumber s t ≡ b → counts (formatAt s′ t .first) (first s′ t) x ≡ counts (formatAt s t .first) (first s t) x
+      go : (b : Bool) → isNumber s t ≡ b → childCount (formatAt s′ t .first) (first s′ t) x ≡ childCount (formatAt s t .first) (first s t) x
       go true e =
-          (λ i. counts (same-format t i .first) (first s′ t) x) ∙ (λ i. counts (number-format t e i) (first s′ t) x)
-          ∙ sym (λ i. counts (number-format t e i) (first s t) x)
-      go false e = λ i. counts (same-format t i .first) (same-first t e i) x
+          (λ i. childCount (same-format t i .first) (first s′ t) x) ∙ (λ i. childCount (number-format t e i) (first s′ t) x)
+          ∙ sym (λ i. childCount (number-format t e i) (first s t) x)
+      go false e = λ i. childCount (same-format t i .first) (same-first t e i) x
 
   same-times : (x t : ℕ) → timesIn s′ x t ≡ timesIn s x t
   same-times x t =
-      λ i. first-counts x t i + counts (same-format t i .second) (same-second t i) x + counts (same-format t i .third) (same-third t i) x
+      λ i. first-counts x t i + childCount (same-format t i .second) (same-second t i) x + childCount (same-format t i .third) (same-third t i) x
 
   same-below : (x n : ℕ) → timesBelow s′ x n ≡ timesBelow s x n
   same-below x zero = refl
@@ -294,7 +294,7 @@ module _ (s s′ : List ℕ) (a : Alike s s′) where
 
   -- ---- 31
   same-guard : (c : ℕ) → guardOk s′ c ≡ guardOk s c
-  same-guard c = λ i. leb (same-guardByte c i) maxPrivilege || eqb (same-guardByte c i) noGuard
+  same-guard c = λ i. isGuard (same-guardByte c i)
 
   -- ---- all of them
   found-5 : lowest (typeOk s′) 0 (types s′) ≡ lowest (typeOk s) 0 (types s)

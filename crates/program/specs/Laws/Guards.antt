@@ -3,17 +3,18 @@ use mathlib.Core.Bool.{Bool, true, false, cond, _||_, false≢true}
 use mathlib.Core.List.{List, []}
 use mathlib.Core.Option.{Option, none, some, Option·none-ne-some, Option·some-injective}
 use mathlib.Core.Path.{_≡_, refl, sym, ap, _∙_, subst}
-use Prim.Native.Nat.{ℕ, zero, suc, _<_, _≤_}
+use Prim.Native.Nat.{ℕ, zero, suc, _+_, _<_, _≤_}
 use native.Mathlib.Omega.{arith}
 use lib.Dec.{leb, ltb, eqb}
 use borrow.Author.Tests.{ltb-true, leb-true, eqb-true, le-ltb, ne-eqb}
+use Rattle.privileges.specs.Sets.{privilegeCount}
 use Rattle.program.specs.Limits.{maxChannels, noGuard, maxPrivilege}
 use Rattle.program.specs.Bytes.{byte}
 use Rattle.program.specs.Layout.{version, hasGuards, terms, termAt, guardField, guardAt, sheetEnd, channels, guardByte, guardIn, guardOf, root, kindByte, small, first, second, third}
 use Rattle.program.specs.Formats.{Part, unused, channel, Kind, Boolean, Number, Variable, Function, Letrec, Call, If, Check, Enable, Sign, Test, Sum, Difference, Less, Post, kindOf, format}
 use Rattle.program.specs.Terms.{Term, node, treeTo, program, contains, EveryPost, Plain, Unguarded}
 use Rattle.program.specs.Screening.{lowest}
-use Rattle.program.specs.Decoding.{holds, field, partOk, formatAt, guardOk, guardConditions}
+use Rattle.program.specs.Decoding.{holds, field, partOk, formatAt, guardOk, guardConditions, isGuard}
 use Rattle.program.specs.Laws.Readable.{WellFormed}
 use Rattle.program.specs.Laws.Trees.{Below, below, parts, root-lower}
 
@@ -34,20 +35,27 @@ channel-in s w t l e = channel-part s t (formatAt s t .small) (small s t) (parts
 pub channel-below : (s : List ℕ) → WellFormed s → (t : ℕ) → t < terms s → formatAt s t .small ≡ channel → small s t < maxChannels
 channel-below s w t l e = omega (arith, channel-in s w t l e, channels-most s)
 
+-- "privilege k, 0 to 31": the last one
+pub last-privilege : maxPrivilege + 1 ≡ privilegeCount
+last-privilege = refl
+
 -- "a privilege 0 to 31, or 255 for none"
-pub guard-low : (x : ℕ) → (leb x maxPrivilege || eqb x noGuard) ≡ true → (p : ℕ) → guardIn x ≡ some p → (p ≡ x) × (p < 32)
+pub guard-low : (x : ℕ) → isGuard x ≡ true → (p : ℕ) → guardIn x ≡ some p → (p ≡ x) × (p < privilegeCount)
 guard-low x h p e = go (leb x maxPrivilege) refl (eqb x noGuard) refl h e
   where
-    go : (a : Bool) → leb x maxPrivilege ≡ a → (b : Bool) → eqb x noGuard ≡ b → (a || b) ≡ true → cond b none (some x) ≡ some p → (p ≡ x) × (p < 32)
+    go : (a : Bool) → leb x maxPrivilege ≡ a → (b : Bool) → eqb x noGuard ≡ b → (a || b) ≡ true → cond b none (some x) ≡ some p → (p ≡ x) × (p < privilegeCount)
     go a ea true eb h e = absurd (Option·none-ne-some p e)
     go true ea false eb h e = let q : x ≡ p = Option·some-injective x p e in (sym q, omega (arith, leb-true x maxPrivilege ea, q))
     go false ea false eb h e = absurd (false≢true h)
 
-pub guard-below : (s : List ℕ) → WellFormed s → (c : ℕ) → c < maxChannels → (p : ℕ) → guardOf s c ≡ some p → p < 32
+pub guard-privilege : (x : ℕ) → isGuard x ≡ true → (x ≡ noGuard → ⊥) → x < privilegeCount
+guard-privilege x h n = guard-low x h x (λ i. cond (ne-eqb x noGuard n i) none (some x)) .1
+
+pub guard-below : (s : List ℕ) → WellFormed s → (c : ℕ) → c < maxChannels → (p : ℕ) → guardOf s c ≡ some p → p < privilegeCount
 guard-below s w c l p e = guard-low (guardByte s c) (w .guard-ok c l) p e .1
 
 -- a privilege guards a channel exactly if it is the guard byte, since no privilege is the byte for none
-pub guard-contains : (p x : ℕ) → p < 32 → eqb x p ≡ contains p (guardIn x)
+pub guard-contains : (p x : ℕ) → p < privilegeCount → eqb x p ≡ contains p (guardIn x)
 guard-contains p x l = go (eqb x noGuard) refl
   where
     go : (z : Bool) → eqb x noGuard ≡ z → eqb x p ≡ contains p (cond z none (some x))
@@ -77,7 +85,7 @@ without-guards s one =
       terms-last = λ i. cond (h i) (guardAt s maxChannels) (guardField s);
       small-unused = λ t x. (λ i. ltb x (cond (h i) maxChannels 1)) ∙ zero-below-one x;
       no-fault = λ i.
-          lowest (λ c. leb (cond (h i) (byte s (guardAt s c)) noGuard) maxPrivilege || eqb (cond (h i) (byte s (guardAt s c)) noGuard) noGuard) 0 maxChannels;
+          lowest (λ c. isGuard (cond (h i) (byte s (guardAt s c)) noGuard)) 0 maxChannels;
       one-channel = λ i. cond (h i) maxChannels 1;
       none-guarded = λ c i. guardIn (cond (h i) (byte s (guardAt s c)) noGuard);
     }
@@ -113,13 +121,13 @@ module _ (s : List ℕ) (w : WellFormed s) (Q : ℕ → Option ℕ → Type 0) (
   program-posts = tree-posts (suc (root s)) (root s) (root-lower s w) (omega arith)
 
 -- "a channel, 0 to 15", and "a privilege 0 to 31, or 255 for none"
-pub record PostInRange (ch : ℕ) (g : Option ℕ) : Type 0 where
+pub record PostInInterval (ch : ℕ) (g : Option ℕ) : Type 0 where
   pub channel-in : ch < maxChannels
-  pub privilege-in : (p : ℕ) → g ≡ some p → p < 32
+  pub privilege-in : (p : ℕ) → g ≡ some p → p < privilegeCount
 
-pub program-in-range : (s : List ℕ) → WellFormed s → EveryPost PostInRange (program s)
+pub program-in-range : (s : List ℕ) → WellFormed s → EveryPost PostInInterval (program s)
 program-in-range s w =
-    program-posts s w PostInRange
+    program-posts s w PostInInterval
     (λ x l. let h : x < maxChannels = omega (arith, channels-most s) in record { channel-in = h; privilege-in = λ p e. guard-below s w x h p e })
 
 pub program-unguarded : (s : List ℕ) → WellFormed s → version s ≡ 1 → Unguarded (program s)

@@ -6,22 +6,22 @@ use native.Mathlib.Omega.{arith}
 use lib.ListN.{getD, List·getD-map}
 use Rattle.program.specs.Formats.{Kind, Boolean, Number, Variable, Function, Letrec, Call, If, Check, Enable, Sign, Test, Sum, Difference, Less, Post, kinds, kindOf}
 
-abbrev pub numbered : Kind → ℕ
-numbered Boolean = 0
-numbered Number = 1
-numbered Variable = 2
-numbered Function = 3
-numbered Letrec = 4
-numbered Call = 5
-numbered If = 6
-numbered Check = 7
-numbered Enable = 8
-numbered Sign = 9
-numbered Test = 10
-numbered Sum = 11
-numbered Difference = 12
-numbered Less = 13
-numbered Post = 14
+abbrev pub numberOfKind : Kind → ℕ
+numberOfKind Boolean = 0
+numberOfKind Number = 1
+numberOfKind Variable = 2
+numberOfKind Function = 3
+numberOfKind Letrec = 4
+numberOfKind Call = 5
+numberOfKind If = 6
+numberOfKind Check = 7
+numberOfKind Enable = 8
+numberOfKind Sign = 9
+numberOfKind Test = 10
+numberOfKind Sum = 11
+numberOfKind Difference = 12
+numberOfKind Less = 13
+numberOfKind Post = 14
 
 abbrev from : (i count : ℕ) → List ℕ
 from i zero = []
@@ -32,5 +32,5 @@ from-at i zero n d h = absurd (omega arith)
 from-at i (suc k) zero d h = omega arith
 from-at i (suc k) (suc n) d h = from-at (suc i) k n d (omega arith) ∙ omega arith
 
-pub kind-number : (n : ℕ) → n ≤ 14 → numbered (kindOf n) ≡ n
-kind-number n h = sym (List·getD-map numbered kinds n Post) ∙ from-at 0 15 n 14 (omega arith) ∙ omega arith
+pub kind-number : (n : ℕ) → n ≤ 14 → numberOfKind (kindOf n) ≡ n
+kind-number n h = sym (List·getD-map numberOfKind kinds n Post) ∙ from-at 0 15 n 14 (omega arith) ∙ omega arith

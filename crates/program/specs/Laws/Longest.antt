@@ -15,7 +15,7 @@ use Rattle.program.specs.Bytes.{byte, word16}
 use Rattle.program.specs.Layout.{version, hasGuards, typeField, termField, guardField, guardAt}
 use Rattle.program.specs.Screening.{Condition, Screening, clear, found, refuseAt, screen, unless}
 use Rattle.program.specs.Decoding.{holds, field, tableConditions, decoding, Readable}
-use Rattle.program.specs.Laws.Readable.{Counted, counted, WellFormed, well-formed}
+use Rattle.program.specs.Laws.Readable.{WholeRecords, counted, WellFormed, well-formed}
 use Rattle.program.specs.Laws.Guards.{without-guards}
 
 -- ---- how long a sheet is
@@ -57,8 +57,8 @@ module _ (s r : List ℕ) (s-long : maxSheet < length s) (r-long : maxSheet < le
 
   -- a field whose records end in time, and what follows it
   field-alike : (i j tag size least most : ℕ) (xs ys : List Condition) → i ≡ j → i + 3 ≤ maxSheet
-      → ((n : ℕ) → Counted size least most n → i + 3 + n ≤ maxSheet)
-      → (Counted size least most (word16 s (i + 1)) → word16 s (i + 1) ≡ word16 r (j + 1) → screen xs ≡ screen ys)
+      → ((n : ℕ) → WholeRecords size least most n → i + 3 + n ≤ maxSheet)
+      → (WholeRecords size least most (word16 s (i + 1)) → word16 s (i + 1) ≡ word16 r (j + 1) → screen xs ≡ screen ys)
       → screen (field s i tag (holds size least most) ++ xs) ≡ screen (field r j tag (holds size least most) ++ ys)
   field-alike i j tag size least most xs ys e l inside rest =
       let n : ℕ = word16 s (i + 1) in

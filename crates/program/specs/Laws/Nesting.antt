@@ -14,7 +14,7 @@ use Rattle.program.specs.Tests.{orElse}
 use Rattle.program.specs.Layout.{terms, guardOf, root, kindByte, small, first, second, third}
 use Rattle.program.specs.Formats.{child, Format, Kind, Boolean, Number, Variable, Function, Letrec, Call, If, Check, Enable, Sign, Test, Sum, Difference, Less, Post, kindOf, format}
 use Rattle.program.specs.Terms.{Term, boolean, number, variable, function, letrec, call, if, check, enable, sign, test, binary, post, node, tree, program}
-use Rattle.program.specs.Decoding.{counts, timesIn, timesBelow, parent, nestedIn}
+use Rattle.program.specs.Decoding.{childCount, timesIn, timesBelow, parent, nestedIn}
 use Rattle.program.specs.Laws.Readable.{WellFormed}
 use Rattle.program.specs.Laws.Trees.{Below, below, tree-node, placed, root-lower}
 
@@ -80,7 +80,7 @@ nested-lt s k t w h = go (decLt k maxNesting)
     go (no n) = absurd (true≢false (sym (nested-add s (k - maxNesting) maxNesting t w)
         ∙ ap (λ (m : ℕ). nestedIn s m t) {x = k - maxNesting + maxNesting} {y = k} (omega arith) ∙ h))
 
-counts-self : (y : ℕ) → counts child y y ≡ 1
+counts-self : (y : ℕ) → childCount child y y ≡ 1
 counts-self y = ap (λ (e : Bool). cond e 1 0) (eq-eqb y y refl)
 
 max-le-of : (a b k : ℕ) → suc a + k ≤ maxNesting → suc b + k ≤ maxNesting → suc (max a b) + k ≤ maxNesting
@@ -95,8 +95,8 @@ module _ (s : List ℕ) (w : WellFormed s) where
 
   module _ (t k : ℕ) (room : k < maxNesting) where
     -- the children of a record are terms that fit one level deeper
-    record Deep (f : Format) (a b c : ℕ) : Type 0 where
-      fits : (y : ℕ) → y < t → 0 < counts (f .first) a y + counts (f .second) b y + counts (f .third) c y → suc (height (tree s y)) + k ≤ maxNesting
+    record ChildrenFit (f : Format) (a b c : ℕ) : Type 0 where
+      fits : (y : ℕ) → y < t → 0 < childCount (f .first) a y + childCount (f .second) b y + childCount (f .third) c y → suc (height (tree s y)) + k ≤ maxNesting
 
     two : (a b : ℕ) → suc (height (tree s a)) + k ≤ maxNesting → suc (height (tree s b)) + k ≤ maxNesting
         → 1 + max (height (tree s a)) (height (tree s b)) + k ≤ maxNesting
@@ -107,7 +107,8 @@ module _ (s : List ℕ) (w : WellFormed s) where
     three a b c p q r =
         omega (arith, max-le-of (height (tree s a)) (max (height (tree s b)) (height (tree s c))) k p (max-le-of (height (tree s b)) (height (tree s c)) k q r))
 
-    node-height : (K : Kind) (x a b c : ℕ) → Below (format K) t a b c → Deep (format K) a b c → height (node (guardOf s) K t x a b c (tree s)) + k ≤ maxNesting
+    node-height : (K : Kind) (x a b c : ℕ) → Below (format K) t a b c → ChildrenFit (format K) a b c
+        → height (node (guardOf s) K t x a b c (tree s)) + k ≤ maxNesting
     node-height Boolean x a b c u h = omega arith
     node-height Number x a b c u h = omega arith
     node-height Variable x a b c u h = omega arith

@@ -31,12 +31,12 @@ field-ok s o tag ok (none-next a (none-next b (none-next c (none-next d none-end
   content = leb-true (o + 3 + word16 s (o + 1)) (length s) (unless-none 1 _ d);
 }
 
-pub record Counted (size least most n : ℕ) : Type 0 where
+pub record WholeRecords (size least most n : ℕ) : Type 0 where
   pub exact : n / size * size ≡ n
   pub low : least ≤ n / size
   pub high : n / size ≤ most
 
-pub counted : (size least most n : ℕ) → holds size least most n ≡ true → Counted size least most n
+pub counted : (size least most n : ℕ) → holds size least most n ≡ true → WholeRecords size least most n
 counted size least most n h = record {
   exact = eqb-true (n / size * size) n (search (and-left, and-right));
   low = leb-true least (n / size) (search (and-left, and-right));

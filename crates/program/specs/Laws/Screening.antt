@@ -108,17 +108,18 @@ lowest-none ok i (suc n) e x l h = go (ok i) refl e (λ q g. lowest-none ok (suc
     go true p q rest = elim (ℕ-discrete i x) [ yes y ↦ ap ok (sym y) ∙ p | no y ↦ rest q (omega arith) ]
     go false p q rest = absurd (some≢none q)
 
-pub record Lowest (ok : ℕ → Bool) (i n x : ℕ) : Type 0 where
+pub record LowestFailing (ok : ℕ → Bool) (i n x : ℕ) : Type 0 where
   pub from : i ≤ x
   pub inside : x < i + n
   pub fails : ok x ≡ false
   pub least : (y : ℕ) → i ≤ y → y < x → ok y ≡ true
 
-pub lowest-some : (ok : ℕ → Bool) (i n x : ℕ) → lowest ok i n ≡ some x → Lowest ok i n x
+pub lowest-some : (ok : ℕ → Bool) (i n x : ℕ) → lowest ok i n ≡ some x → LowestFailing ok i n x
 lowest-some ok i zero x e = absurd (some≢none (sym e))
 lowest-some ok i (suc n) x e = go (ok i) refl e (lowest-some ok (suc i) n x)
   where
-    go : (b : Bool) → ok i ≡ b → onward b i (λ _. lowest ok (suc i) n) ≡ some x → (lowest ok (suc i) n ≡ some x → Lowest ok (suc i) n x) → Lowest ok i (suc n) x
+    go : (b : Bool) → ok i ≡ b → onward b i (λ _. lowest ok (suc i) n) ≡ some x → (lowest ok (suc i) n ≡ some x → LowestFailing ok (suc i) n x)
+        → LowestFailing ok i (suc n) x
     go true p q rest =
         let r = rest q in
         record {
@@ -131,11 +132,11 @@ lowest-some ok i (suc n) x e = go (ok i) refl e (lowest-some ok (suc i) n x)
         let z : i ≡ x = cc in
         record { from = omega arith; inside = omega arith; fails = ap ok (sym z) ∙ p; least = λ y l h. absurd (omega arith) }
 
-pub lowest-at : (ok : ℕ → Bool) (i n x : ℕ) → Lowest ok i n x → lowest ok i n ≡ some x
+pub lowest-at : (ok : ℕ → Bool) (i n x : ℕ) → LowestFailing ok i n x → lowest ok i n ≡ some x
 lowest-at ok i zero x r = absurd (omega (arith, r .from, r .inside))
 lowest-at ok i (suc n) x r = go (ok i) refl (lowest-at ok (suc i) n x)
   where
-    go : (b : Bool) → ok i ≡ b → (Lowest ok (suc i) n x → lowest ok (suc i) n ≡ some x) → onward b i (λ _. lowest ok (suc i) n) ≡ some x
+    go : (b : Bool) → ok i ≡ b → (LowestFailing ok (suc i) n x → lowest ok (suc i) n ≡ some x) → onward b i (λ _. lowest ok (suc i) n) ≡ some x
     go true p rest =
         let ne : (i ≡ x → ⊥) = λ z. true≢false (sym p ∙ ap ok z ∙ r .fails) in
         rest (record { from = omega (arith, ne, r .from); inside = omega (arith, r .inside); fails = r .fails; least = λ y l h. r .least y (omega arith) h })

@@ -14,7 +14,7 @@ use Rattle.program.specs.Limits.{maxTerms}
 use Rattle.program.specs.Layout.{terms, guardOf, root, kindByte, small, first, second, third}
 use Rattle.program.specs.Formats.{isChild, Format, Kind, Boolean, Number, Variable, Function, Letrec, Call, If, Check, Enable, Sign, Test, Sum, Difference, Less, Post, kindOf, format}
 use Rattle.program.specs.Terms.{Term, node, tree, program, size, Every}
-use Rattle.program.specs.Decoding.{formatAt, counts, timesIn, timesBelow}
+use Rattle.program.specs.Decoding.{formatAt, childCount, timesIn, timesBelow}
 use Rattle.program.specs.Laws.Readable.{WellFormed}
 use Rattle.program.specs.Laws.Trees.{Below, below, tree-node, program-every, root-lower}
 use Rattle.program.specs.Laws.Nesting.{one-parent}
@@ -69,14 +69,14 @@ module _ (f : ℕ → ℕ) where
   part-chosen false v n h = none-chosen n
 
   children-chosen : (k : Format) (t a b c n : ℕ) → Below k t a b c → t ≤ n
-      → total (λ j. (counts (k .first) a j + counts (k .second) b j + counts (k .third) c j) * f j) n ≡ ofChildren k a b c
+      → total (λ j. (childCount (k .first) a j + childCount (k .second) b j + childCount (k .third) c j) * f j) n ≡ ofChildren k a b c
   children-chosen k t a b c n w l =
-      let x : ℕ → ℕ = λ j. counts (k .first) a j * f j in
-      let y : ℕ → ℕ = λ j. counts (k .second) b j * f j in
-      let z : ℕ → ℕ = λ j. counts (k .third) c j * f j in
+      let x : ℕ → ℕ = λ j. childCount (k .first) a j * f j in
+      let y : ℕ → ℕ = λ j. childCount (k .second) b j * f j in
+      let z : ℕ → ℕ = λ j. childCount (k .third) c j * f j in
       total-same _ (λ j. x j + y j + z j) n (λ j l.
-      add-mul (counts (k .first) a j + counts (k .second) b j) (counts (k .third) c j) (f j)
-      ∙ ap (λ (m : ℕ). m + z j) (add-mul (counts (k .first) a j) (counts (k .second) b j) (f j)))
+      add-mul (childCount (k .first) a j + childCount (k .second) b j) (childCount (k .third) c j) (f j)
+      ∙ ap (λ (m : ℕ). m + z j) (add-mul (childCount (k .first) a j) (childCount (k .second) b j) (f j)))
       ∙ total-add (λ j. x j + y j) z n ∙ ap (λ (m : ℕ). m + total z n) (total-add x y n)
       ∙ λ i. part-chosen (isChild (k .first)) a n (λ e. omega (arith, w .first-below e)) i
       + part-chosen (isChild (k .second)) b n (λ e. omega (arith, w .second-below e)) i

@@ -213,12 +213,12 @@ module _ (T : Types) (G : ℕ → Option ℕ) (f : ℕ → Term) (t : ℕ) (std 
   node-standard Post x a b c w ty sg = std a (w .first-below refl)
 
 -- ---- parents, bodies and the root
-pub record Placed (s : List ℕ) (t : ℕ) : Type 0 where
+pub record PlacementOk (s : List ℕ) (t : ℕ) : Type 0 where
   pub times : timesBelow s t (terms s) ≡ cond (eqb t (root s)) 0 1
   pub body-signed : signedBody s (formatAt s t .second) (second s t) ≡ true
   pub root-signed : (not (eqb t (root s)) || isSign s t) ≡ true
 
-pub placed : (s : List ℕ) → WellFormed s → (t : ℕ) → t < terms s → Placed s t
+pub placed : (s : List ℕ) → WellFormed s → (t : ℕ) → t < terms s → PlacementOk s t
 placed s w t l =
     let h = w .placed-ok t l in
     record {

@@ -14,7 +14,7 @@ use Rattle.program.specs.Layout.{types, typeAt, Types, typesOf}
 use Rattle.program.specs.Decoding.{baseOk, functionOk, shallow, sameBytes, fresh}
 use Rattle.program.specs.Laws.Readable.{WellFormed}
 
-pub record Lower (T : Types) : Type 0 where
+pub record PartsLower (T : Types) : Type 0 where
   pub arg-lower : (t : ℕ) → T .isFun t ≡ true → T .arg t < t
   pub res-lower : (t : ℕ) → T .isFun t ≡ true → T .res t < t
 
@@ -46,7 +46,7 @@ function-type s w t h =
       differs = search (and-left, and-right);
     }
 
-pub lower-types : (s : List ℕ) → WellFormed s → Lower (typesOf s)
+pub lower-types : (s : List ℕ) → WellFormed s → PartsLower (typesOf s)
 lower-types s w = record { arg-lower = λ t h. function-type s w t h .arg-below; res-lower = λ t h. function-type s w t h .res-below }
 
 -- ---- a number in bytes has one way to be written

@@ -6,7 +6,7 @@ use mathlib.Core.List.{[], _∷_}
 use mathlib.Core.Path.{refl}
 use Rattle.interp.specs.Laws.{empty-table}
 use Rattle.ranges.proofs.TableLaws.{pairs-enough, interval-table, laid-table}
-use Rattle.ranges.proofs.RangeLaws.{ranges-after}
+use Rattle.ranges.proofs.IntervalLaws.{intervals-after}
 use Rattle.ranges.proofs.evaluate.Statement.{statement}
 use Rattle.ranges.proofs.evaluate.Tie as tie
 
@@ -69,7 +69,7 @@ returns c =
     let at-lay-pairs = at-start-access .before in
     let at-decode-terms = at-lay-pairs .before .before in
     let start = at-decode-terms .before .before .before .before .before .before .before .before in
-    ranges-after (start .args .s .now) (start .args .pairs .now) (start .args .start .now) (start .args .enforce) (start .args .cells .now)
+    intervals-after (start .args .s .now) (start .args .pairs .now) (start .args .start .now) (start .args .enforce) (start .args .cells .now)
     (start .args .posts .now) (start .args .calls) (start .args .depth) (start .pre .cleared) (start .pre .pairs-ok) (0 ∷ []) [] (c .outcome-of .result)
     (interval-table (start .pre .cleared .well-formed) (start .pre .cleared .counts) (at-decode-terms .decode-terms .ensures)
     (at-lay-pairs .lay-pairs .ensures))

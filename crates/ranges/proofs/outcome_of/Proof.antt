@@ -6,7 +6,7 @@ use Rattle.intervals.specs.Intervals.{interval}
 use Rattle.stores.specs.declared.state.Value.{Value}
 use Rattle.stores.specs.declared.state.Out.the-variants.{Val}
 use Rattle.refinement.specs.Claims.{decidedBy}
-use Rattle.ranges.proofs.RangeLaws.{outcome-by}
+use Rattle.ranges.proofs.IntervalLaws.{outcome-by}
 use Rattle.ranges.proofs.outcome_of.Statement.{statement}
 use Rattle.ranges.proofs.outcome_of.Tie as tie
 

@@ -1,7 +1,7 @@
 -- A run that is not admitted answers the refusal and leaves every buffer as it was (run-refused); an admitted one is as `run_admitted` requires and
 -- answers as it does. An eager run has no frame store, so that the test of one is `true`.
 use borrow.Author.Needs.{needs}
-use Rattle.ranges.proofs.RangeLaws.{run-refused, is-admitted}
+use Rattle.ranges.proofs.IntervalLaws.{run-refused, is-admitted}
 use Rattle.ranges.proofs.run.Statement.{statement}
 use Rattle.ranges.proofs.run.Tie as tie
 

@@ -2,7 +2,7 @@
 use borrow.Author.Needs.{needs}
 use borrow.Author.Tests.{not-true, not-false}
 use mathlib.Core.Path.{sym, _∙_}
-use Rattle.ranges.proofs.RangeLaws.{pairs-refused}
+use Rattle.ranges.proofs.IntervalLaws.{pairs-refused}
 use Rattle.ranges.proofs.run_admitted.Statement.{statement}
 use Rattle.ranges.proofs.run_admitted.Tie as tie
 

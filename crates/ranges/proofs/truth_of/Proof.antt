@@ -1,5 +1,5 @@
 -- The payload 2 is undecided, and else it is a yes if it is not 0.
-use Rattle.ranges.proofs.RangeLaws.{is-undecided, is-yes, is-no}
+use Rattle.ranges.proofs.IntervalLaws.{is-undecided, is-yes, is-no}
 use Rattle.ranges.proofs.truth_of.Statement.{statement}
 use Rattle.ranges.proofs.truth_of.Tie as tie
 

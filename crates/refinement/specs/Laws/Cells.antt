@@ -11,7 +11,7 @@ use borrow.Author.Tests.{ne-eqb, le-leb}
 use Rattle.program.specs.Laws.Bytes.{word-length, word-other, word-there}
 use Rattle.program.specs.Bytes.{word16, withWord16}
 use Rattle.stores.specs.Words.{sortOf, payloadOf, envOf}
-use Rattle.stores.specs.Cells.{behindOf, heldOf, cellSet}
+use Rattle.stores.specs.Cells.{behindOf, cellWord, cellSet}
 
 -- the two bytes at j, of a list that is the same there
 word16-same : (l k : List ℕ) (j : ℕ) → getD k j 0 ≡ getD l j 0 → getD k (j + 1) 0 ≡ getD l (j + 1) 0 → word16 k j ≡ word16 l j
@@ -27,8 +27,8 @@ module _ (l : List ℕ) (i : ℕ) (fits : i * 8 + 7 < length l) where
   whole : leb ((i + 1) * 8) (length l) ≡ true
   whole = le-leb ((i + 1) * 8) (length l) (omega arith)
 
-  held-at : heldOf l (i + 1) ≡ getD l (i * 8) 0 + 65536 * word16 l (i * 8 + 1) + 4294967296 * word16 l (i * 8 + 3)
-  unfolding heldOf
+  held-at : cellWord l (i + 1) ≡ getD l (i * 8) 0 + 65536 * word16 l (i * 8 + 1) + 4294967296 * word16 l (i * 8 + 3)
+  unfolding cellWord
   held-at =
       let at : ℕ = (i + 1) * 8 in
       let p : at - 8 ≡ i * 8 = omega arith in
@@ -80,7 +80,7 @@ module _ (l : List ℕ) (i w behind : ℕ) where
     cell-behind = behind-at (cellSet l i w behind) i (omega (arith, length-cell)) ∙ cell-link
 
     -- what a cell was given is what it holds, of a word of three parts of 16 bits each, and so below 2^48, whose sort has one byte
-    pub cell-holds : sortOf w < 256 → w < 281474976710656 → heldOf (cellSet l i w behind) (i + 1) ≡ w
+    pub cell-holds : sortOf w < 256 → w < 281474976710656 → cellWord (cellSet l i w behind) (i + 1) ≡ w
     cell-holds p q =
         held-at (cellSet l i w behind) i (omega (arith, length-cell))
         ∙ (λ j. cell-sort j + 65536 * cell-payload j + 4294967296 * cell-env j) ∙ omega arith
@@ -95,8 +95,8 @@ module _ {m : ℕ} {l k : List ℕ} (a : Agree m l k) where
   same16 : (j : ℕ) → j + 1 < 8 * m → word16 k j ≡ word16 l j
   same16 j h = word16-same l k j (a .same j (omega arith)) (a .same (j + 1) h)
 
-  pub agree-held : (e : ℕ) → 1 ≤ e → e ≤ m → heldOf k e ≡ heldOf l e
-  unfolding heldOf
+  pub agree-held : (e : ℕ) → 1 ≤ e → e ≤ m → cellWord k e ≡ cellWord l e
+  unfolding cellWord
   agree-held e p q =
       λ z. cond (leb (e * 8) (a .long z))
       (a .same (e * 8 - 8) (omega arith) z + 65536 * same16 (e * 8 - 7) (omega arith) z + 4294967296 * same16 (e * 8 - 5) (omega arith) z) 0

@@ -14,7 +14,7 @@ use Rattle.machine.specs.Steps.{numbersResult, saturatesOf, listedAs}
 use Rattle.refinement.specs.Claims.{decidedBy}
 
 -- a word of three parts of 16 bits each, and so below 2^48, with its sort
-pub record Word (sort w : ℕ) : Type 0 where
+pub record WordOfSort (sort w : ℕ) : Type 0 where
   pub sort-is : sortOf w ≡ sort
   pub small : w < 281474976710656
 
@@ -31,8 +31,8 @@ numbersSaturate mode k a b = cond (intervalMode mode) false (saturatesOf k (payl
 pub record Coding (D : Domain) (mode : ℕ) : Type 1 where
   pub Number : (word : ℕ) → D .Number → Type 0
   pub Truth : (word : ℕ) → D .Truth → Type 0
-  pub number-word : {w : ℕ} {n : D .Number} → Number w n → Word 1 w
-  pub truth-word : {w : ℕ} {b : D .Truth} → Truth w b → Word 0 w
+  pub number-word : {w : ℕ} {n : D .Number} → Number w n → WordOfSort 1 w
+  pub truth-word : {w : ℕ} {b : D .Truth} → Truth w b → WordOfSort 0 w
   -- boolean terms, and the branch of an if
   pub truth-coded : (b : Bool) → Truth (booleanWord b) (D .truth b)
   pub decide-coded : {w : ℕ} {b : D .Truth} → Truth w b → decidedBy (payloadOf w) ≡ D .decide b
@@ -48,5 +48,5 @@ pub record Coding (D : Domain) (mode : ℕ) : Type 1 where
 pub record Decoding {D : Domain} {mode : ℕ} (K : Coding D mode) (decodes : (root word : ℕ) → OutcomeOf D) : Type 0 where
   pub decodes-truth : (r : ℕ) {w : ℕ} {b : D .Truth} → K .Truth w b → decodes r w ≡ ended (ground-bool b)
   pub decodes-number : (r : ℕ) {w : ℕ} {n : D .Number} → K .Number w n → decodes r w ≡ ended (ground-num n)
-  pub decodes-function : (r : ℕ) {w : ℕ} → Word 2 w → decodes r w ≡ stopped 18 r
+  pub decodes-function : (r : ℕ) {w : ℕ} → WordOfSort 2 w → decodes r w ≡ stopped 18 r
   pub decodes-stop : (r : ℕ) (x : Stop) {w : ℕ} → sortOf w ≡ stopCause x → payloadOf w ≡ stopPlace x → decodes r w ≡ stopped (stopCause x) (stopPlace x)

@@ -21,18 +21,18 @@ use Rattle.stores.specs.declared.state.Out.the-variants.{Stop as Stopped}
 use Rattle.stores.specs.Words.{booleanWord, numberWord, intervalWord, payloadOf, envOf, outBy, outOf}
 use Rattle.access.specs.Access.{intervalMode}
 use Rattle.stores.specs.Stops.{stopCause, stopPlace}
-use Rattle.termtable.specs.Table.{wordSmall, wordFirst, wordSecond, Decoded}
-use Rattle.machine.specs.Steps.{resultOf, saturatesOf, intervalResult, numbersResult, entryOf, listedAs}
+use Rattle.termtable.specs.Table.{wordSmall, wordFirst, wordSecond, TermWords}
+use Rattle.machine.specs.Steps.{resultWord, saturatesOf, intervalResult, numbersResult, entryOf, listedAs}
 use Rattle.refinement.specs.Claims.{outcomeOf, decidedBy}
-use Rattle.refinement.specs.Laws.Codings.{Word, kindNumber, numbersSaturate, Coding, Decoding}
+use Rattle.refinement.specs.Laws.Codings.{WordOfSort, kindNumber, numbersSaturate, Coding, Decoding}
 use Rattle.refinement.specs.Laws.Trees.{Tabled}
 
 pub record ExactNumber (w n : ℕ) : Type 0 where
-  pub word : Word 1 w
+  pub word : WordOfSort 1 w
   pub number-is : payloadOf w ≡ n
 
 pub record ExactTruth (w : ℕ) (b : Bool) : Type 0 where
-  pub word : Word 0 w
+  pub word : WordOfSort 0 w
   pub payload-is : payloadOf w ≡ cond b 1 0
 
 number-exact : (k n : ℕ) → k < 65536 → k ≡ n → ExactNumber (numberWord k) n
@@ -61,25 +61,25 @@ saturates-exact difference a b = refl
 saturates-exact less a b = refl
 
 module _ (mode : ℕ) (plain : intervalMode mode ≡ false) where
-  result-exact : (k v w : ℕ) → numbersResult mode k v w ≡ resultOf k (payloadOf v) (payloadOf w)
+  result-exact : (k v w : ℕ) → numbersResult mode k v w ≡ resultWord k (payloadOf v) (payloadOf w)
   unfolding numbersResult
-  result-exact k v w = λ i. cond (plain i) (intervalResult k (payloadOf v) (envOf v) (payloadOf w) (envOf w)) (resultOf k (payloadOf v) (payloadOf w))
+  result-exact k v w = λ i. cond (plain i) (intervalResult k (payloadOf v) (envOf v) (payloadOf w) (envOf w)) (resultWord k (payloadOf v) (payloadOf w))
 
   module _ {v w m n : ℕ} (p : ExactNumber v m) (q : ExactNumber w n) where
     pub sum-exact : ExactNumber (numbersResult mode 11 v w) (min maxNumber (m + n))
-    unfolding resultOf
+    unfolding resultWord
     sum-exact =
         subst (λ r. ExactNumber r (min maxNumber (m + n))) (sym (result-exact 11 v w))
         (number-exact (min (payloadOf v + payloadOf w) maxNumber) (min maxNumber (m + n)) (omega arith) (omega (arith, p .number-is, q .number-is)))
 
     pub difference-exact : ExactNumber (numbersResult mode 12 v w) (m - n)
-    unfolding resultOf
+    unfolding resultWord
     difference-exact =
         subst (λ r. ExactNumber r (m - n)) (sym (result-exact 12 v w))
         (number-exact (payloadOf v - payloadOf w) (m - n) (omega arith) (omega (arith, p .number-is, q .number-is)))
 
     pub less-exact : ExactTruth (numbersResult mode 13 v w) (ltb m n)
-    unfolding resultOf
+    unfolding resultWord
     less-exact =
         subst (λ r. ExactTruth r (ltb m n)) (sym (result-exact 13 v w))
         (subst (ExactTruth (booleanWord (ltb (payloadOf v) (payloadOf w)))) (λ i. ltb (p .number-is i) (q .number-is i))
@@ -129,7 +129,7 @@ module _ (mode : ℕ) (plain : intervalMode mode ≡ false) where
   }
 
   -- ---- the decoded words: a number term's has the number of its record
-  module _ (s : List ℕ) (f : WellFormed s) (c : Counts) (counts-are : CountsOf s c) (table : List ℕ) (decoded : Decoded s c table) where
+  module _ (s : List ℕ) (f : WellFormed s) (c : Counts) (counts-are : CountsOf s c) (table : List ℕ) (decoded : TermWords s c table) where
     pub exact-tabled : Tabled standard exactCoding s c table
     unfolding exactCoding
     exact-tabled = record {

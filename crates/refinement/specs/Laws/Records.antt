@@ -29,10 +29,10 @@ module _ (l : List ℕ) where
   kept ds = recorded (length l) ds
 
   -- the record of a run that has decided these
-  abbrev pub recordOf : List Event → List ℕ
-  recordOf ds = withEntries (recorded (length l) ds) l
+  abbrev pub recordAfter : List Event → List ℕ
+  recordAfter ds = withEntries (recorded (length l) ds) l
 
-  pub length-record : (ds : List Event) → length (recordOf ds) ≡ length l
+  pub length-record : (ds : List Event) → length (recordAfter ds) ≡ length l
   length-record ds =
       let bytes = traceBytes (kept ds) in
       length-front l bytes (length bytes)
@@ -43,7 +43,7 @@ module _ (l : List ℕ) where
     entry-more h = omega (arith, length-take (length l / 4) (ds ++ e ∷ []), length-take (length l / 4) ds, length-append ds (e ∷ []))
 
     pub entry-made : length ds < length l / 4
-        → overwrite (4 * length (recorded (length l) ds)) (eventBytes e) (recordOf ds) ≡ recordOf (ds ++ e ∷ [])
+        → overwrite (4 * length (recorded (length l) ds)) (eventBytes e) (recordAfter ds) ≡ recordAfter (ds ++ e ∷ [])
     entry-made h =
         let whole : kept ds ≡ ds = take-all (length l / 4) ds (omega arith) in
         let more : kept (ds ++ e ∷ []) ≡ ds ++ e ∷ [] = take-all (length l / 4) (ds ++ e ∷ []) (omega (arith, length-append ds (e ∷ []))) in

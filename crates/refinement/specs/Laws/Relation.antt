@@ -19,84 +19,84 @@ use Rattle.stores.specs.declared.state.Stop.{Stop}
 use Rattle.stores.specs.declared.state.Stop.the-variants.{Check, Stuck, OpenCalls, Calls, Cells, Posts, Undecided}
 use Rattle.stores.specs.Words.{intervalWord, functionWord, stopWord, sortOf, payloadOf, envOf, isStop}
 use Rattle.termtable.specs.Table.{wordKind, wordSmall, wordFirst, wordSecond, wordThird, wordAuthority, wordGuard}
-use Rattle.stores.specs.Cells.{behindOf, heldOf}
+use Rattle.stores.specs.Cells.{behindOf, cellWord}
 use Rattle.machine.specs.Steps.{cellsMade, wrapped}
-use Rattle.machine.specs.Store.{Store as State, Done, doneOf, andThen}
+use Rattle.machine.specs.Store.{Store, Done, doneOf, andThen}
 use Rattle.stores.specs.Stops.{stopCause, stopPlace}
-use Rattle.refinement.specs.Laws.Records.{recordOf}
+use Rattle.refinement.specs.Laws.Records.{recordAfter}
 use Rattle.refinement.specs.Laws.Cells.{Agree, agree-held, agree-behind}
-use Rattle.refinement.specs.Laws.Codings.{Word, kindNumber, Coding}
+use Rattle.refinement.specs.Laws.Codings.{WordOfSort, kindNumber, Coding}
 
 -- ---- what stays in a run: what the terms are interpreted in, their words, the sets that the principals may use, the lent list of posts, the lent record, the
 -- mode, and how words stand for the interpretation's numbers and truth values
 pub record Fixed : Type 1 where
   pub interpretation : Interpretation
   pub terms : List ℕ
-  pub may : ℕ → ℕ
+  pub authorised : ℕ → ℕ
   pub posts : List ℕ
   pub noted : List ℕ
   pub mode : ℕ
   pub coding : Coding (interpretation .domain) mode
 
-abbrev pub Value : Fixed → Type 0
-Value z = ValueOf (z .interpretation .domain)
+abbrev pub ValueIn : Fixed → Type 0
+ValueIn z = ValueOf (z .interpretation .domain)
 
-abbrev pub Env : Fixed → Type 0
-Env z = EnvOf (z .interpretation .domain)
+abbrev pub EnvIn : Fixed → Type 0
+EnvIn z = EnvOf (z .interpretation .domain)
 
-abbrev pub Result : Fixed → Type 0
-Result z = ResultOf (z .interpretation .domain)
+abbrev pub ResultIn : Fixed → Type 0
+ResultIn z = ResultOf (z .interpretation .domain)
 
 -- ---- counters, posts and the record
 
 -- the posts, the latest first, written over the front of a list
-abbrev pub written : List ℕ → List ℕ → List ℕ
-written l [] = l
-written l (p ∷ ps) = set (written l ps) (length ps) p
+abbrev pub postsWritten : List ℕ → List ℕ → List ℕ
+postsWritten l [] = l
+postsWritten l (p ∷ ps) = set (postsWritten l ps) (length ps) p
 
-pub length-written : (l ps : List ℕ) → length (written l ps) ≡ length l
+pub length-written : (l ps : List ℕ) → length (postsWritten l ps) ≡ length l
 length-written l [] = refl
-length-written l (p ∷ ps) = length-set (written l ps) (length ps) p ∙ length-written l ps
+length-written l (p ∷ ps) = length-set (postsWritten l ps) (length ps) p ∙ length-written l ps
 
 -- with m cells made
 abbrev pub countersOf : Fixed → (calls m : ℕ) → Log → List ℕ
 countersOf z c m log =
     c ∷ m ∷ length (log .posts) ∷ z .mode ∷ wrapped (log .saturated) ∷ length (recorded (length (z .noted)) (reverse (log .decisions))) ∷ []
 
-pub record Balance (z : Fixed) (st : State) (c m d r : ℕ) (log : Log) : Type 0 where
-  pub counters : st .n ≡ countersOf z c m log
+pub record Balance (z : Fixed) (st : Store) (c m d r : ℕ) (log : Log) : Type 0 where
+  pub counters : st .counters ≡ countersOf z c m log
   pub cells : m + d ≡ length (st .cells) / 8
   pub most : length (st .cells) ≤ maxCells
   pub room : length (log .posts) + r ≡ length (z .posts)
-  pub list : st .posts ≡ written (z .posts) (log .posts)
-  pub noted-is : st .noted ≡ recordOf (z .noted) (reverse (log .decisions))
+  pub list : st .posts ≡ postsWritten (z .posts) (log .posts)
+  pub noted-is : st .noted ≡ recordAfter (z .noted) (reverse (log .decisions))
 
-pub data Balances (z : Fixed) (st : State) : Budget → Type 0 where
+pub data Balances (z : Fixed) (st : Store) : Budget → Type 0 where
   balance : {c m d r : ℕ} {log : Log} → Balance z st c m d r log → Balances z st (budget c d r log)
 
 -- ---- later states
 
 -- the first frames are kept
-pub record Kept (depth : ℕ) (f g : List ℕ) : Type 0 where
+pub record FramesKept (depth : ℕ) (f g : List ℕ) : Type 0 where
   pub long : length g ≡ length f
   pub same : (i : ℕ) → i < 2 * depth → getD g i 0 ≡ getD f i 0
 
-pub kept-refl : (depth : ℕ) (f : List ℕ) → Kept depth f f
+pub kept-refl : (depth : ℕ) (f : List ℕ) → FramesKept depth f f
 kept-refl depth f = record { long = refl; same = λ i h. refl }
 
-kept-trans : {depth : ℕ} {f g h : List ℕ} → Kept depth f g → Kept depth g h → Kept depth f h
+kept-trans : {depth : ℕ} {f g h : List ℕ} → FramesKept depth f g → FramesKept depth g h → FramesKept depth f h
 kept-trans p q = record { long = q .long ∙ p .long; same = λ i h. q .same i h ∙ p .same i h }
 
 -- cells made before and the first frames are as they were
-pub record Later (depth : ℕ) (st₀ st : State) : Type 0 where
-  pub more : cellsMade (st₀ .n) ≤ cellsMade (st .n)
-  pub old : Agree (cellsMade (st₀ .n)) (st₀ .cells) (st .cells)
-  pub frames : Kept depth (st₀ .frames) (st .frames)
+pub record Later (depth : ℕ) (st₀ st : Store) : Type 0 where
+  pub more : cellsMade (st₀ .counters) ≤ cellsMade (st .counters)
+  pub old : Agree (cellsMade (st₀ .counters)) (st₀ .cells) (st .cells)
+  pub frames : FramesKept depth (st₀ .frames) (st .frames)
 
-pub later-refl : (depth : ℕ) (st : State) → Later depth st st
+pub later-refl : (depth : ℕ) (st : Store) → Later depth st st
 later-refl depth st = record { more = omega arith; old = record { long = refl; same = λ j h. refl }; frames = kept-refl depth (st .frames) }
 
-later-trans : {depth : ℕ} {a b c : State} → Later depth a b → Later depth b c → Later depth a c
+later-trans : {depth : ℕ} {a b c : Store} → Later depth a b → Later depth b c → Later depth a c
 later-trans p q = record {
   more = omega (arith, p .more, q .more);
   old = record { long = q .old .long ∙ p .old .long; same = λ j h. q .old .same j (omega (arith, p .more)) ∙ p .old .same j h };
@@ -117,7 +117,7 @@ sort-most (closure r ty body env) = omega arith
 
 -- a function's word and what it is read as
 pub record Function (b e w : ℕ) : Type 0 where
-  pub word : Word 2 w
+  pub word : WordOfSort 2 w
   pub body-is : payloadOf w ≡ b
   pub env-is : envOf w ≡ e
 
@@ -150,111 +150,116 @@ module _ (z : Fixed) where
   abbrev pub wordAt : (t : ℕ) → ℕ
   wordAt t = getD (z .terms) t 0
 
-  abbrev pub kind : (t : ℕ) → ℕ
-  kind t = wordKind (wordAt t)
+  abbrev pub kindIn : (t : ℕ) → ℕ
+  kindIn t = wordKind (wordAt t)
 
-  abbrev pub small : (t : ℕ) → ℕ
-  small t = wordSmall (wordAt t)
+  abbrev pub smallIn : (t : ℕ) → ℕ
+  smallIn t = wordSmall (wordAt t)
 
-  abbrev pub first : (t : ℕ) → ℕ
-  first t = wordFirst (wordAt t)
+  abbrev pub firstIn : (t : ℕ) → ℕ
+  firstIn t = wordFirst (wordAt t)
 
-  abbrev pub second : (t : ℕ) → ℕ
-  second t = wordSecond (wordAt t)
+  abbrev pub secondIn : (t : ℕ) → ℕ
+  secondIn t = wordSecond (wordAt t)
 
-  abbrev pub third : (t : ℕ) → ℕ
-  third t = wordThird (wordAt t)
+  abbrev pub thirdIn : (t : ℕ) → ℕ
+  thirdIn t = wordThird (wordAt t)
 
-  abbrev pub guard : (t : ℕ) → ℕ
-  guard t = wordGuard (wordAt t)
+  abbrev pub guardByteIn : (t : ℕ) → ℕ
+  guardByteIn t = wordGuard (wordAt t)
 
   -- the word of term t stands for a term of the meaning; its children are lower, a sign has the set of its principal, and a post the guard of its channel
-  pub data Stands : (t : ℕ) → Term → Type 0 where
-    on-boolean : {t : ℕ} {b : Bool} → kind t ≡ 0 → ltb 0 (small t) ≡ b → Stands t (boolean t b)
-    on-number : {t n : ℕ} → kind t ≡ 1 → z .coding .Number (intervalWord (first t) (second t)) (z .interpretation .literal t n) → Stands t (number t n)
-    on-variable : {t : ℕ} → kind t ≡ 2 → Stands t (variable t (first t))
-    on-function : {t ty : ℕ} {a : Term} → kind t ≡ 3 → second t < t → Stands (second t) a → Stands t (function t ty a)
-    on-letrec : {t ty : ℕ} {a b : Term} → kind t ≡ 4 → second t < t → third t < t → Stands (second t) a → Stands (third t) b → Stands t (letrec t ty a b)
-    on-call : {t : ℕ} {a b : Term} → kind t ≡ 5 → first t < t → second t < t → Stands (first t) a → Stands (second t) b → Stands t (call t a b)
-    on-if : {t : ℕ} {a b c : Term} → kind t ≡ 6 → first t < t → second t < t → third t < t
-        → Stands (first t) a → Stands (second t) b → Stands (third t) c → Stands t (if t a b c)
-    on-check : {t : ℕ} {a : Term} → kind t ≡ 7 → first t < t → Stands (first t) a → Stands t (check t (small t) a)
-    on-enable : {t : ℕ} {a : Term} → kind t ≡ 8 → first t < t → Stands (first t) a → Stands t (enable t (small t) a)
-    on-sign : {t : ℕ} {a : Term} → kind t ≡ 9 → wordAuthority (wordAt t) ≡ z .may (small t) → first t < t → Stands (first t) a → Stands t (sign t (small t) a)
-    on-test : {t : ℕ} {a b : Term} → kind t ≡ 10 → first t < t → second t < t → Stands (first t) a → Stands (second t) b → Stands t (test t (small t) a b)
-    on-binary : {t : ℕ} {a b : Term} (op : Op) → kind t ≡ kindNumber op → first t < t → second t < t
-        → Stands (first t) a → Stands (second t) b → Stands t (binary t op a b)
-    on-post : {t : ℕ} {a : Term} → kind t ≡ 14 → first t < t → Stands (first t) a → Stands t (post t (small t) (guardIn (guard t)) a)
+  pub data Represents : (t : ℕ) → Term → Type 0 where
+    on-boolean : {t : ℕ} {b : Bool} → kindIn t ≡ 0 → ltb 0 (smallIn t) ≡ b → Represents t (boolean t b)
+    on-number : {t n : ℕ} → kindIn t ≡ 1 → z .coding .Number (intervalWord (firstIn t) (secondIn t)) (z .interpretation .literal t n)
+        → Represents t (number t n)
+    on-variable : {t : ℕ} → kindIn t ≡ 2 → Represents t (variable t (firstIn t))
+    on-function : {t ty : ℕ} {a : Term} → kindIn t ≡ 3 → secondIn t < t → Represents (secondIn t) a → Represents t (function t ty a)
+    on-letrec : {t ty : ℕ} {a b : Term} → kindIn t ≡ 4 → secondIn t < t → thirdIn t < t → Represents (secondIn t) a → Represents (thirdIn t) b
+        → Represents t (letrec t ty a b)
+    on-call : {t : ℕ} {a b : Term} → kindIn t ≡ 5 → firstIn t < t → secondIn t < t → Represents (firstIn t) a → Represents (secondIn t) b
+        → Represents t (call t a b)
+    on-if : {t : ℕ} {a b c : Term} → kindIn t ≡ 6 → firstIn t < t → secondIn t < t → thirdIn t < t
+        → Represents (firstIn t) a → Represents (secondIn t) b → Represents (thirdIn t) c → Represents t (if t a b c)
+    on-check : {t : ℕ} {a : Term} → kindIn t ≡ 7 → firstIn t < t → Represents (firstIn t) a → Represents t (check t (smallIn t) a)
+    on-enable : {t : ℕ} {a : Term} → kindIn t ≡ 8 → firstIn t < t → Represents (firstIn t) a → Represents t (enable t (smallIn t) a)
+    on-sign : {t : ℕ} {a : Term} → kindIn t ≡ 9 → wordAuthority (wordAt t) ≡ z .authorised (smallIn t) → firstIn t < t → Represents (firstIn t) a
+        → Represents t (sign t (smallIn t) a)
+    on-test : {t : ℕ} {a b : Term} → kindIn t ≡ 10 → firstIn t < t → secondIn t < t → Represents (firstIn t) a → Represents (secondIn t) b
+        → Represents t (test t (smallIn t) a b)
+    on-binary : {t : ℕ} {a b : Term} (op : Op) → kindIn t ≡ kindNumber op → firstIn t < t → secondIn t < t
+        → Represents (firstIn t) a → Represents (secondIn t) b → Represents t (binary t op a b)
+    on-post : {t : ℕ} {a : Term} → kindIn t ≡ 14 → firstIn t < t → Represents (firstIn t) a → Represents t (post t (smallIn t) (guardIn (guardByteIn t)) a)
 
   -- a function's body is at most 32 high
   pub record Body (b : ℕ) (c : Term) : Type 0 where
     pub shallow : height c ≤ maxNesting
-    pub stands : Stands b c
+    pub stands : Represents b c
 
   -- ---- a word for a value and a link for an environment, in a store of which the first m cells are made
   mutual
-    pub data Rep (cells : List ℕ) (m : ℕ) : ℕ → Value z → Type 0 where
+    pub data Rep (cells : List ℕ) (m : ℕ) : ℕ → ValueIn z → Type 0 where
       rep-bool : {w : ℕ} {b : z .interpretation .domain .Truth} → z .coding .Truth w b → Rep cells m w (bool b)
       rep-num : {w : ℕ} {n : z .interpretation .domain .Number} → z .coding .Number w n → Rep cells m w (num n)
-      rep-fun : {w ty : ℕ} {c : Term} {E : Env z} → Word 2 w → Body (payloadOf w) c → RepEnv cells m (envOf w) E → Rep cells m w (closure false ty c E)
-      rep-rec : {w ty : ℕ} {c : Term} {E : Env z} → Word 2 w → Body (payloadOf w) c → 1 ≤ envOf w → envOf w ≤ m → heldOf cells (envOf w) ≡ w
+      rep-fun : {w ty : ℕ} {c : Term} {E : EnvIn z} → WordOfSort 2 w → Body (payloadOf w) c → RepEnv cells m (envOf w) E → Rep cells m w (closure false ty c E)
+      rep-rec : {w ty : ℕ} {c : Term} {E : EnvIn z} → WordOfSort 2 w → Body (payloadOf w) c → 1 ≤ envOf w → envOf w ≤ m → cellWord cells (envOf w) ≡ w
           → RepEnv cells m (behindOf cells (envOf w)) E → Rep cells m w (closure true ty c E)
 
-    pub data RepEnv (cells : List ℕ) (m : ℕ) : ℕ → Env z → Type 0 where
+    pub data RepEnv (cells : List ℕ) (m : ℕ) : ℕ → EnvIn z → Type 0 where
       env-none : RepEnv cells m 0 empty
-      env-some : {e : ℕ} {x : Value z} {E : Env z} → 1 ≤ e → e ≤ m → Rep cells m (heldOf cells e) x → RepEnv cells m (behindOf cells e) E
+      env-some : {e : ℕ} {x : ValueIn z} {E : EnvIn z} → 1 ≤ e → e ≤ m → Rep cells m (cellWord cells e) x → RepEnv cells m (behindOf cells e) E
           → RepEnv cells m e (bind x E)
 
   module _ {l : List ℕ} {m : ℕ} where
-    pub rep-word : {w : ℕ} {x : Value z} → Rep l m w x → Word (sortFor x) w
+    pub rep-word : {w : ℕ} {x : ValueIn z} → Rep l m w x → WordOfSort (sortFor x) w
     rep-word (rep-bool h) = z .coding .truth-word h
     rep-word (rep-num h) = z .coding .number-word h
     rep-word (rep-fun h b e) = h
     rep-word (rep-rec h b p q v e) = h
 
-    pub rep-low : {w : ℕ} {x : Value z} → Rep l m w x → sortOf w ≤ 2
+    pub rep-low : {w : ℕ} {x : ValueIn z} → Rep l m w x → sortOf w ≤ 2
     rep-low {x = x} r = omega (arith, rep-word r .sort-is, sort-most x)
 
-    pub env-low : {e : ℕ} {E : Env z} → RepEnv l m e E → e ≤ m
+    pub env-low : {e : ℕ} {E : EnvIn z} → RepEnv l m e E → e ≤ m
     env-low env-none = omega arith
     env-low (env-some p q v h) = q
 
   -- both stay when cells past the first m are made
   module _ {m k : ℕ} {l l′ : List ℕ} (more : m ≤ k) (a : Agree m l l′) where
     mutual
-      pub rep-later : {w : ℕ} {x : Value z} → Rep l m w x → Rep l′ k w x
+      pub rep-later : {w : ℕ} {x : ValueIn z} → Rep l m w x → Rep l′ k w x
       rep-later (rep-bool h) = rep-bool h
       rep-later (rep-num h) = rep-num h
       rep-later (rep-fun h b e) = rep-fun h b (env-later e)
       rep-later (rep-rec {w = w} {E = E} h b p q v e) =
           rep-rec h b p (omega arith) (agree-held a (envOf w) p q ∙ v) (subst (λ x. RepEnv l′ k x E) (sym (agree-behind a (envOf w) p q)) (env-later e))
 
-      pub env-later : {e : ℕ} {x : Env z} → RepEnv l m e x → RepEnv l′ k e x
+      pub env-later : {e : ℕ} {x : EnvIn z} → RepEnv l m e x → RepEnv l′ k e x
       env-later env-none = env-none
       env-later (env-some {e = e} {x = y} {E = E} p q v h) =
           env-some p (omega arith) (subst (λ x. Rep l′ k x y) (sym (agree-held a e p q)) (rep-later v))
           (subst (λ x. RepEnv l′ k x E) (sym (agree-behind a e p q)) (env-later h))
 
   -- the same at a state
-  abbrev pub RepAt : State → ℕ → Value z → Type 0
-  RepAt st w x = Rep (st .cells) (cellsMade (st .n)) w x
+  abbrev pub RepAt : Store → ℕ → ValueIn z → Type 0
+  RepAt st w x = Rep (st .cells) (cellsMade (st .counters)) w x
 
-  abbrev pub EnvAt : State → ℕ → Env z → Type 0
-  EnvAt st e E = RepEnv (st .cells) (cellsMade (st .n)) e E
+  abbrev pub EnvAt : Store → ℕ → EnvIn z → Type 0
+  EnvAt st e E = RepEnv (st .cells) (cellsMade (st .counters)) e E
 
   -- ---- outcomes
-  pub data Meets (depth : ℕ) (st₀ : State) : Done → Result z → Type 0 where
-    valued : {w : ℕ} {x : Value z} {st : State} {o : Budget} → RepAt st w x → Balances z st o → Later depth st₀ st → Meets depth st₀ (doneOf w st) (ends x o)
-    halted : {st : State} {o : Budget} (x : Stop) → stopPlace x < 65536 → Balances z st o → Later depth st₀ st
+  pub data Meets (depth : ℕ) (st₀ : Store) : Done → ResultIn z → Type 0 where
+    valued : {w : ℕ} {x : ValueIn z} {st : Store} {o : Budget} → RepAt st w x → Balances z st o → Later depth st₀ st → Meets depth st₀ (doneOf w st) (ends x o)
+    halted : {st : Store} {o : Budget} (x : Stop) → stopPlace x < 65536 → Balances z st o → Later depth st₀ st
         → Meets depth st₀ (doneOf (stopWord (stopCause x) (stopPlace x)) st) (stops (stopCause x) (stopPlace x) o)
 
-  pub meets-later : {depth : ℕ} {st₀ st : State} {d : Done} {o : Result z} → Later depth st₀ st → Meets depth st d o → Meets depth st₀ d o
+  pub meets-later : {depth : ℕ} {st₀ st : Store} {d : Done} {o : ResultIn z} → Later depth st₀ st → Meets depth st d o → Meets depth st₀ d o
   meets-later l (valued r t m) = valued r t (later-trans l m)
   meets-later l (halted x i t m) = halted x i t (later-trans l m)
 
   -- what follows a value
-  pub meets-then : {depth : ℕ} {st₀ : State} {d : Done} {o : Result z} (k : ℕ → State → Done) (q : Value z → Budget → Result z) → Meets depth st₀ d o
-      → ((w : ℕ) (x : Value z) (st : State) (r : Budget) → RepAt st w x → Balances z st r → Later depth st₀ st → Meets depth st (k w st) (q x r))
+  pub meets-then : {depth : ℕ} {st₀ : Store} {d : Done} {o : ResultIn z} (k : ℕ → Store → Done) (q : ValueIn z → Budget → ResultIn z) → Meets depth st₀ d o
+      → ((w : ℕ) (x : ValueIn z) (st : Store) (r : Budget) → RepAt st w x → Balances z st r → Later depth st₀ st → Meets depth st (k w st) (q x r))
       → Meets depth st₀ (andThen d k) (o then q)
   unfolding andThen
   meets-then {depth} {st₀} k q (valued {w = w} {x = x} {st = st} {o = o} r t l) h =

@@ -23,20 +23,20 @@ use Rattle.semantics.specs.Runs.{Request, Buffers, sizes, OutcomeOf, initial, o
 use Rattle.semantics.specs.Recording.{decidedIn, withEntries}
 use Rattle.semantics.specs.Laws.Tracing.{forget, forgets, outcome-forgotten, counts-forgotten, posts-forgotten}
 use Rattle.stores.specs.Words.{stopWord}
-use Rattle.access.specs.Access.{pairOf, enforced, lazyMode}
+use Rattle.access.specs.Access.{packed, enforced, lazyMode}
 use Rattle.machine.specs.Steps.{entriesMade, wrapped}
-use Rattle.machine.specs.Store.{Store as State, Done, doneOf, evalAt}
+use Rattle.machine.specs.Store.{Store, Done, doneOf, evalAt}
 use Rattle.stores.specs.Stops.{stopCause, stopPlace}
 use Rattle.refinement.specs.Claims.{countsOf, wrappedCounts, sizesOf, laidOut, startOf, RefinedBy}
 use Rattle.refinement.specs.Laws.Codings.{Coding, Decoding}
-use Rattle.refinement.specs.Laws.Relation.{Fixed, Value, written, length-written, Balances, balance, Later, stop-word, Rep, rep-bool, rep-num, rep-fun, rep-rec, env-none, Meets, valued, halted}
+use Rattle.refinement.specs.Laws.Relation.{Fixed, ValueIn, postsWritten, length-written, Balances, balance, Later, stop-word, Rep, rep-bool, rep-num, rep-fun, rep-rec, env-none, Meets, valued, halted}
 use Rattle.refinement.specs.Laws.Steps.{Models}
 use Rattle.refinement.specs.Laws.Simulation.{eval-does}
 use Rattle.refinement.specs.Laws.Controls.{EagerMode, pair-mode, eager-models, Frames, no-frames, a-frame}
 use Rattle.refinement.specs.Laws.Trees.{fixedOf, Tabled, program-stands}
 
 -- ---- the posts, written over the front of the list
-written-is : (l ps : List ℕ) → length ps ≤ length l → written l ps ≡ reverse ps ++ drop (length ps) l
+written-is : (l ps : List ℕ) → length ps ≤ length l → postsWritten l ps ≡ reverse ps ++ drop (length ps) l
 written-is l [] h = refl
 written-is l (p ∷ ps) h =
     (λ i. set (written-is l ps (omega arith) i) (length ps) p)
@@ -62,7 +62,7 @@ module _ (A : ℕ → ℕ) where
 
 -- ---- what a word tells
 module _ (z : Fixed) {decodes : (root word : ℕ) → OutcomeOf (z .interpretation .domain)} (T : Decoding (z .coding) decodes) (n : ℕ) where
-  value-outcome : {l : List ℕ} {m w : ℕ} {x : Value z} (o : Budget) → Rep z l m w x → decodes n w ≡ outcome n (ends x o)
+  value-outcome : {l : List ℕ} {m w : ℕ} {x : ValueIn z} (o : Budget) → Rep z l m w x → decodes n w ≡ outcome n (ends x o)
   value-outcome o (rep-bool h) = T .decodes-truth n h
   value-outcome o (rep-num h) = T .decodes-number n h
   value-outcome o (rep-fun h b e) = T .decodes-function n h
@@ -74,14 +74,14 @@ module _ (I : Interpretation) {mode : ℕ} (K : Coding (I .domain) mode) {decode
   abbrev run : Fixed
   run = fixedOf I K s table (b .posts) t
 
-  record Agrees (st : State) (u : Budget) : Type 0 where
-    counts-agree : countsOf (q .calls) (st .n) ≡ wrappedCounts (counts q (sizes b) u)
+  record CourseAgrees (st : Store) (u : Budget) : Type 0 where
+    counts-agree : countsOf (q .calls) (st .counters) ≡ wrappedCounts (counts q (sizes b) u)
     posts-agree : st .posts ≡ inOrder u ++ drop (length (inOrder u)) (b .posts)
     sizes-agree : sizesOf st ≡ sizes b
-    entries-agree : entriesMade (st .n) ≡ length (recorded (length t) (decidedIn u))
+    entries-agree : entriesMade (st .counters) ≡ length (recorded (length t) (decidedIn u))
     noted-agrees : st .noted ≡ withEntries (recorded (length t) (decidedIn u)) t
 
-  agrees : {depth : ℕ} {st : State} {u : Budget} → Balances run st u → Later depth (startOf mode q b t) st → Agrees st u
+  agrees : {depth : ℕ} {st : Store} {u : Budget} → Balances run st u → Later depth (startOf mode q b t) st → CourseAgrees st u
   agrees (balance {c = c} {m = m} {d = d} {log = log} h) l =
       let ps = log .posts in
       let p : m ≡ length (b .cells) / 8 - d = omega (arith, h .cells, l .old .long) in
@@ -94,7 +94,7 @@ module _ (I : Interpretation) {mode : ℕ} (K : Coding (I .domain) mode) {decode
         noted-agrees = h .noted-is;
       }
 
-  refined-by : (n : ℕ) {w : ℕ} {st : State} (x : ResultOf (I .domain)) → decodes n w ≡ outcome n x → Agrees st (left x)
+  refined-by : (n : ℕ) {w : ℕ} {st : Store} (x : ResultOf (I .domain)) → decodes n w ≡ outcome n x → CourseAgrees st (left x)
       → RefinedBy decodes n q b t (doneOf w st) (forget x) (decidedIn (left x))
   refined-by n x e a = record {
     same-outcome = e ∙ outcome-forgotten n x;
@@ -117,22 +117,22 @@ module _ (I : Interpretation) {mode : ℕ} (K : Coding (I .domain) mode) {decode
 module _ (I : Interpretation) {mode : ℕ} (K : Coding (I .domain) mode) {decodes : (root word : ℕ) → OutcomeOf (I .domain)} (T : Decoding K decodes)
     (s : List ℕ) (w : WellFormed s) (c : Counts) (h : CountsOf s c) (table : List ℕ) (tabled : Tabled I K s c table) (q : Request) (b : Buffers)
     (t : List ℕ) (few : q .depth ≤ maxDepth) (most : length (b .cells) ≤ maxCells) where
-  pub refined : (X : Control) (R : X .State → (acc depth : ℕ) → List ℕ → Type 0) → Models (fixedOf I K s table (b .posts) t) X (q .enforce) R
-      → (acc depth : ℕ) (a : X .State) → depth ≤ maxStartFrames → R a acc depth (b .frames)
-      → RefinedBy decodes (root s) q b t (evalAt table (q .depth) (root s) 0 acc (startOf mode q b t))
+  pub refined : (X : Control) (R : X .State → (access depth : ℕ) → List ℕ → Type 0) → Models (fixedOf I K s table (b .posts) t) X (q .enforce) R
+      → (access depth : ℕ) (a : X .State) → depth ≤ maxStartFrames → R a access depth (b .frames)
+      → RefinedBy decodes (root s) q b t (evalAt table (q .depth) (root s) 0 access (startOf mode q b t))
       (eval I X (plain (q .enforce)) (q .depth) (program s) a empty (initial q (sizes b)))
       (decidedIn (left (eval I X (traced (q .enforce)) (q .depth) (program s) a empty (initial q (sizes b)))))
   unfolding traceBytes
-  refined X R models acc depth a deep r =
+  refined X R models access depth a deep r =
       let none : [] ≡ recorded (length t) [] = sym (take-nil {A = Event} (length t / 4)) in
       let x = eval I X (traced (q .enforce)) (q .depth) (program s) a empty (initial q (sizes b)) in
-      let d = evalAt table (q .depth) (root s) 0 acc (startOf mode q b t) in
+      let d = evalAt table (q .depth) (root s) 0 access (startOf mode q b t) in
       subst (λ y. RefinedBy decodes (root s) q b t d y (decidedIn (left x)))
       (forgets I X (traced (q .enforce)) (q .depth) (program s) a empty (initial q (sizes b)))
       (meets-refined I K T s table q b t (root s)
       (eval-does (fixedOf I K s table (b .posts) t) X (q .enforce) R models (q .depth) (program-stands I K s w c h table tabled (b .posts) t)
       (omega (arith, root-lower s w, w .terms-most)) (program-height s w)
-      .go 0 empty acc depth a (startOf mode q b t) (initial q (sizes b)) (omega arith) r env-none
+      .go 0 empty access depth a (startOf mode q b t) (initial q (sizes b)) (omega arith) r env-none
       (balance record {
         counters = λ i. q .calls ∷ 0 ∷ 0 ∷ mode ∷ 0 ∷ length (none i) ∷ [];
         cells = omega arith;
@@ -143,11 +143,11 @@ module _ (I : Interpretation) {mode : ℕ} (K : Coding (I .domain) mode) {decode
       })))
 
   -- an eager one, that holds any set
-  pub refined-eagerly : (may P : ℕ) → enforced mode ≡ q .enforce → lazyMode mode ≡ false → may < 4294967296 → may ≡ authority s 0
-      → RefinedBy decodes (root s) q b t (evalAt table (q .depth) (root s) 0 (pairOf may P) (startOf mode q b t))
+  pub refined-eagerly : (authorised P : ℕ) → enforced mode ≡ q .enforce → lazyMode mode ≡ false → authorised < 4294967296 → authorised ≡ authority s 0
+      → RefinedBy decodes (root s) q b t (evalAt table (q .depth) (root s) 0 (packed authorised P) (startOf mode q b t))
       (eval I (eagerControl (authority s)) (plain (q .enforce)) (q .depth) (program s) (rights 0 P) empty (initial q (sizes b)))
       (decidedIn (left (eval I (eagerControl (authority s)) (traced (q .enforce)) (q .depth) (program s) (rights 0 P) empty (initial q (sizes b)))))
-  refined-eagerly may P checks style i e =
-      refined (eagerControl (authority s)) (λ a acc d f. EagerMode (authority s) a acc)
+  refined-eagerly authorised P checks style i e =
+      refined (eagerControl (authority s)) (λ a access d f. EagerMode (authority s) a access)
       (eager-models (fixedOf I K s table (b .posts) t) style (q .enforce) checks)
-      (pairOf may P) 0 (rights 0 P) (omega arith) (pair-mode (authority s) 0 may P P e i refl)
+      (packed authorised P) 0 (rights 0 P) (omega arith) (pair-mode (authority s) 0 authorised P P e i refl)

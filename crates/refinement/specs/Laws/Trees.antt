@@ -13,7 +13,7 @@ use Rattle.program.specs.Formats.{Kind, Boolean, Number, Variable, Function, Le
 use Rattle.program.specs.Terms.{Term, sum, difference, less, post, node, treeTo, program}
 use Rattle.program.specs.Records.{CountsOf, termAtByte, termRecord, authorityRecord, guardRecord}
 use Rattle.program.specs.Decoding.{partOk}
-use Rattle.program.specs.Laws.Kinds.{numbered, kind-number}
+use Rattle.program.specs.Laws.Kinds.{numberOfKind, kind-number}
 use Rattle.program.specs.Laws.Readable.{WellFormed}
 use Rattle.program.specs.Laws.Guards.{channels-most}
 use Rattle.program.specs.Laws.Records.{term-is, authority-is, guard-is}
@@ -21,9 +21,9 @@ use Rattle.program.specs.Laws.Trees.{parts, Below, below, root-lower}
 use Rattle.program.specs.declared.records.Counts.{Counts}
 use Rattle.semantics.specs.Domains.{Interpretation}
 use Rattle.stores.specs.Words.{intervalWord}
-use Rattle.termtable.specs.Table.{wordKind, wordSmall, wordFirst, wordSecond, wordThird, wordAuthority, wordGuard, Plain, Holds}
+use Rattle.termtable.specs.Table.{wordKind, wordSmall, wordFirst, wordSecond, wordThird, wordAuthority, wordGuard, OwnParts, WordOf}
 use Rattle.refinement.specs.Laws.Codings.{Coding}
-use Rattle.refinement.specs.Laws.Relation.{Fixed, wordAt, Stands, on-boolean, on-number, on-variable, on-function, on-letrec, on-call, on-if, on-check, on-enable, on-sign, on-test, on-binary, on-post}
+use Rattle.refinement.specs.Laws.Relation.{Fixed, wordAt, Represents, on-boolean, on-number, on-variable, on-function, on-letrec, on-call, on-if, on-check, on-enable, on-sign, on-test, on-binary, on-post}
 
 flag-is : (n : ℕ) → n ≤ 1 → ltb 0 n ≡ eqb n 1
 flag-is zero h = refl
@@ -33,11 +33,11 @@ flag-is (suc (suc n)) h = absurd (omega arith)
 -- what stays in a run of a sheet
 abbrev pub fixedOf : (I : Interpretation) {mode : ℕ} → Coding (I .domain) mode → (s table posts noted : List ℕ) → Fixed
 fixedOf I {mode} K s table posts noted =
-    record { interpretation = I; terms = table; may = authority s; posts = posts; noted = noted; mode = mode; coding = K }
+    record { interpretation = I; terms = table; authorised = authority s; posts = posts; noted = noted; mode = mode; coding = K }
 
 -- the words of a sheet's terms: as decoded, but that of a number term stands for what the term is interpreted as
 pub record Tabled (I : Interpretation) {mode : ℕ} (K : Coding (I .domain) mode) (s : List ℕ) (c : Counts) (table : List ℕ) : Type 0 where
-  pub others : (t : ℕ) → t < terms s → (kindByte s t ≡ 1 → ⊥) → Holds s c t (getD table t 0)
+  pub others : (t : ℕ) → t < terms s → (kindByte s t ≡ 1 → ⊥) → WordOf s c t (getD table t 0)
   pub number-kind : (t : ℕ) → t < terms s → kindByte s t ≡ 1 → wordKind (getD table t 0) ≡ 1
   pub number-coded : (t : ℕ) → t < terms s → kindByte s t ≡ 1
       → K .Number (intervalWord (wordFirst (getD table t 0)) (wordSecond (getD table t 0))) (I .literal t (first s t))
@@ -47,16 +47,16 @@ module _ (I : Interpretation) {mode : ℕ} (K : Coding (I .domain) mode) (s : Li
   abbrev run : Fixed
   run = fixedOf I K s table posts noted
 
-  module _ (t : ℕ) (sub : ℕ → Term) (h : (x : ℕ) → x < t → Stands run x (sub x)) where
+  module _ (t : ℕ) (sub : ℕ → Term) (h : (x : ℕ) → x < t → Represents run x (sub x)) where
     abbrev x : ℕ
     x = wordAt run t
 
     -- a term of this kind with these parts, of which the small one is in range
     abbrev StandsBy : Kind → (n a b c : ℕ) → Type 0
-    StandsBy k n a b c = Below (format k) t a b c → partOk s t (format k .small) n ≡ true → Stands run t (node (guardOf s) k t n a b c sub)
+    StandsBy k n a b c = Below (format k) t a b c → partOk s t (format k .small) n ≡ true → Represents run t (node (guardOf s) k t n a b c sub)
 
     -- of a kind other than number
-    module _ (hold : Holds s c t x) (other : wordKind x ≡ 1 → ⊥) where
+    module _ (hold : WordOf s c t x) (other : wordKind x ≡ 1 → ⊥) where
       authority-same : wordKind x ≡ 9 → wordSmall x < principals s → wordAuthority x ≡ authority s (wordSmall x)
       authority-same e l =
           hold .authority-is (sym (hold .kind-is) ∙ e) ∙ (λ i. authorityRecord s (sym (hold .small-is) i)) ∙ authority-is s w (wordSmall x) l
@@ -73,10 +73,10 @@ module _ (I : Interpretation) {mode : ℕ} (K : Coding (I .domain) mode) (s : Li
       -- nor a post's
       post-stands : wordKind x ≡ 14 → (b c : ℕ) → StandsBy Post (wordSmall x) (wordFirst x) b c
       post-stands e b c v i =
-          subst (λ g. Stands run t (post t (wordSmall x) (guardIn g) (sub (wordFirst x)))) (guard-same e (ltb-true (wordSmall x) (channels s) i))
+          subst (λ g. Represents run t (post t (wordSmall x) (guardIn g) (sub (wordFirst x)))) (guard-same e (ltb-true (wordSmall x) (channels s) i))
           (on-post e (v .first-below refl) (h _ (v .first-below refl)))
 
-      node-stands : (k : Kind) → wordKind x ≡ numbered k → StandsBy k (wordSmall x) (wordFirst x) (wordSecond x) (wordThird x)
+      node-stands : (k : Kind) → wordKind x ≡ numberOfKind k → StandsBy k (wordSmall x) (wordFirst x) (wordSecond x) (wordThird x)
       node-stands Boolean e v i = on-boolean e (flag-is (wordSmall x) (leb-true (wordSmall x) 1 i))
       node-stands Number e v i = absurd (other e)
       node-stands Variable e v i = on-variable e
@@ -106,7 +106,7 @@ module _ (I : Interpretation) {mode : ℕ} (K : Coding (I .domain) mode) (s : Li
         k : Kind
         k = kindOf (kindByte s t)
 
-        hold : Holds s c t x
+        hold : WordOf s c t x
         hold = tabled .others t l other
 
         laid : termRecord s c t ≡ termAtByte s (termAt s t)
@@ -128,7 +128,7 @@ module _ (I : Interpretation) {mode : ℕ} (K : Coding (I .domain) mode) (s : Li
         go (no n) (yes e) = alone 14 e (post-stands hold no-number (kind-same ∙ e) (second s t) (third s t))
         go (no n) (no m) =
             let at : termRecord s c t .kind ≡ kindByte s t = λ i. laid i .kind in
-            let plain : Plain (termRecord s c t .kind) = record { no-sign = λ g. n (sym at ∙ g); no-post = λ g. m (sym at ∙ g) } in
+            let plain : OwnParts (termRecord s c t .kind) = record { no-sign = λ g. n (sym at ∙ g); no-post = λ g. m (sym at ∙ g) } in
             subst (λ n. StandsBy k (wordSmall x) (wordFirst x) n (third s t)) (hold .second-is plain ∙ (λ i. laid i .second))
             (subst (λ n. StandsBy k (wordSmall x) (wordFirst x) (wordSecond x) n) (hold .third-is plain ∙ (λ i. laid i .third))
             (node-stands hold no-number k (kind-same ∙ sym (kind-number (kindByte s t) (parts s w t l .kind-ok)))))
@@ -142,11 +142,11 @@ module _ (I : Interpretation) {mode : ℕ} (K : Coding (I .domain) mode) (s : Li
             (λ v i. on-number (tabled .number-kind t l e) (tabled .number-coded t l e))
         go (no n) = other-stands l n
 
-  tree-stands : (k t : ℕ) → t < terms s → t < k → Stands run t (treeTo s k t)
+  tree-stands : (k t : ℕ) → t < terms s → t < k → Represents run t (treeTo s k t)
   tree-stands zero t l h = absurd (omega arith)
   tree-stands (suc k) t l h =
       record-stands t (λ y. treeTo s k y) (λ y g. tree-stands k y (omega arith) (omega arith)) l (below s w t l)
       (parts s w t l .small-ok)
 
-  pub program-stands : Stands run (root s) (program s)
+  pub program-stands : Represents run (root s) (program s)
   program-stands = tree-stands (suc (root s)) (root s) (root-lower s w) (omega arith)

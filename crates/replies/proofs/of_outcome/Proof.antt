@@ -2,7 +2,7 @@
 -- (ended-bool) or 1 and a number. `counted` adds the counts; that they are few is the precondition of both.
 use mathlib.Core.Path.{_∙_, ap}
 use Rattle.interp.specs.Answers.{outcomeModel, countsModel}
-use Rattle.interp.specs.declared.answer.Value.{Value}
+use Rattle.interp.specs.declared.answer.Ground.{Ground}
 use Rattle.interp.specs.declared.answer.Outcome.{Outcome}
 use Rattle.interp.specs.declared.answer.Outcome.the-variants.{End}
 use Rattle.replies.specs.Replies.{finished}
@@ -53,7 +53,7 @@ returns-2 c =
     let at-v = c .before .before in
     let at-o2 = at-v .before .before .before in
     let start = at-o2 .before .before in
-    by (λ (o : Outcome). finished (outcomeModel o) (countsModel (start .args .m))) (at-o2 .o2 .given .1 ∙ ap (λ (v : Value). End v) (at-v .v .given .1))
+    by (λ (o : Outcome). finished (outcomeModel o) (countsModel (start .args .m))) (at-o2 .o2 .given .1 ∙ ap (λ (v : Ground). End v) (at-v .v .given .1))
     (ended-bool (start .args .m) (at-v .v .given .0 .0) (c .counted2 .ensures))
 
 returns-3 : tie.Need-returns-3
@@ -61,7 +61,7 @@ returns-3 c =
     let at-o2 = c .before .before .before .before .before in
     let start = at-o2 .before .before in
     by (λ (o : Outcome). finished (outcomeModel o) (countsModel (start .args .m)))
-    (at-o2 .o2 .given .1 ∙ ap (λ (v : Value). End v) (c .before .before .v2 .given .1)) (c .counted3 .ensures)
+    (at-o2 .o2 .given .1 ∙ ap (λ (v : Ground). End v) (c .before .before .v2 .given .1)) (c .counted3 .ensures)
 
 pub of-outcome-spec : {M : Type 1} → statement M
 of-outcome-spec =

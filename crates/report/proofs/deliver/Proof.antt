@@ -6,13 +6,13 @@ use Prim.Native.Nat.{_-_}
 use native.Mathlib.Omega.{arith}
 use lib.ListN.{length-set}
 use Rattle.program.specs.Laws.Lists.{sized, copy-more}
-use Rattle.report.proofs.ReportLaws.{Copied, too-short, fitting}
+use Rattle.report.proofs.ReportLaws.{ReportCopied, too-short, fitting}
 use Rattle.report.proofs.deliver.Statement.{statement}
 use Rattle.report.proofs.deliver.Tie as tie
 use Rattle.drafts.specs.Internal.{draftBytes}
 
 abbrev Inv-loop : tie.InvT-loop
-Inv-loop text₀ d n i₀ text i = Copied (d .bytes) text₀ text n i
+Inv-loop text₀ d n i₀ text i = ReportCopied (d .bytes) text₀ text n i
 
 abbrev μ-loop : tie.MeasureT-loop
 μ-loop text₀ d n i₀ text i = n - i

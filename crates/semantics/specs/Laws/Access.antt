@@ -24,7 +24,7 @@ privs-chk A (f ∷ fs) p =
     ∙ (λ i. has p (A (f .principal)) && has-union p (f .enabled) (privs A fs) i) ∙ (λ i. has p (A (f .principal)) && (has p (f .enabled) || privs-chk A fs p i))
 
 -- the eager state stands for a stack: its signer is that of the first frame, and it holds what the stack grants
-pub record Stands (A : ℕ → ℕ) (r : Rights) (fs : List Frame) : Type 0 where
+pub record StandsForStack (A : ℕ → ℕ) (r : Rights) (fs : List Frame) : Type 0 where
   pub first : Frame
   pub behind : List Frame
   pub is : fs ≡ first ∷ behind
@@ -42,7 +42,7 @@ sign-grants : (A : ℕ → ℕ) (n P : ℕ) (fs : List Frame) → ((p : ℕ) →
 sign-grants A n P fs h p = has-meet p P (A n) ∙ swap (has p P) (has p (A n)) ∙ λ i. has p (A n) && (sym (has-none p) i || h p i)
 
 pub stands-sign : (A : ℕ → ℕ) (n : ℕ) (r : Rights) (fs : List Frame) → ((p : ℕ) → has p (r .granted) ≡ chk A fs p)
-    → Stands A (rights n (meet (r .granted) (A n))) (frame n 0 ∷ fs)
+    → StandsForStack A (rights n (meet (r .granted) (A n))) (frame n 0 ∷ fs)
 stands-sign A n r fs h = record { first = frame n 0; behind = fs; is = refl; same-signer = refl; same-grants = sign-grants A n (r .granted) fs h }
 
 -- ---- enable
@@ -60,8 +60,8 @@ enabling true true b E W h = ap (λ (x : Bool). x || (E || W)) (h refl)
 enabling true false b E W h = ap (λ (x : Bool). x || false) (h refl)
 enabling false a b E W h = refl
 
-pub stands-enable : (A : ℕ → ℕ) (p : ℕ) (r : Rights) (fs : List Frame) → Stands A r fs
-    → Stands A (rights (r .signer) (addAuthorised A (r .signer) p (r .granted))) (enableFirst p fs)
+pub stands-enable : (A : ℕ → ℕ) (p : ℕ) (r : Rights) (fs : List Frame) → StandsForStack A r fs
+    → StandsForStack A (rights (r .signer) (addAuthorised A (r .signer) p (r .granted))) (enableFirst p fs)
 stands-enable A p r fs h =
     let f = h .first in
     let gs = h .behind in
@@ -85,7 +85,7 @@ All p = Unit {0}
 
 pub eager-lazy-simulation : (A : ℕ → ℕ) → Simulation All (eagerControl A) (lazyControl A)
 eager-lazy-simulation A = record {
-  related = λ r fs. Stands A r fs;
+  related = λ r fs. StandsForStack A r fs;
   on-sign = λ n r fs h. stands-sign A n r fs (h .same-grants);
   on-enable = λ p r fs h. stands-enable A p r fs h;
   same-grants = λ r fs h p _. h .same-grants p;

@@ -13,11 +13,11 @@ use Rattle.semantics.specs.Values.{ValueOf, bool, num, closure, EnvOf, e
 use Rattle.semantics.specs.Meaning.{Control, Mode, _then_, choose, variableValue, decided, branch, compute, appendPost, note, postValue, takeCell, beginCall, tooDeep, enter, passes, guardPasses, eventIf, listsChecks, Application, evalWith, apply, eval}
 
 -- What stops an evaluation of terms that have Q, and at which of them: 17 at a check or a guarded post, 18 to 22, or 36 at an if whose condition is undecided.
-pub data Stop (D : Domain) (Q : Term → Type 0) (c at : ℕ) : Type 0 where
-  stop-check : {p : ℕ} {x : Term} → c ≡ 17 → Q (check at p x) → Stop D Q c at
-  stop-guard : {ch p : ℕ} {x : Term} → c ≡ 17 → Q (post at ch (some p) x) → Stop D Q c at
-  stop-other : 18 ≤ c → c ≤ 22 → Stop D Q c at
-  stop-undecided : {b : D .Truth} {x y n : Term} → c ≡ 36 → D .decide b ≡ none → Q (if at x y n) → Stop D Q c at
+pub data StopsAt (D : Domain) (Q : Term → Type 0) (c at : ℕ) : Type 0 where
+  stop-check : {p : ℕ} {x : Term} → c ≡ 17 → Q (check at p x) → StopsAt D Q c at
+  stop-guard : {ch p : ℕ} {x : Term} → c ≡ 17 → Q (post at ch (some p) x) → StopsAt D Q c at
+  stop-other : 18 ≤ c → c ≤ 22 → StopsAt D Q c at
+  stop-undecided : {b : D .Truth} {x y n : Term} → c ≡ 36 → D .decide b ≡ none → Q (if at x y n) → StopsAt D Q c at
 
 module _ {D : Domain} (Q : Term → Type 0) where
   -- of the closures in a value and in an environment
@@ -45,7 +45,7 @@ module _ {D : Domain} (Q : Term → Type 0) where
   -- of the value that a result has, or of where it stops
   pub data Bodies : ResultOf D → Type 0 where
     bodies-end : {v : ValueOf D} {u : Budget} → EveryBody v → Bodies (ends v u)
-    bodies-stop : {c at : ℕ} {u : Budget} → Stop D Q c at → Bodies (stops c at u)
+    bodies-stop : {c at : ℕ} {u : Budget} → StopsAt D Q c at → Bodies (stops c at u)
 
   -- ---- each way of putting results together
   bodies-then : (x : ResultOf D) (k : ValueOf D → Budget → ResultOf D) → Bodies x → ((v : ValueOf D) (u : Budget) → EveryBody v → Bodies (k v u))
@@ -69,7 +69,7 @@ module _ {D : Domain} (Q : Term → Type 0) where
   bodies-found at zero (bind v e) u h = bodies-end (h .0)
   bodies-found at (suc i) (bind v e) u h = bodies-found at i e u (h .1)
 
-  bodies-decided : (at : ℕ) (o : Option Bool) (y n : Budget → ResultOf D) (u : Budget) → (o ≡ none → Stop D Q 36 at) → Bodies (y u) → Bodies (n u)
+  bodies-decided : (at : ℕ) (o : Option Bool) (y n : Budget → ResultOf D) (u : Budget) → (o ≡ none → StopsAt D Q 36 at) → Bodies (y u) → Bodies (n u)
       → Bodies (decided at o y n u)
   bodies-decided at (some b) y n u s hy hn = bodies-choose b y n u hy hn
   bodies-decided at none y n u s hy hn = bodies-stop (s refl)
@@ -95,11 +95,11 @@ module _ {D : Domain} (Q : Term → Type 0) where
 
   -- 17 is told only where a guard does not pass, and so only where there is one
   guard-fails : (enforce : Bool) (grants : ℕ → Bool) (g : Option ℕ) {at ch : ℕ} {c : Term} → Q (post at ch g c) → guardPasses enforce grants g ≡ false
-      → Stop D Q 17 at
+      → StopsAt D Q 17 at
   guard-fails enforce grants none q e = absurd (true≢false e)
   guard-fails enforce grants (some p) q e = stop-guard refl q
 
-  bodies-post : (at ch : ℕ) (allowed : Bool) (o : Option Event) (v : ValueOf D) (u : Budget) → (allowed ≡ false → Stop D Q 17 at)
+  bodies-post : (at ch : ℕ) (allowed : Bool) (o : Option Event) (v : ValueOf D) (u : Budget) → (allowed ≡ false → StopsAt D Q 17 at)
       → Bodies (postValue at ch allowed o v u)
   bodies-post at ch true o (num n) u s = bodies-append at ch n (note o u)
   bodies-post at ch false o (num n) u s = bodies-stop (s refl)

@@ -45,74 +45,76 @@ pub record Steps (D : Domain) (R : Budget → Budget → Type 0) : Type 0 where
   pub on-note : (o : Option Event) (u : Budget) → R u (note o u)
 
 module _ (D : Domain) (R : Budget → Budget → Type 0) (S : Steps D R) where
-  record Leaves (u : Budget) (x : ResultOf D) : Type 0 where
+  record LeavesBudget (u : Budget) (x : ResultOf D) : Type 0 where
     leaves : R u (left x)
 
-  leaves-none : (u : Budget) {x : ResultOf D} → left x ≡ u → Leaves u x
+  leaves-none : (u : Budget) {x : ResultOf D} → left x ≡ u → LeavesBudget u x
   leaves-none u e = record { leaves = subst (R u) (sym e) (S .stays u) }
 
-  leaves-after : {u w : Budget} {x : ResultOf D} → R u w → Leaves w x → Leaves u x
+  leaves-after : {u w : Budget} {x : ResultOf D} → R u w → LeavesBudget w x → LeavesBudget u x
   leaves-after h a = record { leaves = S .follows h (a .leaves) }
 
-  leaves-then : (u : Budget) (x : ResultOf D) (k : ValueOf D → Budget → ResultOf D) → Leaves u x → ((v : ValueOf D) (w : Budget) → Leaves w (k v w))
-      → Leaves u (x then k)
+  leaves-then : (u : Budget) (x : ResultOf D) (k : ValueOf D → Budget → ResultOf D) → LeavesBudget u x → ((v : ValueOf D) (w : Budget) → LeavesBudget w (k v w))
+      → LeavesBudget u (x then k)
   leaves-then u (ends v w) k a h = leaves-after (a .leaves) (h v w)
   leaves-then u (stops c at w) k a h = record { leaves = a .leaves }
 
-  leaves-choose : (b : Bool) (y n : Budget → ResultOf D) (u : Budget) → Leaves u (y u) → Leaves u (n u) → Leaves u (choose b y n u)
+  leaves-choose : (b : Bool) (y n : Budget → ResultOf D) (u : Budget) → LeavesBudget u (y u) → LeavesBudget u (n u) → LeavesBudget u (choose b y n u)
   leaves-choose true y n u hy hn = hy
   leaves-choose false y n u hy hn = hn
 
-  leaves-found : (at : ℕ) (o : Option (ValueOf D)) (u : Budget) → Leaves u (variableValue at o u)
+  leaves-found : (at : ℕ) (o : Option (ValueOf D)) (u : Budget) → LeavesBudget u (variableValue at o u)
   leaves-found at (some v) u = leaves-none u refl
   leaves-found at none u = leaves-none u refl
 
-  leaves-decided : (at : ℕ) (o : Option Bool) (y n : Budget → ResultOf D) (u : Budget) → Leaves u (y u) → Leaves u (n u) → Leaves u (decided at o y n u)
+  leaves-decided : (at : ℕ) (o : Option Bool) (y n : Budget → ResultOf D) (u : Budget) → LeavesBudget u (y u) → LeavesBudget u (n u)
+      → LeavesBudget u (decided at o y n u)
   leaves-decided at (some b) y n u hy hn = leaves-choose b y n u hy hn
   leaves-decided at none y n u hy hn = leaves-none u refl
 
-  leaves-branch : (at : ℕ) (v : ValueOf D) (y n : Budget → ResultOf D) (u : Budget) → Leaves u (y u) → Leaves u (n u) → Leaves u (branch at v y n u)
+  leaves-branch : (at : ℕ) (v : ValueOf D) (y n : Budget → ResultOf D) (u : Budget) → LeavesBudget u (y u) → LeavesBudget u (n u)
+      → LeavesBudget u (branch at v y n u)
   leaves-branch at (bool b) y n u hy hn = leaves-decided at (D .decide b) y n u hy hn
   leaves-branch at (num m) y n u hy hn = leaves-none u refl
   leaves-branch at (closure r ty body env) y n u hy hn = leaves-none u refl
 
-  leaves-compute : (at : ℕ) (op : Op) (v w : ValueOf D) (u : Budget) → Leaves u (compute at op v w u)
+  leaves-compute : (at : ℕ) (op : Op) (v w : ValueOf D) (u : Budget) → LeavesBudget u (compute at op v w u)
   leaves-compute at op (num m) (num n) u = record { leaves = S .on-count op m n u }
   leaves-compute at op (num m) (bool b) u = leaves-none u refl
   leaves-compute at op (num m) (closure r ty body env) u = leaves-none u refl
   leaves-compute at op (bool b) w u = leaves-none u refl
   leaves-compute at op (closure r ty body env) w u = leaves-none u refl
 
-  leaves-append : (at ch : ℕ) (n : D .Number) (u : Budget) → Leaves u (appendPost at ch n u)
+  leaves-append : (at ch : ℕ) (n : D .Number) (u : Budget) → LeavesBudget u (appendPost at ch n u)
   leaves-append at ch n (budget c d zero l) = leaves-none (budget c d zero l) refl
   leaves-append at ch n (budget c d (suc r) l) = record { leaves = S .on-post c d r l ch n }
 
   -- what is decided at a check, test or guard, after it is listed
-  leaves-decision : (o : Option Event) (b : Bool) (y n : Budget → ResultOf D) → ((w : Budget) → Leaves w (y w)) → ((w : Budget) → Leaves w (n w))
-      → (u : Budget) → Leaves u (choose b y n (note o u))
+  leaves-decision : (o : Option Event) (b : Bool) (y n : Budget → ResultOf D) → ((w : Budget) → LeavesBudget w (y w)) → ((w : Budget) → LeavesBudget w (n w))
+      → (u : Budget) → LeavesBudget u (choose b y n (note o u))
   leaves-decision o b y n hy hn u = leaves-after (S .on-note o u) (leaves-choose b y n (note o u) (hy (note o u)) (hn (note o u)))
 
-  leaves-post : (at ch : ℕ) (allowed : Bool) (o : Option Event) (v : ValueOf D) (u : Budget) → Leaves u (postValue at ch allowed o v u)
+  leaves-post : (at ch : ℕ) (allowed : Bool) (o : Option Event) (v : ValueOf D) (u : Budget) → LeavesBudget u (postValue at ch allowed o v u)
   leaves-post at ch allowed o (num n) u = leaves-decision o allowed _ _ (λ w. leaves-append at ch n w) (λ w. leaves-none w refl) u
   leaves-post at ch allowed o (bool b) u = leaves-none u refl
   leaves-post at ch allowed o (closure r ty body env) u = leaves-none u refl
 
-  leaves-cell : (at : ℕ) (k : Budget → ResultOf D) → ((w : Budget) → Leaves w (k w)) → (u : Budget) → Leaves u (takeCell at k u)
+  leaves-cell : (at : ℕ) (k : Budget → ResultOf D) → ((w : Budget) → LeavesBudget w (k w)) → (u : Budget) → LeavesBudget u (takeCell at k u)
   leaves-cell at k h (budget c zero r l) = leaves-none (budget c zero r l) refl
   leaves-cell at k h (budget c (suc d) r l) = leaves-after (S .on-cell c d r l) (h (budget c d r l))
 
-  leaves-begin : (at : ℕ) (k : Budget → ResultOf D) → ((w : Budget) → Leaves w (k w)) → (u : Budget) → Leaves u (beginCall at k u)
+  leaves-begin : (at : ℕ) (k : Budget → ResultOf D) → ((w : Budget) → LeavesBudget w (k w)) → (u : Budget) → LeavesBudget u (beginCall at k u)
   leaves-begin at k h (budget zero d r l) = leaves-none (budget zero d r l) refl
   leaves-begin at k h (budget (suc c) zero r l) = leaves-none (budget (suc c) zero r l) refl
   leaves-begin at k h (budget (suc c) (suc d) r l) = leaves-after (S .on-call c d r l) (h (budget c d r l))
 
-  leaves-deep : (at : ℕ) (v : ValueOf D) (u : Budget) → Leaves u (tooDeep at v u)
+  leaves-deep : (at : ℕ) (v : ValueOf D) (u : Budget) → LeavesBudget u (tooDeep at v u)
   leaves-deep at (closure r ty body env) u = leaves-none u refl
   leaves-deep at (bool b) u = leaves-none u refl
   leaves-deep at (num n) u = leaves-none u refl
 
   leaves-enter : (at : ℕ) (v w : ValueOf D) (run : Term → EnvOf D → Budget → ResultOf D)
-      → ((c : Term) (e : EnvOf D) (x : Budget) → Leaves x (run c e x)) → (u : Budget) → Leaves u (enter at v w run u)
+      → ((c : Term) (e : EnvOf D) (x : Budget) → LeavesBudget x (run c e x)) → (u : Budget) → LeavesBudget u (enter at v w run u)
   leaves-enter at (closure r ty body env) w run h u = leaves-begin at _ (λ x. h body (entered r ty body env w) x) u
   leaves-enter at (bool b) w run h u = leaves-none u refl
   leaves-enter at (num n) w run h u = leaves-none u refl
@@ -123,9 +125,9 @@ module _ (D : Domain) (R : Budget → Budget → Type 0) (S : Steps D R) (L : (a
   I = record { domain = D; literal = L }
 
   abbrev LeavesAll : Application I X → Type 0
-  LeavesAll f = (at : ℕ) (v w : ValueOf D) (st : X .State) (u : Budget) → Leaves D R S u (f at v w st u)
+  LeavesAll f = (at : ℕ) (v w : ValueOf D) (st : X .State) (u : Budget) → LeavesBudget D R S u (f at v w st u)
 
-  eval-leaves : (f : Application I X) → LeavesAll f → (c : Term) (st : X .State) (e : EnvOf D) (u : Budget) → Leaves D R S u (evalWith I X M f c st e u)
+  eval-leaves : (f : Application I X) → LeavesAll f → (c : Term) (st : X .State) (e : EnvOf D) (u : Budget) → LeavesBudget D R S u (evalWith I X M f c st e u)
   unfolding evalWith
   eval-leaves f h (boolean at b) st e u = leaves-none D R S u refl
   eval-leaves f h (number at n) st e u = leaves-none D R S u refl

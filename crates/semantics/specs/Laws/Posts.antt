@@ -61,25 +61,26 @@ module _ (E : ℕ → Type 0) (D : (at p : ℕ) → Type 0) where
   abbrev Logged : Budget → Type 0
   Logged (budget c d r l) = Each E (l .posts) × Each (λ (e : Event). D (e .term) (e .privilege)) (l .decisions)
 
-  pub data Kept : Result → Type 0 where
-    kept-end : {v : Value} {u : Budget} → Held v → Logged u → Kept (ends v u)
-    kept-stop : {c at : ℕ} {u : Budget} → Logged u → Kept (stops c at u)
+  pub data KeptResult : Result → Type 0 where
+    kept-end : {v : Value} {u : Budget} → Held v → Logged u → KeptResult (ends v u)
+    kept-stop : {c at : ℕ} {u : Budget} → Logged u → KeptResult (stops c at u)
 
   -- ---- each way of putting results together
-  kept-then : (x : Result) (k : Value → Budget → Result) → Kept x → ((v : Value) (u : Budget) → Held v → Logged u → Kept (k v u)) → Kept (x then k)
+  kept-then : (x : Result) (k : Value → Budget → Result) → KeptResult x → ((v : Value) (u : Budget) → Held v → Logged u → KeptResult (k v u))
+      → KeptResult (x then k)
   kept-then (ends v u) k (kept-end h p) f = f v u h p
   kept-then (stops c at u) k (kept-stop p) f = kept-stop p
 
-  kept-choose : (b : Bool) (y n : Budget → Result) (u : Budget) → Kept (y u) → Kept (n u) → Kept (choose b y n u)
+  kept-choose : (b : Bool) (y n : Budget → Result) (u : Budget) → KeptResult (y u) → KeptResult (n u) → KeptResult (choose b y n u)
   kept-choose true y n u hy hn = hy
   kept-choose false y n u hy hn = hn
 
-  kept-found : (at i : ℕ) (e : Env) (u : Budget) → HeldIn e → Logged u → Kept (variableValue at (lookup e i) u)
+  kept-found : (at i : ℕ) (e : Env) (u : Budget) → HeldIn e → Logged u → KeptResult (variableValue at (lookup e i) u)
   kept-found at i empty u h p = kept-stop p
   kept-found at zero (bind v e) u h p = kept-end (h .0) p
   kept-found at (suc i) (bind v e) u h p = kept-found at i e u (h .1) p
 
-  kept-branch : (at : ℕ) (v : Value) (y n : Budget → Result) (u : Budget) → Logged u → Kept (y u) → Kept (n u) → Kept (branch at v y n u)
+  kept-branch : (at : ℕ) (v : Value) (y n : Budget → Result) (u : Budget) → Logged u → KeptResult (y u) → KeptResult (n u) → KeptResult (branch at v y n u)
   kept-branch at (bool b) y n u p hy hn = kept-choose b y n u hy hn
   kept-branch at (num m) y n u p hy hn = kept-stop p
   kept-branch at (closure r ty body env) y n u p hy hn = kept-stop p
@@ -90,14 +91,14 @@ module _ (E : ℕ → Type 0) (D : (at p : ℕ) → Type 0) where
   operate-held difference m n h g = omega arith
   operate-held less m n h g = tt
 
-  kept-compute : (at : ℕ) (op : Op) (v w : Value) (u : Budget) → Held v → Held w → Logged u → Kept (compute at op v w u)
+  kept-compute : (at : ℕ) (op : Op) (v w : Value) (u : Budget) → Held v → Held w → Logged u → KeptResult (compute at op v w u)
   kept-compute at op (num m) (num n) (budget c d r l) h g p = kept-end (operate-held op m n h g) p
   kept-compute at op (num m) (bool b) u h g p = kept-stop p
   kept-compute at op (num m) (closure r ty body env) u h g p = kept-stop p
   kept-compute at op (bool b) w u h g p = kept-stop p
   kept-compute at op (closure r ty body env) w u h g p = kept-stop p
 
-  kept-append : (at ch n : ℕ) (u : Budget) → n < 65536 → E (postEntry ch n) → Logged u → Kept (appendPost at ch n u)
+  kept-append : (at ch n : ℕ) (u : Budget) → n < 65536 → E (postEntry ch n) → Logged u → KeptResult (appendPost at ch n u)
   kept-append at ch n (budget c d zero l) h e p = kept-stop p
   kept-append at ch n (budget c d (suc r) l) h e p = kept-end {v = num n} {u = budget c d r (logPost (postEntry ch n) l)} h ((e, p .0), p .1)
 
@@ -109,21 +110,21 @@ module _ (E : ℕ → Type 0) (D : (at p : ℕ) → Type 0) where
   logged-noted false at grants g h u p = p
 
   kept-value : (at ch : ℕ) (allowed : Bool) (o : Option Event) (v : Value) (u : Budget) → ((n : ℕ) → n < 65536 → E (postEntry ch n)) → Held v → Logged u
-      → Logged (note o u) → Kept (postValue at ch allowed o v u)
+      → Logged (note o u) → KeptResult (postValue at ch allowed o v u)
   kept-value at ch allowed o (num n) u e h p q = kept-choose allowed _ _ (note o u) (kept-append at ch n (note o u) h (e n h) q) (kept-stop q)
   kept-value at ch allowed o (bool b) u e h p q = kept-stop p
   kept-value at ch allowed o (closure s ty body env) u e h p q = kept-stop p
 
-  kept-cell : (at : ℕ) (k : Budget → Result) → ((u : Budget) → Logged u → Kept (k u)) → (u : Budget) → Logged u → Kept (takeCell at k u)
+  kept-cell : (at : ℕ) (k : Budget → Result) → ((u : Budget) → Logged u → KeptResult (k u)) → (u : Budget) → Logged u → KeptResult (takeCell at k u)
   kept-cell at k h (budget c zero r l) p = kept-stop p
   kept-cell at k h (budget c (suc d) r l) p = h (budget c d r l) p
 
-  kept-begin : (at : ℕ) (k : Budget → Result) → ((u : Budget) → Logged u → Kept (k u)) → (u : Budget) → Logged u → Kept (beginCall at k u)
+  kept-begin : (at : ℕ) (k : Budget → Result) → ((u : Budget) → Logged u → KeptResult (k u)) → (u : Budget) → Logged u → KeptResult (beginCall at k u)
   kept-begin at k h (budget zero d r l) p = kept-stop p
   kept-begin at k h (budget (suc c) zero r l) p = kept-stop p
   kept-begin at k h (budget (suc c) (suc d) r l) p = h (budget c d r l) p
 
-  kept-deep : (at : ℕ) (v : Value) (u : Budget) → Logged u → Kept (tooDeep at v u)
+  kept-deep : (at : ℕ) (v : Value) (u : Budget) → Logged u → KeptResult (tooDeep at v u)
   kept-deep at (closure r ty body env) u p = kept-stop p
   kept-deep at (bool b) u p = kept-stop p
   kept-deep at (num n) u p = kept-stop p
@@ -133,8 +134,8 @@ module _ (E : ℕ → Type 0) (D : (at p : ℕ) → Type 0) where
   entered-held false ty body env w k h g = (g, h)
 
   kept-enter : (at : ℕ) (v w : Value) (run : Term → Env → Budget → Result)
-      → ((c : Term) (e : Env) (u : Budget) → Keeps c → HeldIn e → Logged u → Kept (run c e u)) → (u : Budget) → Held v → Held w → Logged u
-      → Kept (enter at v w run u)
+      → ((c : Term) (e : Env) (u : Budget) → Keeps c → HeldIn e → Logged u → KeptResult (run c e u)) → (u : Budget) → Held v → Held w → Logged u
+      → KeptResult (enter at v w run u)
   kept-enter at (closure r ty body env) w run h u hv hw p =
       kept-begin at _ (λ x q. h body (entered r ty body env w) x (hv .0) (entered-held r ty body env w (hv .0) (hv .1) hw) q) u p
   kept-enter at (bool b) w run h u hv hw p = kept-stop p
@@ -143,10 +144,10 @@ module _ (E : ℕ → Type 0) (D : (at p : ℕ) → Type 0) where
   -- ---- evaluations
   module _ (X : Control) (M : Mode) where
     abbrev KeptAll : Application standard X → Type 0
-    KeptAll f = (at : ℕ) (v w : Value) (st : X .State) (u : Budget) → Held v → Held w → Logged u → Kept (f at v w st u)
+    KeptAll f = (at : ℕ) (v w : Value) (st : X .State) (u : Budget) → Held v → Held w → Logged u → KeptResult (f at v w st u)
 
     eval-kept : (f : Application standard X) → KeptAll f → (c : Term) → Keeps c → (st : X .State) (e : Env) (u : Budget) → HeldIn e → Logged u
-        → Kept (evalWith standard X M f c st e u)
+        → KeptResult (evalWith standard X M f c st e u)
     unfolding evalWith
     eval-kept f a (boolean at b) k st e u h p = kept-end tt p
     eval-kept f a (number at n) k st e u h p = kept-end k p
@@ -183,7 +184,7 @@ module _ (E : ℕ → Type 0) (D : (at p : ℕ) → Type 0) where
     apply-kept (suc k) at v w st u hv hw p =
         kept-enter at v w _ (λ body e x kb he q. eval-kept (apply standard X M k) (apply-kept k) body kb st e x he q) u hv hw p
 
-    kept : (depth : ℕ) (c : Term) → Keeps c → (st : X .State) (u : Budget) → Logged u → Kept (eval standard X M depth c st empty u)
+    kept : (depth : ℕ) (c : Term) → Keeps c → (st : X .State) (u : Budget) → Logged u → KeptResult (eval standard X M depth c st empty u)
     unfolding eval
     kept k c h st u p = eval-kept (apply standard X M k) (apply-kept k) c h st empty u tt p
 
@@ -200,10 +201,10 @@ module _ (s : List ℕ) (bytes : Bytes s) (w : WellFormed s) where
   KeepsIn c = Keeps (OnChannel s) (Decision s) c
 
   abbrev KeptIn : Result → Type 0
-  KeptIn x = Kept (OnChannel s) (Decision s) x
+  KeptIn x = KeptResult (OnChannel s) (Decision s) x
 
   -- what the record of term t gives
-  record Node (t : ℕ) (k : Kind) (x : ℕ) : Type 0 where
+  record NodeRecord (t : ℕ) (k : Kind) (x : ℕ) : Type 0 where
     kind-is : kindOf (kindByte s t) ≡ k
     small-is : small s t ≡ x
     number : first s t < 65536
@@ -213,7 +214,7 @@ module _ (s : List ℕ) (bytes : Bytes s) (w : WellFormed s) where
     decision : {p : ℕ} → Queries s t p → Decision s t p
     decision h = record { a-term = l; queries = h }
 
-    node-keeps : (k : Kind) (x b c : ℕ) → Node t k x → Below (format k) t (first s t) b c → KeepsIn (node (guardOf s) k t x (first s t) b c f)
+    node-keeps : (k : Kind) (x b c : ℕ) → NodeRecord t k x → Below (format k) t (first s t) b c → KeepsIn (node (guardOf s) k t x (first s t) b c f)
     node-keeps Boolean x b c h v = tt
     node-keeps Number x b c h v = h .number
     node-keeps Variable x b c h v = tt

@@ -48,90 +48,96 @@ module _ (T : ℕ → Type 0) where
   abbrev GoesOn : Event → Type 0
   GoesOn e = e .decided ≡ false → T (e .term)
 
-  abbrev Passed : Budget → Type 0
-  Passed (budget c d r l) = Each GoesOn (l .decisions)
+  abbrev DecisionsPassed : Budget → Type 0
+  DecisionsPassed (budget c d r l) = Each GoesOn (l .decisions)
 
-  data Answered : Result → Type 0 where
-    answered-end : {v : Value} {u : Budget} → Passed u → Answered (ends v u)
-    answered-stop : {c at : ℕ} {u : Budget} → (c ≡ 17 → ⊥) → Passed u → Answered (stops c at u)
-    answered-no : {at c d r : ℕ} {l : Log} (p : ℕ) → Each GoesOn (l .decisions) → Answered (stops 17 at (budget c d r (logDecision (deciding at p false) l)))
+  data DecisionsAnswered : Result → Type 0 where
+    answered-end : {v : Value} {u : Budget} → DecisionsPassed u → DecisionsAnswered (ends v u)
+    answered-stop : {c at : ℕ} {u : Budget} → (c ≡ 17 → ⊥) → DecisionsPassed u → DecisionsAnswered (stops c at u)
+    answered-no : {at c d r : ℕ} {l : Log} (p : ℕ) → Each GoesOn (l .decisions)
+        → DecisionsAnswered (stops 17 at (budget c d r (logDecision (deciding at p false) l)))
 
   -- ---- each way of putting results together
-  answered-then : (x : Result) (k : Value → Budget → Result) → Answered x → Bodies Tests x
-      → ((v : Value) (u : Budget) → EveryBody Tests v → Passed u → Answered (k v u)) → Answered (x then k)
+  answered-then : (x : Result) (k : Value → Budget → Result) → DecisionsAnswered x → Bodies Tests x
+      → ((v : Value) (u : Budget) → EveryBody Tests v → DecisionsPassed u → DecisionsAnswered (k v u)) → DecisionsAnswered (x then k)
   answered-then (ends v u) k (answered-end p) (bodies-end b) f = f v u b p
   answered-then (stops c at u) k h b f = h
 
-  answered-choose : (b : Bool) (y n : Budget → Result) (u : Budget) → Answered (y u) → Answered (n u) → Answered (choose b y n u)
+  answered-choose : (b : Bool) (y n : Budget → Result) (u : Budget) → DecisionsAnswered (y u) → DecisionsAnswered (n u) → DecisionsAnswered (choose b y n u)
   answered-choose true y n u hy hn = hy
   answered-choose false y n u hy hn = hn
 
   -- a stop by another cause
-  other : (c at : ℕ) (u : Budget) → (c ≡ 17 → ⊥) → Passed u → Answered (stops c at u)
+  other : (c at : ℕ) (u : Budget) → (c ≡ 17 → ⊥) → DecisionsPassed u → DecisionsAnswered (stops c at u)
   other c at u n p = answered-stop n p
 
-  stuck : (at : ℕ) (u : Budget) → Passed u → Answered (stops 18 at u)
+  stuck : (at : ℕ) (u : Budget) → DecisionsPassed u → DecisionsAnswered (stops 18 at u)
   stuck at u p = other 18 at u (λ e. omega (arith, e)) p
 
-  answered-found : (at i : ℕ) (e : Env) (u : Budget) → Passed u → Answered (variableValue at (lookup e i) u)
+  answered-found : (at i : ℕ) (e : Env) (u : Budget) → DecisionsPassed u → DecisionsAnswered (variableValue at (lookup e i) u)
   answered-found at i empty u p = stuck at u p
   answered-found at zero (bind v e) u p = answered-end p
   answered-found at (suc i) (bind v e) u p = answered-found at i e u p
 
-  answered-branch : (at : ℕ) (v : Value) (y n : Budget → Result) (u : Budget) → Passed u → Answered (y u) → Answered (n u) → Answered (branch at v y n u)
+  answered-branch : (at : ℕ) (v : Value) (y n : Budget → Result) (u : Budget) → DecisionsPassed u → DecisionsAnswered (y u) → DecisionsAnswered (n u)
+      → DecisionsAnswered (branch at v y n u)
   answered-branch at (bool b) y n u p hy hn = answered-choose b y n u hy hn
   answered-branch at (num m) y n u p hy hn = stuck at u p
   answered-branch at (closure r ty body env) y n u p hy hn = stuck at u p
 
-  answered-compute : (at : ℕ) (op : Op) (v w : Value) (u : Budget) → Passed u → Answered (compute at op v w u)
+  answered-compute : (at : ℕ) (op : Op) (v w : Value) (u : Budget) → DecisionsPassed u → DecisionsAnswered (compute at op v w u)
   answered-compute at op (num m) (num n) (budget c d r l) p = answered-end p
   answered-compute at op (num m) (bool b) u p = stuck at u p
   answered-compute at op (num m) (closure r ty body env) u p = stuck at u p
   answered-compute at op (bool b) w u p = stuck at u p
   answered-compute at op (closure r ty body env) w u p = stuck at u p
 
-  answered-append : (at ch n : ℕ) (u : Budget) → Passed u → Answered (appendPost at ch n u)
+  answered-append : (at ch n : ℕ) (u : Budget) → DecisionsPassed u → DecisionsAnswered (appendPost at ch n u)
   answered-append at ch n (budget c d zero l) p = other 22 at (budget c d zero l) (λ e. omega (arith, e)) p
   answered-append at ch n (budget c d (suc r) l) p = answered-end p
 
   -- a check or guard: in force it is listed, and its no is the last; passed over it decides nothing
-  answered-query : (enforce : Bool) (at : ℕ) (grants : ℕ → Bool) (g : Option ℕ) (y : Budget → Result) → ((w : Budget) → Passed w → Answered (y w))
-      → (u : Budget) → Passed u → Answered (choose (guardPasses enforce grants g) y (λ w. stops 17 at w) (note (eventIf enforce at grants g) u))
+  answered-query : (enforce : Bool) (at : ℕ) (grants : ℕ → Bool) (g : Option ℕ) (y : Budget → Result)
+      → ((w : Budget) → DecisionsPassed w → DecisionsAnswered (y w))
+      → (u : Budget) → DecisionsPassed u
+      → DecisionsAnswered (choose (guardPasses enforce grants g) y (λ w. stops 17 at w) (note (eventIf enforce at grants g) u))
   answered-query false at grants none y h u p = h u p
   answered-query false at grants (some x) y h u p = h u p
   answered-query true at grants none y h u p = h u p
   answered-query true at grants (some x) y h (budget c d r l) p = go (grants x)
     where
-      go : (b : Bool) → Answered (choose b y (λ w. stops 17 at w) (budget c d r (logDecision (deciding at x b) l)))
+      go : (b : Bool) → DecisionsAnswered (choose b y (λ w. stops 17 at w) (budget c d r (logDecision (deciding at x b) l)))
       go true = h (budget c d r (logDecision (deciding at x true) l)) (λ e. absurd (true≢false e), p)
       go false = answered-no x p
 
-  answered-post : (enforce : Bool) (at ch : ℕ) (grants : ℕ → Bool) (g : Option ℕ) (v : Value) (u : Budget) → Passed u
-      → Answered (postValue at ch (guardPasses enforce grants g) (eventIf enforce at grants g) v u)
+  answered-post : (enforce : Bool) (at ch : ℕ) (grants : ℕ → Bool) (g : Option ℕ) (v : Value) (u : Budget) → DecisionsPassed u
+      → DecisionsAnswered (postValue at ch (guardPasses enforce grants g) (eventIf enforce at grants g) v u)
   answered-post enforce at ch grants g (num n) u p = answered-query enforce at grants g _ (λ w q. answered-append at ch n w q) u p
   answered-post enforce at ch grants g (bool b) u p = stuck at u p
   answered-post enforce at ch grants g (closure r ty body env) u p = stuck at u p
 
-  tested : (at p : ℕ) (b : Bool) → T at → (u : Budget) → Passed u → Passed (note (some (deciding at p b)) u)
+  tested : (at p : ℕ) (b : Bool) → T at → (u : Budget) → DecisionsPassed u → DecisionsPassed (note (some (deciding at p b)) u)
   tested at p b t (budget c d r l) h = (λ e. t, h)
 
-  answered-cell : (at : ℕ) (k : Budget → Result) → ((u : Budget) → Passed u → Answered (k u)) → (u : Budget) → Passed u → Answered (takeCell at k u)
+  answered-cell : (at : ℕ) (k : Budget → Result) → ((u : Budget) → DecisionsPassed u → DecisionsAnswered (k u)) → (u : Budget) → DecisionsPassed u
+      → DecisionsAnswered (takeCell at k u)
   answered-cell at k h (budget c zero r l) p = other 21 at (budget c zero r l) (λ e. omega (arith, e)) p
   answered-cell at k h (budget c (suc d) r l) p = h (budget c d r l) p
 
-  answered-begin : (at : ℕ) (k : Budget → Result) → ((u : Budget) → Passed u → Answered (k u)) → (u : Budget) → Passed u → Answered (beginCall at k u)
+  answered-begin : (at : ℕ) (k : Budget → Result) → ((u : Budget) → DecisionsPassed u → DecisionsAnswered (k u)) → (u : Budget) → DecisionsPassed u
+      → DecisionsAnswered (beginCall at k u)
   answered-begin at k h (budget zero d r l) p = other 20 at (budget zero d r l) (λ e. omega (arith, e)) p
   answered-begin at k h (budget (suc c) zero r l) p = other 21 at (budget (suc c) zero r l) (λ e. omega (arith, e)) p
   answered-begin at k h (budget (suc c) (suc d) r l) p = h (budget c d r l) p
 
-  answered-deep : (at : ℕ) (v : Value) (u : Budget) → Passed u → Answered (tooDeep at v u)
+  answered-deep : (at : ℕ) (v : Value) (u : Budget) → DecisionsPassed u → DecisionsAnswered (tooDeep at v u)
   answered-deep at (closure r ty body env) u p = other 19 at u (λ e. omega (arith, e)) p
   answered-deep at (bool b) u p = stuck at u p
   answered-deep at (num n) u p = stuck at u p
 
   answered-enter : (at : ℕ) (v w : Value) (run : Term → Env → Budget → Result)
-      → ((c : Term) (e : Env) (u : Budget) → Every Tests c → EveryBodyIn Tests e → Passed u → Answered (run c e u)) → (u : Budget)
-      → EveryBody Tests v → EveryBody Tests w → Passed u → Answered (enter at v w run u)
+      → ((c : Term) (e : Env) (u : Budget) → Every Tests c → EveryBodyIn Tests e → DecisionsPassed u → DecisionsAnswered (run c e u)) → (u : Budget)
+      → EveryBody Tests v → EveryBody Tests w → DecisionsPassed u → DecisionsAnswered (enter at v w run u)
   answered-enter at (closure r ty body env) w run h u hv hw p =
       answered-begin at _
       (λ x q. h body (entered r ty body env w) x (hv .0) (entered-bodies Tests r ty body env w (hv .0) (hv .1) hw) q) u p
@@ -144,11 +150,12 @@ module _ (T : ℕ → Type 0) where
     M = traced enforce
 
     abbrev AnsweredAll : Application standard X → Type 0
-    AnsweredAll f = (at : ℕ) (v w : Value) (st : X .State) (u : Budget) → EveryBody Tests v → EveryBody Tests w → Passed u → Answered (f at v w st u)
+    AnsweredAll f =
+        (at : ℕ) (v w : Value) (st : X .State) (u : Budget) → EveryBody Tests v → EveryBody Tests w → DecisionsPassed u → DecisionsAnswered (f at v w st u)
 
     module _ (f : Application standard X) (a : BodiesAll Tests standard X M f) (g : AnsweredAll f) where
-      eval-answered : (c : Term) → Every Tests c → (st : X .State) (e : Env) (u : Budget) → EveryBodyIn Tests e → Passed u
-          → Answered (evalWith standard X M f c st e u)
+      eval-answered : (c : Term) → Every Tests c → (st : X .State) (e : Env) (u : Budget) → EveryBodyIn Tests e → DecisionsPassed u
+          → DecisionsAnswered (evalWith standard X M f c st e u)
       unfolding evalWith
       eval-answered (boolean at b) k st e u h p = answered-end p
       eval-answered (number at n) k st e u h p = answered-end p
@@ -186,19 +193,20 @@ module _ (T : ℕ → Type 0) where
         answered-enter at v w _
         (λ body e x kb he q. eval-answered (apply standard X M k) (apply-bodies Tests standard X M k) (apply-answered k) body kb st e x he q) u hv hw p
 
-    answered : (depth : ℕ) (c : Term) → Every Tests c → (st : X .State) (u : Budget) → Passed u → Answered (eval standard X M depth c st empty u)
+    answered : (depth : ℕ) (c : Term) → Every Tests c → (st : X .State) (u : Budget) → DecisionsPassed u
+        → DecisionsAnswered (eval standard X M depth c st empty u)
     unfolding eval
     answered k c h st u p = eval-answered (apply standard X M k) (apply-bodies Tests standard X M k) (apply-answered k) c h st empty u tt p
 
   -- ---- what is told and listed, in the order met
-  passed-listed : (u : Budget) → Passed u → Each GoesOn (decidedIn u)
+  passed-listed : (u : Budget) → DecisionsPassed u → Each GoesOn (decidedIn u)
   passed-listed (budget c d r l) p = each-reversed GoesOn (l .decisions) [] p tt
 
   -- a list that ends in a no at term t, after decisions after which a run goes on
   abbrev LastIsNo : (t : ℕ) → List Event → Type 0
   LastIsNo t es = (before : List Event) × (p : ℕ) × (es ≡ before ++ deciding t p false ∷ []) × Each GoesOn before
 
-  refused-listed : (r : ℕ) {x : Result} → Answered x → (t : ℕ) → outcome r x ≡ stopped 17 t → LastIsNo t (decidedIn (left x))
+  refused-listed : (r : ℕ) {x : Result} → DecisionsAnswered x → (t : ℕ) → outcome r x ≡ stopped 17 t → LastIsNo t (decidedIn (left x))
   refused-listed r (answered-end {v = bool b} p) t e = absurd (ended≢stopped e)
   refused-listed r (answered-end {v = num n} p) t e = absurd (ended≢stopped e)
   refused-listed r (answered-end {v = closure s ty body env} p) t e = absurd (let z : _≡_ {A = ℕ} 18 17 = cc in omega (arith, z))
@@ -212,7 +220,7 @@ module _ (T : ℕ → Type 0) where
         each-reversed GoesOn es [] p tt,
       )
 
-  others-listed : (r : ℕ) {x : Result} → Answered x → ((t : ℕ) → outcome r x ≡ stopped 17 t → ⊥) → Each GoesOn (decidedIn (left x))
+  others-listed : (r : ℕ) {x : Result} → DecisionsAnswered x → ((t : ℕ) → outcome r x ≡ stopped 17 t → ⊥) → Each GoesOn (decidedIn (left x))
   others-listed r (answered-end {u = u} p) n = passed-listed u p
   others-listed r (answered-stop {u = u} m p) n = passed-listed u p
   others-listed r (answered-no {at = at} x p) n = absurd (n at refl)
@@ -244,7 +252,7 @@ module _ (s : List ℕ) where
     program-tests = program-every s w (Tests IsTest)
         (λ t l. node-tests (kindOf (kindByte s t)) t (small s t) (first s t) (second s t) (third s t) (λ x. treeTo s t x) refl)
 
-    evaluation-answered : (r : Runner) → Answered IsTest (evaluationIn (traced enforce) r s q z)
+    evaluation-answered : (r : Runner) → DecisionsAnswered IsTest (evaluationIn (traced enforce) r s q z)
     evaluation-answered eager =
         answered IsTest (eagerControl (authority s)) enforce (q .depth) (program s) program-tests (rights 0 (privs (authority s) (stack (q .start))))
         (initial q z) tt

@@ -105,14 +105,14 @@ module _ {D : Domain} where
 
 -- ---- evaluations
 module _ (I : Interpretation) (X : Control) (M : Mode) where
-  abbrev Plain : Mode
-  Plain = plain (M .enforce)
+  abbrev PlainMode : Mode
+  PlainMode = plain (M .enforce)
 
   abbrev ForgetsAll : Application I X → Application I X → Type 0
   ForgetsAll f g = (at : ℕ) (v w : ValueOf (I .domain)) (st : X .State) (u : Budget) → Forgets (f at v w st u) (g at v w st (forgetIn u))
 
   eval-forgets : (f g : Application I X) → ForgetsAll f g → (c : Term) (st : X .State) (e : EnvOf (I .domain)) (u : Budget)
-      → Forgets (evalWith I X M f c st e u) (evalWith I X Plain g c st e (forgetIn u))
+      → Forgets (evalWith I X M f c st e u) (evalWith I X PlainMode g c st e (forgetIn u))
   unfolding evalWith
   eval-forgets f g h (boolean at b) st e u = forgets-end (bool (I .domain .truth b)) u
   eval-forgets f g h (number at n) st e u = forgets-end (num (I .literal at n)) u
@@ -139,16 +139,16 @@ module _ (I : Interpretation) (X : Control) (M : Mode) where
   eval-forgets f g h (post at ch p c) st e u =
       forgets-then _ _ _ _ (eval-forgets f g h c st e u) (λ v w. forgets-post at ch _ _ v w)
 
-  apply-forgets : (k : ℕ) → ForgetsAll (apply I X M k) (apply I X Plain k)
+  apply-forgets : (k : ℕ) → ForgetsAll (apply I X M k) (apply I X PlainMode k)
   unfolding apply
   apply-forgets zero at v w st u = forgets-deep at v u
   apply-forgets (suc k) at v w st u =
-      forgets-enter at v w _ _ (λ body e x. eval-forgets (apply I X M k) (apply I X Plain k) (apply-forgets k) body st e x) u
+      forgets-enter at v w _ _ (λ body e x. eval-forgets (apply I X M k) (apply I X PlainMode k) (apply-forgets k) body st e x) u
 
   pub forgets : (depth : ℕ) (c : Term) (st : X .State) (e : EnvOf (I .domain)) (u : Budget)
       → forget (eval I X M depth c st e u) ≡ eval I X (plain (M .enforce)) depth c st e (forgetIn u)
   unfolding eval
-  forgets k c st e u = eval-forgets (apply I X M k) (apply I X Plain k) (apply-forgets k) c st e u .same
+  forgets k c st e u = eval-forgets (apply I X M k) (apply I X PlainMode k) (apply-forgets k) c st e u .same
 
 -- ---- the evaluation of a request
 pub evaluation-forgets : (M : Mode) (r : Runner) (s : List ℕ) (q : Request) (z : Sizes)

@@ -22,10 +22,10 @@ use Rattle.semantics.specs.Domains.{Domain, standard}
 use Rattle.semantics.specs.Values.{bool, num, closure, empty, emptyLog, Budget, budget, Result, ends, stops}
 use Rattle.semantics.specs.Meaning.{Mode, plain, eval}
 use Rattle.semantics.specs.Access.{privs, rights, eagerControl}
-use Rattle.semantics.specs.Runs.{Runner, eager, lazy, Request, Buffers, Sizes, sizes, stack, principalsKnown, framesOk, runConditions, initial, evaluationIn, evaluation, CourseOf, rejected, started, ran, outcome, left, counts, answerOf, inOrder, postsMade, buffersAfter, AfterOf}
+use Rattle.semantics.specs.Runs.{Runner, eager, lazy, Request, Buffers, Sizes, sizes, stack, principalsKnown, framesOk, runConditions, initial, evaluationIn, evaluation, CourseOf, rejected, started, ran, outcome, left, counts, answerOf, inOrder, coursePosts, buffersAfter, AfterOf}
 use Rattle.semantics.specs.Laws.Access.{privs-chk, eager-lazy}
 use Rattle.soundness.specs.Claims.{GrantsSet, SameLimits, Comparable, postsOf, SameRun, Proper}
-use Rattle.soundness.specs.Laws.Safety.{Base, Safe, Alike, checks-removed}
+use Rattle.soundness.specs.Laws.Safety.{Base, Safe, SafelyAlike, checks-removed}
 
 -- the eager evaluation of a request, in any mode; and from another start
 abbrev pub eagerlyFrom : List ℕ → (start : List ℕ) → Request → Sizes → Mode → Result
@@ -63,7 +63,7 @@ abbrev whole : {D : Domain} (root : ℕ) → Request → Buffers → CourseOf D 
 whole r q b x = record { answer = answerOf r q (sizes b) x; buffers = buffersAfter (q .runner) b x }
 
 -- the posts made are the first entries of the list, as many as are told
-pub posts-listed : {D : Domain} (r : ℕ) (q : Request) (b : Buffers) (x : CourseOf D) → postsOf (whole r q b x) ≡ postsMade x
+pub posts-listed : {D : Domain} (r : ℕ) (q : Request) (b : Buffers) (x : CourseOf D) → postsOf (whole r q b x) ≡ coursePosts x
 posts-listed r q b (rejected c p) = refl
 posts-listed r q b (started x) = go (left x)
   where
@@ -125,7 +125,7 @@ pub removed : (s : List ℕ) → WellFormed s → (τ N : ℕ) → τ < 2 → Sh
 removed s w τ N l h x y b d c ex ey g =
     let A : ℕ → ℕ = authority s in
     let granted : N ⊆ privs A (stack (x .start)) = record { all = λ p i. privs-chk A (stack (x .start)) p ∙ g .each p i } in
-    let alike : Alike (typesOf s) A (base-types s) τ (eagerly s x (sizes b) (plain true)) (eagerly s x (sizes b) (plain false)) =
+    let alike : SafelyAlike (typesOf s) A (base-types s) τ (eagerly s x (sizes b) (plain true)) (eagerly s x (sizes b) (plain false)) =
     checks-removed (typesOf s) A (base-types s) (x .depth) h (program-standard s w) empty tt (privs A (stack (x .start))) granted (initial x (sizes b)) in
     let first : evaluation (x .runner) s x (sizes b) ≡ eagerly s x (sizes b) (plain true) =
     as-eager s w (plain (x .enforce)) x (sizes b) (x .runner) ∙ λ i. eagerly s x (sizes b) (plain (ex i)) in

@@ -131,57 +131,60 @@ module _ (T : Types) (A : ℕ → ℕ) (base : Base T) where
   Safe τ (ends v u) = HasType v τ
   Safe τ (stops c at u) = Limit c
 
-  pub record Alike (τ : ℕ) (x y : Result) : Type 0 where
+  pub record SafelyAlike (τ : ℕ) (x y : Result) : Type 0 where
     pub same : x ≡ y
     pub safe : Safe τ x
 
-  alike-end : (v : Value) (τ : ℕ) (u : Budget) → HasType v τ → Alike τ (ends v u) (ends v u)
+  alike-end : (v : Value) (τ : ℕ) (u : Budget) → HasType v τ → SafelyAlike τ (ends v u) (ends v u)
   alike-end v τ u h = record { same = refl; safe = h }
 
-  alike-stop : (c at τ : ℕ) (u : Budget) → Limit c → Alike τ (stops c at u) (stops c at u)
+  alike-stop : (c at τ : ℕ) (u : Budget) → Limit c → SafelyAlike τ (stops c at u) (stops c at u)
   alike-stop c at τ u h = record { same = refl; safe = h }
 
-  alike-widen : {τ σ : ℕ} (x y : Result) → Subtype T τ σ → Alike τ x y → Alike σ x y
+  alike-widen : {τ σ : ℕ} (x y : Result) → Subtype T τ σ → SafelyAlike τ x y → SafelyAlike σ x y
   alike-widen (ends v u) y f g = record { same = g .same; safe = widen v (g .safe) f }
   alike-widen (stops c at u) y f g = record { same = g .same; safe = g .safe }
 
-  alike-then : {τ σ : ℕ} (x y : Result) (k l : Value → Budget → Result) → Alike τ x y → ((v : Value) (u : Budget) → HasType v τ → Alike σ (k v u) (l v u))
-      → Alike σ (x then k) (y then l)
-  alike-then {τ} {σ} x y k l g h = subst (λ z. Alike σ (x then k) (z then l)) (g .same) (go x (g .safe))
+  alike-then : {τ σ : ℕ} (x y : Result) (k l : Value → Budget → Result) → SafelyAlike τ x y
+      → ((v : Value) (u : Budget) → HasType v τ → SafelyAlike σ (k v u) (l v u))
+      → SafelyAlike σ (x then k) (y then l)
+  alike-then {τ} {σ} x y k l g h = subst (λ z. SafelyAlike σ (x then k) (z then l)) (g .same) (go x (g .safe))
     where
-      go : (z : Result) → Safe τ z → Alike σ (z then k) (z then l)
+      go : (z : Result) → Safe τ z → SafelyAlike σ (z then k) (z then l)
       go (ends v u) s = h v u s
       go (stops c at u) s = record { same = refl; safe = s }
 
   -- a value of either branch's type is one of the wider type
-  alike-choose : {τ ρ υ : ℕ} → Wider T τ ρ υ → (b : Bool) (y y′ n n′ : Budget → Result) (u : Budget) → (b ≡ true → Alike τ (y u) (y′ u))
-      → Alike ρ (n u) (n′ u) → Alike υ (choose b y n u) (choose b y′ n′ u)
+  alike-choose : {τ ρ υ : ℕ} → Wider T τ ρ υ → (b : Bool) (y y′ n n′ : Budget → Result) (u : Budget) → (b ≡ true → SafelyAlike τ (y u) (y′ u))
+      → SafelyAlike ρ (n u) (n′ u) → SafelyAlike υ (choose b y n u) (choose b y′ n′ u)
   alike-choose h true y y′ n n′ u hy hn = alike-widen (y u) (y′ u) (wider-bounds T h .0) (hy refl)
   alike-choose h false y y′ n n′ u hy hn = alike-widen (n u) (n′ u) (wider-bounds T h .1) hn
 
-  alike-cell : (τ at : ℕ) (k l : Budget → Result) → ((u : Budget) → Alike τ (k u) (l u)) → (u : Budget) → Alike τ (takeCell at k u) (takeCell at l u)
+  alike-cell : (τ at : ℕ) (k l : Budget → Result) → ((u : Budget) → SafelyAlike τ (k u) (l u)) → (u : Budget)
+      → SafelyAlike τ (takeCell at k u) (takeCell at l u)
   alike-cell τ at k l h (budget c zero r log) = alike-stop 21 at τ _ (omega arith)
   alike-cell τ at k l h (budget c (suc d) r log) = h (budget c d r log)
 
-  alike-begin : (τ at : ℕ) (k l : Budget → Result) → ((u : Budget) → Alike τ (k u) (l u)) → (u : Budget) → Alike τ (beginCall at k u) (beginCall at l u)
+  alike-begin : (τ at : ℕ) (k l : Budget → Result) → ((u : Budget) → SafelyAlike τ (k u) (l u)) → (u : Budget)
+      → SafelyAlike τ (beginCall at k u) (beginCall at l u)
   alike-begin τ at k l h (budget zero d r log) = alike-stop 20 at τ _ (omega arith)
   alike-begin τ at k l h (budget (suc c) zero r log) = alike-stop 21 at τ _ (omega arith)
   alike-begin τ at k l h (budget (suc c) (suc d) r log) = h (budget c d r log)
 
-  alike-append : (at ch x : ℕ) (u : Budget) → Alike 1 (appendPost at ch x u) (appendPost at ch x u)
+  alike-append : (at ch x : ℕ) (u : Budget) → SafelyAlike 1 (appendPost at ch x u) (appendPost at ch x u)
   alike-append at ch x (budget c d zero log) = alike-stop 22 at 1 _ (omega arith)
   alike-append at ch x (budget c d (suc r) log) = alike-end (num x) 1 _ refl
 
   -- of a number, where the guard passes in both
   alike-post : (at ch : ℕ) {a b : Bool} → a ≡ true → b ≡ true → (v : Value) → HasType v 1 → (u : Budget)
-      → Alike 1 (postValue at ch a none v u) (postValue at ch b none v u)
+      → SafelyAlike 1 (postValue at ch a none v u) (postValue at ch b none v u)
   alike-post at ch {a} {b} ea eb v h u =
-      num-only (λ v. Alike 1 (postValue at ch a none v u) (postValue at ch b none v u))
-      (λ x. subst (λ z. Alike 1 (postValue at ch z none (num x) u) (postValue at ch b none (num x) u)) (sym ea)
-      (subst (λ z. Alike 1 (appendPost at ch x u) (postValue at ch z none (num x) u)) (sym eb) (alike-append at ch x u))) v h
+      num-only (λ v. SafelyAlike 1 (postValue at ch a none v u) (postValue at ch b none v u))
+      (λ x. subst (λ z. SafelyAlike 1 (postValue at ch z none (num x) u) (postValue at ch b none (num x) u)) (sym ea)
+      (subst (λ z. SafelyAlike 1 (appendPost at ch x u) (postValue at ch z none (num x) u)) (sym eb) (alike-append at ch x u))) v h
 
   alike-found : (e : Env) (Γ : List ℕ) (i τ at : ℕ) (u : Budget) → Holds e Γ → bound Γ i ≡ some τ
-      → Alike τ (variableValue at (lookup e i) u) (variableValue at (lookup e i) u)
+      → SafelyAlike τ (variableValue at (lookup e i) u) (variableValue at (lookup e i) u)
   alike-found empty [] i τ at u h g = none≢some g
   alike-found empty (t ∷ Γ) i τ at u h g = absurd h
   alike-found (bind v e) [] i τ at u h g = absurd h
@@ -194,19 +197,19 @@ module _ (T : Types) (A : ℕ → ℕ) (base : Base T) where
   operate-type less x y = refl
 
   alike-compute : (at : ℕ) (op : Op) (v w : Value) → HasType v 1 → HasType w 1 → (u : Budget)
-      → Alike (resultType op) (compute at op v w u) (compute at op v w u)
+      → SafelyAlike (resultType op) (compute at op v w u) (compute at op v w u)
   alike-compute at op v w hv hw u =
-      num-only (λ v. Alike (resultType op) (compute at op v w u) (compute at op v w u))
-      (λ x. num-only (λ w. Alike (resultType op) (compute at op (num x) w u) (compute at op (num x) w u))
+      num-only (λ v. SafelyAlike (resultType op) (compute at op v w u) (compute at op v w u))
+      (λ x. num-only (λ w. SafelyAlike (resultType op) (compute at op (num x) w u) (compute at op (num x) w u))
       (λ y. alike-end (operate op x y) (resultType op) _ (operate-type op x y)) w hw) v hv
 
   -- ---- evaluations: one with checks in force, one with checks passed over
   abbrev AlikeApplication : Application standard (eagerControl A) → Application standard (eagerControl A) → Type 0
   AlikeApplication f g = (at φ : ℕ) (v w : Value) → T .isFun φ ≡ true → HasType v φ → HasType w (T .arg φ)
-      → (n P : ℕ) → T .latent φ ⊆ P → (u : Budget) → Alike (T .res φ) (f at v w (rights n P) u) (g at v w (rights n P) u)
+      → (n P : ℕ) → T .latent φ ⊆ P → (u : Budget) → SafelyAlike (T .res φ) (f at v w (rights n P) u) (g at v w (rights n P) u)
 
   abbrev pub AlikeEvaluation : (Γ : List ℕ) (n τ N : ℕ) → Evaluation standard (eagerControl A) → Evaluation standard (eagerControl A) → Type 0
-  AlikeEvaluation Γ n τ N f g = (e : Env) → Holds e Γ → (P : ℕ) → N ⊆ P → (u : Budget) → Alike τ (f (rights n P) e u) (g (rights n P) e u)
+  AlikeEvaluation Γ n τ N f g = (e : Env) → Holds e Γ → (P : ℕ) → N ⊆ P → (u : Budget) → SafelyAlike τ (f (rights n P) e u) (g (rights n P) e u)
 
   module _ (f g : Application standard (eagerControl A)) (alike-app : AlikeApplication f g) where
     abbrev checked : Term → Evaluation standard (eagerControl A)
@@ -239,7 +242,7 @@ module _ (T : Types) (A : ℕ → ℕ) (base : Base T) where
         let hMK : union M K ⊆ P = ⊆-trans (⊆-union-right N (union M K)) hP in
         alike-then (checked c (rights n P) e u) (skipped c (rights n P) e u) _ _ (eval-alike d (w .0) e he P (⊆-trans (⊆-union-left N (union M K)) hP) u)
         (λ v u₁ hv. bool-only
-        (λ v. Alike υ (branch at v (λ x. checked y (rights n P) e x) (λ x. checked o (rights n P) e x) u₁)
+        (λ v. SafelyAlike υ (branch at v (λ x. checked y (rights n P) e x) (λ x. checked o (rights n P) e x) u₁)
         (branch at v (λ x. skipped y (rights n P) e x) (λ x. skipped o (rights n P) e x) u₁))
         (λ b. alike-choose h b _ _ _ _ u₁ (λ _. eval-alike d′ (w .1) e he P (⊆-trans (⊆-union-left M K) hMK) u₁)
         (eval-alike d″ (w .2) e he P (⊆-trans (⊆-union-right M K) hMK) u₁)) v hv)
@@ -249,7 +252,7 @@ module _ (T : Types) (A : ℕ → ℕ) (base : Base T) where
         (λ granted. eval-alike d (w .0) e he P (remove-has p N P (⊆-trans (⊆-union-left (remove p N) M) hP) granted) u)
         (eval-alike d′ (w .1) e he P (⊆-trans (⊆-union-right (remove p N) M) hP) u)
     eval-alike (d-check {n = n} {at = at} {p = p} {τ = τ} {N = N} {c = c} d) w e he P hP u =
-        subst (λ b. Alike τ (choose b (λ x. checked c (rights n P) e x) (λ x. stops 17 at x) u) (skipped c (rights n P) e u))
+        subst (λ b. SafelyAlike τ (choose b (λ x. checked c (rights n P) e x) (λ x. stops 17 at x) u) (skipped c (rights n P) e u))
         (sym (hP .all p (has-inserted p N)))
         (eval-alike d w e he P (⊆-trans (⊆-insert p N) hP) u)
     eval-alike (d-enable {n = n} {p = p} {N = N} d) w e he P hP u = eval-alike d w e he (addAuthorised A n p P) (removed-added A n p N P hP) u
@@ -283,10 +286,10 @@ module _ (T : Types) (A : ℕ → ℕ) (base : Base T) where
   apply-alike : (k : ℕ) → AlikeApplication (apply standard (eagerControl A) (plain true) k) (apply standard (eagerControl A) (plain false) k)
   unfolding apply
   apply-alike zero at φ v w hf hv hw n P hP u =
-      closure-only (λ v. Alike (T .res φ) (tooDeep at v u) (tooDeep at v u)) φ hf (λ r ty body env h. alike-stop 19 at (T .res φ) u (omega arith)) v hv
+      closure-only (λ v. SafelyAlike (T .res φ) (tooDeep at v u) (tooDeep at v u)) φ hf (λ r ty body env h. alike-stop 19 at (T .res φ) u (omega arith)) v hv
   apply-alike (suc k) at φ v w hf hv hw n P hP u =
       closure-only
-      (λ v. Alike (T .res φ)
+      (λ v. SafelyAlike (T .res φ)
       (enter at v w (λ body e u₁. evalWith standard (eagerControl A) (plain true) (apply standard (eagerControl A) (plain true) k) body (rights n P) e u₁) u)
       (enter at v w (λ body e u₁. evalWith standard (eagerControl A) (plain false) (apply standard (eagerControl A) (plain false) k) body (rights n P) e u₁) u))
       φ hf

@@ -24,36 +24,37 @@ module _ (T : Types) (A : ℕ → ℕ) where
   AllTyped l = EachOf (HasType T A) l
 
   -- what a judgement says of a term with this number and these children
-  pub data Judged (at : ℕ) (l : List Placed) : Judgement → Type 0 where
-    well : {τ N : ℕ} → AllTyped l → Judged at l (typed τ N)
-    of-child : {cause place : ℕ} {y : Placed} → Among y l → judgementAt T A y ≡ fault cause place → Judged at l (fault cause place)
-    own : {cause : ℕ} → AllTyped l → byRules cause ≡ true → Judged at l (fault cause at)
+  pub data FaultOrigin (at : ℕ) (l : List Placed) : Judgement → Type 0 where
+    well : {τ N : ℕ} → AllTyped l → FaultOrigin at l (typed τ N)
+    of-child : {cause place : ℕ} {y : Placed} → Among y l → judgementAt T A y ≡ fault cause place → FaultOrigin at l (fault cause place)
+    own : {cause : ℕ} → AllTyped l → byRules cause ≡ true → FaultOrigin at l (fault cause at)
 
   module _ {at : ℕ} {l : List Placed} where
     -- a child first
-    next-judged : (y : Placed) (k : ℕ → ℕ → Judgement) → Among y l → ((τ N : ℕ) → HasType T A y → Judged at l (k τ N)) → Judged at l (judgementAt T A y next k)
+    next-judged : (y : Placed) (k : ℕ → ℕ → Judgement) → Among y l → ((τ N : ℕ) → HasType T A y → FaultOrigin at l (k τ N))
+        → FaultOrigin at l (judgementAt T A y next k)
     next-judged y k m h = go (judgementAt T A y) refl
       where
-        go : (j : Judgement) → judgementAt T A y ≡ j → Judged at l (j next k)
+        go : (j : Judgement) → judgementAt T A y ≡ j → FaultOrigin at l (j next k)
         go (typed τ N) e = h τ N (has-type e)
         go (fault cause place) e = of-child m e
 
-    require-judged : (b : Bool) (cause : ℕ) {j : Judgement} → byRules cause ≡ true → AllTyped l → Judged at l j → Judged at l (require b cause at j)
+    require-judged : (b : Bool) (cause : ℕ) {j : Judgement} → byRules cause ≡ true → AllTyped l → FaultOrigin at l j → FaultOrigin at l (require b cause at j)
     require-judged true cause r h w = w
     require-judged false cause r h w = own h r
 
-    joined-judged : (o : Option ℕ) (N : ℕ) → AllTyped l → Judged at l (joined at o N)
+    joined-judged : (o : Option ℕ) (N : ℕ) → AllTyped l → FaultOrigin at l (joined at o N)
     joined-judged none N h = own h refl
     joined-judged (some τ) N h = well h
 
-    variable-judged : (o : Option ℕ) → AllTyped l → Judged at l (variableType at o)
+    variable-judged : (o : Option ℕ) → AllTyped l → FaultOrigin at l (variableType at o)
     variable-judged none h = own h refl
     variable-judged (some τ) h = well h
 
-    body-judged : (ty τ N : ℕ) {j : Judgement} → AllTyped l → Judged at l j → Judged at l (bodyFits T A at ty τ N j)
+    body-judged : (ty τ N : ℕ) {j : Judgement} → AllTyped l → FaultOrigin at l j → FaultOrigin at l (bodyFits T A at ty τ N j)
     body-judged ty τ N h w = require-judged (eqb τ (T .res ty)) 10 refl h (require-judged (subset N (T .latent ty)) 12 refl h w)
 
-  pub judged : (Γ : List ℕ) (n : ℕ) (c : Term) → Judged (numberOf c) (childrenIn T Γ n c) (infer T A Γ n c)
+  pub judged : (Γ : List ℕ) (n : ℕ) (c : Term) → FaultOrigin (numberOf c) (childrenIn T Γ n c) (infer T A Γ n c)
   unfolding infer
   judged Γ n (boolean at b) = well tt
   judged Γ n (number at k) = well tt
@@ -83,7 +84,7 @@ module _ (T : Types) (A : ℕ → ℕ) where
   fault-up : {y : Placed} (Γ : List ℕ) (n : ℕ) (c : Term) → Among y (childrenIn T Γ n c) → HasFault T A y → HasFault T A (placed Γ n c)
   fault-up {y} Γ n c m (has-fault e) = go (infer T A Γ n c) refl (judged Γ n c)
     where
-      go : (j : Judgement) → infer T A Γ n c ≡ j → Judged (numberOf c) (childrenIn T Γ n c) j → HasFault T A (placed Γ n c)
+      go : (j : Judgement) → infer T A Γ n c ≡ j → FaultOrigin (numberOf c) (childrenIn T Γ n c) j → HasFault T A (placed Γ n c)
       go (typed τ N) f (well h) = no-type e (each-among (HasType T A) m h)
       go (fault cause at) f w = has-fault f
 
@@ -110,10 +111,10 @@ module _ (T : Types) (A : ℕ → ℕ) where
   ruled-below : (k : ℕ) (Γ : List ℕ) (n : ℕ) (c : Term) → size c < k → {cause at : ℕ} → infer T A Γ n c ≡ fault cause at → byRules cause ≡ true
   ruled-below zero Γ n c h e = absurd (omega arith)
   ruled-below (suc k) Γ n c h {cause} {at} e =
-      go (λ Δ m d l f. ruled-below k Δ m d l f) (subst (Judged (numberOf c) (childrenIn T Γ n c)) e (judged Γ n c))
+      go (λ Δ m d l f. ruled-below k Δ m d l f) (subst (FaultOrigin (numberOf c) (childrenIn T Γ n c)) e (judged Γ n c))
     where
       go : {cause at : ℕ} → ((Δ : List ℕ) (m : ℕ) (d : Term) → size d < k → infer T A Δ m d ≡ fault cause at → byRules cause ≡ true)
-          → Judged (numberOf c) (childrenIn T Γ n c) (fault cause at) → byRules cause ≡ true
+          → FaultOrigin (numberOf c) (childrenIn T Γ n c) (fault cause at) → byRules cause ≡ true
       go r (own q b) = b
       go r (of-child m f) =
           let y = each-among (λ y. ChildOf T y Γ n c) m (children-of T Γ n c) in

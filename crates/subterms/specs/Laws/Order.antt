@@ -10,19 +10,19 @@ use lib.Dec.{eqb, ltb}
 use borrow.Author.Tests.{ltb-true, ltb-false, lt-ltb, le-ltb, eqb-true, eqb-false, eq-eqb, ne-eqb}
 use Rattle.program.specs.Layout.{Types}
 use Rattle.typing.specs.Places.{Placed, Among, among-first, among-later}
-use Rattle.subterms.specs.Smallest.{Refused, before, smaller, refusedAt, smallestOf}
+use Rattle.subterms.specs.Smallest.{FaultyTerm, before, smaller, refusedAt, smallestOf}
 
 -- x comes before y, and x comes no later than y
-pub data Before (x y : Refused) : Type 0 where
+pub data Before (x y : FaultyTerm) : Type 0 where
   fewer : x .count < y .count → Before x y
   lower : x .count ≡ y .count → x .term < y .term → Before x y
 
-pub data NoLater (x y : Refused) : Type 0 where
+pub data NoLater (x y : FaultyTerm) : Type 0 where
   no-more : x .count < y .count → NoLater x y
   as-many : x .count ≡ y .count → x .term ≤ y .term → NoLater x y
 
 -- ---- the test of it
-before-true : (x y : Refused) → before x y ≡ true → Before x y
+before-true : (x y : FaultyTerm) → before x y ≡ true → Before x y
 before-true x y h = go (ltb (x .count) (y .count)) refl h
   where
     same : (b : Bool) → eqb (x .count) (y .count) ≡ b → (b && ltb (x .term) (y .term)) ≡ true → Before x y
@@ -33,7 +33,7 @@ before-true x y h = go (ltb (x .count) (y .count)) refl h
     go true e f = fewer (ltb-true (x .count) (y .count) e)
     go false e f = same (eqb (x .count) (y .count)) refl f
 
-before-false : (x y : Refused) → before x y ≡ false → NoLater y x
+before-false : (x y : FaultyTerm) → before x y ≡ false → NoLater y x
 before-false x y h = go (ltb (x .count) (y .count)) refl h
   where
     same : (b : Bool) → eqb (x .count) (y .count) ≡ b → y .count ≤ x .count → (b && ltb (x .term) (y .term)) ≡ false → NoLater y x
@@ -44,40 +44,40 @@ before-false x y h = go (ltb (x .count) (y .count)) refl h
     go true e f = absurd (true≢false f)
     go false e f = same (eqb (x .count) (y .count)) refl (ltb-false (x .count) (y .count) e) f
 
-true-before : {x y : Refused} → Before x y → before x y ≡ true
+true-before : {x y : FaultyTerm} → Before x y → before x y ≡ true
 true-before {x} {y} (fewer l) = ap (λ (b : Bool). b || (eqb (x .count) (y .count) && ltb (x .term) (y .term))) (lt-ltb (x .count) (y .count) l)
 true-before {x} {y} (lower e l) =
     (λ i. le-ltb (x .count) (y .count) (omega arith) i || (eq-eqb (x .count) (y .count) e i && lt-ltb (x .term) (y .term) l i))
 
-false-before : {x y : Refused} → NoLater y x → before x y ≡ false
+false-before : {x y : FaultyTerm} → NoLater y x → before x y ≡ false
 false-before {x} {y} (no-more l) =
     (λ i. le-ltb (x .count) (y .count) (omega arith) i || (ne-eqb (x .count) (y .count) (λ e. omega arith) i && ltb (x .term) (y .term)))
 false-before {x} {y} (as-many e l) =
     (λ i. le-ltb (x .count) (y .count) (omega arith) i || (eq-eqb (x .count) (y .count) (sym e) i && le-ltb (x .term) (y .term) l i))
 
 -- ---- both are transitive
-before-trans : {x y z : Refused} → Before x y → Before y z → Before x z
+before-trans : {x y z : FaultyTerm} → Before x y → Before y z → Before x z
 before-trans (fewer h) (fewer g) = fewer (omega arith)
 before-trans (fewer h) (lower e g) = fewer (omega arith)
 before-trans (lower e h) (fewer g) = fewer (omega arith)
 before-trans (lower e h) (lower f g) = lower (e ∙ f) (omega arith)
 
-pub no-later-trans : {x y z : Refused} → NoLater x y → NoLater y z → NoLater x z
+pub no-later-trans : {x y z : FaultyTerm} → NoLater x y → NoLater y z → NoLater x z
 no-later-trans (no-more h) (no-more g) = no-more (omega arith)
 no-later-trans (no-more h) (as-many e g) = no-more (omega arith)
 no-later-trans (as-many e h) (no-more g) = no-more (omega arith)
 no-later-trans (as-many e h) (as-many f g) = as-many (e ∙ f) (omega arith)
 
-pub no-later-self : {x : Refused} → NoLater x x
+pub no-later-self : {x : FaultyTerm} → NoLater x x
 no-later-self = as-many refl (omega arith)
 
-before-no-later : {x y : Refused} → Before x y → NoLater x y
+before-no-later : {x y : FaultyTerm} → Before x y → NoLater x y
 before-no-later (fewer h) = no-more h
 before-no-later (lower e h) = as-many e (omega arith)
 
 -- ---- the smaller of two
 -- of three, from whichever side one starts
-pub smaller-assoc : (a b c : Option Refused) → smaller (smaller a b) c ≡ smaller a (smaller b c)
+pub smaller-assoc : (a b c : Option FaultyTerm) → smaller (smaller a b) c ≡ smaller a (smaller b c)
 smaller-assoc none b c = refl
 smaller-assoc (some x) none c = refl
 smaller-assoc (some x) (some y) none = refl
@@ -90,12 +90,12 @@ smaller-assoc (some x) (some y) (some z) = go (before y x) (before z y) refl ref
     go false true e f = refl
     go false false e f = rw (e, false-before (no-later-trans (before-false y x e) (before-false z y f))) refl
 
-pub smaller-none : (a : Option Refused) → smaller a none ≡ a
+pub smaller-none : (a : Option FaultyTerm) → smaller a none ≡ a
 smaller-none none = refl
 smaller-none (some x) = refl
 
 -- it is one of them
-pub smaller-one : (a b : Option Refused) (z : Refused) → smaller a b ≡ some z → (a ≡ some z) ⊎ (b ≡ some z)
+pub smaller-one : (a b : Option FaultyTerm) (z : FaultyTerm) → smaller a b ≡ some z → (a ≡ some z) ⊎ (b ≡ some z)
 smaller-one none b z e = inr e
 smaller-one (some x) none z e = inl e
 smaller-one (some x) (some y) z e = go (before y x) e
@@ -105,14 +105,14 @@ smaller-one (some x) (some y) z e = go (before y x) e
     go false f = inl f
 
 -- it comes no later than either
-smaller-left : (x y : Refused) → NoLater (cond (before y x) y x) x
+smaller-left : (x y : FaultyTerm) → NoLater (cond (before y x) y x) x
 smaller-left x y = go (before y x) refl
   where
     go : (b : Bool) → before y x ≡ b → NoLater (cond b y x) x
     go true e = before-no-later (before-true y x e)
     go false e = no-later-self
 
-smaller-right : (x y : Refused) → NoLater (cond (before y x) y x) y
+smaller-right : (x y : FaultyTerm) → NoLater (cond (before y x) y x) y
 smaller-right x y = go (before y x) refl
   where
     go : (b : Bool) → before y x ≡ b → NoLater (cond b y x) y
@@ -120,18 +120,18 @@ smaller-right x y = go (before y x) refl
     go false e = before-false y x e
 
 -- one with more terms than another is passed over
-pub passed : (x y : Refused) → y .count < x .count → smaller (some x) (some y) ≡ some y
+pub passed : (x y : FaultyTerm) → y .count < x .count → smaller (some x) (some y) ≡ some y
 passed x y h = ap (λ (b : Bool). some (cond b y x)) (true-before {x = y} {y = x} (fewer h))
 
 -- ---- the smallest of a list
 -- one of the list is found, and it comes no later than any
-pub record Found (T : Types) (A : ℕ → ℕ) (l : List Placed) (x : Refused) : Type 0 where
+pub record SmallestOf (T : Types) (A : ℕ → ℕ) (l : List Placed) (x : FaultyTerm) : Type 0 where
   pub at : Placed
   pub listed : Among at l
   pub is : refusedAt T A at ≡ some x
 
-pub record Least (T : Types) (A : ℕ → ℕ) (l : List Placed) (y : Refused) : Type 0 where
-  pub least : Refused
+pub record Least (T : Types) (A : ℕ → ℕ) (l : List Placed) (y : FaultyTerm) : Type 0 where
+  pub least : FaultyTerm
   pub is : smallestOf T A l ≡ some least
   pub no-later : NoLater least y
 
@@ -141,38 +141,38 @@ module _ (T : Types) (A : ℕ → ℕ) where
   smallest-append [] m = refl
   smallest-append (x ∷ l) m = ap (smaller (refusedAt T A x)) (smallest-append l m) ∙ sym (smaller-assoc (refusedAt T A x) (smallestOf T A l) (smallestOf T A m))
 
-  pub smallest-found : (l : List Placed) (x : Refused) → smallestOf T A l ≡ some x → Found T A l x
+  pub smallest-found : (l : List Placed) (x : FaultyTerm) → smallestOf T A l ≡ some x → SmallestOf T A l x
   unfolding smallestOf
   smallest-found [] x e = absurd (Option·none-ne-some x e)
   smallest-found (p ∷ l) x e = go (λ f. smallest-found l x f) (refusedAt T A p) (smallestOf T A l) refl refl e
     where
-      later : Found T A l x → Found T A (p ∷ l) x
+      later : SmallestOf T A l x → SmallestOf T A (p ∷ l) x
       later h = record { at = h .at; listed = among-later (h .listed); is = h .is }
 
-      self : refusedAt T A p ≡ some x → Found T A (p ∷ l) x
+      self : refusedAt T A p ≡ some x → SmallestOf T A (p ∷ l) x
       self f = record { at = p; listed = among-first; is = f }
 
-      chosen : (smallestOf T A l ≡ some x → Found T A l x) → (b : Bool) (y z : Refused) → refusedAt T A p ≡ some y → smallestOf T A l ≡ some z
-          → some (cond b z y) ≡ some x → Found T A (p ∷ l) x
+      chosen : (smallestOf T A l ≡ some x → SmallestOf T A l x) → (b : Bool) (y z : FaultyTerm) → refusedAt T A p ≡ some y → smallestOf T A l ≡ some z
+          → some (cond b z y) ≡ some x → SmallestOf T A (p ∷ l) x
       chosen r true y z f g h = later (r (g ∙ h))
       chosen r false y z f g h = self (f ∙ h)
 
-      go : (smallestOf T A l ≡ some x → Found T A l x) → (a b : Option Refused) → refusedAt T A p ≡ a → smallestOf T A l ≡ b → smaller a b ≡ some x
-          → Found T A (p ∷ l) x
+      go : (smallestOf T A l ≡ some x → SmallestOf T A l x) → (a b : Option FaultyTerm) → refusedAt T A p ≡ a → smallestOf T A l ≡ b → smaller a b ≡ some x
+          → SmallestOf T A (p ∷ l) x
       go r none b f g h = later (r (g ∙ h))
       go r (some y) none f g h = self (f ∙ h)
       go r (some y) (some z) f g h = chosen r (before z y) y z f g h
 
-  pub smallest-least : (l : List Placed) {p : Placed} → Among p l → (y : Refused) → refusedAt T A p ≡ some y → Least T A l y
+  pub smallest-least : (l : List Placed) {p : Placed} → Among p l → (y : FaultyTerm) → refusedAt T A p ≡ some y → Least T A l y
   unfolding smallestOf
   smallest-least (p ∷ l) among-first y e = go (smallestOf T A l) refl
     where
-      go : (b : Option Refused) → smallestOf T A l ≡ b → Least T A (p ∷ l) y
+      go : (b : Option FaultyTerm) → smallestOf T A l ≡ b → Least T A (p ∷ l) y
       go none g = record { least = y; is = rw (e, g) refl; no-later = no-later-self }
       go (some z) g = record { least = cond (before z y) z y; is = rw (e, g) refl; no-later = smaller-left y z }
   smallest-least (q ∷ l) (among-later m) y e =
       let h = smallest-least l m y e in go (h .least) (h .is) (h .no-later) (refusedAt T A q) refl
     where
-      go : (z : Refused) → smallestOf T A l ≡ some z → NoLater z y → (a : Option Refused) → refusedAt T A q ≡ a → Least T A (q ∷ l) y
+      go : (z : FaultyTerm) → smallestOf T A l ≡ some z → NoLater z y → (a : Option FaultyTerm) → refusedAt T A q ≡ a → Least T A (q ∷ l) y
       go z g k none f = record { least = z; is = rw (f, g) refl; no-later = k }
       go z g k (some x) f = record { least = cond (before z x) z x; is = rw (f, g) refl; no-later = no-later-trans (smaller-right x z) k }

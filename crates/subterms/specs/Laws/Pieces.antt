@@ -12,42 +12,42 @@ use Rattle.typing.specs.Places.{Placed, placed, numberOf, childrenIn, children}
 use Rattle.typing.specs.Laws.Places.{EachOf, each-among, tree-number}
 use Rattle.typing.specs.Checking.{Judgement, typed, fault, infer}
 use Rattle.typing.specs.Faults.{Within, here}
-use Rattle.subterms.specs.Smallest.{subterms, Refused, refusedAs, refusedAt, smallestOf}
+use Rattle.subterms.specs.Smallest.{subterms, FaultyTerm, refusedAs, refusedAt, smallestOf}
 use Rattle.subterms.specs.Claims.{judgementAt, HasType, HasFault, has-fault, Stands, Faulty, SmallestPiece}
 use Rattle.subterms.specs.Laws.Order.{NoLater, no-more, as-many, smallest-found, smallest-least}
 use Rattle.subterms.specs.Laws.Subterms.{within-listed, listed-within, within-size, within-trans, within-every, ChildOf, children-of}
-use Rattle.subterms.specs.Laws.Judgements.{Judged, of-child, own, judged, within-fault, ruled}
+use Rattle.subterms.specs.Laws.Judgements.{FaultOrigin, of-child, own, judged, within-fault, ruled}
 
-some-same : {x y : Refused} {o : Option Refused} → o ≡ some x → o ≡ some y → x ≡ y
+some-same : {x y : FaultyTerm} {o : Option FaultyTerm} → o ≡ some x → o ≡ some y → x ≡ y
 some-same {x} {y} e f = let z : some x ≡ some y = sym e ∙ f in cc
 
 -- ---- a refused term, from its judgement
-record RefusedTerm (c : Term) (j : Judgement) (x : Refused) : Type 0 where
+record RefusedTerm (c : Term) (j : Judgement) (x : FaultyTerm) : Type 0 where
   fault-is : j ≡ fault (x .cause) (x .place)
   number-is : numberOf c ≡ x .term
   count-is : size c ≡ x .count
 
-refused-term : (c : Term) (j : Judgement) (x : Refused) → refusedAs c j ≡ some x → RefusedTerm c j x
+refused-term : (c : Term) (j : Judgement) (x : FaultyTerm) → refusedAs c j ≡ some x → RefusedTerm c j x
 refused-term c (typed τ N) x e = absurd (Option·none-ne-some x e)
 refused-term c (fault cause at) x e = record {
-  fault-is = λ i. fault (ap (λ (y : Refused). y .cause) same i) (ap (λ (y : Refused). y .place) same i);
-  number-is = ap (λ (y : Refused). y .term) same;
-  count-is = ap (λ (y : Refused). y .count) same;
+  fault-is = λ i. fault (ap (λ (y : FaultyTerm). y .cause) same i) (ap (λ (y : FaultyTerm). y .place) same i);
+  number-is = ap (λ (y : FaultyTerm). y .term) same;
+  count-is = ap (λ (y : FaultyTerm). y .count) same;
 }
   where
     same : record { term = numberOf c; count = size c; cause = cause; place = at } ≡ x
     same = some-same refl e
 
-no-later-count : {x y : Refused} → NoLater x y → x .count ≤ y .count
+no-later-count : {x y : FaultyTerm} → NoLater x y → x .count ≤ y .count
 no-later-count (no-more h) = omega arith
 no-later-count (as-many e h) = omega arith
 
-no-later-term : {x y : Refused} → NoLater x y → y .count ≡ x .count → x .term ≤ y .term
+no-later-term : {x y : FaultyTerm} → NoLater x y → y .count ≡ x .count → x .term ≤ y .term
 no-later-term (no-more h) f = absurd (omega arith)
 no-later-term (as-many e h) f = h
 
 -- the smallest of the terms in a term has no more terms in it
-pub listed-count : (T : Types) (A : ℕ → ℕ) (Γ : List ℕ) (n : ℕ) (c : Term) {x : Refused} → smallestOf T A (subterms T Γ n c) ≡ some x → x .count ≤ size c
+pub listed-count : (T : Types) (A : ℕ → ℕ) (Γ : List ℕ) (n : ℕ) (c : Term) {x : FaultyTerm} → smallestOf T A (subterms T Γ n c) ≡ some x → x .count ≤ size c
 unfolding refusedAt
 listed-count T A Γ n c {x} e =
     let h = smallest-found T A (subterms T Γ n c) x e in
@@ -77,22 +77,22 @@ module _ (s : List ℕ) where
   all = subterms (typesOf s) [] 0 (program s)
 
   -- a refused term of the sheet comes no earlier than the smallest one
-  later : {x : Refused} → smallestOf T A all ≡ some x → (Γ : List ℕ) (n : ℕ) (c : Term) → Within T Γ n c [] 0 (program s) → {cause at : ℕ}
+  later : {x : FaultyTerm} → smallestOf T A all ≡ some x → (Γ : List ℕ) (n : ℕ) (c : Term) → Within T Γ n c [] 0 (program s) → {cause at : ℕ}
       → infer T A Γ n c ≡ fault cause at → NoLater x (record { term = numberOf c; count = size c; cause = cause; place = at })
   unfolding refusedAt
   later {x} e Γ n c w {cause} {at} f =
-      let y : Refused = record { term = numberOf c; count = size c; cause = cause; place = at } in
+      let y : FaultyTerm = record { term = numberOf c; count = size c; cause = cause; place = at } in
       let h = smallest-least T A all (within-listed T w) y (ap (refusedAs c) f) in
-      subst (λ (z : Refused). NoLater z y) (some-same (h .is) e) (h .no-later)
+      subst (λ (z : FaultyTerm). NoLater z y) (some-same (h .is) e) (h .no-later)
 
-  module _ {x : Refused} (e : smallestOf T A all ≡ some x) where
+  module _ {x : FaultyTerm} (e : smallestOf T A all ≡ some x) where
     -- its fault is its own, since a child that is refused has fewer terms in it
     record OwnFault (Γ : List ℕ) (n : ℕ) (c : Term) : Type 0 where
       place-is : x .place ≡ numberOf c
       typed-children : EachOf (HasType T A) (childrenIn T Γ n c)
 
     own-fault : (Γ : List ℕ) (n : ℕ) (c : Term) → Within T Γ n c [] 0 (program s) → size c ≡ x .count
-        → {cause place : ℕ} → place ≡ x .place → Judged T A (numberOf c) (childrenIn T Γ n c) (fault cause place) → OwnFault Γ n c
+        → {cause place : ℕ} → place ≡ x .place → FaultOrigin T A (numberOf c) (childrenIn T Γ n c) (fault cause place) → OwnFault Γ n c
     own-fault Γ n c w q p (own h r) = record { place-is = sym p; typed-children = h }
     own-fault Γ n c w q p (of-child m f) =
         let y = each-among (λ y. ChildOf T y Γ n c) m (children-of T Γ n c) in
@@ -113,7 +113,7 @@ module _ (s : List ℕ) where
         let p = listed-within T [] 0 (program s) (h .listed) in
         let r = refused-term (p .part) (infer T A (p .bindings) (p .principal) (p .part)) x (sym (ap (refusedAt T A) (p .is)) ∙ h .is) in
         let o = own-fault (p .bindings) (p .principal) (p .part) (p .within) (r .count-is) refl
-        (subst (Judged T A (numberOf (p .part)) (childrenIn T (p .bindings) (p .principal) (p .part))) (r .fault-is)
+        (subst (FaultOrigin T A (numberOf (p .part)) (childrenIn T (p .bindings) (p .principal) (p .part))) (r .fault-is)
         (judged T A (p .bindings) (p .principal) (p .part))) in
         let d = numbered s v (p .within) in
         let q : p .part ≡ tree s (x .term) = d .is ∙ ap (tree s) (r .number-is) in
@@ -139,7 +139,7 @@ module _ (s : List ℕ) where
     root-refused v = let h = smallest-piece v .0 in within-fault T A (h .stands) (has-fault (h .refused))
 
   -- where the root is refused there is a smallest one
-  pub some-refused : HasFault T A (placed [] 0 (program s)) → (x : Refused) × (smallestOf T A all ≡ some x)
+  pub some-refused : HasFault T A (placed [] 0 (program s)) → (x : FaultyTerm) × (smallestOf T A all ≡ some x)
   unfolding refusedAt
   some-refused (has-fault f) =
       let h = smallest-least T A all (within-listed T here) _ (ap (refusedAs (program s)) f) in

@@ -14,7 +14,7 @@ use borrow.Author.Tests.{eqb-true, eq-eqb}
 use Rattle.program.specs.Layout.{Types, terms, root, guardOf, kindByte, small, first, second, third, typesOf}
 use Rattle.program.specs.Formats.{Kind, Boolean, Number, Variable, Function, Letrec, Call, If, Check, Enable, Sign, Test, Sum, Difference, Less, Post, kindOf, format}
 use Rattle.program.specs.Terms.{Term, node, tree, program}
-use Rattle.program.specs.Decoding.{counts, timesIn, timesBelow}
+use Rattle.program.specs.Decoding.{childCount, timesIn, timesBelow}
 use Rattle.program.specs.Laws.Readable.{WellFormed}
 use Rattle.program.specs.Laws.Trees.{tree-node, root-lower}
 use Rattle.program.specs.Laws.Nesting.{one-parent, parent-is, times-least}
@@ -64,7 +64,7 @@ module _ (s : List ℕ) (Γ : List ℕ) (n u : ℕ) where
   named a = ap (λ (k : ℕ). one (eqb k u)) (tree-number s a)
 
   node-times : (G : ℕ → Option ℕ) (k : Kind) (t x a b c : ℕ) → times u (childrenIn (typesOf s) Γ n (node G k t x a b c (tree s)))
-      ≡ counts (format k .first) a u + counts (format k .second) b u + counts (format k .third) c u
+      ≡ childCount (format k .first) a u + childCount (format k .second) b u + childCount (format k .third) c u
   node-times G Boolean t x a b c = refl
   node-times G Number t x a b c = refl
   node-times G Variable t x a b c = refl
@@ -95,12 +95,12 @@ module _ (T : Types) where
     within : Within T bindings principal part Γ n c
     child : Among x (childrenIn T bindings principal part)
 
-  abbrev Found : Placed → (Γ : List ℕ) (n : ℕ) (c : Term) → Type 0
-  Found x Γ n c = (x ≡ placed Γ n c) ⊎ Parent x Γ n c
+  abbrev FoundAmong : Placed → (Γ : List ℕ) (n : ℕ) (c : Term) → Type 0
+  FoundAmong x Γ n c = (x ≡ placed Γ n c) ⊎ Parent x Γ n c
 
   -- from a child y of c
   step : {x : Placed} {Δ : List ℕ} {m : ℕ} {d : Term} (Γ : List ℕ) (n : ℕ) (c : Term) → Among (placed Δ m d) (childrenIn T Γ n c)
-      → ((Θ : List ℕ) (k : ℕ) (e : Term) → Within T Θ k e Δ m d → Within T Θ k e Γ n c) → Found x Δ m d → Found x Γ n c
+      → ((Θ : List ℕ) (k : ℕ) (e : Term) → Within T Θ k e Δ m d → Within T Θ k e Γ n c) → FoundAmong x Δ m d → FoundAmong x Γ n c
   step Γ n c a f (inl e) = inr (record { bindings = Γ; principal = n; part = c; within = here; child = subst (λ z. Among z (childrenIn T Γ n c)) (sym e) a })
   step Γ n c a f (inr p) = inr (record {
     bindings = p .bindings;
@@ -110,7 +110,7 @@ module _ (T : Types) where
     child = p .child;
   })
 
-  parent-of : {Δ Γ : List ℕ} {m n : ℕ} {d c : Term} → Within T Δ m d Γ n c → Found (placed Δ m d) Γ n c
+  parent-of : {Δ Γ : List ℕ} {m n : ℕ} {d c : Term} → Within T Δ m d Γ n c → FoundAmong (placed Δ m d) Γ n c
   parent-of here = inl refl
   parent-of (in-function w) = step _ _ _ among-first (λ _ _ _ v. in-function v) (parent-of w)
   parent-of (in-letrec-body w) = step _ _ _ among-first (λ _ _ _ v. in-letrec-body v) (parent-of w)
@@ -147,17 +147,17 @@ children-lower s w u t l h = go (decLt u t)
     go (no g) = absurd (omega (arith, h, not-below s w u (suc t) (omega arith) (omega (arith, g))))
 
 module _ (s : List ℕ) (w : WellFormed s) where
-  pub record Place (u : ℕ) : Type 0 where
+  pub record HasPlace (u : ℕ) : Type 0 where
     pub bindings : List ℕ
     pub principal : ℕ
     pub stands : Stands s bindings principal u
 
   -- ---- every term stands somewhere: of the last k terms each does
-  root-place : (u : ℕ) → u ≡ root s → Place u
+  root-place : (u : ℕ) → u ≡ root s → HasPlace u
   root-place u e = record { bindings = []; principal = 0; stands = subst (λ (c : Term). Within (typesOf s) [] 0 (tree s u) [] 0 c) (ap (tree s) e) here }
 
   -- a child stands where its parent's children do
-  child-place : (t u : ℕ) → t < terms s → 0 < timesIn s u t → Place t → Place u
+  child-place : (t u : ℕ) → t < terms s → 0 < timesIn s u t → HasPlace t → HasPlace u
   child-place t u l h p =
       let k = times-has u (childrenIn (typesOf s) (p .bindings) (p .principal) (tree s t))
       (omega (arith, h, children-times s (p .bindings) (p .principal) u w t l)) in
@@ -172,7 +172,7 @@ module _ (s : List ℕ) (w : WellFormed s) where
             (numbered s w v .is ∙ ap (tree s) e) v;
       }
 
-  last-places : (k u : ℕ) → u < terms s → terms s ≤ u + k → Place u
+  last-places : (k u : ℕ) → u < terms s → terms s ≤ u + k → HasPlace u
   last-places zero u l h = absurd (omega arith)
   last-places (suc k) u l h =
       ⊎-elim (λ e. root-place u e)
@@ -181,7 +181,7 @@ module _ (s : List ℕ) (w : WellFormed s) where
       child-place (t .0) u (t .1) (t .2) (last-places k (t .0) (t .1) (omega arith)))
       (eq-or-lt-of-le {n = u} {m = root s} (omega (arith, l)))
 
-  pub place : (u : ℕ) → u < terms s → Place u
+  pub place : (u : ℕ) → u < terms s → HasPlace u
   place u l = last-places (terms s) u l (omega arith)
 
   -- ---- and nowhere else
@@ -208,11 +208,11 @@ module _ (s : List ℕ) (w : WellFormed s) where
         counted = omega (arith, children-times s (p .bindings) (p .principal) u w (numberOf (p .part)) (d .inside), times-among u a (tree-number s u));
       }
 
-  abbrev Same : (Γ Δ : List ℕ) (n m u : ℕ) → Type 0
-  Same Γ Δ n m u = placed Γ n (tree s u) ≡ placed Δ m (tree s u)
+  abbrev SamePlace : (Γ Δ : List ℕ) (n m u : ℕ) → Type 0
+  SamePlace Γ Δ n m u = placed Γ n (tree s u) ≡ placed Δ m (tree s u)
 
   -- two places of the last k terms are one
-  last-once : (k u : ℕ) → terms s ≤ u + k → (Γ Δ : List ℕ) (n m : ℕ) → Stands s Γ n u → Stands s Δ m u → Same Γ Δ n m u
+  last-once : (k u : ℕ) → terms s ≤ u + k → (Γ Δ : List ℕ) (n m : ℕ) → Stands s Γ n u → Stands s Δ m u → SamePlace Γ Δ n m u
   last-once zero u h Γ Δ n m v v′ = absurd (omega (arith, numbered s w v .inside, tree-number s u))
   last-once (suc k) u h Γ Δ n m v v′ = go (λ t l. last-once k t l) (parent-of (typesOf s) v) (parent-of (typesOf s) v′)
     where
@@ -227,8 +227,9 @@ module _ (s : List ℕ) (w : WellFormed s) where
           sym (parent-is s u (terms s) (p .number) (one-parent s w u l) (p .inside) (p .counted))
           ∙ parent-is s u (terms s) (q .number) (one-parent s w u l) (q .inside) (q .counted)
 
-      go : ((t : ℕ) → terms s ≤ t + k → (Γ Δ : List ℕ) (n m : ℕ) → Stands s Γ n t → Stands s Δ m t → Same Γ Δ n m t)
-          → Found (typesOf s) (placed Γ n (tree s u)) [] 0 (program s) → Found (typesOf s) (placed Δ m (tree s u)) [] 0 (program s) → Same Γ Δ n m u
+      go : ((t : ℕ) → terms s ≤ t + k → (Γ Δ : List ℕ) (n m : ℕ) → Stands s Γ n t → Stands s Δ m t → SamePlace Γ Δ n m t)
+          → FoundAmong (typesOf s) (placed Γ n (tree s u)) [] 0 (program s) → FoundAmong (typesOf s) (placed Δ m (tree s u)) [] 0 (program s)
+          → SamePlace Γ Δ n m u
       go r (inl e) (inl f) = e ∙ sym f
       go r (inl e) (inr q) = absurd (no-child e (from-parent Δ m u q))
       go r (inr p) (inl f) = absurd (no-child f (from-parent Γ n u p))

@@ -12,8 +12,8 @@ use lib.Seq.{drop-cons}
 use borrow.Author.Tests.{leb-true, le-leb}
 use Rattle.privileges.specs.Booleans.{and-left, and-right, and-both}
 use Rattle.program.specs.Bytes.{byte, Bytes}
-use Rattle.traces.specs.Traces.{Event, decisionByte, eventBytes, traceBytes, eventOf, eventAt, wellFormed, trace}
-use Rattle.traces.specs.Claims.{WellFormed, Storable, storable-none, storable-more}
+use Rattle.traces.specs.Traces.{Event, decisionByte, eventBytes, traceBytes, eventOf, eventAt, wellFormedRecord, trace}
+use Rattle.traces.specs.Claims.{WellFormedRecord, Storable, storable-none, storable-more}
 
 -- ---- a record's events are those whose bytes it has
 event-back : (e : Event) → eventOf (e .term / 256) (e .term % 256) (e .privilege) (decisionByte (e .decided)) ≡ e
@@ -27,8 +27,8 @@ decision-low : (b : Bool) → leb (decisionByte b) 1 ≡ true
 decision-low true = refl
 decision-low false = refl
 
-pub bytes-well-formed : (t : List Event) → wellFormed (traceBytes t) ≡ true
-unfolding wellFormed traceBytes
+pub bytes-well-formed : (t : List Event) → wellFormedRecord (traceBytes t) ≡ true
+unfolding wellFormedRecord traceBytes
 bytes-well-formed [] = refl
 bytes-well-formed (e ∷ t) = and-both (decision-low (e .decided)) (bytes-well-formed t)
 
@@ -76,15 +76,15 @@ bytes-below (storable-more {e} {t} h p s) = record { below = λ i. go (bytes-bel
     go b (suc (suc (suc (suc i)))) = b .below i
 
 -- ---- and its bytes are those of its events
-pub trace-back : (s : List ℕ) → Bytes s → wellFormed s ≡ true → traceBytes (trace s) ≡ s
-unfolding wellFormed trace traceBytes
+pub trace-back : (s : List ℕ) → Bytes s → wellFormedRecord s ≡ true → traceBytes (trace s) ≡ s
+unfolding wellFormedRecord trace traceBytes
 trace-back [] b w = refl
 trace-back (h ∷ []) b w = absurd (false≢true w)
 trace-back (h ∷ l ∷ []) b w = absurd (false≢true w)
 trace-back (h ∷ l ∷ p ∷ []) b w = absurd (false≢true w)
 trace-back (h ∷ l ∷ p ∷ d ∷ s) b w =
-    λ i. high i ∷ low i ∷ p ∷ decision d (leb-true d 1 (and-left (leb d 1) (wellFormed s) w)) i
-    ∷ trace-back s (record { below = λ i. b .below (suc (suc (suc (suc i)))) }) (and-right (leb d 1) (wellFormed s) w) i
+    λ i. high i ∷ low i ∷ p ∷ decision d (leb-true d 1 (and-left (leb d 1) (wellFormedRecord s) w)) i
+    ∷ trace-back s (record { below = λ i. b .below (suc (suc (suc (suc i)))) }) (and-right (leb d 1) (wellFormedRecord s) w) i
   where
     high : (h * 256 + l) / 256 ≡ h
     high = omega (arith, b .below 1)
@@ -111,22 +111,22 @@ module _ (h l p d : ℕ) (s : List ℕ) where
   behind : (a k : ℕ) → byte (h ∷ l ∷ p ∷ d ∷ s) (4 * suc k + a) ≡ byte s (4 * k + a)
   behind a k = let e : 4 * suc k + a ≡ suc (suc (suc (suc (4 * k + a)))) = omega arith in ap (byte (h ∷ l ∷ p ∷ d ∷ s)) e
 
-pub well-formed-true : (s : List ℕ) → wellFormed s ≡ true → WellFormed s
-unfolding wellFormed
+pub well-formed-true : (s : List ℕ) → wellFormedRecord s ≡ true → WellFormedRecord s
+unfolding wellFormedRecord
 well-formed-true [] w = record { whole-entries = refl; decisions = λ k g. absurd (omega arith) }
 well-formed-true (h ∷ []) w = absurd (false≢true w)
 well-formed-true (h ∷ l ∷ []) w = absurd (false≢true w)
 well-formed-true (h ∷ l ∷ p ∷ []) w = absurd (false≢true w)
 well-formed-true (h ∷ l ∷ p ∷ d ∷ s) w =
-    let rest = well-formed-true s (and-right (leb d 1) (wellFormed s) w) in
+    let rest = well-formed-true s (and-right (leb d 1) (wellFormedRecord s) w) in
     record { whole-entries = omega (arith, rest .whole-entries); decisions = λ k g. go rest k g }
   where
-    go : WellFormed s → (k : ℕ) → 4 * k + 3 < length (h ∷ l ∷ p ∷ d ∷ s) → byte (h ∷ l ∷ p ∷ d ∷ s) (4 * k + 3) ≤ 1
-    go rest zero g = leb-true d 1 (and-left (leb d 1) (wellFormed s) w)
+    go : WellFormedRecord s → (k : ℕ) → 4 * k + 3 < length (h ∷ l ∷ p ∷ d ∷ s) → byte (h ∷ l ∷ p ∷ d ∷ s) (4 * k + 3) ≤ 1
+    go rest zero g = leb-true d 1 (and-left (leb d 1) (wellFormedRecord s) w)
     go rest (suc k) g = omega (arith, behind h l p d s 3 k, rest .decisions k (omega arith))
 
-pub true-well-formed : (s : List ℕ) → WellFormed s → wellFormed s ≡ true
-unfolding wellFormed
+pub true-well-formed : (s : List ℕ) → WellFormedRecord s → wellFormedRecord s ≡ true
+unfolding wellFormedRecord
 true-well-formed [] w = refl
 true-well-formed (h ∷ []) w = absurd (omega (arith, w .whole-entries))
 true-well-formed (h ∷ l ∷ []) w = absurd (omega (arith, w .whole-entries))
@@ -152,12 +152,12 @@ module _ (s : List ℕ) (i : ℕ) (inside : i + 4 ≤ length s) where
   unfolding trace
   trace-next = ap trace four-bytes
 
-  pub well-formed-next : wellFormed (drop i s) ≡ (leb (byte s (i + 3)) 1 && wellFormed (drop (i + 4) s))
-  unfolding wellFormed
-  well-formed-next = ap wellFormed four-bytes
+  pub well-formed-next : wellFormedRecord (drop i s) ≡ (leb (byte s (i + 3)) 1 && wellFormedRecord (drop (i + 4) s))
+  unfolding wellFormedRecord
+  well-formed-next = ap wellFormedRecord four-bytes
 
 -- of a well-formed record: a whole entry stands at each fourth byte, and its last byte is 0 or 1
-module _ (s : List ℕ) (w : wellFormed s ≡ true) (i : ℕ) (fourth : i % 4 ≡ 0) (inside : i < length s) where
+module _ (s : List ℕ) (w : wellFormedRecord s ≡ true) (i : ℕ) (fourth : i % 4 ≡ 0) (inside : i < length s) where
   pub whole-entry : i + 4 ≤ length s
   whole-entry = omega (arith, well-formed-true s w .whole-entries)
 

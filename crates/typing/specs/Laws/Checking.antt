@@ -12,7 +12,7 @@ use Rattle.privileges.specs.Sets.{has, union, insert, remove, _⊆_}
 use Rattle.privileges.specs.Laws.{⊆-refl, ⊆-trans, union-mono, insert-mono, remove-mono, subset-⊆, ⊆-subset}
 use Rattle.program.specs.Layout.{Types}
 use Rattle.program.specs.Terms.{Term, boolean, number, variable, function, letrec, call, if, check, enable, sign, test, binary, post}
-use Rattle.program.specs.Laws.Types.{Lower}
+use Rattle.program.specs.Laws.Types.{PartsLower}
 use Rattle.program.specs.Laws.Trees.{Standard}
 use Rattle.typing.specs.Subtyping.{Wider, wider}
 use Rattle.typing.specs.Rules.{bound, removeAuthorised, postNeeds, Same, Variant, afterW1, current, Derives, d-boolean, d-number, d-variable, d-function, d-letrec, d-call, d-if, d-test, d-check, d-enable, d-sign, d-binary, d-post, d-widen}
@@ -33,47 +33,48 @@ postNeeds-mono none f = f
 postNeeds-mono (some p) f = insert-mono p f
 
 -- ---- sound: what is typed is derived
-pub data Sound (T : Types) (A : ℕ → ℕ) (Γ : List ℕ) (n : ℕ) (c : Term) : Judgement → Type 0 where
-  derived : {τ N : ℕ} → Derives current T A Γ n c τ N → Sound T A Γ n c (typed τ N)
-  faulty : {cause at : ℕ} → Sound T A Γ n c (fault cause at)
+pub data SoundJudgement (T : Types) (A : ℕ → ℕ) (Γ : List ℕ) (n : ℕ) (c : Term) : Judgement → Type 0 where
+  derived : {τ N : ℕ} → Derives current T A Γ n c τ N → SoundJudgement T A Γ n c (typed τ N)
+  faulty : {cause at : ℕ} → SoundJudgement T A Γ n c (fault cause at)
 
 module _ {T : Types} {A : ℕ → ℕ} {Γ : List ℕ} {n : ℕ} {c : Term} where
-  next-sound : {Γ′ : List ℕ} {n′ : ℕ} {c′ : Term} {j : Judgement} (k : ℕ → ℕ → Judgement) → Sound T A Γ′ n′ c′ j
-      → ((τ N : ℕ) → Derives current T A Γ′ n′ c′ τ N → Sound T A Γ n c (k τ N)) → Sound T A Γ n c (j next k)
+  next-sound : {Γ′ : List ℕ} {n′ : ℕ} {c′ : Term} {j : Judgement} (k : ℕ → ℕ → Judgement) → SoundJudgement T A Γ′ n′ c′ j
+      → ((τ N : ℕ) → Derives current T A Γ′ n′ c′ τ N → SoundJudgement T A Γ n c (k τ N)) → SoundJudgement T A Γ n c (j next k)
   next-sound k (derived {τ} {N} d) h = h τ N d
   next-sound k faulty h = faulty
 
-  require-sound : (b : Bool) (cause at : ℕ) {j : Judgement} → (b ≡ true → Sound T A Γ n c j) → Sound T A Γ n c (require b cause at j)
+  require-sound : (b : Bool) (cause at : ℕ) {j : Judgement} → (b ≡ true → SoundJudgement T A Γ n c j) → SoundJudgement T A Γ n c (require b cause at j)
   require-sound true cause at h = h refl
   require-sound false cause at h = faulty
 
-  joined-sound : (at N : ℕ) (o : Option ℕ) → ((υ : ℕ) → o ≡ some υ → Derives current T A Γ n c υ N) → Sound T A Γ n c (joined at o N)
+  joined-sound : (at N : ℕ) (o : Option ℕ) → ((υ : ℕ) → o ≡ some υ → Derives current T A Γ n c υ N) → SoundJudgement T A Γ n c (joined at o N)
   joined-sound at N (some υ) h = derived (h υ refl)
   joined-sound at N none h = faulty
 
   retype : {τ σ N : ℕ} → τ ≡ σ → Derives current T A Γ n c τ N → Derives current T A Γ n c σ N
   retype {N = N} e d = subst (λ x. Derives current T A Γ n c x N) e d
 
-  body-sound : {τ N : ℕ} (at ty : ℕ) {j : Judgement} → (τ ≡ T .res ty → N ⊆ T .latent ty → Sound T A Γ n c j) → Sound T A Γ n c (bodyFits T A at ty τ N j)
+  body-sound : {τ N : ℕ} (at ty : ℕ) {j : Judgement} → (τ ≡ T .res ty → N ⊆ T .latent ty → SoundJudgement T A Γ n c j)
+      → SoundJudgement T A Γ n c (bodyFits T A at ty τ N j)
   body-sound {τ} {N} at ty h = require-sound _ 10 at λ e. require-sound _ 12 at λ l. h (eqb-true τ (T .res ty) e) (subset-⊆ N (T .latent ty) l)
 
-  typed-derives : {j : Judgement} {τ N : ℕ} → Sound T A Γ n c j → j ≡ typed τ N → Derives current T A Γ n c τ N
-  typed-derives s e = go (subst (Sound T A Γ n c) e s)
+  typed-derives : {j : Judgement} {τ N : ℕ} → SoundJudgement T A Γ n c j → j ≡ typed τ N → Derives current T A Γ n c τ N
+  typed-derives s e = go (subst (SoundJudgement T A Γ n c) e s)
     where
-      go : {τ N : ℕ} → Sound T A Γ n c (typed τ N) → Derives current T A Γ n c τ N
+      go : {τ N : ℕ} → SoundJudgement T A Γ n c (typed τ N) → Derives current T A Γ n c τ N
       go (derived d) = d
 
 module _ (T : Types) (A : ℕ → ℕ) where
-  variable-sound : (Γ : List ℕ) (n at i : ℕ) (o : Option ℕ) → bound Γ i ≡ o → Sound T A Γ n (variable at i) (variableType at o)
+  variable-sound : (Γ : List ℕ) (n at i : ℕ) (o : Option ℕ) → bound Γ i ≡ o → SoundJudgement T A Γ n (variable at i) (variableType at o)
   variable-sound Γ n at i none e = faulty
   variable-sound Γ n at i (some τ) e = derived (d-variable e)
 
   -- two branches of the types τ and ρ
-  branches-sound : Lower T → {Γ : List ℕ} {n : ℕ} {c : Term} (at τ ρ N : ℕ) → ((υ : ℕ) → Wider T τ ρ υ → Derives current T A Γ n c υ N)
-      → Sound T A Γ n c (joined at (wider T τ ρ) N)
+  branches-sound : PartsLower T → {Γ : List ℕ} {n : ℕ} {c : Term} (at τ ρ N : ℕ) → ((υ : ℕ) → Wider T τ ρ υ → Derives current T A Γ n c υ N)
+      → SoundJudgement T A Γ n c (joined at (wider T τ ρ) N)
   branches-sound L at τ ρ N h = joined-sound at N (wider T τ ρ) λ υ e. h υ (wider-sound T L τ ρ υ e)
 
-  pub infer-sound : Lower T → (Γ : List ℕ) (n : ℕ) (c : Term) → Standard T c → Sound T A Γ n c (infer T A Γ n c)
+  pub infer-sound : PartsLower T → (Γ : List ℕ) (n : ℕ) (c : Term) → Standard T c → SoundJudgement T A Γ n c (infer T A Γ n c)
   unfolding infer
   infer-sound L Γ n (boolean at b) w = derived d-boolean
   infer-sound L Γ n (number at k) w = derived d-number
@@ -114,7 +115,7 @@ module _ (T : Types) (A : ℕ → ℕ) where
   body-met at ty j s l = met _ 10 at _ (eq-eqb (T .res ty) (T .res ty) refl) ∙ met _ 12 at j (⊆-subset (⊆-trans s l))
 
   -- for the rules in force, and for any that ask of branches what `wider` finds
-  module _ (L : Lower T) (B : Types → ℕ → ℕ → ℕ → Type 0) (found : (a b c : ℕ) → B T a b c → wider T a b ≡ some c) where
+  module _ (L : PartsLower T) (B : Types → ℕ → ℕ → ℕ → Type 0) (found : (a b c : ℕ) → B T a b c → wider T a b ≡ some c) where
     abbrev these : Variant
     these = record { yesNeeds = λ p N. remove p N; Branches = B; guardNeeds = postNeeds }
 
@@ -202,13 +203,13 @@ module _ (T : Types) (A : ℕ → ℕ) where
         let x = complete d in
         record { least = x .least; is = x .is; inside = ⊆-trans (x .inside) s; derives = x .derives }
 
-  pub infer-complete : Lower T → {Γ : List ℕ} {n : ℕ} {c : Term} {τ N : ℕ} → Derives current T A Γ n c τ N → Typed current Γ n c τ N
+  pub infer-complete : PartsLower T → {Γ : List ℕ} {n : ℕ} {c : Term} {τ N : ℕ} → Derives current T A Γ n c τ N → Typed current Γ n c τ N
   infer-complete L d = complete L Wider (λ a b c h. wider-complete T L h) d
 
-  pub infer-afterW1 : Lower T → {Γ : List ℕ} {n : ℕ} {c : Term} {τ N : ℕ} → Derives afterW1 T A Γ n c τ N → Typed afterW1 Γ n c τ N
+  pub infer-afterW1 : PartsLower T → {Γ : List ℕ} {n : ℕ} {c : Term} {τ N : ℕ} → Derives afterW1 T A Γ n c τ N → Typed afterW1 Γ n c τ N
   infer-afterW1 L d = complete L Same (λ a b c h. wider-complete T L (same-wider h)) d
 
-  pub infer-derives : Lower T → {Γ : List ℕ} {n : ℕ} {c : Term} {τ N : ℕ} → Standard T c → infer T A Γ n c ≡ typed τ N → Derives current T A Γ n c τ N
+  pub infer-derives : PartsLower T → {Γ : List ℕ} {n : ℕ} {c : Term} {τ N : ℕ} → Standard T c → infer T A Γ n c ≡ typed τ N → Derives current T A Γ n c τ N
   infer-derives L {Γ} {n} {c} w e = typed-derives (infer-sound L Γ n c w) e
 
   -- what is typed with a derivation has the type that is inferred, and needs no less
@@ -218,6 +219,6 @@ module _ (T : Types) (A : ℕ → ℕ) where
       (cc, subst (λ z. z ⊆ M) (let q : x .least ≡ N = cc in q) (x .inside))
 
   -- every derivation has the type that is inferred, and needs no less
-  pub derives-least : Lower T → {Γ : List ℕ} {n : ℕ} {c : Term} {τ N σ M : ℕ} → infer T A Γ n c ≡ typed τ N → Derives current T A Γ n c σ M
+  pub derives-least : PartsLower T → {Γ : List ℕ} {n : ℕ} {c : Term} {τ N σ M : ℕ} → infer T A Γ n c ≡ typed τ N → Derives current T A Γ n c σ M
       → (σ ≡ τ) × N ⊆ M
   derives-least L e d = typed-least e (infer-complete L d)

@@ -19,7 +19,7 @@ use Rattle.program.specs.Terms.{Term, boolean, number, variable, function, letr
 use Rattle.program.specs.Screening.{Condition, found, unless, First, first-here, first-later}
 use Rattle.program.specs.Decoding.{holds, field, tableConditions, decodingConditions, decoding}
 use Rattle.program.specs.Laws.Screening.{found-first}
-use Rattle.program.specs.Laws.Types.{Lower}
+use Rattle.program.specs.Laws.Types.{PartsLower}
 use Rattle.typing.specs.Subtyping.{Subtype, subtype, wider}
 use Rattle.typing.specs.Rules.{bound}
 use Rattle.typing.specs.Checking.{Judgement, typed, fault, _next_, require, variableType, joined, bodyFits, infer}
@@ -35,9 +35,9 @@ data FaultAt (T : Types) (A : ℕ → ℕ) (Γ : List ℕ) (n : ℕ) : (cause at
   beyond : {cause at : ℕ} {c : Term} → OtherFault T A Γ n cause at c → FaultAt T A Γ n cause at c
 
 -- a judgement of a term: typed, or what is told of a part of it
-data Explained (T : Types) (A : ℕ → ℕ) (Γ : List ℕ) (n : ℕ) (c : Term) : Judgement → Type 0 where
-  well : {τ N : ℕ} → Explained T A Γ n c (typed τ N)
-  faulted : {cause at : ℕ} → SomePart T (λ Δ m d. FaultAt T A Δ m cause at d) Γ n c → Explained T A Γ n c (fault cause at)
+data FaultExplained (T : Types) (A : ℕ → ℕ) (Γ : List ℕ) (n : ℕ) (c : Term) : Judgement → Type 0 where
+  well : {τ N : ℕ} → FaultExplained T A Γ n c (typed τ N)
+  faulted : {cause at : ℕ} → SomePart T (λ Δ m d. FaultAt T A Δ m cause at d) Γ n c → FaultExplained T A Γ n c (fault cause at)
 
 module _ {T : Types} {Is : List ℕ → ℕ → Term → Type 0} {Γ : List ℕ} {n : ℕ} {c : Term} where
   -- what is within a child is within the term, and what follows from what it was is so there
@@ -57,57 +57,57 @@ module _ {T : Types} {Is : List ℕ → ℕ → Term → Type 0} {Γ : List ℕ}
 
 module _ {T : Types} {A : ℕ → ℕ} {Γ : List ℕ} {n : ℕ} {c : Term} where
   -- a child first
-  next-explained : {Γ′ : List ℕ} {n′ : ℕ} {c′ : Term} (k : ℕ → ℕ → Judgement) → Explained T A Γ′ n′ c′ (infer T A Γ′ n′ c′)
+  next-explained : {Γ′ : List ℕ} {n′ : ℕ} {c′ : Term} (k : ℕ → ℕ → Judgement) → FaultExplained T A Γ′ n′ c′ (infer T A Γ′ n′ c′)
       → ((Δ : List ℕ) (m : ℕ) (d : Term) → Within T Δ m d Γ′ n′ c′ → Within T Δ m d Γ n c)
-      → ((τ N : ℕ) → infer T A Γ′ n′ c′ ≡ typed τ N → Explained T A Γ n c (k τ N)) → Explained T A Γ n c (infer T A Γ′ n′ c′ next k)
+      → ((τ N : ℕ) → infer T A Γ′ n′ c′ ≡ typed τ N → FaultExplained T A Γ n c (k τ N)) → FaultExplained T A Γ n c (infer T A Γ′ n′ c′ next k)
   next-explained {Γ′} {n′} {c′} k t up h = go (infer T A Γ′ n′ c′) refl t
     where
-      go : (j : Judgement) → infer T A Γ′ n′ c′ ≡ j → Explained T A Γ′ n′ c′ j → Explained T A Γ n c (j next k)
+      go : (j : Judgement) → infer T A Γ′ n′ c′ ≡ j → FaultExplained T A Γ′ n′ c′ j → FaultExplained T A Γ n c (j next k)
       go (typed τ N) e well = h τ N e
       go (fault cause at) e (faulted f) = faulted (above up (λ _ _ _ x. x) f)
 
-  require-explained : (b : Bool) (cause at : ℕ) {j : Judgement} → (b ≡ false → FaultAt T A Γ n cause at c) → (b ≡ true → Explained T A Γ n c j)
-      → Explained T A Γ n c (require b cause at j)
+  require-explained : (b : Bool) (cause at : ℕ) {j : Judgement} → (b ≡ false → FaultAt T A Γ n cause at c) → (b ≡ true → FaultExplained T A Γ n c j)
+      → FaultExplained T A Γ n c (require b cause at j)
   require-explained true cause at f h = h refl
   require-explained false cause at f h = faulted (self (f refl))
 
-  ten-explained : (x y at : ℕ) {j : Judgement} → ((x ≡ y → ⊥) → OtherTypeFault T A Γ n at c) → (x ≡ y → Explained T A Γ n c j)
-      → Explained T A Γ n c (require (eqb x y) 10 at j)
+  ten-explained : (x y at : ℕ) {j : Judgement} → ((x ≡ y → ⊥) → OtherTypeFault T A Γ n at c) → (x ≡ y → FaultExplained T A Γ n c j)
+      → FaultExplained T A Γ n c (require (eqb x y) 10 at j)
   ten-explained x y at f h = require-explained (eqb x y) 10 at (λ e. ten (f (eqb-false x y e))) (λ e. h (eqb-true x y e))
 
   -- needs N that have to lie in the set S
-  needs-explained : (N S cause at : ℕ) {j : Judgement} → ((N ⊆ S → ⊥) → OtherFault T A Γ n cause at c) → Explained T A Γ n c j
-      → Explained T A Γ n c (require (subset N S) cause at j)
+  needs-explained : (N S cause at : ℕ) {j : Judgement} → ((N ⊆ S → ⊥) → OtherFault T A Γ n cause at c) → FaultExplained T A Γ n c j
+      → FaultExplained T A Γ n c (require (subset N S) cause at j)
   needs-explained N S cause at f t = require-explained (subset N S) cause at (λ e. beyond (f λ s. true≢false (sym (⊆-subset s) ∙ e))) λ _. t
 
   -- a body of type τ and with needs N, by a function or a letrec
   body-explained : (at ty τ N : ℕ) {j : Judgement} → ((τ ≡ T .res ty → ⊥) → OtherTypeFault T A Γ n at c)
-      → (τ ≡ T .res ty → (N ⊆ T .latent ty → ⊥) → OtherFault T A Γ n 12 at c) → Explained T A Γ n c j → Explained T A Γ n c (bodyFits T A at ty τ N j)
+      → (τ ≡ T .res ty → (N ⊆ T .latent ty → ⊥) → OtherFault T A Γ n 12 at c) → FaultExplained T A Γ n c j → FaultExplained T A Γ n c (bodyFits T A at ty τ N j)
   body-explained at ty τ N f g t = ten-explained τ (T .res ty) at f λ e. needs-explained N (T .latent ty) 12 at (g e) t
 
   -- two operands of the types τ and ρ
   operands-explained : (τ ρ at : ℕ) {j : Judgement} → ((τ ≡ 1 → ⊥) → OtherTypeFault T A Γ n at c) → ((ρ ≡ 1 → ⊥) → OtherTypeFault T A Γ n at c)
-      → Explained T A Γ n c j
-      → Explained T A Γ n c (require (eqb τ 1 && eqb ρ 1) 10 at j)
+      → FaultExplained T A Γ n c j
+      → FaultExplained T A Γ n c (require (eqb τ 1 && eqb ρ 1) 10 at j)
   operands-explained τ ρ at {j} f g t = go (eqb τ 1) (eqb ρ 1) refl refl
     where
-      go : (x y : Bool) → eqb τ 1 ≡ x → eqb ρ 1 ≡ y → Explained T A Γ n c (require (x && y) 10 at j)
+      go : (x y : Bool) → eqb τ 1 ≡ x → eqb ρ 1 ≡ y → FaultExplained T A Γ n c (require (x && y) 10 at j)
       go true true p q = t
       go true false p q = faulted (self (ten (g (eqb-false ρ 1 q))))
       go false y p q = faulted (self (ten (f (eqb-false τ 1 p))))
 
   -- branches of the types τ and ρ
-  branches-explained : Lower T → (at τ ρ N : ℕ) → ((Subtype T τ ρ → ⊥) → (Subtype T ρ τ → ⊥) → Mismatch T A Γ n 26 at c)
-      → Explained T A Γ n c (joined at (wider T τ ρ) N)
+  branches-explained : PartsLower T → (at τ ρ N : ℕ) → ((Subtype T τ ρ → ⊥) → (Subtype T ρ τ → ⊥) → Mismatch T A Γ n 26 at c)
+      → FaultExplained T A Γ n c (joined at (wider T τ ρ) N)
   unfolding wider
   branches-explained L at τ ρ N h = go (subtype T τ ρ) (subtype T ρ τ) refl refl
     where
-      go : (x y : Bool) → subtype T τ ρ ≡ x → subtype T ρ τ ≡ y → Explained T A Γ n c (joined at (cond x (some ρ) (cond y (some τ) none)) N)
+      go : (x y : Bool) → subtype T τ ρ ≡ x → subtype T ρ τ ≡ y → FaultExplained T A Γ n c (joined at (cond x (some ρ) (cond y (some τ) none)) N)
       go true y e f = well
       go false true e f = well
       go false false e f = faulted (self (wrong (h (fails T L τ ρ e) (fails T L ρ τ f))))
 
-  variable-explained : (at : ℕ) (o : Option ℕ) → (o ≡ none → OtherFault T A Γ n 9 at c) → Explained T A Γ n c (variableType at o)
+  variable-explained : (at : ℕ) (o : Option ℕ) → (o ≡ none → OtherFault T A Γ n 9 at c) → FaultExplained T A Γ n c (variableType at o)
   variable-explained at none h = faulted (self (beyond (h refl)))
   variable-explained at (some τ) h = well
 
@@ -135,8 +135,8 @@ module _ (T : Types) (A : ℕ → ℕ) where
   beyond-cause (body-needs e h) = (omega arith, λ h. omega arith)
   beyond-cause (letrec-body-needs e e′ h) = (omega arith, λ h. omega arith)
 
-  module _ (L : Lower T) where
-    explained : (Γ : List ℕ) (n : ℕ) (c : Term) → Explained T A Γ n c (infer T A Γ n c)
+  module _ (L : PartsLower T) where
+    explained : (Γ : List ℕ) (n : ℕ) (c : Term) → FaultExplained T A Γ n c (infer T A Γ n c)
     unfolding infer
     explained Γ n (boolean at b) = well
     explained Γ n (number at k) = well
@@ -171,10 +171,10 @@ module _ (T : Types) (A : ℕ → ℕ) where
     module _ (Γ : List ℕ) (n : ℕ) (c : Term) (cause at : ℕ) (e : infer T A Γ n c ≡ fault cause at) where
       -- a fault is told of a part, and what follows from what is told of it there is so
       part-faulted : {Is : List ℕ → ℕ → Term → Type 0} → ((Δ : List ℕ) (m : ℕ) (d : Term) → FaultAt T A Δ m cause at d → Is Δ m d) → SomePart T Is Γ n c
-      part-faulted so = go so (subst (Explained T A Γ n c) e (explained Γ n c))
+      part-faulted so = go so (subst (FaultExplained T A Γ n c) e (explained Γ n c))
         where
           go : {cause at : ℕ} {Is : List ℕ → ℕ → Term → Type 0} → ((Δ : List ℕ) (m : ℕ) (d : Term) → FaultAt T A Δ m cause at d → Is Δ m d)
-              → Explained T A Γ n c (fault cause at) → SomePart T Is Γ n c
+              → FaultExplained T A Γ n c (fault cause at) → SomePart T Is Γ n c
           go so (faulted f) = above (λ _ _ _ w. w) so f
 
       pub infer-faulty : 24 ≤ cause → MismatchedPart T A Γ n c cause at

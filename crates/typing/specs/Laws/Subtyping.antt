@@ -13,7 +13,7 @@ use Rattle.privileges.specs.Sets.{_⊆_, subset}
 use Rattle.privileges.specs.Laws.{⊆-refl, ⊆-trans, ⊆-antisym, subset-⊆, ⊆-subset}
 use Rattle.program.specs.Tests.{also, orElse}
 use Rattle.program.specs.Layout.{Types}
-use Rattle.program.specs.Laws.Types.{Lower}
+use Rattle.program.specs.Laws.Types.{PartsLower}
 use Rattle.typing.specs.Subtyping.{Subtype, sub-same, sub-fun, Wider, wider-second, wider-first, subtypeIn, subtype, wider}
 
 module _ (T : Types) where
@@ -97,7 +97,7 @@ module _ (T : Types) where
       sub-fun (p .0) (p .1) (in-sound k (T .arg b) (T .arg a) (p .2)) (subset-⊆ (T .latent a) (T .latent b) (p .3)) (in-sound k (T .res a) (T .res b) (p .4)))
       (or-inv (eqb a b) _ h)
 
-  in-complete : Lower T → {a b : ℕ} → Subtype T a b → (k : ℕ) → a + b ≤ k → subtypeIn T k a b ≡ true
+  in-complete : PartsLower T → {a b : ℕ} → Subtype T a b → (k : ℕ) → a + b ≤ k → subtypeIn T k a b ≡ true
   unfolding subtypeIn
   in-complete L (sub-same {a}) zero l = eq-eqb a a refl
   in-complete L (sub-same {a}) (suc k) l = or-first (eqb a a) _ (eq-eqb a a refl)
@@ -110,7 +110,7 @@ module _ (T : Types) where
   unfolding subtype
   subtype-sound a b h = in-sound (a + b) a b h
 
-  pub subtype-complete : Lower T → {a b : ℕ} → Subtype T a b → subtype T a b ≡ true
+  pub subtype-complete : PartsLower T → {a b : ℕ} → Subtype T a b → subtype T a b ≡ true
   unfolding subtype
   subtype-complete L {a} {b} f = in-complete L f (a + b) (le-refl (a + b))
 
@@ -118,7 +118,7 @@ module _ (T : Types) where
   refuted {a} {b} n = bool-ext (subtype T a b) false (λ e. absurd (n (subtype-sound a b e))) (λ e. absurd (false≢true e))
 
   -- ---- the wider of two types
-  module _ (L : Lower T) where
+  module _ (L : PartsLower T) where
     pub fails : (a b : ℕ) → subtype T a b ≡ false → Subtype T a b → ⊥
     fails a b e h = true≢false (sym (subtype-complete L h) ∙ e)
 
@@ -151,7 +151,7 @@ module _ (T : Types) where
           one a b ha hb (sym (sub-antisym x (sub-arg q))) (sub-antisym y (sub-res q)) (⊆-antisym (T .latent a) (T .latent b) l (sub-latent q))
 
       -- so either of two types can be the wider, whichever of them stands first
-      pub wider-above : Lower T → {a b : ℕ} → Subtype T b a → Wider T a b a
+      pub wider-above : PartsLower T → {a b : ℕ} → Subtype T b a → Wider T a b a
       wider-above L {a} {b} h = go (subtype T a b) refl
         where
           go : (x : Bool) → subtype T a b ≡ x → Wider T a b a

@@ -8,7 +8,7 @@ use Rattle.privileges.specs.Sets.{has, remove, _⊆_}
 use Rattle.privileges.specs.Laws.{⊆-refl, union-mono, remove-⊆, has-inserted}
 use Rattle.program.specs.Layout.{Types}
 use Rattle.program.specs.Terms.{Term, EveryPost, Plain}
-use Rattle.program.specs.Laws.Guards.{PostInRange}
+use Rattle.program.specs.Laws.Guards.{PostInInterval}
 use Rattle.typing.specs.Subtyping.{Wider, sub-same, wider-second}
 use Rattle.typing.specs.Rules.{postNeeds, Same, same, Variant, base, afterW4, current, Derives, d-boolean, d-number, d-variable, d-function, d-letrec, d-call, d-if, d-test, d-check, d-enable, d-sign, d-binary, d-post, d-widen}
 
@@ -45,7 +45,7 @@ pub same-wider : {T : Types} {a b c : ℕ} → Same T a b c → Wider T a b c
 same-wider same = wider-second sub-same
 
 -- on every readable sheet, whatever its guards
-pub current-relaxes-base : Relaxes PostInRange current base
+pub current-relaxes-base : Relaxes PostInInterval current base
 current-relaxes-base = record {
   yes-needs = λ p N. remove-⊆ p N;
   branches = λ T a b c h. same-wider h;

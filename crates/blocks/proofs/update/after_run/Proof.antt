@@ -1,6 +1,7 @@
 -- `after_run` stores into the command, the status, 2 and 6 to 11 alone. A list of 16 is the list of its elements, and with these stores it is the definition's
 -- list (run-stored).
 use borrow.Author.Needs.{needs}
+use Rattle.blocks.specs.Block.{blockBytes}
 use Rattle.blocks.specs.Internal.{registersModel}
 use Rattle.blocks.proofs.BlockLaws.{sized, run-stored}
 use Rattle.blocks.proofs.update.after_run.Statement.{statement}
@@ -33,7 +34,7 @@ stored-pair-requires-3 c κs = search needs
 returns : tie.Need-returns
 returns c =
     let start = c .before .before .before .before .before in
-    run-stored (start .args .t1 .bytes) (registersModel (start .args .t)) (sized (start .args .t1 .bytes) 16 (start .good .0 .1 .1 .0 .1 .0 .1))
+    run-stored (start .args .t1 .bytes) (registersModel (start .args .t)) (sized (start .args .t1 .bytes) blockBytes (start .good .0 .1 .1 .0 .1 .0 .1))
     (c .before .before .before .with-flag .ensures) (c .before .before .stored-pair .ensures) (c .before .stored-pair2 .ensures) (c .stored-pair3 .ensures)
 
 pub after-run-spec : {M : Type 1} → statement M

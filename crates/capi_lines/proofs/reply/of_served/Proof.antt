@@ -1,8 +1,8 @@
 -- `of_served` gives the reply of each case: no job, 28, or what the run tells. The counts of a run fit into 32 bits, which is required.
 use borrow.Author.Needs.{needs}
 use mathlib.Core.Path.{subst}
-use Rattle.lines.specs.Answers.{answerModel}
-use Rattle.lines.specs.declared.answer.Answer.{Answer}
+use Rattle.lines.specs.Answers.{serveModel}
+use Rattle.lines.specs.declared.answer.ServeAnswer.{ServeAnswer}
 use Rattle.replies.specs.Laws.{by}
 use Rattle.capi_lines.specs.Entries.{serveReply}
 use Rattle.capi_lines.specs.Internal.{SmallAnswer}
@@ -25,16 +25,16 @@ enum-known-x : tie.Need-enum-known-x
 enum-known-x c = search needs
 
 of-run-requires : tie.Need-of-run-requires
-of-run-requires c κs = subst (λ (a : Answer). SmallAnswer a) (c .before .x .given .1) (c .before .before .before .pre)
+of-run-requires c κs = subst (λ (a : ServeAnswer). SmallAnswer a) (c .before .x .given .1) (c .before .before .before .pre)
 
 returns : tie.Need-returns
-returns c = by (λ (a : Answer). serveReply (answerModel a)) (c .before .enum-told .given .1) (c .plain .ensures)
+returns c = by (λ (a : ServeAnswer). serveReply (serveModel a)) (c .before .enum-told .given .1) (c .plain .ensures)
 
 returns-2 : tie.Need-returns-2
-returns-2 c = by (λ (a : Answer). serveReply (answerModel a)) (c .before .enum-told2 .given .1) (c .plain2 .ensures)
+returns-2 c = by (λ (a : ServeAnswer). serveReply (serveModel a)) (c .before .enum-told2 .given .1) (c .plain2 .ensures)
 
 returns-3 : tie.Need-returns-3
-returns-3 c = by (λ (a : Answer). serveReply (answerModel a)) (c .before .before .x .given .1) (c .of-run .ensures)
+returns-3 c = by (λ (a : ServeAnswer). serveReply (serveModel a)) (c .before .before .x .given .1) (c .of-run .ensures)
 
 pub of-served-spec : {M : Type 1} → statement M
 of-served-spec =

@@ -6,12 +6,12 @@ use native.Mathlib.Omega.{arith}
 use Rattle.program.specs.Layout.{terms}
 use Rattle.decoder.specs.Internal.{ChildrenBelow, Links}
 use Rattle.program.specs.Laws.Readable.{fields-ok}
-use Rattle.decoder.proofs.PlaceLaws.{Noted, shape-below, links-none, links-more}
+use Rattle.decoder.proofs.PlaceLaws.{ParentsNoted, shape-below, links-none, links-more}
 use Rattle.decoder.proofs.places.parents_of.Statement.{statement}
 use Rattle.decoder.proofs.places.parents_of.Tie as tie
 
 abbrev Inv-loop : tie.InvT-loop
-Inv-loop s c parents₀ n t₀ parents t = Noted s parents n t
+Inv-loop s c parents₀ n t₀ parents t = ParentsNoted s parents n t
 
 abbrev μ-loop : tie.MeasureT-loop
 μ-loop s c parents₀ n t₀ parents t = n - t

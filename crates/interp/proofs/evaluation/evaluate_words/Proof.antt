@@ -2,7 +2,7 @@
 -- they were lent as, since the evaluator keeps their name.
 use borrow.Author.Needs.{needs}
 use mathlib.Core.Path.{sym, ap}
-use Rattle.evaluator.specs.Contracts.{Names}
+use Rattle.evaluator.specs.Contracts.{BorrowNames}
 use Rattle.interp.proofs.RunLaws.{frames-back, tallied-by}
 use Rattle.interp.proofs.evaluation.evaluate_words.Statement.{statement}
 use Rattle.interp.proofs.evaluation.evaluate_words.Tie as tie
@@ -51,7 +51,7 @@ returns c =
     let at-run = at-frames .before .before .before .before .before in
     let start = at-run .before .before .before .before .before .before .before .before .before .before .before in
     let e = at-run .run .ensures in tallied-by (start .args .calls)
-    (frames-back (at-frames .frames .given .1 .0 (sym (ap (λ (m : Names). m .frames) (e .names)))) (e .done)) (c .before .before .clear .ensures)
+    (frames-back (at-frames .frames .given .1 .0 (sym (ap (λ (m : BorrowNames). m .frames) (e .names)))) (e .done)) (c .before .before .clear .ensures)
 
 pub evaluate-words-spec : {M : Type 1} → statement M
 evaluate-words-spec =

@@ -11,12 +11,12 @@ use Rattle.program.specs.Layout.{terms as termCount}
 use Rattle.erasure.specs.Lean.{keptTerm, termBytes}
 use Rattle.renumbering.proofs.TermLaws.{kept-here, gone-here}
 use Rattle.renumbering.proofs.TableLaws.{within, up-to, through}
-use Rattle.leanwriting.proofs.WriteLaws.{Written, term-gathering, gathered-none, gathered-length, gathered-few, gathered-room, gathered-yes, gathered-no, gathered-all}
+use Rattle.leanwriting.proofs.WriteLaws.{WrittenBelow, term-gathering, gathered-none, gathered-length, gathered-few, gathered-room, gathered-yes, gathered-no, gathered-all}
 use Rattle.leanwriting.proofs.write.put_terms.Statement.{statement}
 use Rattle.leanwriting.proofs.write.put_terms.Tie as tie
 
 abbrev Inv-loop : tie.InvT-loop
-Inv-loop s c types terms buffer₀ at n count₀ next₀ buffer count next = Written (keptTerm s) (termBytes s) (termCount s) buffer₀ at n next count buffer
+Inv-loop s c types terms buffer₀ at n count₀ next₀ buffer count next = WrittenBelow (keptTerm s) (termBytes s) (termCount s) buffer₀ at n next count buffer
 
 abbrev μ-loop : tie.MeasureT-loop
 μ-loop s c types terms buffer₀ at n count₀ next₀ buffer count next = n - next

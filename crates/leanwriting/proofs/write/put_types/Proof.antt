@@ -9,12 +9,12 @@ use Rattle.program.specs.Layout.{types as typeCount}
 use Rattle.erasure.specs.Lean.{keptType, typeBytes}
 use Rattle.renumbering.proofs.TypeLaws.{entry-first, entry-other}
 use Rattle.renumbering.proofs.TableLaws.{within, up-to, through}
-use Rattle.leanwriting.proofs.WriteLaws.{Written, type-gathering, gathered-none, gathered-length, gathered-few, gathered-room, gathered-yes, gathered-no, gathered-all}
+use Rattle.leanwriting.proofs.WriteLaws.{WrittenBelow, type-gathering, gathered-none, gathered-length, gathered-few, gathered-room, gathered-yes, gathered-no, gathered-all}
 use Rattle.leanwriting.proofs.write.put_types.Statement.{statement}
 use Rattle.leanwriting.proofs.write.put_types.Tie as tie
 
 abbrev Inv-loop : tie.InvT-loop
-Inv-loop s c types buffer₀ at n count₀ next₀ buffer count next = Written (keptType s) (typeBytes s) (typeCount s) buffer₀ at n next count buffer
+Inv-loop s c types buffer₀ at n count₀ next₀ buffer count next = WrittenBelow (keptType s) (typeBytes s) (typeCount s) buffer₀ at n next count buffer
 
 abbrev μ-loop : tie.MeasureT-loop
 μ-loop s c types buffer₀ at n count₀ next₀ buffer count next = n - next

@@ -42,8 +42,8 @@ returns c =
     enter-full _ _ _ _ _ _ _ _ (at-kind-of .kind-of .ensures) (at-if1 .if1 .taken) (c .before .third-of .ensures) (at-bind .bind .ensures)
     (c .before .before .before .if2 .taken) (c .before .before .stop .ensures) (c .halts .ensures)
 
-element-write-n : tie.Need-element-write-n
-element-write-n c = search needs
+element-write-counters : tie.Need-element-write-counters
+element-write-counters c = search needs
 
 third-of-requires-2 : tie.Need-third-of-requires-2
 third-of-requires-2 c κs = search needs
@@ -228,7 +228,7 @@ enter-spec =
     halts-requires
     same-length
     returns
-    element-write-n
+    element-write-counters
     third-of-requires-2
     goes-requires
     same-length-2

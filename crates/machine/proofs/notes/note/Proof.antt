@@ -13,11 +13,11 @@ mul-put-entry c = search needs
 put-entry-requires : tie.Need-put-entry-requires
 put-entry-requires c κs = search needs
 
-add-n : tie.Need-add-n
-add-n c = search needs
+add-counters : tie.Need-add-counters
+add-counters c = search needs
 
-element-write-n : tie.Need-element-write-n
-element-write-n c = search needs
+element-write-counters : tie.Need-element-write-counters
+element-write-counters c = search needs
 
 same-length : tie.Need-same-length
 same-length c = search needs
@@ -37,8 +37,8 @@ note-spec =
     element-copy-out-made
     mul-put-entry
     put-entry-requires
-    add-n
-    element-write-n
+    add-counters
+    element-write-counters
     same-length
     returns
     returns-2)

@@ -57,7 +57,7 @@ mul-posts c =
     let start = at-cause-of .before .before .before .before .before .before .before .before .before .before .before .before .before .before .before in
     omega (
       arith,
-      cause-room _ (postsMade (start .args .n .now)) (length (start .args .posts .now)) (at-cause-of .cause-of .ensures)
+      cause-room _ (postsMade (start .args .counters .now)) (length (start .args .posts .now)) (at-cause-of .cause-of .ensures)
           (c .before .before .if2 .left),
     )
 
@@ -67,22 +67,22 @@ slice-write-posts c =
     let start = at-cause-of .before .before .before .before .before .before .before .before .before .before .before .before .before .before .before in
     omega (
       arith,
-      cause-room _ (postsMade (start .args .n .now)) (length (start .args .posts .now)) (at-cause-of .cause-of .ensures)
+      cause-room _ (postsMade (start .args .counters .now)) (length (start .args .posts .now)) (at-cause-of .cause-of .ensures)
           (c .before .before .if2 .left),
     )
 
-add-n : tie.Need-add-n
-add-n c =
+add-counters : tie.Need-add-counters
+add-counters c =
     let at-cause-of = c .before .before .before in
     let start = at-cause-of .before .before .before .before .before .before .before .before .before .before .before .before .before .before .before in
     omega (
       arith,
-      cause-room _ (postsMade (start .args .n .now)) (length (start .args .posts .now)) (at-cause-of .cause-of .ensures)
+      cause-room _ (postsMade (start .args .counters .now)) (length (start .args .posts .now)) (at-cause-of .cause-of .ensures)
           (c .before .before .if2 .left),
     )
 
-element-write-n : tie.Need-element-write-n
-element-write-n c = search needs
+element-write-counters : tie.Need-element-write-counters
+element-write-counters c = search needs
 
 same-length-3 : tie.Need-same-length-3
 same-length-3 c = search needs
@@ -121,8 +121,8 @@ append-spec =
     listed-requires
     mul-posts
     slice-write-posts
-    add-n
-    element-write-n
+    add-counters
+    element-write-counters
     same-length-3
     same-length-4
     same-length-5

@@ -11,8 +11,8 @@ element-copy-out-wrapping-add-usize c = search needs
 wrapping-add-usize-requires : tie.Need-wrapping-add-usize-requires
 wrapping-add-usize-requires c κs = search needs
 
-element-write-n : tie.Need-element-write-n
-element-write-n c = search needs
+element-write-counters : tie.Need-element-write-counters
+element-write-counters c = search needs
 
 number-requires : tie.Need-number-requires
 number-requires c κs = search needs
@@ -20,7 +20,7 @@ number-requires c κs = search needs
 returns : tie.Need-returns
 returns c = record {
   answer-is = c .number .ensures;
-  store-is = ap (set (c .before .before .before .args .n .now) 4) (c .before .wrapping-add-usize .ensures);
+  store-is = ap (set (c .before .before .before .args .counters .now) 4) (c .before .wrapping-add-usize .ensures);
 }
 
 pub saturate-spec : {M : Type 1} → statement M
@@ -29,6 +29,6 @@ saturate-spec =
     (tie.spec
     element-copy-out-wrapping-add-usize
     wrapping-add-usize-requires
-    element-write-n
+    element-write-counters
     number-requires
     returns)

@@ -2,7 +2,7 @@
 -- (bool-registers) or a number (num-registers). The calls fit, since they are at most 4,096.
 use borrow.Author.Needs.{needs}
 use mathlib.Core.Path.{_∙_, ap}
-use Rattle.interp.specs.declared.answer.Value.{Value}
+use Rattle.interp.specs.declared.answer.Ground.{Ground}
 use Rattle.interp.specs.declared.answer.Outcome.the-variants.{End}
 use Rattle.registers.proofs.RunLaws.{stop-registers, bool-registers, num-registers}
 use Rattle.registers.proofs.outcome.of_outcome.Statement.{statement}
@@ -44,13 +44,13 @@ returns-2 : tie.Need-returns-2
 returns-2 c =
     let at-o2 = c .before .before .before .before .before in
     let start = at-o2 .before .before .before in
-    bool-registers (start .args .m) (at-o2 .o2 .given .1 ∙ ap (λ (v : Value). End v) (c .before .before .v .given .1)) (c .ended .ensures)
+    bool-registers (start .args .m) (at-o2 .o2 .given .1 ∙ ap (λ (v : Ground). End v) (c .before .before .v .given .1)) (c .ended .ensures)
 
 returns-3 : tie.Need-returns-3
 returns-3 c =
     let at-o2 = c .before .before .before .before .before in
     let start = at-o2 .before .before .before in
-    num-registers (start .args .m) (at-o2 .o2 .given .1 ∙ ap (λ (v : Value). End v) (c .before .before .v2 .given .1)) (c .ended2 .ensures)
+    num-registers (start .args .m) (at-o2 .o2 .given .1 ∙ ap (λ (v : Ground). End v) (c .before .before .v2 .given .1)) (c .ended2 .ensures)
 
 pub of-outcome-spec : {M : Type 1} → statement M
 of-outcome-spec =

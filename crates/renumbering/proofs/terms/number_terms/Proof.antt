@@ -11,13 +11,13 @@ use Rattle.program.specs.Layout.{terms}
 use Rattle.erasure.specs.Kept.{keptBelow}
 use Rattle.erasure.specs.Lean.{keptTerm, newTerms, newTerm}
 use Rattle.erasure.specs.Laws.Kept.{kept-most}
-use Rattle.renumbering.proofs.TableLaws.{Numbered, table-none, table-more, table-whole, count-none, count-yes, count-no, within, through}
+use Rattle.renumbering.proofs.TableLaws.{NumberedBelow, table-none, table-more, table-whole, count-none, count-yes, count-no, within, through}
 use Rattle.renumbering.proofs.TermLaws.{kept-here, gone-here, inner-below, inner-number, own-number}
 use Rattle.renumbering.proofs.terms.number_terms.Statement.{statement}
 use Rattle.renumbering.proofs.terms.number_terms.Tie as tie
 
 abbrev Inv-loop : tie.InvT-loop
-Inv-loop s c numbers₀ n count₀ t₀ numbers count t = Numbered (keptTerm s) (newTerm s) (terms s) maxTerms numbers n count t
+Inv-loop s c numbers₀ n count₀ t₀ numbers count t = NumberedBelow (keptTerm s) (newTerm s) (terms s) maxTerms numbers n count t
 
 abbrev μ-loop : tie.MeasureT-loop
 μ-loop s c numbers₀ n count₀ t₀ numbers count t = n - t

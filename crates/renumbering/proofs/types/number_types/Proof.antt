@@ -10,13 +10,13 @@ use Rattle.program.specs.Layout.{types}
 use Rattle.erasure.specs.Kept.{keptBelow}
 use Rattle.erasure.specs.Lean.{keptType, newTypes, newType}
 use Rattle.erasure.specs.Laws.Kept.{kept-most}
-use Rattle.renumbering.proofs.TableLaws.{Numbered, table-none, table-more, table-whole, count-none, count-yes, count-no, through}
+use Rattle.renumbering.proofs.TableLaws.{NumberedBelow, table-none, table-more, table-whole, count-none, count-yes, count-no, through}
 use Rattle.renumbering.proofs.TypeLaws.{merging, head-first, first-number, head-other, head-below, merged-number}
 use Rattle.renumbering.proofs.types.number_types.Statement.{statement}
 use Rattle.renumbering.proofs.types.number_types.Tie as tie
 
 abbrev Inv-loop : tie.InvT-loop
-Inv-loop s c numbers₀ n count₀ t₀ numbers count t = Numbered (keptType s) (newType s) (types s) maxTypes numbers n count t
+Inv-loop s c numbers₀ n count₀ t₀ numbers count t = NumberedBelow (keptType s) (newType s) (types s) maxTypes numbers n count t
 
 abbrev μ-loop : tie.MeasureT-loop
 μ-loop s c numbers₀ n count₀ t₀ numbers count t = n - t

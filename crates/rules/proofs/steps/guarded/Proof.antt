@@ -1,5 +1,6 @@
 -- Without a guard the needs are the number's; else the byte is a privilege, below 32, and is put into them.
-use Rattle.rules.proofs.StepLaws.{guard-privilege, unguarded-needs, guarded-needs}
+use Rattle.program.specs.Laws.Guards.{guard-privilege}
+use Rattle.rules.proofs.StepLaws.{unguarded-needs, guarded-needs}
 use Rattle.rules.proofs.steps.guarded.Statement.{statement}
 use Rattle.rules.proofs.steps.guarded.Tie as tie
 

@@ -17,15 +17,15 @@ same-length c = search needs
 returns : tie.Need-returns
 returns c = record { answer-is = look-none _ _ _ _ _ (c .before .before .walk .ensures) (c .before .if1 .taken) (c .stop .ensures); store-is = refl }
 
-held-requires : tie.Need-held-requires
-held-requires c κs = search needs
+cell-word-requires : tie.Need-cell-word-requires
+cell-word-requires c κs = search needs
 
 same-length-2 : tie.Need-same-length-2
 same-length-2 c = search needs
 
 returns-2 : tie.Need-returns-2
 returns-2 c = record {
-  answer-is = look-some _ _ _ _ _ (c .before .before .before .walk .ensures) (c .before .before .if1 .left) (c .held .ensures);
+  answer-is = look-some _ _ _ _ _ (c .before .before .before .walk .ensures) (c .before .before .if1 .left) (c .cell-word .ensures);
   store-is = refl;
 }
 
@@ -37,6 +37,6 @@ look-spec =
     stop-requires
     same-length
     returns
-    held-requires
+    cell-word-requires
     same-length-2
     returns-2)

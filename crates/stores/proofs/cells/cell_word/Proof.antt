@@ -1,16 +1,16 @@
 -- The word in a cell: one outside the store is zero, one inside is made of its three parts.
 use native.Mathlib.Omega.{arith}
-use Rattle.stores.proofs.CellLaws.{held-out, held-in}
+use Rattle.stores.proofs.CellLaws.{cell-outside, cell-inside}
 use Prim.Native.Nat.{_*_, _-_}
 use borrow.Author.Needs.{needs}
-use Rattle.stores.proofs.cells.held.Statement.{statement}
-use Rattle.stores.proofs.cells.held.Tie as tie
+use Rattle.stores.proofs.cells.cell_word.Statement.{statement}
+use Rattle.stores.proofs.cells.cell_word.Tie as tie
 
 mul-end : tie.Need-mul-end
 mul-end c = search needs
 
 returns : tie.Need-returns
-returns c = held-out _ _ (c .if1 .taken)
+returns c = cell-outside _ _ (c .if1 .taken)
 
 sub-result : tie.Need-sub-result
 sub-result c = search needs
@@ -56,10 +56,10 @@ add-result-2 c =
     omega (arith, c .before .before .shared-slice-known2 .given (start .args .e * 8 - 8))
 
 returns-2 : tie.Need-returns-2
-returns-2 c = held-in _ _ (c .before .before .before .if1 .left) (c .before .get16 .ensures) (c .get162 .ensures)
+returns-2 c = cell-inside _ _ (c .before .before .before .if1 .left) (c .before .get16 .ensures) (c .get162 .ensures)
 
-pub held-spec : {M : Type 1} → statement M
-held-spec =
+pub cell-word-spec : {M : Type 1} → statement M
+cell-word-spec =
     tie.close
     (tie.spec
     mul-end

@@ -1,10 +1,10 @@
--- `ranged` has no contract. Shown is that the part of the pairs that it lends is within them and as long as `least` says (part): the list has room for 2,050
--- numbers, a pair for each of 1,024 terms and one more, and `least` gives no more.
+-- `over_intervals` has no contract. Shown is that the part of the pairs that it lends is within them and as long as `least` says (part): the list has room
+-- for 2,050 numbers, a pair for each of 1,024 terms and one more, and `least` gives no more.
 use native.Mathlib.Omega.{arith}
 use Rattle.vectors.proofs.PartLaws.{part}
 use borrow.Author.Needs.{needs}
-use Rattle.vectors.proofs.ranged.Statement.{statement}
-use Rattle.vectors.proofs.ranged.Tie as tie
+use Rattle.vectors.proofs.over_intervals.Statement.{statement}
+use Rattle.vectors.proofs.over_intervals.Tie as tie
 
 max-pairs-requires : tie.Need-max-pairs-requires
 max-pairs-requires c κs = search needs
@@ -35,8 +35,8 @@ same-length-2 c = search needs
 returns : tie.Need-returns
 returns c = search needs
 
-pub ranged-spec : {M : Type 1} → statement M
-ranged-spec =
+pub over-intervals-spec : {M : Type 1} → statement M
+over-intervals-spec =
     tie.close
     (tie.spec
     max-pairs-requires

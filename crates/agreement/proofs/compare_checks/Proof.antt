@@ -1,9 +1,9 @@
--- `compare` gives the definition's verdict and its two runs, by the contracts of `typecheck` and `run_either`. Where the two cell stores have the same
+-- `compare_checks` gives the definition's verdict and its two runs, by the contracts of `typecheck` and `run_either`. Where the two cell stores have the same
 -- length, and the two lists of posts, demand 3 holds of these answers: it is a theorem about the definition's runs, which they equal (agreed).
 use borrow.Author.Needs.{needs}
 use Rattle.agreement.proofs.AgreementLaws.{agreed}
-use Rattle.agreement.proofs.compare.Statement.{statement}
-use Rattle.agreement.proofs.compare.Tie as tie
+use Rattle.agreement.proofs.compare_checks.Statement.{statement}
+use Rattle.agreement.proofs.compare_checks.Tie as tie
 
 typecheck-requires : tie.Need-typecheck-requires
 typecheck-requires c κs = search needs
@@ -51,8 +51,8 @@ returns c =
       ),
     )
 
-pub compare-spec : {M : Type 1} → statement M
-compare-spec =
+pub compare-checks-spec : {M : Type 1} → statement M
+compare-checks-spec =
     tie.close
     (tie.spec
     typecheck-requires
