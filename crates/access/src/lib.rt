@@ -58,7 +58,7 @@ pub fn mode_of(lazy: bool, enforce: bool) -> usize
 }
 
 // The mode of an eager run whose numbers are intervals.
-pub fn interval_mode(enforce: bool) -> usize
+pub fn mode_over_intervals(enforce: bool) -> usize
     ensures { λ r. ⌜ ModeIs false enforce true r ⌝ }
 {
     if enforce {
@@ -67,7 +67,7 @@ pub fn interval_mode(enforce: bool) -> usize
     4
 }
 
-pub fn intervals(mode: usize) -> bool
+pub fn interval_mode(mode: usize) -> bool
     ensures { λ r. ⌜ r ≡ intervalMode mode ⌝ }
 {
     3 < mode
@@ -79,7 +79,7 @@ pub fn enforces(mode: usize) -> bool
     mode % 2 == 1
 }
 
-fn is_lazy(mode: usize) -> bool
+fn lazy_mode(mode: usize) -> bool
     ensures { λ r. ⌜ r ≡ lazyMode mode ⌝ }
 {
     mode / 2 == 1
@@ -111,7 +111,7 @@ pub fn granted(frames: &mut [u32], mode: usize, access: u64, p: u8) -> bool
     requires { ⌜ p < privilegeCount ⌝ }
     ensures { λ r. ⌜ Returned r (grantedOf mode access (now (frames .entry)) p) (now (frames .exit)) (now (frames .entry)) ⌝ }
 {
-    if is_lazy(mode) {
+    if lazy_mode(mode) {
         return frames_grant(frames, low(access), p);
     }
     privileges::contains(p, high(access))
@@ -125,11 +125,11 @@ fn first_enabled(access: u64) -> usize
     std::num::wrapping_sub_usize(low(access) as usize, 1)
 }
 
-// What a sign by a principal that may use `may` makes of the access and of the frames.
+// What a sign by a principal that may use the set `authorised` makes of the access and of the frames.
 pub fn sign(frames: &mut [u32], mode: usize, access: u64, authorised: u32) -> u64
     ensures { λ r. ⌜ Returned r (signAccess mode access authorised) (now (frames .exit)) (signFrames mode access (now (frames .entry)) authorised) ⌝ }
 {
-    if is_lazy(mode) {
+    if lazy_mode(mode) {
         let at = low(access) as usize;
         put_number(frames, at, authorised);
         put_number(frames, at + 1, 0);
@@ -143,7 +143,7 @@ pub fn enable(frames: &mut [u32], mode: usize, access: u64, p: u8) -> u64
     requires { ⌜ p < privilegeCount ⌝ }
     ensures { λ r. ⌜ Returned r (enableAccess mode access p) (now (frames .exit)) (enableFrames mode access (now (frames .entry)) p) ⌝ }
 {
-    if is_lazy(mode) {
+    if lazy_mode(mode) {
         let at = first_enabled(access);
         put_number(frames, at, privileges::insert(p, number_at(frames, at)));
         return access;
@@ -159,7 +159,7 @@ pub fn enable(frames: &mut [u32], mode: usize, access: u64, p: u8) -> u64
 pub fn enabled_now(frames: &mut [u32], mode: usize, access: u64) -> u32
     ensures { λ r. ⌜ Returned r (enabledNow mode access (now (frames .entry))) (now (frames .exit)) (now (frames .entry)) ⌝ }
 {
-    if is_lazy(mode) {
+    if lazy_mode(mode) {
         return number_at(frames, first_enabled(access));
     }
     0
@@ -169,7 +169,7 @@ pub fn enabled_now(frames: &mut [u32], mode: usize, access: u64) -> u32
 pub fn restore(frames: &mut [u32], mode: usize, access: u64, old: u32)
     ensures { λ _. ⌜ now (frames .exit) ≡ restoreFrames mode access (now (frames .entry)) old ⌝ }
 {
-    if is_lazy(mode) {
+    if lazy_mode(mode) {
         put_number(frames, first_enabled(access), old);
     }
 }

@@ -10,10 +10,9 @@ use lib.ListN.{length, set, drop, length-map, drop-of-length-le}
 use lib.Seq.{drop-cons}
 use Rattle.privileges.specs.Sets.{has, meet}
 use Rattle.privileges.specs.Laws.{has-meet, has-xor, has-ext}
-use Rattle.program.specs.Bytes.{byte}
+use Rattle.program.specs.Bytes.{byte, withWord16}
 use Rattle.blocks.specs.Block.{blockBytes, RunRegisters, without, withFlag, afterRun}
 use Rattle.blocks.specs.Laws.{has-without}
-use Rattle.blocks.specs.Internal.{setPair}
 
 -- ---- bits
 -- the complement of a byte flips its bits
@@ -53,13 +52,15 @@ module _ (b : List ℕ) (t : RunRegisters) (size : length b ≡ blockBytes) wher
   three l = set (set (set l 0 0) 1 (withFlag (byte b 1) (t .flag))) 2 (t .cause)
 
   abbrev stores : List ℕ → List ℕ
-  stores l = setPair (setPair (setPair (three l) 6 (t .value)) 8 (t .calls)) 10 (t .place)
+  stores l = withWord16 (withWord16 (withWord16 (three l) 6 (t .value)) 8 (t .calls)) 10 (t .place)
 
   stored-all : stores b ≡ afterRun b t
+  unfolding withWord16
   stored-all = ap stores (listed b 0 blockBytes size)
 
   pub run-stored : {flag : ℕ} {x y z : List ℕ} → flag ≡ withFlag (byte b 1) (t .flag)
-      → x ≡ setPair (set (set (set b 0 0) 1 flag) 2 (t .cause)) 6 (t .value) → y ≡ setPair x 8 (t .calls) → z ≡ setPair y 10 (t .place) → z ≡ afterRun b t
+      → x ≡ withWord16 (set (set (set b 0 0) 1 flag) 2 (t .cause)) 6 (t .value) → y ≡ withWord16 x 8 (t .calls) → z ≡ withWord16 y 10 (t .place)
+      → z ≡ afterRun b t
   run-stored e f g h =
-      h ∙ ap (λ (l : List ℕ). setPair l 10 (t .place)) (g ∙ ap (λ (l : List ℕ). setPair l 8 (t .calls)) (f
-      ∙ (λ i. setPair (set (set (set b 0 0) 1 (e i)) 2 (t .cause)) 6 (t .value)))) ∙ stored-all
+      h ∙ ap (λ (l : List ℕ). withWord16 l 10 (t .place)) (g ∙ ap (λ (l : List ℕ). withWord16 l 8 (t .calls)) (f
+      ∙ (λ i. withWord16 (set (set (set b 0 0) 1 (e i)) 2 (t .cause)) 6 (t .value)))) ∙ stored-all

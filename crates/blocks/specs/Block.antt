@@ -69,16 +69,16 @@ afterRun b t =
 -- ---- accesses
 
 -- what an access answers
-pub data Reading : Type 0 where
-  read-byte : ℕ → Reading
-  read-refused : (cause place : ℕ) → Reading
+pub data ReadAnswer : Type 0 where
+  read-byte : ℕ → ReadAnswer
+  read-refused : (cause place : ℕ) → ReadAnswer
 
-pub data Access : Type 0 where
-  access-done : Access
-  access-refused : (cause place : ℕ) → Access
+pub data WriteAnswer : Type 0 where
+  write-done : WriteAnswer
+  write-refused : (cause place : ℕ) → WriteAnswer
 
 -- "An address above 15 is answered with 23"; no place is named, so it is 0
-abbrev pub readOf : (block : List ℕ) (address : ℕ) → Reading
+abbrev pub readOf : (block : List ℕ) (address : ℕ) → ReadAnswer
 readOf b a = cond (leb a maxAddress) (read-byte (byte b a)) (read-refused 23 0)
 
 -- "The interrupt is raised while status and mask share a bit." (Theorems: raised-exactly)

@@ -16,12 +16,12 @@ pub struct RunRegisters {
     pub place: u16,
 }
 
-pub enum Read {
+pub enum ReadAnswer {
     Byte(u8),
     Refused,
 }
 
-pub enum Access {
+pub enum WriteAnswer {
     Done,
     Refused,
 }

@@ -1,7 +1,7 @@
 // A controller's register block by itself: 16 bytes by value, and what needs no run. specs/Block.antt has the paper's words.
 ghost use mathlib.Core.Path.{_≡_};
 ghost use Rattle.blocks.specs.Block.{newBlock, raised, readOf, isKept};
-ghost use Rattle.blocks.specs.Answers.{readModel};
+ghost use Rattle.blocks.specs.Answers.{readAnswerModel};
 ghost use Rattle.blocks.specs.Internal.{keptOf};
 
 pub mod block;
@@ -10,7 +10,7 @@ pub mod update;
 use block::BLOCK_BYTES;
 use block::Block;
 use block::MAX_ADDRESS;
-use block::Read;
+use block::ReadAnswer;
 use update::stored;
 
 pub fn new_block() -> Block
@@ -21,14 +21,14 @@ pub fn new_block() -> Block
     }
 }
 
-pub fn read(b: Block, address: u32) -> Read
-    ensures { λ r. ⌜ readModel r ≡ readOf (b .bytes) address ⌝ }
+pub fn read(b: Block, address: u32) -> ReadAnswer
+    ensures { λ r. ⌜ readAnswerModel r ≡ readOf (b .bytes) address ⌝ }
 {
     if MAX_ADDRESS < address {
-        return Read::Refused;
+        return ReadAnswer::Refused;
     }
     let at = address as usize;
-    Read::Byte(b.bytes[at])
+    ReadAnswer::Byte(b.bytes[at])
 }
 
 // Whether status and mask share a bit.

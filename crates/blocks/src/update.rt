@@ -2,8 +2,9 @@
 ghost use mathlib.Core.Path.{_≡_};
 ghost use Prim.Native.Nat.{_<_};
 ghost use lib.ListN.{set};
+ghost use Rattle.program.specs.Bytes.{withWord16};
 ghost use Rattle.blocks.specs.Block.{maxAddress, blockBytes, without as withoutOf, withFlag as withFlagOf, afterRun};
-ghost use Rattle.blocks.specs.Internal.{registersModel, setPair};
+ghost use Rattle.blocks.specs.Internal.{registersModel};
 use crate::block::Block;
 use crate::block::RunRegisters;
 
@@ -34,7 +35,7 @@ pub fn stored(b: Block, at: usize, value: u8) -> Block
 // A pair of registers, the highest byte first.
 fn stored_pair(b: Block, at: usize, n: u16) -> Block
     requires { ⌜ at < maxAddress ⌝ }
-    ensures { λ r. ⌜ r .bytes ≡ setPair (b .bytes) at n ⌝ }
+    ensures { λ r. ⌜ r .bytes ≡ withWord16 (b .bytes) at n ⌝ }
 {
     stored(stored(b, at, (n / 256) as u8), at + 1, (n % 256) as u8)
 }

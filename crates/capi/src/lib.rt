@@ -4,26 +4,26 @@ ghost use mathlib.Core.Path.{_≡_};
 ghost use Rattle.semantics.specs.Runs.{eager as eagerRunner, lazy as lazyRunner, run};
 ghost use Rattle.semantics.specs.Recording.{recording};
 ghost use Rattle.interp.specs.Answers.{requestOf, buffersOf};
-ghost use Rattle.replies.specs.Replies.{decodeReply, typecheckReply, replied, called, enforces, leftReply, leftAll};
+ghost use Rattle.replies.specs.Replies.{decodeReply, typecheckReply, replied, called, enforceFlag, returnedReply, returnedRun};
 ghost use Rattle.queues.specs.Answers.{jobOf};
-ghost use Rattle.capi_lines.specs.Entries.{linesAdd, leftAdd, linesServe, leftServe};
-ghost use Rattle.capi_explain.specs.Entries.{explainCall, leftExplain};
-ghost use Rattle.capi_lean.specs.Entries.{eraseCall, leftErase};
+ghost use Rattle.capi_lines.specs.Entries.{linesAdd, returnedAdd, linesServe, returnedServe};
+ghost use Rattle.capi_explain.specs.Entries.{explainCall, returnedExplain};
+ghost use Rattle.capi_lean.specs.Entries.{eraseCall, returnedErase};
 ghost use Rattle.irrelevance.specs.Naming.{naming};
 ghost use Rattle.capi_names.specs.Entries.{namesReply};
 ghost use Rattle.capi_compare.specs.Entries.{compareCall};
-ghost use Rattle.capi_record.specs.Entries.{recordCall, leftRecord};
+ghost use Rattle.capi_record.specs.Entries.{recordCall, returnedRecord};
 ghost use Rattle.capi_piece.specs.Entries.{pieceReply};
 ghost use Rattle.subterms.specs.Judging.{judging};
 ghost use Rattle.capi_term.specs.Entries.{termReply};
 ghost use Rattle.intervals.specs.Runs.{intervalRun};
 ghost use Rattle.capi_ranges.specs.Entries.{intervalCall};
-ghost use Rattle.capi_block.specs.Blocks.{blockRead, leftBlock, blockWrite};
+ghost use Rattle.capi_block.specs.Blocks.{blockRead, returnedBlock, blockWrite};
 
 // What any bytes are as a sheet.
 #[no_mangle]
 pub extern "C" fn sovzedal_decode(sheet: &[u8], answer: &mut [u32]) -> u32
-    ensures { λ r. ⌜ leftReply r (now (answer .exit)) ≡ replied (now (answer .entry)) (decodeReply (now (sheet .entry))) ⌝ }
+    ensures { λ r. ⌜ returnedReply r (now (answer .exit)) ≡ replied (now (answer .entry)) (decodeReply (now (sheet .entry))) ⌝ }
 {
     capi_base::decode(sheet, answer)
 }
@@ -31,7 +31,7 @@ pub extern "C" fn sovzedal_decode(sheet: &[u8], answer: &mut [u32]) -> u32
 // The type checker's verdict on a sheet.
 #[no_mangle]
 pub extern "C" fn sovzedal_typecheck(sheet: &[u8], answer: &mut [u32]) -> u32
-    ensures { λ r. ⌜ leftReply r (now (answer .exit)) ≡ replied (now (answer .entry)) (typecheckReply (now (sheet .entry))) ⌝ }
+    ensures { λ r. ⌜ returnedReply r (now (answer .exit)) ≡ replied (now (answer .entry)) (typecheckReply (now (sheet .entry))) ⌝ }
 {
     capi_base::typecheck(sheet, answer)
 }
@@ -48,9 +48,9 @@ pub extern "C" fn sovzedal_run_eager(
     posts: &mut [u32],
     answer: &mut [u32],
 ) -> u32
-    ensures { λ r. ⌜ leftAll r (now (answer .exit)) (buffersOf (now (cells .exit)) (now (posts .exit)) [])
+    ensures { λ r. ⌜ returnedRun r (now (answer .exit)) (buffersOf (now (cells .exit)) (now (posts .exit)) [])
         ≡ called (now (answer .entry)) (buffersOf (now (cells .entry)) (now (posts .entry)) [])
-        (run (now (sheet .entry)) (requestOf eagerRunner (enforces enforce) (now (start .entry)) calls depth)
+        (run (now (sheet .entry)) (requestOf eagerRunner (enforceFlag enforce) (now (start .entry)) calls depth)
         (buffersOf (now (cells .entry)) (now (posts .entry)) [])) ⌝ }
 {
     capi_base::eager(sheet, start, calls, depth, enforce, cells, posts, answer)
@@ -69,9 +69,9 @@ pub extern "C" fn sovzedal_run_lazy(
     frames: &mut [u32],
     answer: &mut [u32],
 ) -> u32
-    ensures { λ r. ⌜ leftAll r (now (answer .exit)) (buffersOf (now (cells .exit)) (now (posts .exit)) (now (frames .exit)))
+    ensures { λ r. ⌜ returnedRun r (now (answer .exit)) (buffersOf (now (cells .exit)) (now (posts .exit)) (now (frames .exit)))
         ≡ called (now (answer .entry)) (buffersOf (now (cells .entry)) (now (posts .entry)) (now (frames .entry)))
-        (run (now (sheet .entry)) (requestOf lazyRunner (enforces enforce) (now (start .entry)) calls depth)
+        (run (now (sheet .entry)) (requestOf lazyRunner (enforceFlag enforce) (now (start .entry)) calls depth)
         (buffersOf (now (cells .entry)) (now (posts .entry)) (now (frames .entry)))) ⌝ }
 {
     capi_base::lazy(
@@ -100,9 +100,9 @@ pub extern "C" fn sovzedal_run_ranges(
     posts: &mut [u32],
     answer: &mut [u32],
 ) -> u32
-    ensures { λ r. ⌜ leftAll r (now (answer .exit)) (buffersOf (now (cells .exit)) (now (posts .exit)) [])
+    ensures { λ r. ⌜ returnedRun r (now (answer .exit)) (buffersOf (now (cells .exit)) (now (posts .exit)) [])
         ≡ intervalCall (now (answer .entry)) (buffersOf (now (cells .entry)) (now (posts .entry)) [])
-        (intervalRun (now (sheet .entry)) (now (pairs .entry)) (requestOf eagerRunner (enforces enforce) (now (start .entry)) calls depth)
+        (intervalRun (now (sheet .entry)) (now (pairs .entry)) (requestOf eagerRunner (enforceFlag enforce) (now (start .entry)) calls depth)
         (buffersOf (now (cells .entry)) (now (posts .entry)) [])) ⌝ }
 {
     capi_ranges::ranges(
@@ -131,9 +131,9 @@ pub extern "C" fn sovzedal_record_eager(
     noted: &mut [u8],
     answer: &mut [u32],
 ) -> u32
-    ensures { λ r. ⌜ leftRecord r (now (answer .exit)) (buffersOf (now (cells .exit)) (now (posts .exit)) []) (now (noted .exit))
+    ensures { λ r. ⌜ returnedRecord r (now (answer .exit)) (buffersOf (now (cells .exit)) (now (posts .exit)) []) (now (noted .exit))
         ≡ recordCall (now (answer .entry)) (buffersOf (now (cells .entry)) (now (posts .entry)) []) (now (noted .entry))
-        (recording (now (sheet .entry)) (requestOf eagerRunner (enforces enforce) (now (start .entry)) calls depth)
+        (recording (now (sheet .entry)) (requestOf eagerRunner (enforceFlag enforce) (now (start .entry)) calls depth)
         (buffersOf (now (cells .entry)) (now (posts .entry)) []) (now (noted .entry))) ⌝ }
 {
     capi_record::eager(
@@ -163,9 +163,9 @@ pub extern "C" fn sovzedal_record_lazy(
     noted: &mut [u8],
     answer: &mut [u32],
 ) -> u32
-    ensures { λ r. ⌜ leftRecord r (now (answer .exit)) (buffersOf (now (cells .exit)) (now (posts .exit)) (now (frames .exit))) (now (noted .exit))
+    ensures { λ r. ⌜ returnedRecord r (now (answer .exit)) (buffersOf (now (cells .exit)) (now (posts .exit)) (now (frames .exit))) (now (noted .exit))
         ≡ recordCall (now (answer .entry)) (buffersOf (now (cells .entry)) (now (posts .entry)) (now (frames .entry))) (now (noted .entry))
-        (recording (now (sheet .entry)) (requestOf lazyRunner (enforces enforce) (now (start .entry)) calls depth)
+        (recording (now (sheet .entry)) (requestOf lazyRunner (enforceFlag enforce) (now (start .entry)) calls depth)
         (buffersOf (now (cells .entry)) (now (posts .entry)) (now (frames .entry))) (now (noted .entry))) ⌝ }
 {
     capi_record::lazy(
@@ -185,7 +185,7 @@ pub extern "C" fn sovzedal_record_lazy(
 // A register's byte. The block is a list of 16 bytes.
 #[no_mangle]
 pub extern "C" fn sovzedal_block_read(block: &[u8], address: u32, answer: &mut [u32]) -> u32
-    ensures { λ r. ⌜ leftReply r (now (answer .exit)) ≡ blockRead (now (block .entry)) address (now (answer .entry)) ⌝ }
+    ensures { λ r. ⌜ returnedReply r (now (answer .exit)) ≡ blockRead (now (block .entry)) address (now (answer .entry)) ⌝ }
 {
     capi_block::read(block, address, answer)
 }
@@ -201,7 +201,7 @@ pub extern "C" fn sovzedal_block_write(
     posts: &mut [u32],
     answer: &mut [u32],
 ) -> u32
-    ensures { λ r. ⌜ leftBlock r (now (answer .exit)) (now (block .exit)) (buffersOf (now (cells .exit)) (now (posts .exit)) [])
+    ensures { λ r. ⌜ returnedBlock r (now (answer .exit)) (now (block .exit)) (buffersOf (now (cells .exit)) (now (posts .exit)) [])
         ≡ blockWrite (now (block .entry)) address value (now (sheet .entry)) (buffersOf (now (cells .entry)) (now (posts .entry)) [])
         (now (answer .entry)) ⌝ }
 {
@@ -219,7 +219,7 @@ pub extern "C" fn sovzedal_lines_add(
     store: &[u8],
     answer: &mut [u32],
 ) -> u32
-    ensures { λ r. ⌜ leftAdd r (now (answer .exit)) (now (lines .exit))
+    ensures { λ r. ⌜ returnedAdd r (now (answer .exit)) (now (lines .exit))
         ≡ linesAdd (now (lines .entry)) line (jobOf offset length calls) (now (store .entry)) (now (answer .entry)) ⌝ }
 {
     capi_lines::add(lines, line, offset, length, calls, store, answer)
@@ -234,7 +234,7 @@ pub extern "C" fn sovzedal_lines_serve(
     posts: &mut [u32],
     answer: &mut [u32],
 ) -> u32
-    ensures { λ r. ⌜ leftServe r (now (answer .exit)) (now (lines .exit)) (buffersOf (now (cells .exit)) (now (posts .exit)) [])
+    ensures { λ r. ⌜ returnedServe r (now (answer .exit)) (now (lines .exit)) (buffersOf (now (cells .exit)) (now (posts .exit)) [])
         ≡ linesServe (now (lines .entry)) (now (store .entry)) (buffersOf (now (cells .entry)) (now (posts .entry)) []) (now (answer .entry)) ⌝ }
 {
     capi_lines::serve(lines, store, cells, posts, answer)
@@ -248,7 +248,7 @@ pub extern "C" fn sovzedal_explain(
     chain: &mut [u16],
     answer: &mut [u32],
 ) -> u32
-    ensures { λ r. ⌜ leftExplain r (now (answer .exit)) (now (chain .exit))
+    ensures { λ r. ⌜ returnedExplain r (now (answer .exit)) (now (chain .exit))
         ≡ explainCall (now (sheet .entry)) privilege (now (chain .entry)) (now (answer .entry)) ⌝ }
 {
     capi_explain::explain(sheet, privilege, chain, answer)
@@ -257,7 +257,7 @@ pub extern "C" fn sovzedal_explain(
 // The lean sheet of an accepted one, at the front of a buffer.
 #[no_mangle]
 pub extern "C" fn sovzedal_erase(sheet: &[u8], lean: &mut [u8], answer: &mut [u32]) -> u32
-    ensures { λ r. ⌜ leftErase r (now (answer .exit)) (now (lean .exit))
+    ensures { λ r. ⌜ returnedErase r (now (answer .exit)) (now (lean .exit))
         ≡ eraseCall (now (sheet .entry)) (now (lean .entry)) (now (answer .entry)) ⌝ }
 {
     capi_lean::erase(sheet, lean, answer)
@@ -266,7 +266,7 @@ pub extern "C" fn sovzedal_erase(sheet: &[u8], lean: &mut [u8], answer: &mut [u3
 // Whether a sheet names a privilege, and the lowest term that does.
 #[no_mangle]
 pub extern "C" fn sovzedal_names(sheet: &[u8], privilege: u32, answer: &mut [u32]) -> u32
-    ensures { λ r. ⌜ leftReply r (now (answer .exit)) ≡ replied (now (answer .entry)) (namesReply (naming (now (sheet .entry)) privilege)) ⌝ }
+    ensures { λ r. ⌜ returnedReply r (now (answer .exit)) ≡ replied (now (answer .entry)) (namesReply (naming (now (sheet .entry)) privilege)) ⌝ }
 {
     capi_names::names(sheet, privilege, answer)
 }
@@ -274,7 +274,7 @@ pub extern "C" fn sovzedal_names(sheet: &[u8], privilege: u32, answer: &mut [u32
 // The unit's record held against the office's.
 #[no_mangle]
 pub extern "C" fn sovzedal_compare(unit: &[u8], office: &[u8], answer: &mut [u32]) -> u32
-    ensures { λ r. ⌜ leftReply r (now (answer .exit)) ≡ compareCall (now (unit .entry)) (now (office .entry)) (now (answer .entry)) ⌝ }
+    ensures { λ r. ⌜ returnedReply r (now (answer .exit)) ≡ compareCall (now (unit .entry)) (now (office .entry)) (now (answer .entry)) ⌝ }
 {
     capi_compare::compare(unit, office, answer)
 }
@@ -282,7 +282,7 @@ pub extern "C" fn sovzedal_compare(unit: &[u8], office: &[u8], answer: &mut [u32
 // The smallest faulty piece of a sheet, with the place of its record.
 #[no_mangle]
 pub extern "C" fn sovzedal_piece(sheet: &[u8], answer: &mut [u32]) -> u32
-    ensures { λ r. ⌜ leftReply r (now (answer .exit)) ≡ replied (now (answer .entry)) (pieceReply (now (sheet .entry))) ⌝ }
+    ensures { λ r. ⌜ returnedReply r (now (answer .exit)) ≡ replied (now (answer .entry)) (pieceReply (now (sheet .entry))) ⌝ }
 {
     capi_piece::piece(sheet, answer)
 }
@@ -290,7 +290,7 @@ pub extern "C" fn sovzedal_piece(sheet: &[u8], answer: &mut [u32]) -> u32
 // The judgement of one term of a sheet, where it stands.
 #[no_mangle]
 pub extern "C" fn sovzedal_term(sheet: &[u8], term: u32, answer: &mut [u32]) -> u32
-    ensures { λ r. ⌜ leftReply r (now (answer .exit)) ≡ replied (now (answer .entry)) (termReply (judging (now (sheet .entry)) term)) ⌝ }
+    ensures { λ r. ⌜ returnedReply r (now (answer .exit)) ≡ replied (now (answer .entry)) (termReply (judging (now (sheet .entry)) term)) ⌝ }
 {
     capi_term::term(sheet, term, answer)
 }

@@ -3,7 +3,7 @@ ghost use mathlib.Core.List.{[]};
 ghost use mathlib.Core.Path.{_≡_};
 ghost use Rattle.semantics.specs.Runs.{eager as eagerRunner, lazy as lazyRunner, run};
 ghost use Rattle.interp.specs.Answers.{requestOf, buffersOf};
-ghost use Rattle.replies.specs.Replies.{decodeReply, typecheckReply, replied, called, enforces, leftReply, leftAll};
+ghost use Rattle.replies.specs.Replies.{decodeReply, typecheckReply, replied, called, enforceFlag, returnedReply, returnedRun};
 use replies::ANSWER_NUMBERS;
 use replies::of_decoded;
 use replies::of_run;
@@ -12,7 +12,7 @@ use replies::put;
 
 // What any bytes are as a sheet.
 pub fn decode(sheet: &[u8], answer: &mut [u32]) -> u32
-    ensures { λ r. ⌜ leftReply r (now (answer .exit)) ≡ replied (now (answer .entry)) (decodeReply (now (sheet .entry))) ⌝ }
+    ensures { λ r. ⌜ returnedReply r (now (answer .exit)) ≡ replied (now (answer .entry)) (decodeReply (now (sheet .entry))) ⌝ }
 {
     if answer.len() < ANSWER_NUMBERS {
         return 3;
@@ -22,7 +22,7 @@ pub fn decode(sheet: &[u8], answer: &mut [u32]) -> u32
 
 // The type checker's verdict on a sheet.
 pub fn typecheck(sheet: &[u8], answer: &mut [u32]) -> u32
-    ensures { λ r. ⌜ leftReply r (now (answer .exit)) ≡ replied (now (answer .entry)) (typecheckReply (now (sheet .entry))) ⌝ }
+    ensures { λ r. ⌜ returnedReply r (now (answer .exit)) ≡ replied (now (answer .entry)) (typecheckReply (now (sheet .entry))) ⌝ }
 {
     if answer.len() < ANSWER_NUMBERS {
         return 3;
@@ -41,9 +41,9 @@ pub fn eager(
     posts: &mut [u32],
     answer: &mut [u32],
 ) -> u32
-    ensures { λ r. ⌜ leftAll r (now (answer .exit)) (buffersOf (now (cells .exit)) (now (posts .exit)) [])
+    ensures { λ r. ⌜ returnedRun r (now (answer .exit)) (buffersOf (now (cells .exit)) (now (posts .exit)) [])
         ≡ called (now (answer .entry)) (buffersOf (now (cells .entry)) (now (posts .entry)) [])
-        (run (now (sheet .entry)) (requestOf eagerRunner (enforces enforce) (now (start .entry)) calls depth)
+        (run (now (sheet .entry)) (requestOf eagerRunner (enforceFlag enforce) (now (start .entry)) calls depth)
         (buffersOf (now (cells .entry)) (now (posts .entry)) [])) ⌝ }
 {
     if answer.len() < ANSWER_NUMBERS {
@@ -65,9 +65,9 @@ pub fn lazy(
     frames: &mut [u32],
     answer: &mut [u32],
 ) -> u32
-    ensures { λ r. ⌜ leftAll r (now (answer .exit)) (buffersOf (now (cells .exit)) (now (posts .exit)) (now (frames .exit)))
+    ensures { λ r. ⌜ returnedRun r (now (answer .exit)) (buffersOf (now (cells .exit)) (now (posts .exit)) (now (frames .exit)))
         ≡ called (now (answer .entry)) (buffersOf (now (cells .entry)) (now (posts .entry)) (now (frames .entry)))
-        (run (now (sheet .entry)) (requestOf lazyRunner (enforces enforce) (now (start .entry)) calls depth)
+        (run (now (sheet .entry)) (requestOf lazyRunner (enforceFlag enforce) (now (start .entry)) calls depth)
         (buffersOf (now (cells .entry)) (now (posts .entry)) (now (frames .entry)))) ⌝ }
 {
     if answer.len() < ANSWER_NUMBERS {

@@ -2,13 +2,13 @@
 ghost use mathlib.Core.Path.{_≡_};
 ghost use lib.ListN.{length};
 ghost use Rattle.blocks.specs.Block.{blockBytes};
-ghost use Rattle.blocks.specs.Answers.{readModel, accessModel};
-ghost use Rattle.capi_block.specs.Blocks.{accessed as accessedOf, readReply, accessReply};
-ghost use Rattle.replies.specs.Internal.{replyOf};
-use blocks::block::Access;
+ghost use Rattle.blocks.specs.Answers.{readAnswerModel, writeAnswerModel};
+ghost use Rattle.capi_block.specs.Blocks.{accessed as accessedOf, readReply, writeReply};
+ghost use Rattle.replies.specs.Internal.{replyModel};
 use blocks::block::BLOCK_BYTES;
 use blocks::block::Block;
-use blocks::block::Read;
+use blocks::block::ReadAnswer;
+use blocks::block::WriteAnswer;
 use replies::Reply;
 
 pub fn load(block: &[u8]) -> Block
@@ -37,7 +37,7 @@ pub fn save(b: Block, block: &mut [u8])
 }
 
 fn accessed(status: u32, cause: u32, raised: bool, byte: u8) -> Reply
-    ensures { λ r. ⌜ replyOf r ≡ accessedOf status cause 0 raised byte ⌝ }
+    ensures { λ r. ⌜ replyModel r ≡ accessedOf status cause 0 raised byte ⌝ }
 {
     Reply {
         status: status,
@@ -45,20 +45,20 @@ fn accessed(status: u32, cause: u32, raised: bool, byte: u8) -> Reply
     }
 }
 
-pub fn of_read(x: Read, raised: bool) -> Reply
-    ensures { λ r. ⌜ replyOf r ≡ readReply (readModel x) raised ⌝ }
+pub fn of_read(x: ReadAnswer, raised: bool) -> Reply
+    ensures { λ r. ⌜ replyModel r ≡ readReply (readAnswerModel x) raised ⌝ }
 {
     match x {
-        Read::Byte(n) => accessed(0, 0, raised, n),
-        Read::Refused => accessed(2, 23, raised, 0),
+        ReadAnswer::Byte(n) => accessed(0, 0, raised, n),
+        ReadAnswer::Refused => accessed(2, 23, raised, 0),
     }
 }
 
-pub fn of_access(x: Access, raised: bool) -> Reply
-    ensures { λ r. ⌜ replyOf r ≡ accessReply (accessModel x) raised ⌝ }
+pub fn of_write(x: WriteAnswer, raised: bool) -> Reply
+    ensures { λ r. ⌜ replyModel r ≡ writeReply (writeAnswerModel x) raised ⌝ }
 {
     match x {
-        Access::Done => accessed(0, 0, raised, 0),
-        Access::Refused => accessed(2, 23, raised, 0),
+        WriteAnswer::Done => accessed(0, 0, raised, 0),
+        WriteAnswer::Refused => accessed(2, 23, raised, 0),
     }
 }

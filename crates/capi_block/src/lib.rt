@@ -2,14 +2,14 @@
 ghost use mathlib.Core.List.{[]};
 ghost use mathlib.Core.Path.{_≡_};
 ghost use Rattle.interp.specs.Answers.{buffersOf};
-ghost use Rattle.replies.specs.Replies.{leftReply};
-ghost use Rattle.capi_block.specs.Blocks.{blockRead, leftBlock, blockWrite};
+ghost use Rattle.replies.specs.Replies.{returnedReply};
+ghost use Rattle.capi_block.specs.Blocks.{blockRead, returnedBlock, blockWrite};
 
 mod block;
 
 use block::load;
-use block::of_access;
 use block::of_read;
+use block::of_write;
 use block::save;
 use blocks::block::BLOCK_BYTES;
 use replies::ANSWER_NUMBERS;
@@ -17,7 +17,7 @@ use replies::put;
 
 // A register's byte.
 pub fn read(block: &[u8], address: u32, answer: &mut [u32]) -> u32
-    ensures { λ r. ⌜ leftReply r (now (answer .exit)) ≡ blockRead (now (block .entry)) address (now (answer .entry)) ⌝ }
+    ensures { λ r. ⌜ returnedReply r (now (answer .exit)) ≡ blockRead (now (block .entry)) address (now (answer .entry)) ⌝ }
 {
     if block.len() != BLOCK_BYTES {
         return 3;
@@ -40,7 +40,7 @@ pub fn write(
     posts: &mut [u32],
     answer: &mut [u32],
 ) -> u32
-    ensures { λ r. ⌜ leftBlock r (now (answer .exit)) (now (block .exit)) (buffersOf (now (cells .exit)) (now (posts .exit)) [])
+    ensures { λ r. ⌜ returnedBlock r (now (answer .exit)) (now (block .exit)) (buffersOf (now (cells .exit)) (now (posts .exit)) [])
         ≡ blockWrite (now (block .entry)) address value (now (sheet .entry)) (buffersOf (now (cells .entry)) (now (posts .entry)) [])
         (now (answer .entry)) ⌝ }
 {
@@ -53,7 +53,7 @@ pub fn write(
     let old = load(block);
     let w = registers::write(old, address, value, sheet, cells, posts);
     let b = w.block;
-    let access = w.access;
+    let written = w.answer;
     save(b, block);
-    put(of_access(access, blocks::interrupt(b)), answer)
+    put(of_write(written, blocks::interrupt(b)), answer)
 }

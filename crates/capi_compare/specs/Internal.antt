@@ -11,5 +11,5 @@ entries (Diverges k) = k
 entries Malformed = 0
 
 -- it fits into 32 bits
-abbrev pub FewEntries : Comparison → Type 0
-FewEntries x = entries x ≤ maxRecord
+abbrev pub ComparisonReplyFits : Comparison → Type 0
+ComparisonReplyFits x = entries x ≤ maxRecord

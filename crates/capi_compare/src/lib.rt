@@ -2,10 +2,10 @@
 ghost use mathlib.Core.Path.{_≡_};
 ghost use Prim.Native.Nat.{_≤_};
 ghost use Rattle.compare.specs.Answers.{comparisonModel};
-ghost use Rattle.replies.specs.Replies.{leftReply};
-ghost use Rattle.replies.specs.Internal.{replyOf};
+ghost use Rattle.replies.specs.Replies.{returnedReply};
+ghost use Rattle.replies.specs.Internal.{replyModel};
 ghost use Rattle.capi_compare.specs.Entries.{comparedReply, comparisonReply, compareCall, maxRecord};
-ghost use Rattle.capi_compare.specs.Internal.{FewEntries};
+ghost use Rattle.capi_compare.specs.Internal.{ComparisonReplyFits};
 use compare::answer::Comparison;
 use replies::ANSWER_NUMBERS;
 use replies::Reply;
@@ -15,7 +15,7 @@ use replies::put;
 pub const MAX_RECORD: usize = 4294967295;
 
 pub fn compare(unit: &[u8], office: &[u8], answer: &mut [u32]) -> u32
-    ensures { λ r. ⌜ leftReply r (now (answer .exit)) ≡ compareCall (now (unit .entry)) (now (office .entry)) (now (answer .entry)) ⌝ }
+    ensures { λ r. ⌜ returnedReply r (now (answer .exit)) ≡ compareCall (now (unit .entry)) (now (office .entry)) (now (answer .entry)) ⌝ }
 {
     if MAX_RECORD < unit.len() {
         return 3;
@@ -32,7 +32,7 @@ pub fn compare(unit: &[u8], office: &[u8], answer: &mut [u32]) -> u32
 
 fn compared_reply(fits: u32, entries: usize) -> Reply
     requires { ⌜ entries ≤ maxRecord ⌝ }
-    ensures { λ r. ⌜ replyOf r ≡ comparedReply fits entries ⌝ }
+    ensures { λ r. ⌜ replyModel r ≡ comparedReply fits entries ⌝ }
 {
     Reply {
         status: 0,
@@ -41,8 +41,8 @@ fn compared_reply(fits: u32, entries: usize) -> Reply
 }
 
 fn of_comparison(x: Comparison) -> Reply
-    requires { ⌜ FewEntries x ⌝ }
-    ensures { λ r. ⌜ replyOf r ≡ comparisonReply (comparisonModel x) ⌝ }
+    requires { ⌜ ComparisonReplyFits x ⌝ }
+    ensures { λ r. ⌜ replyModel r ≡ comparisonReply (comparisonModel x) ⌝ }
 {
     match x {
         Comparison::Fits(missing) => compared_reply(1, missing),

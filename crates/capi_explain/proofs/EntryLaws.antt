@@ -13,17 +13,17 @@ use Rattle.program.specs.Limits.{maxNesting, maxPrivilege}
 use Rattle.program.specs.Layout.{Types, authority, typesOf}
 use Rattle.typing.specs.Verdicts.{Verdict, accepted, rejected, verdict}
 use Rattle.replies.specs.Replies.{short}
-use Rattle.replies.specs.Internal.{replyOf, Put}
+use Rattle.replies.specs.Internal.{replyModel, Put}
 use Rattle.replies.specs.Laws.{in-place}
 use Rattle.replies.specs.declared.Reply.{Reply}
 use Rattle.typing.specs.Places.{Placed, placedNumber, rootOf}
-use Rattle.chains.specs.Explaining.{next, followedBy, chain, chainOf, Explained as ExplainedOf, explainedIf, explainedIn, explainedBy, explanation}
+use Rattle.chains.specs.Explaining.{next, chainFrom, chain, chainOf, Explained as ExplainedOf, explainedIf, explainedIn, explainedBy, explanation}
 use Rattle.chains.specs.Answers.{explanationModel, chainTerms, padded, chainLength, ExplainedAs}
 use Rattle.chains.specs.declared.answer.Explanation.{Explanation}
 use Rattle.chains.specs.declared.answer.Explanation.the-variants.{Chain, NotNeeded, Unreadable, Refused, NoPrivilege}
 use Rattle.chains.specs.declared.answer.Explained.{Explained}
-use Rattle.capi_explain.specs.Entries.{chainReply, explainReply, chainAfter, leftExplain, explainLeft, narrow, explainCall}
-use Rattle.capi_explain.specs.Internal.{ChainFits, explanationReply, chainLeft}
+use Rattle.capi_explain.specs.Entries.{chainReply, explainReply, chainAfter, returnedExplain, explainLeft, narrow, explainCall}
+use Rattle.capi_explain.specs.Internal.{ExplanationReplyFits, explanationReply, chainLeft}
 
 -- ---- no chain has more than 32 terms
 module _ (T : Types) (A : ℕ → ℕ) (p : ℕ) where
@@ -32,7 +32,7 @@ module _ (T : Types) (A : ℕ → ℕ) (p : ℕ) where
   chain-short zero x = omega arith
   chain-short (suc k) x = go (next T A p x) (chain-short k)
     where
-      go : (o : Option Placed) → ((y : Placed) → length (chain T A p k y) ≤ k) → suc (length (followedBy T A p o (λ y. chain T A p k y))) ≤ suc k
+      go : (o : Option Placed) → ((y : Placed) → length (chain T A p k y) ≤ k) → suc (length (chainFrom T A p o (λ y. chain T A p k y))) ≤ suc k
       go none h = omega arith
       go (some y) h = omega (arith, h y)
 
@@ -57,7 +57,7 @@ explained-short s p = by-verdict (verdict s)
     by-verdict (accepted n τ N) = by-number N (leb p maxPrivilege)
     by-verdict (rejected c at) = omega arith
 
-pub listed : (s : List ℕ) (p : ℕ) (r : Explained) → ExplainedAs r (explanation s p) → ChainFits (r .answer)
+pub listed : (s : List ℕ) (p : ℕ) (r : Explained) → ExplainedAs r (explanation s p) → ExplanationReplyFits (r .answer)
 listed s p r h = omega (arith, h .length-is, explained-short s p)
 
 -- ---- the reply and the list, by the answer
@@ -83,8 +83,8 @@ kept terms chain e h = h ∙ sym (ap (λ (a : Explanation). chainLeft a terms ch
 
 -- ---- the entry
 module _ (s : List ℕ) (p : ℕ) (chain answer : List ℕ) where
-  pub short-answer : narrow chain answer ≡ true → leftExplain 3 answer chain ≡ explainCall s p chain answer
-  short-answer e = λ i. cond (sym e i) (leftExplain 3 answer chain) (explainLeft answer chain (explanation s p))
+  pub short-answer : narrow chain answer ≡ true → returnedExplain 3 answer chain ≡ explainCall s p chain answer
+  short-answer e = λ i. cond (sym e i) (returnedExplain 3 answer chain) (explainLeft answer chain (explanation s p))
 
   pub few-places : length chain < maxNesting → narrow chain answer ≡ true
   few-places h = ap (λ (b : Bool). b || short answer) (lt-ltb (length chain) maxNesting h)
@@ -96,12 +96,12 @@ module _ (s : List ℕ) (p : ℕ) (chain answer : List ℕ) where
   wide h g = λ i. le-ltb (length chain) maxNesting h i || le-ltb (length answer) 8 g i
 
   pub given : maxNesting ≤ length chain → 8 ≤ length answer → (r : Explained) → ExplainedAs r (explanation s p) → {chain′ : List ℕ}
-      → chain′ ≡ chainLeft (r .answer) (r .terms) chain → {x : Reply} → replyOf x ≡ explanationReply (r .answer) → {status : ℕ} {after : List ℕ}
-      → Put x answer status after → leftExplain status after chain′ ≡ explainCall s p chain answer
+      → chain′ ≡ chainLeft (r .answer) (r .terms) chain → {x : Reply} → replyModel x ≡ explanationReply (r .answer) → {status : ℕ} {after : List ℕ}
+      → Put x answer status after → returnedExplain status after chain′ ≡ explainCall s p chain answer
   given h g r explains {chain′ = chain′} f e put =
       (λ i. record { reply = in-place answer g (e ∙ reply-by (r .terms) (r .answer) as-long) put i; chain = list-after i })
       ∙ ap (explainLeft answer chain) (explains .answer-is)
-      ∙ (λ i. cond (sym (wide h g) i) (leftExplain 3 answer chain) (explainLeft answer chain (explanation s p)))
+      ∙ (λ i. cond (sym (wide h g) i) (returnedExplain 3 answer chain) (explainLeft answer chain (explanation s p)))
     where
       as-long : chainLength (r .answer) ≡ length (chainTerms (explanationModel (r .answer) (r .terms)))
       as-long = explains .length-is ∙ sym (ap (λ (x : ExplainedOf). length (chainTerms x)) (explains .answer-is))

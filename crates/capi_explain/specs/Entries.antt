@@ -5,7 +5,7 @@ use Prim.Native.Nat.{ℕ}
 use lib.Dec.{ltb}
 use lib.ListN.{length, drop}
 use Rattle.program.specs.Limits.{maxNesting}
-use Rattle.replies.specs.Replies.{Reply, refusal, short, written, notDone, leftReply}
+use Rattle.replies.specs.Replies.{Reply, refusal, short, written, notDone, returnedReply}
 use Rattle.chains.specs.Explaining.{Explained, explained, not-needed, refused, explanation}
 use Rattle.chains.specs.Answers.{padded}
 
@@ -29,8 +29,8 @@ pub record ExplainLeft : Type 0 where
   pub reply : Reply
   pub chain : List ℕ
 
-abbrev pub leftExplain : (status : ℕ) (answer chain : List ℕ) → ExplainLeft
-leftExplain status answer chain = record { reply = leftReply status answer; chain = chain }
+abbrev pub returnedExplain : (status : ℕ) (answer chain : List ℕ) → ExplainLeft
+returnedExplain status answer chain = record { reply = returnedReply status answer; chain = chain }
 
 abbrev pub explainLeft : (answer chain : List ℕ) → Explained → ExplainLeft
 explainLeft answer chain e = record { reply = written (explainReply e) answer; chain = chainAfter e chain }

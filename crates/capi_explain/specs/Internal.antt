@@ -12,8 +12,8 @@ use Rattle.chains.specs.Answers.{chainLength}
 use Rattle.capi_explain.specs.Entries.{chainReply}
 
 -- a chain has at most 32 terms
-abbrev pub ChainFits : Explanation → Type 0
-ChainFits x = chainLength x ≤ maxNesting
+abbrev pub ExplanationReplyFits : Explanation → Type 0
+ExplanationReplyFits x = chainLength x ≤ maxNesting
 
 -- what is told of an answer
 abbrev pub explanationReply : Explanation → Reply

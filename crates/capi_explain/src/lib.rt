@@ -4,9 +4,9 @@ ghost use mathlib.Core.Path.{_≡_};
 ghost use Prim.Native.Nat.{_≤_};
 ghost use lib.ListN.{length, drop};
 ghost use Rattle.program.specs.Limits.{maxNesting};
-ghost use Rattle.replies.specs.Internal.{replyOf};
-ghost use Rattle.capi_explain.specs.Entries.{chainReply, explainCall, leftExplain};
-ghost use Rattle.capi_explain.specs.Internal.{ChainFits, explanationReply, chainLeft};
+ghost use Rattle.replies.specs.Internal.{replyModel};
+ghost use Rattle.capi_explain.specs.Entries.{chainReply, explainCall, returnedExplain};
+ghost use Rattle.capi_explain.specs.Internal.{ExplanationReplyFits, explanationReply, chainLeft};
 use chains::answer::Explanation;
 use program::limits::NESTING_PLACES;
 use replies::ANSWER_NUMBERS;
@@ -15,7 +15,7 @@ use replies::put;
 use replies::refused;
 
 pub fn explain(sheet: &[u8], privilege: u32, chain: &mut [u16], answer: &mut [u32]) -> u32
-    ensures { λ r. ⌜ leftExplain r (now (answer .exit)) (now (chain .exit))
+    ensures { λ r. ⌜ returnedExplain r (now (answer .exit)) (now (chain .exit))
         ≡ explainCall (now (sheet .entry)) privilege (now (chain .entry)) (now (answer .entry)) ⌝ }
 {
     if chain.len() < NESTING_PLACES {
@@ -33,7 +33,7 @@ pub fn explain(sheet: &[u8], privilege: u32, chain: &mut [u16], answer: &mut [u3
 
 fn counted(terms: usize) -> Reply
     requires { ⌜ terms ≤ maxNesting ⌝ }
-    ensures { λ r. ⌜ replyOf r ≡ chainReply terms ⌝ }
+    ensures { λ r. ⌜ replyModel r ≡ chainReply terms ⌝ }
 {
     Reply {
         status: 0,
@@ -42,13 +42,13 @@ fn counted(terms: usize) -> Reply
 }
 
 fn of_explained(x: Explanation) -> Reply
-    requires { ⌜ ChainFits x ⌝ }
-    ensures { λ r. ⌜ replyOf r ≡ explanationReply x ⌝ }
+    requires { ⌜ ExplanationReplyFits x ⌝ }
+    ensures { λ r. ⌜ replyModel r ≡ explanationReply x ⌝ }
 {
     match x {
         Explanation::Chain(n) => counted(n),
         Explanation::NotNeeded => counted(0),
-        Explanation::Unreadable(f) => refused(numbers::of_reader(f)),
+        Explanation::Unreadable(f) => refused(numbers::of_decoding(f)),
         Explanation::Refused(f) => refused(numbers::of_fault(f)),
         Explanation::NoPrivilege => Reply {
             status: 2,

@@ -2,7 +2,7 @@
 use mathlib.Core.Bool.{cond}
 use mathlib.Core.List.{List, [], _∷_}
 use Prim.Native.Nat.{ℕ}
-use Rattle.replies.specs.Replies.{Reply, refusal, short, written, notDone, leftReply}
+use Rattle.replies.specs.Replies.{Reply, refusal, short, written, notDone, returnedReply}
 use Rattle.erasure.specs.Erasure.{ErasureAnswer, refused, lean, AfterErasure, erasure}
 
 -- "The answer tells the new sheet's length"; or the refusal's cause and place
@@ -15,8 +15,8 @@ pub record EraseLeft : Type 0 where
   pub reply : Reply
   pub buffer : List ℕ
 
-abbrev pub leftErase : (status : ℕ) (answer buffer : List ℕ) → EraseLeft
-leftErase status answer b = record { reply = leftReply status answer; buffer = b }
+abbrev pub returnedErase : (status : ℕ) (answer buffer : List ℕ) → EraseLeft
+returnedErase status answer b = record { reply = returnedReply status answer; buffer = b }
 
 abbrev pub eraseLeft : (answer : List ℕ) → AfterErasure → EraseLeft
 eraseLeft answer a = record { reply = written (eraseReply (a .answer)) answer; buffer = a .buffer }

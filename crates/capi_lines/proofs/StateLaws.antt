@@ -8,7 +8,7 @@ use native.Mathlib.Omega.{arith}
 use lib.ListN.{length, getD, take}
 use borrow.Author.Tests.{lt-ltb, le-ltb}
 use Rattle.queues.specs.Queues as queues
-use Rattle.queues.specs.Queues.{maxLines, State, queueAt}
+use Rattle.queues.specs.Queues.{maxLines, Lines as LinesOf, queueAt}
 use Rattle.queues.specs.Answers.{noQueue, noJob, jobModel, queueModel, linesModel}
 use Rattle.queues.specs.Internal.{SizeIs}
 use Rattle.queues.specs.Laws.{queue-is}
@@ -49,7 +49,7 @@ last-part j (suc zero) h g = absurd (g refl)
 last-part j (suc (suc k)) h g = refl
 
 module _ (q : Lines) where
-  abbrev S : State
+  abbrev S : LinesOf
   S = linesModel q
 
   pub job-number : (i : ℕ) {j : Job} {r : ℕ} → jobModel j ≡ getD (queueModel (getD (q .queues) (i / 24) noQueue)) (i % 24 / 3) noJob
@@ -92,6 +92,6 @@ getD-tabulate f i (suc n) (suc k) h =
     let e : suc i + k ≡ i + suc k = omega arith in
     getD-tabulate f (suc i) n k (omega arith) ∙ ap f e
 
-pub written-at : (s : State) (i : ℕ) → i < stateNumbers → getD (stateWritten s) i 0 ≡ numberAt s i
+pub written-at : (s : LinesOf) (i : ℕ) → i < stateNumbers → getD (stateWritten s) i 0 ≡ numberAt s i
 unfolding stateWritten
 written-at s i h = let e : 0 + i ≡ i = omega arith in getD-tabulate (numberAt s) 0 stateNumbers i h ∙ ap (numberAt s) e

@@ -4,8 +4,8 @@ use mathlib.Core.List.{List, [], _∷_}
 use Prim.Native.Nat.{ℕ, _+_}
 use Rattle.program.specs.Screening.{Screening, clear, found}
 use Rattle.semantics.specs.Runs.{Buffers}
-use Rattle.replies.specs.Replies.{Reply, refusal, runReply, answerNumbers, unfit, written, writtenNine, notDone, leftReply}
-use Rattle.queues.specs.Queues.{Job, State, Added, addOf}
+use Rattle.replies.specs.Replies.{Reply, refusal, runReply, answerNumbers, unfit, written, writtenNine, notDone, returnedReply}
+use Rattle.queues.specs.Queues.{Job, Lines, Added, addOf}
 use Rattle.lines.specs.Serving.{ServeAnswer, idle, answered, Served, serveOf}
 use Rattle.capi_lines.specs.States.{stateNumbers, stateRead, stateWritten}
 
@@ -21,11 +21,11 @@ pub record AddLeft : Type 0 where
   pub reply : Reply
   pub state : List ℕ
 
-abbrev pub leftAdd : (status : ℕ) (answer state : List ℕ) → AddLeft
-leftAdd status answer state = record { reply = leftReply status answer; state = state }
+abbrev pub returnedAdd : (status : ℕ) (answer state : List ℕ) → AddLeft
+returnedAdd status answer state = record { reply = returnedReply status answer; state = state }
 
 -- the state is written anew, or, by a refusal, left
-abbrev pub stateAfter : Screening → (before : List ℕ) → State → List ℕ
+abbrev pub stateAfter : Screening → (before : List ℕ) → Lines → List ℕ
 stateAfter clear before s = stateWritten s
 stateAfter (found c p) before s = before
 
@@ -49,11 +49,11 @@ pub record ServeLeft : Type 0 where
   pub state : List ℕ
   pub buffers : Buffers
 
-abbrev pub leftServe : (status : ℕ) (answer state : List ℕ) → Buffers → ServeLeft
-leftServe status answer state b = record { reply = leftReply status answer; state = state; buffers = b }
+abbrev pub returnedServe : (status : ℕ) (answer state : List ℕ) → Buffers → ServeLeft
+returnedServe status answer state b = record { reply = returnedReply status answer; state = state; buffers = b }
 
 -- with no job the state is left
-abbrev pub servedState : ServeAnswer → (before : List ℕ) → State → List ℕ
+abbrev pub servedState : ServeAnswer → (before : List ℕ) → Lines → List ℕ
 servedState idle before s = before
 servedState (answered a) before s = stateWritten s
 

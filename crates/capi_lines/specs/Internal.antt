@@ -5,20 +5,20 @@ use Prim.Native.Nat.{ℕ, _<_}
 use lib.ListN.{length}
 use Rattle.queues.specs.Queues.{maxLines}
 use Rattle.replies.specs.Replies.{Reply}
-use Rattle.replies.specs.Internal.{Small}
+use Rattle.replies.specs.Internal.{RunReplyFits}
 use Rattle.lines.specs.declared.answer.ServeAnswer.{ServeAnswer}
 use Rattle.lines.specs.declared.answer.ServeAnswer.the-variants.{Idle, Outside, Run}
 use Rattle.capi_lines.specs.States.{stateNumbers}
 
 -- a status with a cause
-abbrev pub numbered : (status cause : ℕ) → Reply
-numbered status c = record { status = status; numbers = c ∷ 0 ∷ 0 ∷ 0 ∷ 0 ∷ 0 ∷ 0 ∷ 0 ∷ [] }
+abbrev pub causeReply : (status cause : ℕ) → Reply
+causeReply status c = record { status = status; numbers = c ∷ 0 ∷ 0 ∷ 0 ∷ 0 ∷ 0 ∷ 0 ∷ 0 ∷ [] }
 
 -- the counts of a job's run fit into 32 bits
-abbrev pub SmallAnswer : ServeAnswer → Type 0
-SmallAnswer Idle = Unit {0}
-SmallAnswer Outside = Unit {0}
-SmallAnswer (Run r) = Small r
+abbrev pub ServeReplyFits : ServeAnswer → Type 0
+ServeReplyFits Idle = Unit {0}
+ServeReplyFits Outside = Unit {0}
+ServeReplyFits (Run r) = RunReplyFits r
 
 -- the list of a state, and a line of it
 pub record LineAt (state : List ℕ) (line : ℕ) : Type 0 where

@@ -6,7 +6,7 @@ use mathlib.Core.List.{List, [], _∷_}
 use Prim.Native.Nat.{ℕ, zero, suc, _+_, _-_, _*_, _/_, _%_, min}
 use lib.Dec.{ltb}
 use lib.ListN.{length, getD, take}
-use Rattle.queues.specs.Queues.{maxLines, Job, State, queueAt}
+use Rattle.queues.specs.Queues.{maxLines, Job, Lines, queueAt}
 use Rattle.queues.specs.Answers.{noJob}
 
 abbrev pub stateNumbers : ℕ
@@ -35,7 +35,7 @@ abbrev pub queueRead : List ℕ → (line : ℕ) → List Job
 queueRead n l = take (getD n (2 + l) 0) (placesRead n l)
 
 -- a turn above 3 is read modulo 4
-unfoldable pub stateRead : List ℕ → State
+unfoldable pub stateRead : List ℕ → Lines
 stateRead n = record {
   queues = queueRead n 0 ∷ queueRead n 1 ∷ queueRead n 2 ∷ queueRead n 3 ∷ [];
   turn = getD n 0 0 % maxLines;
@@ -51,10 +51,10 @@ jobPart (suc zero) j = j .length
 jobPart (suc (suc n)) j = j .calls
 
 -- the numbers of the jobs, from the first line's on; zero where no job waits: number i of the 96 is of line i / 24, job i % 24 / 3, part i % 3
-abbrev pub jobNumber : State → (i : ℕ) → ℕ
+abbrev pub jobNumber : Lines → (i : ℕ) → ℕ
 jobNumber s i = jobPart (i % 3) (getD (queueAt s (i / 24)) (i % 24 / 3) noJob)
 
-abbrev pub numberAt : State → (i : ℕ) → ℕ
+abbrev pub numberAt : Lines → (i : ℕ) → ℕ
 numberAt s zero = s .turn
 numberAt s (suc zero) = s .place
 numberAt s (suc (suc i)) = cond (ltb i maxLines) (length (queueAt s i)) (jobNumber s (i - 4))
@@ -63,5 +63,5 @@ abbrev pub tabulate : (ℕ → ℕ) → (i count : ℕ) → List ℕ
 tabulate f i zero = []
 tabulate f i (suc n) = f i ∷ tabulate f (suc i) n
 
-unfoldable pub stateWritten : State → List ℕ
+unfoldable pub stateWritten : Lines → List ℕ
 stateWritten s = tabulate (numberAt s) 0 stateNumbers

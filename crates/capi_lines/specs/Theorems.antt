@@ -7,7 +7,7 @@ use Prim.Native.Nat.{ℕ, zero, suc, _+_, _%_, _≤_, min}
 use native.Mathlib.Omega.{arith}
 use lib.Dec.{eqb}
 use lib.ListN.{length, getD, take, replicate, length-take}
-use Rattle.queues.specs.Queues.{maxLines, maxJobs, Job, State, start, queueAt, addConditions, addedTo, addOf, Turn, nobody, serves, turnOf}
+use Rattle.queues.specs.Queues.{maxLines, maxJobs, Job, Lines, newLines, queueAt, addConditions, addedTo, addOf, Turn, nobody, serves, turnOf}
 use Rattle.queues.specs.Answers.{noJob}
 use Rattle.program.specs.Screening.{Screening, clear, found, screen}
 use Rattle.semantics.specs.Runs.{Buffers}
@@ -20,7 +20,7 @@ use Rattle.capi_lines.specs.States.{stateNumbers, maxAllowance, placesRe
 use Rattle.capi_lines.specs.Entries.{AddLeft, stateAfter, addLeft, linesAdd, ServeLeft, servedState, serveLeft, linesServe}
 
 -- "The queues start empty": a list of zeros is that state
-pub zeros-start : stateRead (replicate stateNumbers 0) ≡ start
+pub zeros-start : stateRead (replicate stateNumbers 0) ≡ newLines
 unfolding stateRead
 zeros-start = refl
 
@@ -83,7 +83,7 @@ four (a ∷ b ∷ c ∷ []) h = absurd (omega arith)
 four (a ∷ b ∷ c ∷ d ∷ []) h = refl
 four (a ∷ b ∷ c ∷ d ∷ e ∷ qs) h = absurd (omega arith)
 
-pub read-back : (s : State) → Sound s → ((l : ℕ) → SmallAllowances (queueAt s l)) → stateRead (stateWritten s) ≡ s
+pub read-back : (s : Lines) → Sound s → ((l : ℕ) → SmallAllowances (queueAt s l)) → stateRead (stateWritten s) ≡ s
 unfolding stateRead stateWritten
 read-back s sound small =
     let e : s .turn % maxLines ≡ s .turn = omega (arith, sound .turn-below) in
@@ -120,14 +120,14 @@ accepted-small : (x : Screening) (l k : ℕ) (j : Job) → j .calls ≤ maxAllow
 accepted-small clear l k j h = only-small j h (eqb k l)
 accepted-small (found c p) l k j h = none-small
 
-added-small : (l : ℕ) (os : List Operation) (s : State) → SmallAdds os → SmallAllowances (addedIn l os s)
+added-small : (l : ℕ) (os : List Operation) (s : Lines) → SmallAdds os → SmallAllowances (addedIn l os s)
 added-small l [] s h = none-small
 added-small l (add k j store ∷ os) s h =
     small-append (addedBy l (add k j store) s) (addedIn l os (stepped (add k j store) s)) (accepted-small (addOf s k j store .answer) l k j (h .0))
     (added-small l os (stepped (add k j store) s) (h .1))
 added-small l (serve store b ∷ os) s h = added-small l os (stepped (serve store b) s) h
 
-nothing-small : (l : ℕ) → SmallAllowances (queueAt start l)
+nothing-small : (l : ℕ) → SmallAllowances (queueAt newLines l)
 nothing-small zero = none-small
 nothing-small (suc zero) = none-small
 nothing-small (suc (suc zero)) = none-small
@@ -135,14 +135,14 @@ nothing-small (suc (suc (suc zero))) = none-small
 nothing-small (suc (suc (suc (suc l)))) = none-small
 
 -- the states of which what is written is read back
-record StateReadable (s : State) : Type 0 where
+record StateReadable (s : Lines) : Type 0 where
   sound : Sound s
   small : (l : ℕ) → SmallAllowances (queueAt s l)
 
-start-readable : StateReadable start
+start-readable : StateReadable newLines
 start-readable = record { sound = start-sound; small = nothing-small }
 
-session-readable : (os : List Operation) (s : State) → StateReadable s → SmallAdds os → StateReadable (session os s)
+session-readable : (os : List Operation) (s : Lines) → StateReadable s → SmallAdds os → StateReadable (session os s)
 session-readable os s r h = record {
   sound = session-sound os s (r .sound);
   small = λ l.
@@ -150,8 +150,8 @@ session-readable os s r h = record {
       (subst SmallAllowances (in-order l os s (r .sound)) (small-append (queueAt s l) (addedIn l os s) (r .small l) (added-small l os s h)));
 }
 
-pub session-read-back : (os : List Operation) → SmallAdds os → stateRead (stateWritten (session os start)) ≡ session os start
-session-read-back os h = let r = session-readable os start start-readable h in read-back (session os start) (r .sound) (r .small)
+pub session-read-back : (os : List Operation) → SmallAdds os → stateRead (stateWritten (session os newLines)) ≡ session os newLines
+session-read-back os h = let r = session-readable os newLines start-readable h in read-back (session os newLines) (r .sound) (r .small)
 
 -- ---- the same session over lists of numbers
 -- an operation, and the list that is lent for its answer
@@ -186,7 +186,7 @@ abbrev pub listAfter : List Call → List ℕ
 listAfter cs = listSession cs (replicate stateNumbers 0)
 
 -- one call, of a list that is read as this state
-module _ (n : List ℕ) (size : length n ≡ stateNumbers) (s : State) (e : stateRead n ≡ s) (store answer : List ℕ) where
+module _ (n : List ℕ) (size : length n ≡ stateNumbers) (s : Lines) (e : stateRead n ≡ s) (store answer : List ℕ) where
   add-read : 8 ≤ length answer → (l : ℕ) (j : Job) → linesAdd n l j store answer ≡ addLeft n answer (addOf s l j store)
   add-read room l j = λ i. cond (fit stateNumbers 8 n answer size room i) (record { reply = notDone answer; state = n })
       (addLeft n answer (addOf (e i) l j store))
@@ -196,7 +196,7 @@ module _ (n : List ℕ) (size : length n ≡ stateNumbers) (s : State) (e : stat
       (serveLeft n answer (serveOf (e i) store b))
 
 -- where an entry leaves the list, the operation leaves the state
-module _ (s : State) (store : List ℕ) where
+module _ (s : Lines) (store : List ℕ) where
   add-written : (l : ℕ) (j : Job)
       → stateAfter (addOf s l j store .answer) (stateWritten s) (addOf s l j store .state) ≡ stateWritten (addOf s l j store .state)
   unfolding addOf
@@ -217,11 +217,11 @@ module _ (s : State) (store : List ℕ) where
       go (serves l j js) = refl
 
 -- A state is written as 102 numbers.
-pub written-size : (s : State) → length (stateWritten s) ≡ stateNumbers
+pub written-size : (s : Lines) → length (stateWritten s) ≡ stateNumbers
 unfolding stateWritten
 written-size s = refl
 
-same-step : (o : Operation) (answer : List ℕ) (s : State) → StateReadable s → Room o answer → listStepped o answer (stateWritten s) ≡ stateWritten (stepped o s)
+same-step : (o : Operation) (answer : List ℕ) (s : Lines) → StateReadable s → Room o answer → listStepped o answer (stateWritten s) ≡ stateWritten (stepped o s)
 same-step (add l j store) answer s r room =
     ap (λ (x : AddLeft). x .state) (add-read (stateWritten s) (written-size s) s (read-back s (r .sound) (r .small)) store answer room l j)
     ∙ add-written s store l j
@@ -233,7 +233,7 @@ first-small : (o : Operation) (os : List Operation) → SmallAdds (o ∷ os) →
 first-small (add l j store) os h = ((h .0, tt), h .1)
 first-small (serve store b) os h = (tt, h)
 
-same-from : (cs : List Call) → Rooms cs → SmallAdds (operations cs) → (s : State) → StateReadable s
+same-from : (cs : List Call) → Rooms cs → SmallAdds (operations cs) → (s : Lines) → StateReadable s
     → listSession cs (stateWritten s) ≡ stateWritten (session (operations cs) s)
 same-from [] room h s r = refl
 same-from (c ∷ cs) room h s r =
@@ -241,27 +241,27 @@ same-from (c ∷ cs) room h s r =
     ap (listSession cs) (same-step (c .operation) (c .answer) s r (room .0))
     ∙ same-from cs (room .1) (split .1) (stepped (c .operation) s) (session-readable (c .operation ∷ []) s r (split .0))
 
-start-written : stateWritten start ≡ replicate stateNumbers 0
+start-written : stateWritten newLines ≡ replicate stateNumbers 0
 unfolding stateWritten
 start-written = refl
 
 module _ (cs : List Call) (room : Rooms cs) (h : SmallAdds (operations cs)) where
   -- The list that a session leaves is what is written of the state that the same session leaves.
-  pub same-session : listAfter cs ≡ stateWritten (session (operations cs) start)
-  same-session = sym (ap (listSession cs) start-written) ∙ same-from cs room h start start-readable
+  pub same-session : listAfter cs ≡ stateWritten (session (operations cs) newLines)
+  same-session = sym (ap (listSession cs) start-written) ∙ same-from cs room h newLines start-readable
 
   same-size : length (listAfter cs) ≡ stateNumbers
-  same-size = ap length same-session ∙ written-size (session (operations cs) start)
+  same-size = ap length same-session ∙ written-size (session (operations cs) newLines)
 
-  same-state : stateRead (listAfter cs) ≡ session (operations cs) start
+  same-state : stateRead (listAfter cs) ≡ session (operations cs) newLines
   same-state = ap stateRead same-session ∙ session-read-back (operations cs) h
 
   -- And the next call returns and writes what the operation on that state answers.
   module _ (store answer : List ℕ) where
     pub same-add : 8 ≤ length answer → (l : ℕ) (j : Job)
-        → linesAdd (listAfter cs) l j store answer ≡ addLeft (listAfter cs) answer (addOf (session (operations cs) start) l j store)
-    same-add = add-read (listAfter cs) same-size (session (operations cs) start) same-state store answer
+        → linesAdd (listAfter cs) l j store answer ≡ addLeft (listAfter cs) answer (addOf (session (operations cs) newLines) l j store)
+    same-add = add-read (listAfter cs) same-size (session (operations cs) newLines) same-state store answer
 
     pub same-serve : 9 ≤ length answer → (b : Buffers)
-        → linesServe (listAfter cs) store b answer ≡ serveLeft (listAfter cs) answer (serveOf (session (operations cs) start) store b)
-    same-serve = serve-read (listAfter cs) same-size (session (operations cs) start) same-state store answer
+        → linesServe (listAfter cs) store b answer ≡ serveLeft (listAfter cs) answer (serveOf (session (operations cs) newLines) store b)
+    same-serve = serve-read (listAfter cs) same-size (session (operations cs) newLines) same-state store answer

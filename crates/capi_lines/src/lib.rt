@@ -3,7 +3,7 @@ ghost use mathlib.Core.List.{[]};
 ghost use mathlib.Core.Path.{_≡_};
 ghost use Rattle.interp.specs.Answers.{buffersOf};
 ghost use Rattle.queues.specs.Answers.{jobOf};
-ghost use Rattle.capi_lines.specs.Entries.{linesAdd, leftAdd, linesServe, leftServe};
+ghost use Rattle.capi_lines.specs.Entries.{linesAdd, returnedAdd, linesServe, returnedServe};
 
 pub mod reply;
 pub mod state;
@@ -28,7 +28,7 @@ pub fn add(
     store: &[u8],
     answer: &mut [u32],
 ) -> u32
-    ensures { λ r. ⌜ leftAdd r (now (answer .exit)) (now (state .exit))
+    ensures { λ r. ⌜ returnedAdd r (now (answer .exit)) (now (state .exit))
         ≡ linesAdd (now (state .entry)) line (jobOf offset length calls) (now (store .entry)) (now (answer .entry)) ⌝ }
 {
     if state.len() != STATE_NUMBERS {
@@ -53,7 +53,7 @@ pub fn serve(
     posts: &mut [u32],
     answer: &mut [u32],
 ) -> u32
-    ensures { λ r. ⌜ leftServe r (now (answer .exit)) (now (state .exit)) (buffersOf (now (cells .exit)) (now (posts .exit)) [])
+    ensures { λ r. ⌜ returnedServe r (now (answer .exit)) (now (state .exit)) (buffersOf (now (cells .exit)) (now (posts .exit)) [])
         ≡ linesServe (now (state .entry)) (now (store .entry)) (buffersOf (now (cells .entry)) (now (posts .entry)) []) (now (answer .entry)) ⌝ }
 {
     if state.len() != STATE_NUMBERS {

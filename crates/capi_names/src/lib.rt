@@ -1,7 +1,7 @@
 // Whether a sheet names a privilege, for C. include/sovzedal.h documents each argument.
 ghost use mathlib.Core.Path.{_≡_};
-ghost use Rattle.replies.specs.Replies.{replied, leftReply};
-ghost use Rattle.replies.specs.Internal.{replyOf};
+ghost use Rattle.replies.specs.Replies.{replied, returnedReply};
+ghost use Rattle.replies.specs.Internal.{replyModel};
 ghost use Rattle.irrelevance.specs.Naming.{naming};
 ghost use Rattle.irrelevance.specs.Answers.{namedModel};
 ghost use Rattle.capi_names.specs.Entries.{namesReply};
@@ -12,7 +12,7 @@ use replies::put;
 use replies::refused;
 
 pub fn names(sheet: &[u8], privilege: u32, answer: &mut [u32]) -> u32
-    ensures { λ r. ⌜ leftReply r (now (answer .exit)) ≡ replied (now (answer .entry)) (namesReply (naming (now (sheet .entry)) privilege)) ⌝ }
+    ensures { λ r. ⌜ returnedReply r (now (answer .exit)) ≡ replied (now (answer .entry)) (namesReply (naming (now (sheet .entry)) privilege)) ⌝ }
 {
     if answer.len() < ANSWER_NUMBERS {
         return 3;
@@ -21,7 +21,7 @@ pub fn names(sheet: &[u8], privilege: u32, answer: &mut [u32]) -> u32
 }
 
 fn of_named(n: Named) -> Reply
-    ensures { λ r. ⌜ replyOf r ≡ namesReply (namedModel n) ⌝ }
+    ensures { λ r. ⌜ replyModel r ≡ namesReply (namedModel n) ⌝ }
 {
     match n {
         Named::At(t) => Reply {
@@ -32,7 +32,7 @@ fn of_named(n: Named) -> Reply
             status: 0,
             numbers: [0, 0, 0, 0, 0, 0, 0, 0],
         },
-        Named::Unreadable(f) => refused(numbers::of_reader(f)),
+        Named::Unreadable(f) => refused(numbers::of_decoding(f)),
         Named::NoPrivilege => Reply {
             status: 2,
             numbers: [30, 0, 0, 0, 0, 0, 0, 0],

@@ -9,7 +9,7 @@ use Rattle.piece.specs.declared.Located.{Located}
 use Rattle.capi_piece.specs.Entries.{located}
 
 -- the place and the length of a record are at most 65,535, as a sheet has fewer bytes, and so fit into 32 bits
-pub record Near (x : Located) : Type 0 where
+pub record PieceReplyFits (x : Located) : Type 0 where
   pub at-most : x .at ≤ 65535
   pub len-most : x .len ≤ 65535
 

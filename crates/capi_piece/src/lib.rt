@@ -1,9 +1,9 @@
 // The smallest faulty piece of a sheet, for C: the place of its record stands in the answer. include/sovzedal.h documents each argument.
 ghost use mathlib.Core.Path.{_≡_};
-ghost use Rattle.replies.specs.Replies.{replied, leftReply};
-ghost use Rattle.replies.specs.Internal.{replyOf};
+ghost use Rattle.replies.specs.Replies.{replied, returnedReply};
+ghost use Rattle.replies.specs.Internal.{replyModel};
 ghost use Rattle.capi_piece.specs.Entries.{pieceReply};
-ghost use Rattle.capi_piece.specs.Internal.{Near, locatedReply};
+ghost use Rattle.capi_piece.specs.Internal.{PieceReplyFits, locatedReply};
 use piece::Located;
 use replies::ANSWER_NUMBERS;
 use replies::Reply;
@@ -12,7 +12,7 @@ use replies::refused;
 use subterms::answer::Piece;
 
 pub fn piece(sheet: &[u8], answer: &mut [u32]) -> u32
-    ensures { λ r. ⌜ leftReply r (now (answer .exit)) ≡ replied (now (answer .entry)) (pieceReply (now (sheet .entry))) ⌝ }
+    ensures { λ r. ⌜ returnedReply r (now (answer .exit)) ≡ replied (now (answer .entry)) (pieceReply (now (sheet .entry))) ⌝ }
 {
     if answer.len() < ANSWER_NUMBERS {
         return 3;
@@ -22,12 +22,12 @@ pub fn piece(sheet: &[u8], answer: &mut [u32]) -> u32
 }
 
 fn of_located(x: Located) -> Reply
-    requires { ⌜ Near x ⌝ }
-    ensures { λ r. ⌜ replyOf r ≡ locatedReply x ⌝ }
+    requires { ⌜ PieceReplyFits x ⌝ }
+    ensures { λ r. ⌜ replyModel r ≡ locatedReply x ⌝ }
 {
     let p = x.piece;
     match p {
-        Piece::Unreadable(f) => refused(numbers::of_reader(f)),
+        Piece::Unreadable(f) => refused(numbers::of_decoding(f)),
         Piece::NoPiece => Reply {
             status: 0,
             numbers: [0, 0, 0, 0, 0, 0, 0, 0],

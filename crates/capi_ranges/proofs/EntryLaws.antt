@@ -10,23 +10,23 @@ use Rattle.intervals.specs.Intervals.{interval}
 use Rattle.intervals.specs.Runs.{intervalRun}
 use Rattle.intervals.specs.Theorems.{interval-few, interval-uncounted}
 use Rattle.interp.specs.Answers.{countsModel, buffersOf}
-use Rattle.interp.specs.declared.answer.Made.{Made}
+use Rattle.interp.specs.declared.answer.RunCounts.{RunCounts}
 use Rattle.numbers.specs.Codes.{CodeIs}
 use Rattle.numbers.specs.declared.Code.{Code}
-use Rattle.ranges.specs.Answers.{truthOf, intervalOutcomeModel, intervalModel, afterIntervals}
+use Rattle.ranges.specs.Answers.{truthModel, intervalOutcomeModel, intervalRunModel, afterIntervals}
 use Rattle.ranges.specs.declared.answer.Truth.{Truth}
 use Rattle.ranges.specs.declared.answer.IntervalRun.{IntervalRun}
 use Rattle.ranges.specs.declared.answer.IntervalRun.the-variants.{Refused, Ran}
 use Rattle.replies.specs.Replies as replies
-use Rattle.replies.specs.Replies.{leftAll}
-use Rattle.replies.specs.Internal.{replyOf, withCounts, Put}
+use Rattle.replies.specs.Replies.{returnedRun}
+use Rattle.replies.specs.Internal.{replyModel, withCounts, Put}
 use Rattle.replies.specs.Laws.{in-place}
 use Rattle.replies.specs.declared.Reply.{Reply}
 use Rattle.capi_ranges.specs.Entries.{truthNumber, intervalFinished, intervalReply, intervalLeft, intervalCall}
 use Rattle.capi_ranges.specs.Internal.{Uncounted, IntervalReplyFits}
 
 -- ---- the numbers of an outcome, of which the last is 0
-module _ (m : Made) (h : Uncounted m) where
+module _ (m : RunCounts) (h : Uncounted m) where
   uncounted : (status c p k v : ℕ) → withCounts status c p k v m
       ≡ record { status = status; numbers = c ∷ p ∷ k ∷ v ∷ m .calls ∷ m .cells ∷ m .posts ∷ 0 ∷ [] }
   uncounted status c p k v = λ i. record { status = status; numbers = c ∷ p ∷ k ∷ v ∷ m .calls ∷ m .cells ∷ m .posts ∷ h .none-saturated i ∷ [] }
@@ -35,9 +35,9 @@ module _ (m : Made) (h : Uncounted m) where
       → r ≡ intervalFinished (stopped cause term) (countsModel m)
   stopped-as cause term e k = e ∙ (λ i. withCounts 1 (k .cause-is i) (k .place-is i) 0 0 m) ∙ uncounted 1 cause term 0 0
 
-  pub ended-truth : {r : replies.Reply} (t : Truth) {n : ℕ} → n ≡ truthNumber (truthOf t) → r ≡ withCounts 0 0 0 0 n m
-      → r ≡ intervalFinished (ended (ground-bool (truthOf t))) (countsModel m)
-  ended-truth t p e = e ∙ (λ i. withCounts 0 0 0 0 (p i) m) ∙ uncounted 0 0 0 0 (truthNumber (truthOf t))
+  pub ended-truth : {r : replies.Reply} (t : Truth) {n : ℕ} → n ≡ truthNumber (truthModel t) → r ≡ withCounts 0 0 0 0 n m
+      → r ≡ intervalFinished (ended (ground-bool (truthModel t))) (countsModel m)
+  ended-truth t p e = e ∙ (λ i. withCounts 0 0 0 0 (p i) m) ∙ uncounted 0 0 0 0 (truthNumber (truthModel t))
 
   pub ended-interval : {r : replies.Reply} (lowest highest : ℕ) → r ≡ withCounts 0 0 0 1 (lowest * 65536 + highest) m
       → r ≡ intervalFinished (ended (ground-num (interval lowest highest))) (countsModel m)
@@ -45,10 +45,10 @@ module _ (m : Made) (h : Uncounted m) where
 
 -- ---- the entry
 module _ (s ps : List ℕ) (q : Request) (b : Buffers) where
-  pub short-answer : (answer : List ℕ) → length answer < 8 → leftAll 3 answer b ≡ intervalCall answer b (intervalRun s ps q b)
-  short-answer answer h = λ i. cond (sym (lt-ltb (length answer) 8 h) i) (leftAll 3 answer b) (intervalLeft answer (intervalRun s ps q b))
+  pub short-answer : (answer : List ℕ) → length answer < 8 → returnedRun 3 answer b ≡ intervalCall answer b (intervalRun s ps q b)
+  short-answer answer h = λ i. cond (sym (lt-ltb (length answer) 8 h) i) (returnedRun 3 answer b) (intervalLeft answer (intervalRun s ps q b))
 
-  pub reply-fits : (r : IntervalRun) → intervalModel r ≡ intervalRun s ps q b .answer → IntervalReplyFits r
+  pub reply-fits : (r : IntervalRun) → intervalRunModel r ≡ intervalRun s ps q b .answer → IntervalReplyFits r
   reply-fits (Refused f) e = tt
   reply-fits (Ran o m) e = record {
     few = interval-few s ps q b (intervalOutcomeModel o) (countsModel m) (sym e);
@@ -56,9 +56,9 @@ module _ (s ps : List ℕ) (q : Request) (b : Buffers) where
   }
 
   pub given : (answer : List ℕ) → 8 ≤ length answer → (r : IntervalRun) {cells posts : List ℕ} → afterIntervals r cells posts ≡ intervalRun s ps q b
-      → {x : Reply} → replyOf x ≡ intervalReply (intervalModel r) → {status : ℕ} {after : List ℕ} → Put x answer status after
-      → leftAll status after (buffersOf cells posts []) ≡ intervalCall answer b (intervalRun s ps q b)
+      → {x : Reply} → replyModel x ≡ intervalReply (intervalRunModel r) → {status : ℕ} {after : List ℕ} → Put x answer status after
+      → returnedRun status after (buffersOf cells posts []) ≡ intervalCall answer b (intervalRun s ps q b)
   given answer h r {cells} {posts} p e put =
       (λ i. record { reply = in-place answer h e put i; buffers = buffersOf cells posts [] })
       ∙ ap (intervalLeft answer) p
-      ∙ (λ i. cond (sym (le-ltb (length answer) 8 h) i) (leftAll 3 answer b) (intervalLeft answer (intervalRun s ps q b)))
+      ∙ (λ i. cond (sym (le-ltb (length answer) 8 h) i) (returnedRun 3 answer b) (intervalLeft answer (intervalRun s ps q b)))

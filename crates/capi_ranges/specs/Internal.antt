@@ -2,12 +2,12 @@
 use mathlib.Core.Path.{_≡_}
 use Rattle.semantics.specs.Claims.{Few}
 use Rattle.interp.specs.Answers.{countsModel}
-use Rattle.interp.specs.declared.answer.Made.{Made}
+use Rattle.interp.specs.declared.answer.RunCounts.{RunCounts}
 use Rattle.ranges.specs.declared.answer.IntervalRun.{IntervalRun}
 use Rattle.ranges.specs.declared.answer.IntervalRun.the-variants.{Refused, Ran}
 
 -- the counts fit into 32 bits, and no saturated result is among them
-pub record Uncounted (m : Made) : Type 0 where
+pub record Uncounted (m : RunCounts) : Type 0 where
   pub few : Few (countsModel m)
   pub none-saturated : m .saturated ≡ 0
 

@@ -5,12 +5,12 @@ ghost use Rattle.semantics.specs.Runs.{eager as eagerRunner};
 ghost use Rattle.intervals.specs.Runs.{intervalRun};
 ghost use Rattle.interp.specs.Answers.{countsModel, requestOf, buffersOf};
 ghost use Rattle.numbers.specs.Codes.{CodeIs};
-ghost use Rattle.replies.specs.Replies.{enforces, leftAll};
-ghost use Rattle.replies.specs.Internal.{replyOf};
-ghost use Rattle.ranges.specs.Answers.{truthOf, intervalOutcomeModel, intervalRefusalCause, intervalRefusalPlace, intervalModel};
+ghost use Rattle.replies.specs.Replies.{enforceFlag, returnedRun};
+ghost use Rattle.replies.specs.Internal.{replyModel};
+ghost use Rattle.ranges.specs.Answers.{truthModel, intervalOutcomeModel, intervalRefusalCause, intervalRefusalPlace, intervalRunModel};
 ghost use Rattle.capi_ranges.specs.Entries.{truthNumber, intervalFinished, intervalReply, intervalCall};
 ghost use Rattle.capi_ranges.specs.Internal.{Uncounted, IntervalReplyFits};
-use interp::answer::Made;
+use interp::answer::RunCounts;
 use numbers::Code;
 use ranges::answer::IntervalGround;
 use ranges::answer::IntervalOutcome;
@@ -24,7 +24,7 @@ use replies::put;
 use replies::refused;
 
 fn truth_number(t: Truth) -> u32
-    ensures { λ r. ⌜ r ≡ truthNumber (truthOf t) ⌝ }
+    ensures { λ r. ⌜ r ≡ truthNumber (truthModel t) ⌝ }
 {
     match t {
         Truth::No => 0,
@@ -33,9 +33,9 @@ fn truth_number(t: Truth) -> u32
     }
 }
 
-fn of_outcome(o: IntervalOutcome, m: Made) -> Reply
+fn of_outcome(o: IntervalOutcome, m: RunCounts) -> Reply
     requires { ⌜ Uncounted m ⌝ }
-    ensures { λ r. ⌜ replyOf r ≡ intervalFinished (intervalOutcomeModel o) (countsModel m) ⌝ }
+    ensures { λ r. ⌜ replyModel r ≡ intervalFinished (intervalOutcomeModel o) (countsModel m) ⌝ }
 {
     let none = Code { cause: 0, place: 0 };
     match o {
@@ -68,7 +68,7 @@ fn of_refusal(f: IntervalRefusal) -> Code
 
 fn of_run(x: IntervalRun) -> Reply
     requires { ⌜ IntervalReplyFits x ⌝ }
-    ensures { λ r. ⌜ replyOf r ≡ intervalReply (intervalModel x) ⌝ }
+    ensures { λ r. ⌜ replyModel r ≡ intervalReply (intervalRunModel x) ⌝ }
 {
     match x {
         IntervalRun::Refused(f) => refused(of_refusal(f)),
@@ -87,9 +87,9 @@ pub fn ranges(
     posts: &mut [u32],
     answer: &mut [u32],
 ) -> u32
-    ensures { λ r. ⌜ leftAll r (now (answer .exit)) (buffersOf (now (cells .exit)) (now (posts .exit)) [])
+    ensures { λ r. ⌜ returnedRun r (now (answer .exit)) (buffersOf (now (cells .exit)) (now (posts .exit)) [])
         ≡ intervalCall (now (answer .entry)) (buffersOf (now (cells .entry)) (now (posts .entry)) [])
-        (intervalRun (now (sheet .entry)) (now (pairs .entry)) (requestOf eagerRunner (enforces enforce) (now (start .entry)) calls depth)
+        (intervalRun (now (sheet .entry)) (now (pairs .entry)) (requestOf eagerRunner (enforceFlag enforce) (now (start .entry)) calls depth)
         (buffersOf (now (cells .entry)) (now (posts .entry)) [])) ⌝ }
 {
     if answer.len() < ANSWER_NUMBERS {

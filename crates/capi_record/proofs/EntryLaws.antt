@@ -11,15 +11,15 @@ use Rattle.semantics.specs.Recording.{Recorded, recording}
 use Rattle.semantics.specs.RecordTheorems.{record-holds, decisions-few}
 use Rattle.interp.specs.Answers.{runModel, buffersOf, afterRecording}
 use Rattle.interp.specs.declared.answer.RecordedRun.{RecordedRun}
-use Rattle.replies.specs.Replies.{runReply, writtenNine, leftReply}
+use Rattle.replies.specs.Replies.{runReply, writtenNine, returnedReply}
 use Rattle.replies.specs.Laws.{small}
-use Rattle.capi_record.specs.Entries.{leftRecord, recordLeft, recordCall}
+use Rattle.capi_record.specs.Entries.{returnedRecord, recordLeft, recordCall}
 use Rattle.capi_record.specs.Internal.{RecordReplyFits}
 
 module _ (s : List ℕ) (q : Request) (b : Buffers) (t : List ℕ) where
   -- nothing is done
-  pub short-answer : (answer : List ℕ) → length answer < 9 → leftRecord 3 answer b t ≡ recordCall answer b t (recording s q b t)
-  short-answer answer h = λ i. cond (sym (lt-ltb (length answer) 9 h) i) (leftRecord 3 answer b t) (recordLeft answer (recording s q b t))
+  pub short-answer : (answer : List ℕ) → length answer < 9 → returnedRecord 3 answer b t ≡ recordCall answer b t (recording s q b t)
+  short-answer answer h = λ i. cond (sym (lt-ltb (length answer) 9 h) i) (returnedRecord 3 answer b t) (recordLeft answer (recording s q b t))
 
   -- a run, with its record
   module _ (r : RecordedRun) {cells posts frames noted : List ℕ} (e : afterRecording r cells posts frames noted ≡ recording s q b t) where
@@ -32,9 +32,9 @@ module _ (s : List ℕ) (q : Request) (b : Buffers) (t : List ℕ) where
     reply-fits = record { counts-small = small s q b (r .run) (ap (λ (x : Recorded). x .after .answer) e); entries-small = few }
 
     pub nine-written : (answer : List ℕ) → 9 ≤ length answer → {status : ℕ} {after : List ℕ}
-        → leftReply status after ≡ writtenNine (runReply (runModel (r .run))) (r .entries) answer
-        → leftRecord status after (buffersOf cells posts frames) noted ≡ recordCall answer b t (recording s q b t)
+        → returnedReply status after ≡ writtenNine (runReply (runModel (r .run))) (r .entries) answer
+        → returnedRecord status after (buffersOf cells posts frames) noted ≡ recordCall answer b t (recording s q b t)
     nine-written answer h p =
         (λ i. record { reply = p i; buffers = buffersOf cells posts frames; noted = noted })
         ∙ ap (recordLeft answer) e
-        ∙ (λ i. cond (sym (le-ltb (length answer) 9 h) i) (leftRecord 3 answer b t) (recordLeft answer (recording s q b t)))
+        ∙ (λ i. cond (sym (le-ltb (length answer) 9 h) i) (returnedRecord 3 answer b t) (recordLeft answer (recording s q b t)))

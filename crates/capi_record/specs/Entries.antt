@@ -6,15 +6,15 @@ use lib.Dec.{ltb}
 use lib.ListN.{length}
 use Rattle.semantics.specs.Runs.{Buffers}
 use Rattle.semantics.specs.Recording.{Recorded}
-use Rattle.replies.specs.Replies.{Reply, runReply, writtenNine, notDone, leftReply}
+use Rattle.replies.specs.Replies.{Reply, runReply, writtenNine, notDone, returnedReply}
 
 pub record RecordLeft : Type 0 where
   pub reply : Reply
   pub buffers : Buffers
   pub noted : List ℕ
 
-abbrev pub leftRecord : (status : ℕ) (answer : List ℕ) → Buffers → (noted : List ℕ) → RecordLeft
-leftRecord status answer b t = record { reply = leftReply status answer; buffers = b; noted = t }
+abbrev pub returnedRecord : (status : ℕ) (answer : List ℕ) → Buffers → (noted : List ℕ) → RecordLeft
+returnedRecord status answer b t = record { reply = returnedReply status answer; buffers = b; noted = t }
 
 -- "Its answer is as without a record, with the number of entries beside it": the ninth number is how many entries the record has
 abbrev pub recordLeft : (answer : List ℕ) → Recorded → RecordLeft

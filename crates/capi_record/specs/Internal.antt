@@ -2,12 +2,12 @@
 use mathlib.Core.List.{List}
 use Prim.Native.Nat.{ℕ, _<_, _≤_}
 use lib.ListN.{length}
-use Rattle.replies.specs.Internal.{Small}
+use Rattle.replies.specs.Internal.{RunReplyFits}
 use Rattle.interp.specs.declared.answer.RecordedRun.{RecordedRun}
 
 -- the counts and the number of entries fit into 32 bits
 pub record RecordReplyFits (r : RecordedRun) : Type 0 where
-  pub counts-small : Small (r .run)
+  pub counts-small : RunReplyFits (r .run)
   pub entries-small : r .entries < 4294967296
 
 -- and there is room for the nine numbers of an answer

@@ -4,8 +4,8 @@ ghost use mathlib.Core.Path.{_≡_};
 ghost use Rattle.semantics.specs.Runs.{eager as eagerRunner, lazy as lazyRunner};
 ghost use Rattle.semantics.specs.Recording.{recording};
 ghost use Rattle.interp.specs.Answers.{runModel, requestOf, buffersOf};
-ghost use Rattle.replies.specs.Replies.{runReply, writtenNine, enforces, leftReply};
-ghost use Rattle.capi_record.specs.Entries.{recordCall, leftRecord};
+ghost use Rattle.replies.specs.Replies.{runReply, writtenNine, enforceFlag, returnedReply};
+ghost use Rattle.capi_record.specs.Entries.{recordCall, returnedRecord};
 ghost use Rattle.capi_record.specs.Internal.{RecordReplyFitsIn};
 use interp::answer::RecordedRun;
 use replies::ANSWER_NUMBERS;
@@ -16,7 +16,7 @@ use replies::put;
 // Writes the nine numbers and gives the status.
 fn put_nine(r: RecordedRun, answer: &mut [u32]) -> u32
     requires { ⌜ RecordReplyFitsIn r (now answer) ⌝ }
-    ensures { λ status. ⌜ leftReply status (now (answer .exit)) ≡ writtenNine (runReply (runModel (r .run))) (r .entries) (now (answer .entry)) ⌝ }
+    ensures { λ status. ⌜ returnedReply status (now (answer .exit)) ≡ writtenNine (runReply (runModel (r .run))) (r .entries) (now (answer .entry)) ⌝ }
 {
     let run = r.run;
     let status = put(of_run(run), answer);
@@ -36,9 +36,9 @@ pub fn eager(
     noted: &mut [u8],
     answer: &mut [u32],
 ) -> u32
-    ensures { λ r. ⌜ leftRecord r (now (answer .exit)) (buffersOf (now (cells .exit)) (now (posts .exit)) []) (now (noted .exit))
+    ensures { λ r. ⌜ returnedRecord r (now (answer .exit)) (buffersOf (now (cells .exit)) (now (posts .exit)) []) (now (noted .exit))
         ≡ recordCall (now (answer .entry)) (buffersOf (now (cells .entry)) (now (posts .entry)) []) (now (noted .entry))
-        (recording (now (sheet .entry)) (requestOf eagerRunner (enforces enforce) (now (start .entry)) calls depth)
+        (recording (now (sheet .entry)) (requestOf eagerRunner (enforceFlag enforce) (now (start .entry)) calls depth)
         (buffersOf (now (cells .entry)) (now (posts .entry)) []) (now (noted .entry))) ⌝ }
 {
     if answer.len() < LONG_ANSWER {
@@ -70,9 +70,9 @@ pub fn lazy(
     noted: &mut [u8],
     answer: &mut [u32],
 ) -> u32
-    ensures { λ r. ⌜ leftRecord r (now (answer .exit)) (buffersOf (now (cells .exit)) (now (posts .exit)) (now (frames .exit))) (now (noted .exit))
+    ensures { λ r. ⌜ returnedRecord r (now (answer .exit)) (buffersOf (now (cells .exit)) (now (posts .exit)) (now (frames .exit))) (now (noted .exit))
         ≡ recordCall (now (answer .entry)) (buffersOf (now (cells .entry)) (now (posts .entry)) (now (frames .entry))) (now (noted .entry))
-        (recording (now (sheet .entry)) (requestOf lazyRunner (enforces enforce) (now (start .entry)) calls depth)
+        (recording (now (sheet .entry)) (requestOf lazyRunner (enforceFlag enforce) (now (start .entry)) calls depth)
         (buffersOf (now (cells .entry)) (now (posts .entry)) (now (frames .entry))) (now (noted .entry))) ⌝ }
 {
     if answer.len() < LONG_ANSWER {

@@ -1,7 +1,7 @@
 // The judgement of one term of a sheet, for C. include/sovzedal.h documents each argument.
 ghost use mathlib.Core.Path.{_≡_};
-ghost use Rattle.replies.specs.Replies.{replied, leftReply};
-ghost use Rattle.replies.specs.Internal.{replyOf};
+ghost use Rattle.replies.specs.Replies.{replied, returnedReply};
+ghost use Rattle.replies.specs.Internal.{replyModel};
 ghost use Rattle.subterms.specs.Judging.{judging};
 ghost use Rattle.subterms.specs.Answers.{judgedModel};
 ghost use Rattle.capi_term.specs.Entries.{termReply};
@@ -12,7 +12,7 @@ use replies::refused;
 use subterms::answer::Judged;
 
 pub fn term(sheet: &[u8], term: u32, answer: &mut [u32]) -> u32
-    ensures { λ r. ⌜ leftReply r (now (answer .exit)) ≡ replied (now (answer .entry)) (termReply (judging (now (sheet .entry)) term)) ⌝ }
+    ensures { λ r. ⌜ returnedReply r (now (answer .exit)) ≡ replied (now (answer .entry)) (termReply (judging (now (sheet .entry)) term)) ⌝ }
 {
     if answer.len() < ANSWER_NUMBERS {
         return 3;
@@ -21,7 +21,7 @@ pub fn term(sheet: &[u8], term: u32, answer: &mut [u32]) -> u32
 }
 
 fn of_judged(j: Judged) -> Reply
-    ensures { λ r. ⌜ replyOf r ≡ termReply (judgedModel j) ⌝ }
+    ensures { λ r. ⌜ replyModel r ≡ termReply (judgedModel j) ⌝ }
 {
     match j {
         Judged::Typed {
@@ -37,6 +37,6 @@ fn of_judged(j: Judged) -> Reply
             status: 2,
             numbers: [37, 0, 0, 0, 0, 0, 0, 0],
         },
-        Judged::Unreadable(f) => refused(numbers::of_reader(f)),
+        Judged::Unreadable(f) => refused(numbers::of_decoding(f)),
     }
 }

@@ -18,9 +18,9 @@ abbrev pub needing : (p : ℕ) → Judgement → Bool
 needing p (typed τ N) = has p N
 needing p (fault c at) = false
 
-abbrev pub latentOf : Types → (p : ℕ) → Judgement → Bool
-latentOf T p (typed φ N) = has p (T .latent φ)
-latentOf T p (fault c at) = false
+abbrev pub inLatent : Types → (p : ℕ) → Judgement → Bool
+inLatent T p (typed φ N) = has p (T .latent φ)
+inLatent T p (fault c at) = false
 
 module _ (T : Types) (A : ℕ → ℕ) (p : ℕ) where
   -- "each has the privilege among its own needs": as it is judged in its bindings and under its principal
@@ -34,7 +34,7 @@ module _ (T : Types) (A : ℕ → ℕ) (p : ℕ) where
   causeIn Γ n (variable at i) = false
   causeIn Γ n (function at ty body) = false
   causeIn Γ n (letrec at ty body rest) = has p (T .latent ty)
-  causeIn Γ n (call at f a) = latentOf T p (infer T A Γ n f)
+  causeIn Γ n (call at f a) = inLatent T p (infer T A Γ n f)
   causeIn Γ n (if at c y o) = false
   causeIn Γ n (check at q c) = eqb q p
   causeIn Γ n (enable at q c) = false
@@ -63,11 +63,11 @@ module _ (T : Types) (A : ℕ → ℕ) (p : ℕ) where
   testsIt (post at ch g c) = false
 
   -- the children that may be followed: "The yes-branch of a test of that privilege never qualifies."
-  abbrev pub partsIn : (Γ : List ℕ) (n : ℕ) → Term → List Placed
-  partsIn Γ n c = cond (testsIt c) (tail (childrenIn T Γ n c)) (childrenIn T Γ n c)
+  abbrev pub followedIn : (Γ : List ℕ) (n : ℕ) → Term → List Placed
+  followedIn Γ n c = cond (testsIt c) (tail (childrenIn T Γ n c)) (childrenIn T Γ n c)
 
   unfoldable pub followed : Placed → List Placed
-  followed (placed Γ n c) = partsIn Γ n c
+  followed (placed Γ n c) = followedIn Γ n c
 
   -- "Where several children qualify the lowest position is followed"
   abbrev pub orLater : Bool → Placed → (Unit {0} → Option Placed) → Option Placed
@@ -87,13 +87,13 @@ module _ (T : Types) (A : ℕ → ℕ) (p : ℕ) where
   next x = unlessCause (isCause x) λ _. firstNeeding (followed x)
 
   -- the chain from a term on, of at most so many terms; no sheet has one longer than its nesting, 32
-  abbrev pub followedBy : Option Placed → (Placed → List Placed) → List Placed
-  followedBy none later = []
-  followedBy (some x) later = later x
+  abbrev pub chainFrom : Option Placed → (Placed → List Placed) → List Placed
+  chainFrom none later = []
+  chainFrom (some x) later = later x
 
   unfoldable pub chain : (most : ℕ) → Placed → List Placed
   chain zero x = []
-  chain (suc k) x = x ∷ followedBy (next x) λ y. chain k y
+  chain (suc k) x = x ∷ chainFrom (next x) λ y. chain k y
 
 -- "If the privilege isn't needed the answer says so, and only then. The judge's own refusals come first, and a privilege above 31 is 30."
 pub data Explained : Type 0 where

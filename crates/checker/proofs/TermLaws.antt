@@ -28,7 +28,7 @@ use Rattle.typing.specs.Rules.{removeAuthorised}
 use Rattle.typing.specs.Checking.{Judgement, typed, _next_, require, bodyFits, infer}
 use Rattle.subtyping.specs.Laws.Records.{TypeParts, type-parts}
 use Rattle.typing.specs.Verdicts.{termJudgement}
-use Rattle.rules.specs.Inference.{inferredModel, context, room, roomAt, Ready}
+use Rattle.rules.specs.Inference.{inferredModel, context, bindingDepth, bindingDepthAt, Ready}
 use Rattle.rules.specs.Steps.{Pushed, leafStep, checkStep, enableStep, signStep, postStep, testStep, ifStep, binaryStep, bodyStep, functionStep, letrecStep, callStep, binaryResult}
 use Rattle.checker.specs.Internal.{ReadyTerm, ReadyAt}
 use Rattle.typing.specs.declared.answer.Inferred.{Inferred}
@@ -101,9 +101,9 @@ module _ {s : List ℕ} {c : Counts} {l : List ℕ} {t : ℕ} {b : Bindings} {n 
         (tree-node s well t (W .ready .inside))
         ∙ ap (λ (k : Kind). node (guardOf s) k t (x .small) (x .first) (x .second) (x .third) (tree s)) e
 
-    room-as : roomAt s t ≡ room (node (guardOf s) K t (x .small) (x .first) (x .second) (x .third) (tree s))
-    unfolding roomAt
-    room-as = ap room tree-as
+    room-as : bindingDepthAt s t ≡ bindingDepth (node (guardOf s) K t (x .small) (x .first) (x .second) (x .third) (tree s))
+    unfolding bindingDepthAt
+    room-as = ap bindingDepth tree-as
 
     inferred-as : (Γ : List ℕ) (n : ℕ) → termJudgement s Γ n t
         ≡ infer (typesOf s) (authority s) Γ n (node (guardOf s) K t (x .small) (x .first) (x .second) (x .third) (tree s))
@@ -114,30 +114,30 @@ module _ {s : List ℕ} {c : Counts} {l : List ℕ} {t : ℕ} {b : Bindings} {n 
   named e = ap kindOf e
 
   -- ---- children
-  child : (y : ℕ) (d : Bindings) (m : ℕ) → m < principals s → y < t → d .len + roomAt s y ≤ maxNesting → ChildReady s c t y d m
+  child : (y : ℕ) (d : Bindings) (m : ℕ) → m < principals s → y < t → d .len + bindingDepthAt s y ≤ maxNesting → ChildReady s c t y d m
   child y d m p h g = record { lower = h; ready = record { sheet = W .ready .sheet; inside = omega (arith, W .ready .inside); principal = p; fits = g } }
 
-  plain : (y : ℕ) → y < t → roomAt s y ≤ roomAt s t → ChildReady s c t y b n
+  plain : (y : ℕ) → y < t → bindingDepthAt s y ≤ bindingDepthAt s t → ChildReady s c t y b n
   plain y h g = child y b n (W .ready .principal) h (omega (arith, W .ready .fits))
 
   pub check-child : x .kind ≡ 7 → ChildReady s c t (x .first) b n
-  unfolding roomAt
+  unfolding bindingDepthAt
   check-child e = plain (x .first) (lower-as Check (named e) .first-below refl) (omega (arith, room-as Check (named e)))
 
   pub enable-child : x .kind ≡ 8 → ChildReady s c t (x .first) b n
-  unfolding roomAt
+  unfolding bindingDepthAt
   enable-child e = plain (x .first) (lower-as Enable (named e) .first-below refl) (omega (arith, room-as Enable (named e)))
 
   pub sign-principal : x .kind ≡ 9 → x .small < principals s
   sign-principal e = ltb-true (x .small) (principals s) (small-as Sign (named e))
 
   pub sign-child : x .kind ≡ 9 → ChildReady s c t (x .first) b (x .small)
-  unfolding roomAt
+  unfolding bindingDepthAt
   sign-child e = child (x .first) b (x .small) (sign-principal e) (lower-as Sign (named e) .first-below refl)
       (omega (arith, room-as Sign (named e), W .ready .fits))
 
   pub post-child : x .kind ≡ 14 → ChildReady s c t (x .first) b n
-  unfolding roomAt
+  unfolding bindingDepthAt
   post-child e = plain (x .first) (lower-as Post (named e) .first-below refl) (omega (arith, room-as Post (named e)))
 
   pub check-privilege : x .kind ≡ 7 → x .small < privilegeCount
@@ -159,35 +159,35 @@ module _ {s : List ℕ} {c : Counts} {l : List ℕ} {t : ℕ} {b : Bindings} {n 
   pub post-guard-byte : x .kind ≡ 14 → {g : ℕ} → g ≡ guardRecord s c (x .small) → isGuard g ≡ true
   post-guard-byte e a = subst (λ (g : ℕ). isGuard g ≡ true) (sym (post-guard e a)) (well .guard-ok (x .small) (post-channel e))
 
-  left : (y z : ℕ) → y < t → roomAt s t ≡ max (roomAt s y) (roomAt s z) → ChildReady s c t y b n
-  left y z h e = plain y h (omega (arith, e, le-max-left (roomAt s y) (roomAt s z)))
+  left : (y z : ℕ) → y < t → bindingDepthAt s t ≡ max (bindingDepthAt s y) (bindingDepthAt s z) → ChildReady s c t y b n
+  left y z h e = plain y h (omega (arith, e, le-max-left (bindingDepthAt s y) (bindingDepthAt s z)))
 
-  right : (y z : ℕ) → z < t → roomAt s t ≡ max (roomAt s y) (roomAt s z) → ChildReady s c t z b n
-  right y z h e = plain z h (omega (arith, e, le-max-right (roomAt s y) (roomAt s z)))
+  right : (y z : ℕ) → z < t → bindingDepthAt s t ≡ max (bindingDepthAt s y) (bindingDepthAt s z) → ChildReady s c t z b n
+  right y z h e = plain z h (omega (arith, e, le-max-right (bindingDepthAt s y) (bindingDepthAt s z)))
 
   pub call-first : x .kind ≡ 5 → ChildReady s c t (x .first) b n
-  unfolding roomAt
+  unfolding bindingDepthAt
   call-first e = left (x .first) (x .second) (lower-as Call (named e) .first-below refl) (room-as Call (named e))
 
   pub call-second : x .kind ≡ 5 → ChildReady s c t (x .second) b n
-  unfolding roomAt
+  unfolding bindingDepthAt
   call-second e = right (x .first) (x .second) (lower-as Call (named e) .second-below refl) (room-as Call (named e))
 
   pub test-first : x .kind ≡ 10 → ChildReady s c t (x .first) b n
-  unfolding roomAt
+  unfolding bindingDepthAt
   test-first e = left (x .first) (x .second) (lower-as Test (named e) .first-below refl) (room-as Test (named e))
 
   pub test-second : x .kind ≡ 10 → ChildReady s c t (x .second) b n
-  unfolding roomAt
+  unfolding bindingDepthAt
   test-second e = right (x .first) (x .second) (lower-as Test (named e) .second-below refl) (room-as Test (named e))
 
   record Operands : Type 0 where
     first-lower : x .first < t
     second-lower : x .second < t
-    most : roomAt s t ≡ max (roomAt s (x .first)) (roomAt s (x .second))
+    most : bindingDepthAt s t ≡ max (bindingDepthAt s (x .first)) (bindingDepthAt s (x .second))
 
   operands : 11 ≤ x .kind → x .kind < 14 → Operands
-  unfolding roomAt
+  unfolding bindingDepthAt
   operands h g = go (three-of 11 (x .kind) h g)
     where
       go : (x .kind ≡ 11) ⊎ ((x .kind ≡ 12) ⊎ (x .kind ≡ 13)) → Operands
@@ -217,50 +217,50 @@ module _ {s : List ℕ} {c : Counts} {l : List ℕ} {t : ℕ} {b : Bindings} {n 
   binary-second h g = let w = operands h g in right (x .first) (x .second) (w .second-lower) (w .most)
 
   pub if-first : x .kind ≡ 6 → ChildReady s c t (x .first) b n
-  unfolding roomAt
+  unfolding bindingDepthAt
   if-first e = plain (x .first) (lower-as If (named e) .first-below refl)
-      (omega (arith, room-as If (named e), le-max-left (roomAt s (x .first)) (max (roomAt s (x .second)) (roomAt s (x .third)))))
+      (omega (arith, room-as If (named e), le-max-left (bindingDepthAt s (x .first)) (max (bindingDepthAt s (x .second)) (bindingDepthAt s (x .third)))))
 
   pub if-second : x .kind ≡ 6 → ChildReady s c t (x .second) b n
-  unfolding roomAt
+  unfolding bindingDepthAt
   if-second e = plain (x .second) (lower-as If (named e) .second-below refl)
       (omega (
         arith,
         room-as If (named e),
-        le-max-right (roomAt s (x .first)) (max (roomAt s (x .second)) (roomAt s (x .third))),
+        le-max-right (bindingDepthAt s (x .first)) (max (bindingDepthAt s (x .second)) (bindingDepthAt s (x .third))),
         le-max-left
-            (roomAt s (x .second)) (roomAt s (x .third)),
+            (bindingDepthAt s (x .second)) (bindingDepthAt s (x .third)),
       ))
 
   pub if-third : x .kind ≡ 6 → ChildReady s c t (x .third) b n
-  unfolding roomAt
+  unfolding bindingDepthAt
   if-third e = plain (x .third) (lower-as If (named e) .third-below refl)
       (omega (
         arith,
         room-as If (named e),
-        le-max-right (roomAt s (x .first)) (max (roomAt s (x .second)) (roomAt s (x .third))),
+        le-max-right (bindingDepthAt s (x .first)) (max (bindingDepthAt s (x .second)) (bindingDepthAt s (x .third))),
         le-max-right
-            (roomAt s (x .second)) (roomAt s (x .third)),
+            (bindingDepthAt s (x .second)) (bindingDepthAt s (x .third)),
       ))
 
   -- a function's body has one binding more
   pub function-room : x .kind ≡ 3 → b .len < maxNesting
-  unfolding roomAt
+  unfolding bindingDepthAt
   function-room e = omega (arith, room-as Function (named e), W .ready .fits)
 
   pub function-child : x .kind ≡ 3 → {ty : ℕ} {d : Bindings} → Pushed b ty d → ChildReady s c t (x .second) d n
-  unfolding roomAt
+  unfolding bindingDepthAt
   function-child e {d = d} p = child (x .second) d n (W .ready .principal) (lower-as Function (named e) .second-below refl)
       (omega (arith, room-as Function (named e), W .ready .fits, p .len-is))
 
   -- a letrec's has two, and the rest one
-  body-room : x .kind ≡ 4 → 2 + roomAt s (x .second) ≤ roomAt s t
-  unfolding roomAt
-  body-room e = omega (arith, room-as Letrec (named e), le-max-left (2 + roomAt s (x .second)) (1 + roomAt s (x .third)))
+  body-room : x .kind ≡ 4 → 2 + bindingDepthAt s (x .second) ≤ bindingDepthAt s t
+  unfolding bindingDepthAt
+  body-room e = omega (arith, room-as Letrec (named e), le-max-left (2 + bindingDepthAt s (x .second)) (1 + bindingDepthAt s (x .third)))
 
-  rest-room : x .kind ≡ 4 → 1 + roomAt s (x .third) ≤ roomAt s t
-  unfolding roomAt
-  rest-room e = omega (arith, room-as Letrec (named e), le-max-right (2 + roomAt s (x .second)) (1 + roomAt s (x .third)))
+  rest-room : x .kind ≡ 4 → 1 + bindingDepthAt s (x .third) ≤ bindingDepthAt s t
+  unfolding bindingDepthAt
+  rest-room e = omega (arith, room-as Letrec (named e), le-max-right (2 + bindingDepthAt s (x .second)) (1 + bindingDepthAt s (x .third)))
 
   pub letrec-room : x .kind ≡ 4 → b .len + 1 < maxNesting
   letrec-room e = omega (arith, body-room e, W .ready .fits)

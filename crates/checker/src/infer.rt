@@ -212,7 +212,7 @@ fn infer_binary(
         return j;
     };
     let k = infer(s, c, known, x.second, b, n);
-    let result = steps::result_of(x.kind);
+    let result = steps::binary_result(x.kind);
     steps::computed(result, t, ty, needs, k)
 }
 

@@ -13,9 +13,9 @@ use Rattle.program.specs.Bytes.{byte}
 use Rattle.traces.specs.Traces.{Event, eventOf, eventAt, wellFormedRecord, trace}
 use Rattle.traces.specs.Comparing.{sameEvent, refused, fits, diverges, compared, ifBoth, comparison}
 use Rattle.traces.specs.Laws.Subsequences.{same-true, same-self}
-use Rattle.traces.specs.Laws.Greedy.{placed, placed-none, placed-room, compared-fits, compared-diverges}
+use Rattle.traces.specs.Laws.Greedy.{matched, placed-none, placed-room, compared-fits, compared-diverges}
 use Rattle.traces.specs.Laws.Records.{trace-length, well-formed-true, trace-next, well-formed-next, whole-entry, decision-at}
-use Rattle.compare.specs.Internal.{EntryAt, TwoFormed, placedEntries}
+use Rattle.compare.specs.Internal.{EntryAt, TwoFormed, matchedEntries}
 
 -- ---- equal entries
 decision-one : (d e : ℕ) → d ≤ 1 → e ≤ 1 → eqb d 1 ≡ eqb e 1 → d ≡ e
@@ -97,29 +97,29 @@ pub record Placing (u o : List ℕ) (i j : ℕ) : Type 0 where
   pub office-whole : j % 4 ≡ 0
   pub unit-within : i ≤ length u
   pub office-within : j ≤ length o
-  pub so-far : i / 4 + placed (trace (drop i u)) (trace (drop j o)) ≡ placedEntries u o
+  pub so-far : i / 4 + matched (trace (drop i u)) (trace (drop j o)) ≡ matchedEntries u o
 
-placed-step : (e f : Event) (t x : List Event) (b : Bool) → sameEvent e f ≡ b → placed (e ∷ t) (f ∷ x) ≡ cond b (suc (placed t x)) (placed (e ∷ t) x)
-unfolding placed
-placed-step e f t x b q = λ k. cond (q k) (suc (placed t x)) (placed (e ∷ t) x)
+placed-step : (e f : Event) (t x : List Event) (b : Bool) → sameEvent e f ≡ b → matched (e ∷ t) (f ∷ x) ≡ cond b (suc (matched t x)) (matched (e ∷ t) x)
+unfolding matched
+placed-step e f t x b q = λ k. cond (q k) (suc (matched t x)) (matched (e ∷ t) x)
 
 module _ (u o : List ℕ) where
   pub placing-starts : Placing u o 0 0
   placing-starts = record { unit-whole = refl; office-whole = refl; unit-within = omega arith; office-within = omega arith; so-far = omega arith }
 
-  pub placing-all : (i j : ℕ) → Placing u o i j → i ≡ length u → i / 4 ≡ placedEntries u o
-  unfolding placed trace
+  pub placing-all : (i j : ℕ) → Placing u o i j → i ≡ length u → i / 4 ≡ matchedEntries u o
+  unfolding matched trace
   placing-all i j p e =
-      let x : placed (trace (drop i u)) (trace (drop j o)) ≡ 0 =
-      λ k. placed (trace ((ap (λ (n : ℕ). drop n u) e ∙ drop-length u) k)) (trace (drop j o)) in
+      let x : matched (trace (drop i u)) (trace (drop j o)) ≡ 0 =
+      λ k. matched (trace ((ap (λ (n : ℕ). drop n u) e ∙ drop-length u) k)) (trace (drop j o)) in
       omega (arith, x, p .so-far)
 
-  pub placing-end : (i j : ℕ) → Placing u o i j → length o ≤ j → i / 4 ≡ placedEntries u o
+  pub placing-end : (i j : ℕ) → Placing u o i j → length o ≤ j → i / 4 ≡ matchedEntries u o
   unfolding trace
   placing-end i j p h =
       let e : j ≡ length o = omega (arith, p .office-within) in
-      let x : placed (trace (drop i u)) (trace (drop j o)) ≡ 0 =
-      (λ k. placed (trace (drop i u)) (trace ((ap (λ (n : ℕ). drop n o) e ∙ drop-length o) k))) ∙ placed-none (trace (drop i u)) in
+      let x : matched (trace (drop i u)) (trace (drop j o)) ≡ 0 =
+      (λ k. matched (trace (drop i u)) (trace ((ap (λ (n : ℕ). drop n o) e ∙ drop-length o) k))) ∙ placed-none (trace (drop i u)) in
       omega (arith, x, p .so-far)
 
   module _ (f : TwoFormed u o) (i j : ℕ) (p : Placing u o i j) (more : i ≡ length u → ⊥) (inside : j < length o) where
@@ -135,10 +135,10 @@ module _ (u o : List ℕ) where
       decision = decision-at o (f .of-office) j (p .office-whole) inside;
     }
 
-    step : (b : Bool) → sameEvent (eventAt u i) (eventAt o j) ≡ b → placed (trace (drop i u)) (trace (drop j o))
-        ≡ cond b (suc (placed (trace (drop (i + 4) u)) (trace (drop (j + 4) o)))) (placed (eventAt u i ∷ trace (drop (i + 4) u)) (trace (drop (j + 4) o)))
+    step : (b : Bool) → sameEvent (eventAt u i) (eventAt o j) ≡ b → matched (trace (drop i u)) (trace (drop j o))
+        ≡ cond b (suc (matched (trace (drop (i + 4) u)) (trace (drop (j + 4) o)))) (matched (eventAt u i ∷ trace (drop (i + 4) u)) (trace (drop (j + 4) o)))
     step b q =
-        (λ k. placed (trace-next u i (unit-entry .inside) k) (trace-next o j (office-entry .inside) k))
+        (λ k. matched (trace-next u i (unit-entry .inside) k) (trace-next o j (office-entry .inside) k))
         ∙ placed-step (eventAt u i) (eventAt o j) (trace (drop (i + 4) u)) (trace (drop (j + 4) o)) b q
 
     pub placing-same : {i′ : ℕ} → sameEvent (eventAt u i) (eventAt o j) ≡ true → i′ ≡ i + 4 → Placing u o i′ (j + 4)
@@ -152,7 +152,7 @@ module _ (u o : List ℕ) where
 
     pub placing-other : {i′ : ℕ} → sameEvent (eventAt u i) (eventAt o j) ≡ false → i′ ≡ i → Placing u o i′ (j + 4)
     placing-other q e =
-        let x = step false q ∙ ap (λ (l : List Event). placed l (trace (drop (j + 4) o))) (sym (trace-next u i (unit-entry .inside))) in
+        let x = step false q ∙ ap (λ (l : List Event). matched l (trace (drop (j + 4) o))) (sym (trace-next u i (unit-entry .inside))) in
         subst (λ (x : ℕ). Placing u o x (j + 4)) (sym e) (record {
           unit-whole = p .unit-whole;
           office-whole = omega (arith, p .office-whole);
@@ -176,14 +176,14 @@ module _ (u o : List ℕ) where
     unfolding comparison
     as-compared = λ i. ifBoth (g i && h i) u o
 
-    pub as-diverges : {k : ℕ} → k ≡ placedEntries u o → k < length u / 4 → diverges k ≡ comparison u o
+    pub as-diverges : {k : ℕ} → k ≡ matchedEntries u o → k < length u / 4 → diverges k ≡ comparison u o
     as-diverges e l =
         ap diverges e ∙ sym (compared-diverges (trace u) (trace o) (omega (arith, trace-length u))) ∙ as-compared
 
-    pub as-fits : {k : ℕ} → k ≡ placedEntries u o → length u / 4 ≤ k → fits (length o / 4 - length u / 4) ≡ comparison u o
+    pub as-fits : {k : ℕ} → k ≡ matchedEntries u o → length u / 4 ≤ k → fits (length o / 4 - length u / 4) ≡ comparison u o
     as-fits e l =
         (λ i. fits (sym (trace-length o) i - sym (trace-length u) i)) ∙ sym (compared-fits (trace u) (trace o) (omega (arith, trace-length u))) ∙ as-compared
 
   -- no more entries are placed than the office has
-  pub enough : {k : ℕ} → k ≡ placedEntries u o → length u / 4 ≤ k → length u / 4 ≤ length o / 4
+  pub enough : {k : ℕ} → k ≡ matchedEntries u o → length u / 4 ≤ k → length u / 4 ≤ length o / 4
   enough e l = omega (arith, trace-length u, trace-length o, placed-room (trace u) (trace o))

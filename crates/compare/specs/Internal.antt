@@ -6,7 +6,7 @@ use Prim.Native.Nat.{ℕ, _+_, _≤_}
 use lib.ListN.{length}
 use Rattle.program.specs.Bytes.{byte}
 use Rattle.traces.specs.Traces.{trace, wellFormedRecord}
-use Rattle.traces.specs.Laws.Greedy.{placed}
+use Rattle.traces.specs.Laws.Greedy.{matched}
 
 -- a whole entry stands at a place, with 0 or 1 for its decision
 pub record EntryAt (s : List ℕ) (i : ℕ) : Type 0 where
@@ -24,5 +24,5 @@ pub record TwoFormed (unit office : List ℕ) : Type 0 where
   pub of-office : wellFormedRecord office ≡ true
 
 -- how many of the unit's entries are placed, each as early as it can be
-abbrev pub placedEntries : (unit office : List ℕ) → ℕ
-placedEntries u o = placed (trace u) (trace o)
+abbrev pub matchedEntries : (unit office : List ℕ) → ℕ
+matchedEntries u o = matched (trace u) (trace o)

@@ -4,7 +4,7 @@ ghost use mathlib.Core.Path.{_≡_};
 ghost use Rattle.traces.specs.Traces.{eventAt, wellFormedRecord};
 ghost use Rattle.traces.specs.Comparing.{sameEvent, comparison};
 ghost use Rattle.compare.specs.Answers.{comparisonModel};
-ghost use Rattle.compare.specs.Internal.{TwoEntries, TwoFormed, placedEntries};
+ghost use Rattle.compare.specs.Internal.{TwoEntries, TwoFormed, matchedEntries};
 
 pub mod answer;
 
@@ -22,7 +22,7 @@ pub fn compare(unit: &[u8], office: &[u8]) -> Comparison
     if !well_formed(office) {
         return Comparison::Malformed;
     }
-    let placed = place(unit, office);
+    let placed = count_matched(unit, office);
     let entries = unit.len() / ENTRY;
     if placed < entries {
         return Comparison::Diverges(placed);
@@ -48,9 +48,9 @@ fn well_formed(s: &[u8]) -> bool
 }
 
 // How many of the unit's entries can be placed, from the first on.
-fn place(unit: &[u8], office: &[u8]) -> usize
+fn count_matched(unit: &[u8], office: &[u8]) -> usize
     requires { ⌜ TwoFormed (now unit) (now office) ⌝ }
-    ensures { λ r. ⌜ r ≡ placedEntries (now (unit .entry)) (now (office .entry)) ⌝ }
+    ensures { λ r. ⌜ r ≡ matchedEntries (now (unit .entry)) (now (office .entry)) ⌝ }
 {
     let mut i = 0;
     let mut j = 0;

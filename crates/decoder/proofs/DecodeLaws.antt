@@ -13,7 +13,7 @@ use Rattle.program.specs.Laws.Screening.{first-found, none-screen, first-left}
 use Rattle.program.specs.Answers.{decodingCause, decodingPlace}
 use Rattle.accessors.specs.Internal.{Laid}
 use Rattle.headers.specs.Internal.{HeaderIs}
-use Rattle.program.specs.Search.{foundOf}
+use Rattle.program.specs.Search.{foundModel}
 use Rattle.decoder.specs.Answers.{DecodedAs}
 use Rattle.program.specs.declared.answer.Decoded.{Decoded}
 use Rattle.program.specs.declared.search.Found.{Found}
@@ -24,11 +24,11 @@ use Rattle.headers.specs.declared.Header.{Header}
 use Rattle.headers.specs.declared.Header.the-variants.{Laid as HeaderLaid, Fault as HeaderFault}
 
 -- ---- a search's answer, by its cases
-pub found-at : {r : Found} {t : ℕ} {o : Option ℕ} → r ≡ At t → foundOf r ≡ o → o ≡ some t
-found-at e h = sym h ∙ ap foundOf e
+pub found-at : {r : Found} {t : ℕ} {o : Option ℕ} → r ≡ At t → foundModel r ≡ o → o ≡ some t
+found-at e h = sym h ∙ ap foundModel e
 
-pub found-none : {r : Found} {o : Option ℕ} → r ≡ Nothing → foundOf r ≡ o → o ≡ none
-found-none e h = sym h ∙ ap foundOf e
+pub found-none : {r : Found} {o : Option ℕ} → r ≡ Nothing → foundModel r ≡ o → o ≡ none
+found-none e h = sym h ∙ ap foundModel e
 
 -- ---- a guard
 pub guard-ok : (s : List ℕ) (c : Counts) → Laid s c → (channel : ℕ) → channel < maxChannels → {g : ℕ} → g ≡ guardRecord s c channel

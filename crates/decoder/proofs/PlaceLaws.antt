@@ -15,7 +15,7 @@ use Rattle.program.specs.Formats.{Part, isChild, Kind, Boolean, Number, Variabl
 use Rattle.program.specs.Decoding.{formatAt, termOk, childCount, timesIn, timesBelow, isSign, signedBody, placedOk, parent}
 use Rattle.accessors.specs.Internal.{Laid, TermInside, term-inside}
 use Rattle.termrecords.specs.Internal.{kindShape, shapeIf, shapeAt}
-use Rattle.decoder.specs.Internal.{TermsOk, TableTerm, linkStep, Linked, linkTimes, countEqual, among, LinkedAll, ChildrenBelow, linkOf, Links, manyParents, TwoBelow}
+use Rattle.decoder.specs.Internal.{TermsOk, TableTerm, linkStep, Linked, linkTimes, countEqual, timesInShape, LinkedAll, ChildrenBelow, linkOf, Links, manyParents, TwoBelow}
 use Rattle.program.specs.Records.{termAtByte, termRecord}
 use Rattle.program.specs.Laws.Screening.{lowest-none}
 use Rattle.program.specs.Laws.Readable.{fields-ok}
@@ -136,7 +136,7 @@ children-below Difference t a b d n w l = two-below t a b n (w .first-below refl
 children-below Less t a b d n w l = two-below t a b n (w .first-below refl) (w .second-below refl) l
 children-below Post t a b d n w l = omega (arith, w .first-below refl)
 
-among-times : (k : Kind) (y a b d : ℕ) → among y (kindShape k a b d)
+among-times : (k : Kind) (y a b d : ℕ) → timesInShape y (kindShape k a b d)
     ≡ childCount (format k .first) a y + childCount (format k .second) b y + childCount (format k .third) d y
 among-times Boolean y a b d = refl
 among-times Number y a b d = refl
@@ -168,8 +168,8 @@ module _ (s : List ℕ) (T : TermsOk s) (few : terms s ≤ maxTerms) (t : ℕ) (
       subst (λ (z : Shape). ChildrenBelow z maxTerms) (sym (e ∙ right-shape s t (terms-ok s T t h)))
       (children-below (kindOf (kindByte s t)) t (first s t) (second s t) (third s t) maxTerms (below-of s t (terms-ok s T t h)) (omega arith))
 
-  among-is : (y : ℕ) → among y x ≡ timesIn s y t
-  among-is y = ap (among y) (e ∙ right-shape s t (terms-ok s T t h)) ∙ among-times (kindOf (kindByte s t)) y (first s t) (second s t) (third s t)
+  among-is : (y : ℕ) → timesInShape y x ≡ timesIn s y t
+  among-is y = ap (timesInShape y) (e ∙ right-shape s t (terms-ok s T t h)) ∙ among-times (kindOf (kindByte s t)) y (first s t) (second s t) (third s t)
 
 -- ---- the parent that is found lies above its child
 not-counted : (p : Part) (v x t : ℕ) → (isChild p ≡ true → v < t) → t ≤ x → childCount p v x ≡ 0

@@ -55,17 +55,17 @@ abbrev pub countEqual : (x y : ℕ) → ℕ
 countEqual x y = cond (eqb x y) 1 0
 
 -- how often y is among the children
-abbrev pub among : (y : ℕ) → Shape → ℕ
-among y Leaf = 0
-among y (One a) = countEqual a y
-among y (Two a b) = countEqual a y + countEqual b y
-among y (Three a b d) = countEqual a y + countEqual b y + countEqual d y
-among y (FunctionShape b) = countEqual b y
-among y (LetrecShape b d) = countEqual b y + countEqual d y
-among y Wrong = 0
+abbrev pub timesInShape : (y : ℕ) → Shape → ℕ
+timesInShape y Leaf = 0
+timesInShape y (One a) = countEqual a y
+timesInShape y (Two a b) = countEqual a y + countEqual b y
+timesInShape y (Three a b d) = countEqual a y + countEqual b y + countEqual d y
+timesInShape y (FunctionShape b) = countEqual b y
+timesInShape y (LetrecShape b d) = countEqual b y + countEqual d y
+timesInShape y Wrong = 0
 
 abbrev pub LinkedAll : (old new : List ℕ) → Shape → (t : ℕ) → Type 0
-LinkedAll old new x t = (y : ℕ) → y < length old → getD new y 0 ≡ linkTimes (among y x) (getD old y 0) t
+LinkedAll old new x t = (y : ℕ) → y < length old → getD new y 0 ≡ linkTimes (timesInShape y x) (getD old y 0) t
 
 -- the numbers of the children are below n
 pub record TwoBelow (a b n : ℕ) : Type 0 where

@@ -4,7 +4,7 @@ ghost use Rattle.program.specs.Limits.{maxChannels};
 ghost use Rattle.program.specs.Screening.{lowest};
 ghost use Rattle.program.specs.Decoding.{guardOk};
 ghost use Rattle.accessors.specs.Internal.{Laid};
-ghost use Rattle.program.specs.Search.{foundOf};
+ghost use Rattle.program.specs.Search.{foundModel};
 use accessors::guard;
 use program::limits::MAX_CHANNELS;
 use program::limits::MAX_PRIVILEGE;
@@ -15,7 +15,7 @@ use program::search::Found;
 // The lowest channel whose guard is neither a privilege nor none. A sheet of version 1 has no guards, so that none is found.
 pub fn bad_guard(s: &[u8], c: Counts) -> Found
     requires { ⌜ Laid (now s) c ⌝ }
-    ensures { λ r. ⌜ foundOf r ≡ lowest (guardOk (now (s .entry))) 0 maxChannels ⌝ }
+    ensures { λ r. ⌜ foundModel r ≡ lowest (guardOk (now (s .entry))) 0 maxChannels ⌝ }
 {
     let mut channel = 0;
     while channel < MAX_CHANNELS {

@@ -17,7 +17,7 @@ use program::records::Counts;
 use program::search::Found;
 
 // The guards of a sheet whose terms are right.
-fn guarded(s: &[u8], c: Counts) -> Decoded
+fn decode_guards(s: &[u8], c: Counts) -> Decoded
     requires { ⌜ NestedTables (now s) c ⌝ }
     ensures { λ r. ⌜ DecodedAs (now (s .entry)) (screen (tableConditions (now (s .entry)))) r ⌝ }
 {
@@ -28,7 +28,7 @@ fn guarded(s: &[u8], c: Counts) -> Decoded
 }
 
 // The nesting of a sheet whose records and places are right.
-fn nested(s: &[u8], c: Counts, parents: &[u16; TERM_PLACES]) -> Decoded
+fn decode_nesting(s: &[u8], c: Counts, parents: &[u16; TERM_PLACES]) -> Decoded
     requires { ⌜ PlacedTables (now s) c (now parents) ⌝ }
     ensures { λ r. ⌜ DecodedAs (now (s .entry)) (screen (tableConditions (now (s .entry)))) r ⌝ }
 {
@@ -36,24 +36,24 @@ fn nested(s: &[u8], c: Counts, parents: &[u16; TERM_PLACES]) -> Decoded
     let deep = nesting::nestings(parents, n);
     match nesting::too_deep(&deep, n) {
         Found::At(t) => Decoded::Refused(Refusal::TooDeep(t)),
-        Found::Nothing => guarded(s, c),
+        Found::Nothing => decode_guards(s, c),
     }
 }
 
 // The places of a sheet whose records are right.
-fn placed(s: &[u8], c: Counts) -> Decoded
+fn decode_places(s: &[u8], c: Counts) -> Decoded
     requires { ⌜ Tables (now s) c ⌝ }
     ensures { λ r. ⌜ DecodedAs (now (s .entry)) (screen (tableConditions (now (s .entry)))) r ⌝ }
 {
     let parents = places::parents_of(s, c);
     match places::bad_place(s, c, &parents) {
         Found::At(t) => Decoded::Refused(Refusal::BadPlace(t)),
-        Found::Nothing => nested(s, c, &parents),
+        Found::Nothing => decode_nesting(s, c, &parents),
     }
 }
 
 // The two tables of a sheet whose fields are right.
-fn tables(s: &[u8], c: Counts) -> Decoded
+fn decode_tables(s: &[u8], c: Counts) -> Decoded
     requires { ⌜ Laid (now s) c ⌝ }
     ensures { λ r. ⌜ DecodedAs (now (s .entry)) (screen (tableConditions (now (s .entry)))) r ⌝ }
 {
@@ -61,7 +61,7 @@ fn tables(s: &[u8], c: Counts) -> Decoded
         Found::At(t) => Decoded::Refused(Refusal::BadType(t)),
         Found::Nothing => match termrecords::bad_term(s, c) {
             Found::At(t) => Decoded::Refused(Refusal::BadTerm(t)),
-            Found::Nothing => placed(s, c),
+            Found::Nothing => decode_places(s, c),
         },
     }
 }
@@ -72,6 +72,6 @@ pub fn decode(sheet: &[u8]) -> Decoded
 {
     match headers::read_header(sheet) {
         Header::Fault(f) => Decoded::Refused(f),
-        Header::Laid(c) => tables(sheet, c),
+        Header::Laid(c) => decode_tables(sheet, c),
     }
 }

@@ -3,7 +3,7 @@ ghost use mathlib.Core.Path.{_≡_};
 ghost use Prim.Native.Nat.{_≤_};
 ghost use Rattle.program.specs.Limits.{maxTerms};
 ghost use Rattle.program.specs.Screening.{lowest};
-ghost use Rattle.program.specs.Search.{foundOf};
+ghost use Rattle.program.specs.Search.{foundModel};
 ghost use Rattle.decoder.specs.Internal.{ParentList, Nested, shallowEnough};
 use program::limits::MAX_NESTING;
 use program::limits::TERM_PLACES;
@@ -36,7 +36,7 @@ pub fn nestings(parents: &[u16; TERM_PLACES], n: u16) -> [u8; TERM_PLACES]
 // The lowest term nested too deep.
 pub fn too_deep(deep: &[u8; TERM_PLACES], n: u16) -> Found
     requires { ⌜ n ≤ maxTerms ⌝ }
-    ensures { λ r. ⌜ foundOf r ≡ lowest (shallowEnough (now (deep .entry))) 0 n ⌝ }
+    ensures { λ r. ⌜ foundModel r ≡ lowest (shallowEnough (now (deep .entry))) 0 n ⌝ }
 {
     let mut t = 0;
     while t < n {

@@ -7,7 +7,7 @@ ghost use lib.ListN.{length};
 ghost use Rattle.program.specs.Layout.{second, terms};
 ghost use Rattle.program.specs.Screening.{lowest};
 ghost use Rattle.program.specs.Decoding.{formatAt, isSign, signedBody, placedOk};
-ghost use Rattle.program.specs.Search.{foundOf};
+ghost use Rattle.program.specs.Search.{foundModel};
 ghost use Rattle.decoder.specs.Internal.{Tables, TableTerm, Linked, ChildrenBelow, LinkedAll, Links, LinkedTables, LinkedTerm, manyParents};
 use accessors::table_term;
 use program::limits::TERM_PLACES;
@@ -130,7 +130,7 @@ fn place_ok(s: &[u8], c: Counts, parents: &[u16; TERM_PLACES], t: u16) -> bool
 // The lowest term with a wrong number of parents, whose body is unsigned, or which is the root and unsigned.
 pub fn bad_place(s: &[u8], c: Counts, parents: &[u16; TERM_PLACES]) -> Found
     requires { ⌜ LinkedTables (now s) c (now parents) ⌝ }
-    ensures { λ r. ⌜ foundOf r ≡ lowest (placedOk (now (s .entry))) 0 (terms (now (s .entry))) ⌝ }
+    ensures { λ r. ⌜ foundModel r ≡ lowest (placedOk (now (s .entry))) 0 (terms (now (s .entry))) ⌝ }
 {
     let n = c.terms;
     let mut t = 0;

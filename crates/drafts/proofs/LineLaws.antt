@@ -6,7 +6,7 @@ use Prim.Native.Nat.{ℕ, _≤_}
 use native.Mathlib.Omega.{arith}
 use borrow.Author.Tests.{eq-eqb, ne-eqb}
 use Rattle.stores.specs.Stops.{stopCause, stopPlace}
-use Rattle.stores.specs.declared.state.Stop.{Stop}
+use Rattle.stores.specs.declared.values.Stop.{Stop}
 use Rattle.interp.specs.Answers.{outcomeModel}
 use Rattle.interp.specs.declared.answer.Ground.{Ground}
 use Rattle.interp.specs.declared.answer.Ground.the-variants.{Bool as VBool, Num}

@@ -11,8 +11,8 @@ use crate::draft::decimal;
 use crate::draft::hexadecimal;
 use crate::draft::word;
 use interp::answer::Ground;
-use interp::answer::Made;
 use interp::answer::Outcome;
+use interp::answer::RunCounts;
 use numbers::Code;
 use numbers::of_stop;
 
@@ -88,7 +88,7 @@ fn outcome(d: Draft, o: Outcome) -> Draft
     }
 }
 
-fn counts(d: Draft, m: Made) -> Draft
+fn counts(d: Draft, m: RunCounts) -> Draft
     requires { ⌜ d .len + 107 ≤ draftBytes ⌝ }
     ensures { λ r. ⌜ DraftAppended d (countsText (countsModel m)) 107 r ⌝ }
 {
@@ -99,7 +99,7 @@ fn counts(d: Draft, m: Made) -> Draft
 }
 
 // The whole print of an accepted sheet and its run.
-pub fn accepted(terms: u16, ty: u16, needs: u32, o: Outcome, m: Made) -> Draft
+pub fn accepted(terms: u16, ty: u16, needs: u32, o: Outcome, m: RunCounts) -> Draft
     ensures { λ r. ⌜ DraftHolds (acceptanceText terms ty needs ++ line (outcomeText (outcomeModel o) ++ countsText (countsModel m))) 209 r ⌝ }
 {
     let accepted = acceptance(terms, ty, needs);

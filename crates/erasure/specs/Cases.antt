@@ -17,7 +17,7 @@ use Rattle.semantics.specs.Access.{addAuthorised}
 use Rattle.semantics.specs.Runs.{Buffers, sizes, course, ended, stopped, ground-num, ran}
 use Rattle.soundness.specs.Cases.{Case, deciding, due, request, counted, both, observed, observedBy, largest, as-due}
 use Rattle.erasure.specs.Kept.{keptBelow, gather}
-use Rattle.erasure.specs.Lean.{heads, head, keptType, newTypes, newType, keptTerm, innerIn, inner, newTerms, newTerm, leanSheet, untested, erasable}
+use Rattle.erasure.specs.Lean.{representatives, representative, keptType, newTypes, newType, keptTerm, innerIn, inner, newTerms, newTerm, leanSheet, untested, erasable}
 use Rattle.erasure.specs.Erasure.{ErasureAnswer, refused, lean, AfterErasure, erasure}
 
 -- ---- the sheets, a line for each field's header and each record
@@ -161,8 +161,8 @@ erasures =
     ∷ erasing [] [] (refused 1 0) [] ∷ []
 
 pub erased-cases : map erasureOf erasures ≡ map dueOf erasures
-unfolding erasures erasureOf erasure leanSheet heads head keptType newTypes newType keptTerm innerIn inner newTerms newTerm untested erasable keptBelow
-    gather verdict decoding screen refuseAt infer subtype subtypeIn wider removeAuthorised has meet union insert remove subset
+unfolding erasures erasureOf erasure leanSheet representatives representative keptType newTypes newType keptTerm innerIn inner newTerms newTerm untested
+    erasable keptBelow gather verdict decoding screen refuseAt infer subtype subtypeIn wider removeAuthorised has meet union insert remove subset
 erased-cases = refl
 
 -- ---- both sheets, judged and run: "accepted with type unchanged and no needs"; "a stop tells the old term's new number"

@@ -15,6 +15,6 @@ renumbered ν (refused c p) = refused c p
 renumbered ν (ran o k) = ran (renumberedOutcome ν o) k
 
 -- the second ends or stops as the first does, with the same counts and posts
-pub record LikeRun (ν : ℕ → ℕ) (a b : After) : Type 0 where
+pub record RenumberedRun (ν : ℕ → ℕ) (a b : After) : Type 0 where
   pub like-answer : b .answer ≡ renumbered ν (a .answer)
   pub same-posts : postsOf b ≡ postsOf a

@@ -15,54 +15,54 @@ use Rattle.erasure.specs.Kept.{keptBelow, gather}
 
 -- ---- types
 
--- The records of t and u become equal: of the same kind, with arguments and results that are merged into the same types. `heads` tells of the types
+-- The records of t and u become equal: of the same kind, with arguments and results that are merged into the same types. `representatives` tells of the types
 -- below t into which they are merged.
-abbrev pub alike : List ℕ → (heads : List ℕ) → (t u : ℕ) → Bool
-alike s heads t u =
-    eqb (byte s (typeAt s u)) (byte s (typeAt s t)) && eqb (getD heads (typesOf s .arg u) 0) (getD heads (typesOf s .arg t) 0)
-    && eqb (getD heads (typesOf s .res u) 0) (getD heads (typesOf s .res t) 0)
+abbrev pub alike : List ℕ → (representatives : List ℕ) → (t u : ℕ) → Bool
+alike s representatives t u =
+    eqb (byte s (typeAt s u)) (byte s (typeAt s t)) && eqb (getD representatives (typesOf s .arg u) 0) (getD representatives (typesOf s .arg t) 0)
+    && eqb (getD representatives (typesOf s .res u) 0) (getD representatives (typesOf s .res t) 0)
 
 abbrev pub orSelf : (self : ℕ) → Option ℕ → ℕ
 orSelf t none = t
 orSelf t (some u) = u
 
 -- "merged into the first of them"
-abbrev pub firstAlike : List ℕ → (heads : List ℕ) → (t : ℕ) → ℕ
-firstAlike s heads t = orSelf t (lowest (λ u. not (alike s heads t u)) 0 t)
+abbrev pub firstAlike : List ℕ → (representatives : List ℕ) → (t : ℕ) → ℕ
+firstAlike s representatives t = orSelf t (lowest (λ u. not (alike s representatives t u)) 0 t)
 
-abbrev pub withHead : List ℕ → (t : ℕ) → (heads : List ℕ) → List ℕ
-withHead s t heads = heads ++ firstAlike s heads t ∷ []
+abbrev pub withRepresentative : List ℕ → (t : ℕ) → (representatives : List ℕ) → List ℕ
+withRepresentative s t representatives = representatives ++ firstAlike s representatives t ∷ []
 
 -- of the first so many types, the type into which each is merged
-unfoldable pub heads : List ℕ → (count : ℕ) → List ℕ
-heads s zero = []
-heads s (suc t) = withHead s t (heads s t)
+unfoldable pub representatives : List ℕ → (count : ℕ) → List ℕ
+representatives s zero = []
+representatives s (suc t) = withRepresentative s t (representatives s t)
 
-unfoldable pub head : List ℕ → (type : ℕ) → ℕ
-head s t = getD (heads s (types s)) t 0
+unfoldable pub representative : List ℕ → (type : ℕ) → ℕ
+representative s t = getD (representatives s (types s)) t 0
 
 unfoldable pub keptType : List ℕ → (type : ℕ) → Bool
-keptType s t = eqb (head s t) t
+keptType s t = eqb (representative s t) t
 
 unfoldable pub newTypes : List ℕ → ℕ
 newTypes s = keptBelow (keptType s) (types s)
 
 unfoldable pub newType : List ℕ → (type : ℕ) → ℕ
-newType s t = keptBelow (keptType s) (head s t)
+newType s t = keptBelow (keptType s) (representative s t)
 
 -- ---- terms
 
 -- a check or an enable: "what their acceptance makes idle"
-abbrev pub idle : List ℕ → (term : ℕ) → Bool
-idle s t = leb 7 (kindByte s t) && leb (kindByte s t) 8
+abbrev pub isErased : List ℕ → (term : ℕ) → Bool
+isErased s t = leb 7 (kindByte s t) && leb (kindByte s t) 8
 
 unfoldable pub keptTerm : List ℕ → (term : ℕ) → Bool
-keptTerm s t = not (idle s t)
+keptTerm s t = not (isErased s t)
 
 -- what stands in a term's place: the first inner term that is neither check nor enable; children are lower, so t steps reach it
 unfoldable pub innerIn : List ℕ → (steps t : ℕ) → ℕ
 innerIn s zero t = t
-innerIn s (suc k) t = cond (idle s t) (innerIn s k (first s t)) t
+innerIn s (suc k) t = cond (isErased s t) (innerIn s k (first s t)) t
 
 unfoldable pub inner : List ℕ → (term : ℕ) → ℕ
 inner s t = innerIn s t t
@@ -101,15 +101,15 @@ termBytes s t =
     kindByte s t ∷ small s t ∷ bytes16 (newPart s (formatAt s t .first) (first s t)) ++ bytes16 (newPart s (formatAt s t .second) (second s t))
     ++ bytes16 (newPart s (formatAt s t .third) (third s t))
 
-abbrev pub typePart : List ℕ → List ℕ
-typePart s = 3 ∷ bytes16 (10 * newTypes s) ++ gather (keptType s) (typeBytes s) (types s)
+abbrev pub typeFieldBytes : List ℕ → List ℕ
+typeFieldBytes s = 3 ∷ bytes16 (10 * newTypes s) ++ gather (keptType s) (typeBytes s) (types s)
 
-abbrev pub termPart : List ℕ → List ℕ
-termPart s = 4 ∷ bytes16 (8 * newTerms s) ++ gather (keptTerm s) (termBytes s) (terms s)
+abbrev pub termFieldBytes : List ℕ → List ℕ
+termFieldBytes s = 4 ∷ bytes16 (8 * newTerms s) ++ gather (keptTerm s) (termBytes s) (terms s)
 
 -- version and principals are copied
 unfoldable pub leanSheet : List ℕ → List ℕ
-leanSheet s = take (typeField s) s ++ (typePart s ++ termPart s)
+leanSheet s = take (typeField s) s ++ (typeFieldBytes s ++ termFieldBytes s)
 
 -- ---- which sheets have one
 

@@ -20,9 +20,9 @@ use Rattle.typing.specs.Theorems.{acceptance}
 use Rattle.semantics.specs.Runs.{Request, Buffers, run}
 use Rattle.semantics.specs.Theorems.{Starts}
 use Rattle.soundness.specs.Claims.{GrantsSet, Comparable}
-use Rattle.erasure.specs.Lean.{keptType, newTypes, newType, idle, keptTerm, newTerms, newTerm, typeBytes, leanSheet, untested, erasable}
+use Rattle.erasure.specs.Lean.{keptType, newTypes, newType, isErased, keptTerm, newTerms, newTerm, typeBytes, leanSheet, untested, erasable}
 use Rattle.erasure.specs.Erasure.{ErasureAnswer, refused, lean, ifRoom, ifErasable, erased, erasure}
-use Rattle.erasure.specs.Claims.{LikeRun}
+use Rattle.erasure.specs.Claims.{RenumberedRun}
 use Rattle.erasure.specs.Laws.Kept.{kept-strict, old-of}
 use Rattle.erasure.specs.Laws.Bytes.{copied, types-are, terms-are, lean-shorter, type-latent, term-kind}
 use Rattle.erasure.specs.Laws.Sheets.{lean-accepted, starts-alike, lean-runs}
@@ -38,13 +38,13 @@ use Rattle.erasure.specs.Laws.Programs.{lean-is-leaner}
 pub record LeanOf (s new : List ℕ) (τ N : ℕ) : Type 0 where
   pub copied-front : (i : ℕ) → i < typeField s → byte new i ≡ byte s i
   pub empty-latent : (t : ℕ) → t < types new → typesOf new .latent t ≡ 0
-  pub none-idle : (t : ℕ) → t < terms new → idle new t ≡ false
+  pub none-erased : (t : ℕ) → t < terms new → isErased new t ≡ false
   pub readable : Readable new
   pub accepted-without-needs : verdict new ≡ accepted (newTerms s) τ 0
   -- a run of either is refused where one of the other is
   pub starts : (q : Request) (b : Buffers) → Starts s q b ↔ Starts new q b
   pub runs : (x y : Request) (b d : Buffers) → Comparable x y b d → GrantsSet s (x .start) N → Starts s x b → Starts new y d
-      → LikeRun (newTerm s) (run s x b) (run new y d)
+      → RenumberedRun (newTerm s) (run s x b) (run new y d)
 
 erasable-version : (s : List ℕ) → erasable s ≡ true → version s ≡ 1
 unfolding erasable
@@ -61,11 +61,11 @@ module _ (s : List ℕ) (w : WellFormed s) where
       let o = old-of (keptType s) (types s) t (omega (arith, types-are s w)) in
       subst (λ (x : ℕ). typesOf (leanSheet s) .latent x ≡ 0) (o .number) (type-latent s w (o .old) (o .kept) (o .below))
 
-  idle-left : (t : ℕ) → t < terms (leanSheet s) → idle (leanSheet s) t ≡ false
+  idle-left : (t : ℕ) → t < terms (leanSheet s) → isErased (leanSheet s) t ≡ false
   unfolding newTerms
   idle-left t h =
       let o = old-of (keptTerm s) (terms s) t (omega (arith, terms-are s w)) in
-      subst (λ (x : ℕ). idle (leanSheet s) x ≡ false) (o .number)
+      subst (λ (x : ℕ). isErased (leanSheet s) x ≡ false) (o .number)
       (ap (λ (k : ℕ). leb 7 k && leb k 8) (term-kind s w (o .old) (o .kept) (o .below)) ∙ kept-idle s (o .old) (o .kept))
 
 pub lean-sheet : (s : List ℕ) (n τ N : ℕ) → verdict s ≡ accepted n τ N → erasable s ≡ true → LeanOf s (leanSheet s) τ N
@@ -76,7 +76,7 @@ lean-sheet s n τ N e h =
     record {
       copied-front = copied s w;
       empty-latent = latent-gone s w;
-      none-idle = idle-left s w;
+      none-erased = idle-left s w;
       readable = L .readable;
       accepted-without-needs = lean-accepted s (leanSheet s) (newType s) (newTerm s) L n τ N e
           ∙ ap (λ (k : ℕ). accepted k τ 0) (terms-are s w);
@@ -186,7 +186,7 @@ pub record Merging (s : List ℕ) : Type 0 where
   pub first-kept : (t : ℕ) → t < types s → (keptType s t ≡ true) ↔ ((u : ℕ) → u < t → typeBytes s u ≡ typeBytes s t → ⊥)
   pub types-in-order : (t u : ℕ) → keptType s t ≡ true → keptType s u ≡ true → t < u → newType s t < newType s u
   pub terms-in-order : (t u : ℕ) → keptTerm s t ≡ true → keptTerm s u ≡ true → t < u → newTerm s t < newTerm s u
-  pub inner-stands : (t : ℕ) → t < terms s → idle s t ≡ true → newTerm s t ≡ newTerm s (first s t)
+  pub inner-stands : (t : ℕ) → t < terms s → isErased s t ≡ true → newTerm s t ≡ newTerm s (first s t)
   pub root-last : newTerm s (root s) ≡ root (leanSheet s)
 
 pub merging : (s : List ℕ) → Readable s → Merging s

@@ -16,27 +16,28 @@ use Rattle.program.specs.Decoding.{isGuard}
 use Rattle.privileges.specs.Sets.{privilegeCount}
 use Rattle.stores.specs.Words.{booleanWord, intervalWord, functionWord, stopWord, sortOf, payloadOf, envOf, isStop}
 use Rattle.termtable.specs.Table.{wordKind, wordSmall, wordFirst, wordSecond, wordThird, wordGuard}
-use Rattle.stores.specs.Cells.{lookOf, Bound}
+use Rattle.stores.specs.Cells.{lookOf, BindsCell}
 use Rattle.access.specs.Access.{enableAccess, enableFrames, enabledNow, restoreFrames}
 use Rattle.machine.specs.Steps.{callsLeft, cellsMade, postsMade, modeOf, saturatedMade, operateSaturates, wrapped, countersSaturated, operateCounters, Operated, noteCounters, guardDecides, postCause, postCounters, PostAppended}
-use Rattle.machine.specs.Store.{Store, Done, storeOf, doneOf, withFrames, andThen, Runs, Applier, Action, childless, call, if, enable, binary, post, actionOf, leafOf, hasRoom, ownCell, callS, branchS, ifS, restored, enableS, operateDone, binaryS, postDone, postS, byAction, begin, step, below, applyAt, evalAt}
+use Rattle.machine.specs.Store.{Store, Done, storeOf, doneOf, withFrames, andThen, StoreEvaluation, StoreApplication, Action, immediate, call, if, enable, binary, post, actionOf, immediateWord, hasRoom, ownCell, callS, branchS, ifS, restored, enableS, operateDone, binaryS, postDone, postS, byAction, begin, step, evalBelow, applyAt, evalAt}
 use Rattle.machine.specs.Lower.{evaluatesFirst, evaluatesSecond, evaluatesThird, readsPrivilege, readsGuard, ChildrenLower}
-use Rattle.machine.specs.Enter.{Enterable, goesTo, Enters}
-use Rattle.machine.specs.declared.enter.Entered.{Entered}
+use Rattle.machine.specs.Tails.{TailKind, goesTo, TailSteps}
+use Rattle.machine.specs.declared.tail.TailStep.{TailStep}
 use Rattle.stores.proofs.CellLaws.{bound-room}
 use Rattle.machine.proofs.NoteLaws.{note-others}
 use Rattle.evaluator.specs.Contracts.{TermTable, Node, Tail, FirstNode, PairNode, pairEnd, secondAt, OperationKind}
 
 module _ (terms : List ℕ) where
   -- below any number above it, a term is evaluated alike
-  below-top : (f : Applier) (n t env access : ℕ) (st : Store) → t < n → below terms f n t env access st ≡ step terms (below terms f t) f t env access st
-  unfolding below
+  below-top : (f : StoreApplication) (n t env access : ℕ) (st : Store) → t < n
+      → evalBelow terms f n t env access st ≡ step terms (evalBelow terms f t) f t env access st
+  unfolding evalBelow
   below-top f zero t env access st h = absurd (omega arith)
   below-top f (suc n) t env access st h =
       ⊎-elim (λ e. rw (eq-eqb t n e, e) refl) (λ lt. rw (ne-eqb t n (λ e. absurd (omega arith))) (below-top f n t env access st lt))
       (eq-or-lt-of-le {n = t} {m = n} (omega arith))
 
-  below-same : (f : Applier) (m n t : ℕ) → t < m → t < n → below terms f m t ≡ below terms f n t
+  below-same : (f : StoreApplication) (m n t : ℕ) → t < m → t < n → evalBelow terms f m t ≡ evalBelow terms f n t
   below-same f m n t h g = fun-ext λ env. fun-ext λ access. fun-ext λ st. below-top f m t env access st h ∙ sym (below-top f n t env access st g)
 
 -- ---- which action a kind has
@@ -51,14 +52,14 @@ module _ {terms : List ℕ} (T : TermTable terms) {t x k : ℕ} (small : t < 655
   node-by : {h : Action} → actionOf k ≡ h → Node terms t x h
   node-by e = record { ready = T; term-small = small; word-is = is; action-is = ap actionOf (sym kind) ∙ e }
 
-  pub node-leaf : k < 4 → Node terms t x childless
+  pub node-leaf : k < 4 → Node terms t x immediate
   unfolding actionOf
   node-leaf h = node-by (simp (le-leb k 3 (omega arith)))
 
-  pub tail-of : Enterable k → Tail terms t x
+  pub tail-of : TailKind k → Tail terms t x
   tail-of h = record {
     node = record { ready = T; term-small = small; word-is = is; action-is = refl };
-    tail = subst Enterable kind h;
+    tail = subst TailKind kind h;
   }
 
   pub first-of : (k ≡ 5) ⊎ ((k ≡ 6) ⊎ (11 ≤ k)) → FirstNode terms t x
@@ -103,7 +104,7 @@ pub first-kind : (k : ℕ) → 5 ≤ k → (k < 7) ⊎ (11 ≤ k) → (k ≡ 5) 
 first-kind k l h = ⊎-elim (λ low. ⊎-elim (λ e. inl (sym e)) (λ m. inr (inl (omega arith))) (eq-or-lt-of-le {n = 5} {m = k} l)) (λ high. inr (inr high)) h
 
 -- and of those that it leaves over, 4, 7, 9 and 10
-pub tail-kind : (k : ℕ) → (k ≡ 0 → ⊥) → (k ≡ 1 → ⊥) → (k ≡ 2 → ⊥) → (k ≡ 3 → ⊥) → (k ≡ 8 → ⊥) → (k < 5) ⊎ ((7 ≤ k) × (k < 11)) → Enterable k
+pub tail-kind : (k : ℕ) → (k ≡ 0 → ⊥) → (k ≡ 1 → ⊥) → (k ≡ 2 → ⊥) → (k ≡ 3 → ⊥) → (k ≡ 8 → ⊥) → (k < 5) ⊎ ((7 ≤ k) × (k < 11)) → TailKind k
 tail-kind k n0 n1 n2 n3 n8 h =
     ⊎-elim (λ low. inl (omega (arith, low, up n3 (up n2 (up n1 (up n0 (omega arith)))))))
     (λ r. inr (⊎-elim (λ e. inl (sym e)) (λ l. inr (⊎-elim (λ e. inl (sym e)) (λ m. inr (omega (arith, m, r .1)))
@@ -132,13 +133,13 @@ module _ {terms : List ℕ} {t x : ℕ} {h : Action} (N : Node terms t x h) wher
   guard-right e = lower .guard e
 
   module _ (k : ℕ) where
-    top : (env access : ℕ) (st : Store) → evalAt terms k t env access st ≡ byAction h (below terms (applyAt terms k) t) (applyAt terms k) t x env access st
+    top : (env access : ℕ) (st : Store) → evalAt terms k t env access st ≡ byAction h (evalBelow terms (applyAt terms k) t) (applyAt terms k) t x env access st
     unfolding evalAt step
     top env access st = below-top terms (applyAt terms k) 65536 t env access st (N .term-small) ∙ rw (← N .word-is, N .action-is) refl
 
-    child : {u v : ℕ} → u ≡ v → u < t → below terms (applyAt terms k) t v ≡ evalAt terms k u
+    child : {u v : ℕ} → u ≡ v → u < t → evalBelow terms (applyAt terms k) t v ≡ evalAt terms k u
     unfolding evalAt
-    child {u} e g = ap (below terms (applyAt terms k) t) (sym e) ∙ below-same terms (applyAt terms k) t 65536 u g (omega (arith, N .term-small))
+    child {u} e g = ap (evalBelow terms (applyAt terms k) t) (sym e) ∙ below-same terms (applyAt terms k) t 65536 u g (omega (arith, N .term-small))
 
 -- ---- one of two terms
 picked : {A : Type 0} (b : Bool) (u v : ℕ) (to : ℕ → A) → cond b (to u) (to v) ≡ to (cond b u v)
@@ -151,31 +152,31 @@ chosen-below false e l h = omega (arith, e, h)
 
 -- ---- each action
 module _ {terms : List ℕ} {t x : ℕ} (k env access : ℕ) where
-  module _ (N : Node terms t x childless) (st : Store) where
-    leaf-is : {w : ℕ} → w ≡ leafOf (st .cells) t x env → evalAt terms k t env access st ≡ doneOf w st
+  module _ (N : Node terms t x immediate) (st : Store) where
+    leaf-is : {w : ℕ} → w ≡ immediateWord (st .cells) t x env → evalAt terms k t env access st ≡ doneOf w st
     leaf-is q = top N k env access st ∙ ap (λ (w : ℕ). doneOf w st) (sym q)
 
     module _ {kind : ℕ} (e : kind ≡ wordKind x) where
       pub boolean-is : {w s : ℕ} → kind ≡ 0 → s ≡ wordSmall x → w ≡ booleanWord (ltb 0 s) → evalAt terms k t env access st ≡ doneOf w st
-      unfolding leafOf
+      unfolding immediateWord
       boolean-is j p q = leaf-is (q ∙ rw (← e, j, p) refl)
 
       pub number-is : {w l h : ℕ} → kind ≡ 1 → l ≡ wordFirst x → h ≡ wordSecond x → w ≡ intervalWord l h → evalAt terms k t env access st ≡ doneOf w st
-      unfolding leafOf
+      unfolding immediateWord
       number-is j p h q = leaf-is (q ∙ rw (← e, j, p, h) refl)
 
       pub variable-is : {w n : ℕ} → kind ≡ 2 → n ≡ wordFirst x → w ≡ lookOf (st .cells) t env n → evalAt terms k t env access st ≡ doneOf w st
-      unfolding leafOf
+      unfolding immediateWord
       variable-is j p q = leaf-is (q ∙ rw (← e, j, p) refl)
 
       pub function-is : {w b : ℕ} → kind ≡ 3 → b ≡ wordSecond x → w ≡ functionWord b env → evalAt terms k t env access st ≡ doneOf w st
-      unfolding leafOf
+      unfolding immediateWord
       function-is j p q = leaf-is (q ∙ rw (← e, j, p) refl)
 
   module _ (N : Node terms t x post) {u : ℕ} (p : u ≡ wordFirst x) where
     post-is : (st : Store) → evalAt terms k t env access st ≡ andThen (evalAt terms k u env access st) (λ w st₁. postDone t x access w st₁)
     unfolding postS
-    post-is st = top N k env access st ∙ ap (λ (f : Runs). postS f t x env access st) (child N k p (first-below N refl p))
+    post-is st = top N k env access st ∙ ap (λ (f : StoreEvaluation). postS f t x env access st) (child N k p (first-below N refl p))
 
   module _ (N : Node terms t x if) {u v z : ℕ} (p : u ≡ wordFirst x) (q : v ≡ wordSecond x) (r : z ≡ wordThird x) where
     if-is : (st : Store) → evalAt terms k t env access st
@@ -183,9 +184,9 @@ module _ {terms : List ℕ} {t x : ℕ} (k env access : ℕ) where
     unfolding ifS
     if-is st =
         top N k env access st
-        ∙ ap₂ (λ (f g : Runs). ifS f g (below terms (applyAt terms k) t (wordThird x)) t env access st) (child N k p (first-below N refl p))
+        ∙ ap₂ (λ (f g : StoreEvaluation). ifS f g (evalBelow terms (applyAt terms k) t (wordThird x)) t env access st) (child N k p (first-below N refl p))
         (child N k q (second-below N refl q))
-        ∙ ap (λ (g : Runs). ifS (evalAt terms k u) (evalAt terms k v) g t env access st) (child N k r (third-below N refl r))
+        ∙ ap (λ (g : StoreEvaluation). ifS (evalAt terms k u) (evalAt terms k v) g t env access st) (child N k r (third-below N refl r))
 
   module _ (N : Node terms t x enable) (st : Store) where
     pub enable-is : {u s a old : ℕ} {seen l m : List ℕ} {d : Done} → u ≡ wordFirst x → s ≡ wordSmall x
@@ -197,14 +198,14 @@ module _ {terms : List ℕ} {t x : ℕ} (k env access : ℕ) where
     enable-is {d = d} p s o z a l g m =
         ap (λ (f : List ℕ). doneOf (d .out) (withFrames f (d .store))) m
         ∙ ap₂ (λ (w : ℕ) (z : Done). restored (modeOf (st .counters)) access w z) o (rw (l, z, a, s) at g)
-        ∙ sym (top N k env access st ∙ ap (λ (f : Runs). enableS f (wordSmall x) env access st) (child N k p (first-below N refl p)))
+        ∙ sym (top N k env access st ∙ ap (λ (f : StoreEvaluation). enableS f (wordSmall x) env access st) (child N k p (first-below N refl p)))
 
 -- ---- a letrec, check, sign or test
 module _ {terms : List ℕ} {t x : ℕ} (T : Tail terms t x) (k env access : ℕ) {n cells frames noted n′ cells′ frames′ noted′ : List ℕ}
-    {e : Entered} (E : Enters t x env access n cells frames noted e n′ cells′ frames′ noted′) where
+    {e : TailStep} (E : TailSteps t x env access n cells frames noted e n′ cells′ frames′ noted′) where
   tail-is : (posts : List ℕ) → evalAt terms k t env access (storeOf n cells posts frames noted)
-      ≡ goesTo e (below terms (applyAt terms k) t) (storeOf n′ cells′ posts frames′ noted′)
-  tail-is posts = top (T .node) k env access (storeOf n cells posts frames noted) ∙ E .goes (below terms (applyAt terms k) t) (applyAt terms k) posts
+      ≡ goesTo e (evalBelow terms (applyAt terms k) t) (storeOf n′ cells′ posts frames′ noted′)
+  tail-is posts = top (T .node) k env access (storeOf n cells posts frames noted) ∙ E .goes (evalBelow terms (applyAt terms k) t) (applyAt terms k) posts
 
   pub tail-stops : (posts : List ℕ) → isStop (e .stop) ≡ true → evalAt terms k t env access (storeOf n cells posts frames noted)
       ≡ doneOf (e .stop) (storeOf n′ cells′ posts frames′ noted′)
@@ -253,19 +254,19 @@ module _ {terms : List ℕ} {t x : ℕ} (P : PairNode terms t x) where
           (λ a st₁. andThen (evalAt terms k (wordSecond x) env access st₁)
           (λ b st₂. cond c (applyAt terms k t a b access st₂) (operateDone (wordKind x) t a b st₂)))
 
-      applied : wordKind x ≡ 5 → callS (below terms (applyAt terms k) t (wordFirst x)) (below terms (applyAt terms k) t (wordSecond x))
+      applied : wordKind x ≡ 5 → callS (evalBelow terms (applyAt terms k) t (wordFirst x)) (evalBelow terms (applyAt terms k) t (wordSecond x))
           (applyAt terms k) t env access st
           ≡ ending (eqb (wordKind x) 5)
       applied e =
-          ap₂ (λ (f g : Runs). callS f g (applyAt terms k) t env access st) (child (call-node e) k p (operand-below p refl .0))
+          ap₂ (λ (f g : StoreEvaluation). callS f g (applyAt terms k) t env access st) (child (call-node e) k p (operand-below p refl .0))
           (child (call-node e) k refl (operand-below p refl .1))
           ∙ ap ending (sym (eq-eqb (wordKind x) 5 e))
 
       operated : (h : OperationKind (wordKind x))
-          → binaryS (below terms (applyAt terms k) t (wordFirst x)) (below terms (applyAt terms k) t (wordSecond x)) (wordKind x) t env access st
+          → binaryS (evalBelow terms (applyAt terms k) t (wordFirst x)) (evalBelow terms (applyAt terms k) t (wordSecond x)) (wordKind x) t env access st
           ≡ ending (eqb (wordKind x) 5)
       operated h =
-          ap₂ (λ (f g : Runs). binaryS f g (wordKind x) t env access st) (child (binary-node (P .node) h) k p (operand-below p refl .0))
+          ap₂ (λ (f g : StoreEvaluation). binaryS f g (wordKind x) t env access st) (child (binary-node (P .node) h) k p (operand-below p refl .0))
           (child (binary-node (P .node) h) k refl (operand-below p refl .1))
           ∙ ap ending (sym (ne-eqb (wordKind x) 5 (λ e. omega (arith, e, h .least))))
 
@@ -389,7 +390,7 @@ module _ (terms : List ℕ) (k t f v access : ℕ) (st : Store) where
       unfolding applyAt evalAt
       apply-begin = go k opens
         where
-          go : (k : ℕ) → (k ≡ 0 → ⊥) → applyAt terms k t f v access st ≡ begin (below terms (applyAt terms (k - 1)) 65536) t f v access st
+          go : (k : ℕ) → (k ≡ 0 → ⊥) → applyAt terms k t f v access st ≡ begin (evalBelow terms (applyAt terms (k - 1)) 65536) t f v access st
           go zero n = absurd (n refl)
           go (suc k) n = simp (eq-eqb (sortOf f) 2 (sym e ∙ z)) (rw sub-one refl)
 
@@ -403,7 +404,7 @@ module _ (terms : List ℕ) (k t f v access : ℕ) (st : Store) where
         apply-full h r = apply-begin ∙ simp (ne-eqb (callsLeft (st .counters)) 0 calls, le-ltb (cellsMade (st .counters)) (length (st .cells) / 8) h)
             (ap (λ (x : ℕ). doneOf x st) (sym r))
 
-        pub apply-runs : {b e o m : ℕ} {l : List ℕ} → Bound (cellsMade (st .counters)) v e (st .cells) m l → (m ≡ 0 → ⊥) → b ≡ payloadOf f → e ≡ envOf f → o
+        pub apply-runs : {b e o m : ℕ} {l : List ℕ} → BindsCell (cellsMade (st .counters)) v e (st .cells) m l → (m ≡ 0 → ⊥) → b ≡ payloadOf f → e ≡ envOf f → o
             ≡ ownCell st
             → applyAt terms k t f v access st
             ≡ evalAt terms (k - 1) b o access (storeOf (set (set (st .counters) 0 (callsLeft (st .counters) - 1)) 1 m) l (st .posts) (st .frames) (st .noted))

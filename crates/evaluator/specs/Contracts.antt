@@ -11,7 +11,7 @@ use Rattle.program.specs.Limits.{maxTerms}
 use Rattle.termtable.specs.Table.{wordKind, wordSecond}
 use Rattle.machine.specs.Lower.{ChildrenLower}
 use Rattle.machine.specs.Steps.{callsLeft}
-use Rattle.machine.specs.Enter.{Enterable}
+use Rattle.machine.specs.Tails.{TailKind}
 use Rattle.machine.specs.Store.{Store, Done, storeOf, doneOf, andThen, Action, actionOf, operateDone, evalAt, applyAt}
 
 -- ---- what is asked: of the words, and of a function for one action
@@ -28,7 +28,7 @@ pub record Node (terms : List ℕ) (t x : ℕ) (h : Action) : Type 0 where
 -- a letrec, check, sign or test: the actions that end as the one child that they evaluate
 pub record Tail (terms : List ℕ) (t x : ℕ) : Type 0 where
   pub node : Node terms t x (actionOf (wordKind x))
-  pub tail : Enterable (wordKind x)
+  pub tail : TailKind (wordKind x)
 
 -- a call, an if, an operation on two numbers or a post: the actions that evaluate first and go on by its word
 pub record FirstNode (terms : List ℕ) (t x : ℕ) : Type 0 where

@@ -4,10 +4,10 @@
 // as references to the slices, so that no call copies one. What few terms look at comes last among the parameters: the first six are in registers.
 ghost use Rattle.machine.specs.Store.{enable, evalAt, applyAt};
 ghost use Rattle.evaluator.specs.Contracts.{TermTable, Node, Tail, FirstNode, PairNode, secondAt, Evaluated};
-use machine::enter::enter;
 use machine::steps::append;
 use machine::steps::choose;
 use machine::steps::operate;
+use machine::tail::tail_step;
 use program::limits::TERM_PLACES;
 use stores::cells::bind;
 use stores::cells::look;
@@ -107,7 +107,7 @@ fn eval_tail(
         (now (frames .entry))
         (now (noted .entry)) r (now (counters .exit)) (now (cells .exit)) (now (posts .exit)) (now (frames .exit)) (now (noted .exit)) ⌝ }
 {
-    let e = enter(*cells, *frames, *noted, counters, t, x, env, access);
+    let e = tail_step(*cells, *frames, *noted, counters, t, x, env, access);
     if words::is_stop(e.stop) {
         return e.stop;
     }

@@ -25,13 +25,13 @@ use Rattle.accessors.specs.Internal.{FormedSheet}
 use Rattle.typing.specs.Places.{placedNumber, rootOf}
 use Rattle.chains.specs.Explaining.{needing, needs, chainOf, Explained as ExplainedOf, explained, not-needed, refused, explainedIn, explainedBy, explanation}
 use Rattle.chains.specs.Answers.{explanationModel, chainTerms, chainLength, ExplainedAs}
-use Rattle.following.specs.Internal.{RootNeeds, Followable, unchained}
+use Rattle.following.specs.Internal.{RootNeeds, Followable, withoutChain}
 use Rattle.chains.specs.declared.answer.Explanation.{Explanation}
 use Rattle.chains.specs.declared.answer.Explanation.the-variants.{NotNeeded, Unreadable, Refused, NoPrivilege}
 use Rattle.chains.specs.declared.answer.Explained.{Explained}
 
 -- ---- an answer with no chain
-unchained-as : {r : Explained} (a : Explanation) (e : ExplainedOf) → r ≡ unchained a → explanationModel a (replicate maxNesting 0) ≡ e → chainTerms e ≡ []
+unchained-as : {r : Explained} (a : Explanation) (e : ExplainedOf) → r ≡ withoutChain a → explanationModel a (replicate maxNesting 0) ≡ e → chainTerms e ≡ []
     → chainLength a ≡ 0 → ExplainedAs r e
 unchained-as a e q h k l = rw q (record { answer-is = h; length-is = l ∙ sym (ap length k); terms-are = rw k })
 
@@ -41,15 +41,15 @@ unfolding explanation
 by-verdict s p {r} v e w = subst (λ (v : VerdictOf). ExplainedAs r (explainedBy s p v)) e w
 
 module _ (s : List ℕ) (p : ℕ) {r : Explained} where
-  pub unreadable-explained : {f : Refusal} → r ≡ unchained (Unreadable f) → rejected (decodingCause f) (decodingPlace f) ≡ verdict s
+  pub unreadable-explained : {f : Refusal} → r ≡ withoutChain (Unreadable f) → rejected (decodingCause f) (decodingPlace f) ≡ verdict s
       → ExplainedAs r (explanation s p)
   unreadable-explained {f} q e = by-verdict s p (rejected (decodingCause f) (decodingPlace f)) e (unchained-as (Unreadable f) _ q refl refl refl)
 
   module _ {v : Verdict} (w : verdictModel v ≡ verdict s) where
-    pub refused-unreadable : {f : Refusal} → v ≡ answer.Unreadable f → r ≡ unchained (Unreadable f) → ExplainedAs r (explanation s p)
+    pub refused-unreadable : {f : Refusal} → v ≡ answer.Unreadable f → r ≡ withoutChain (Unreadable f) → ExplainedAs r (explanation s p)
     refused-unreadable e q = unreadable-explained q (ap verdictModel (sym e) ∙ w)
 
-    pub refused-fault : {f : Fault} → v ≡ answer.Refused f → r ≡ unchained (Refused f) → ExplainedAs r (explanation s p)
+    pub refused-fault : {f : Fault} → v ≡ answer.Refused f → r ≡ withoutChain (Refused f) → ExplainedAs r (explanation s p)
     refused-fault {f} e q = by-verdict s p (rejected (faultCause f) (faultPlace f)) (ap verdictModel (sym e) ∙ w) (unchained-as (Refused f) _ q refl refl refl)
 
     pub accepted-explained : {n τ N : ℕ} → v ≡ answer.Accepted n τ N → ExplainedAs r (explainedIn s p N (leb p maxPrivilege)) → ExplainedAs r (explanation s p)
@@ -78,11 +78,11 @@ accepted-needs {s} S {n = n} {τ = τ} {N = N} w e = record { sheet = S; needs-a
 
 -- ---- an accepted sheet with its needs
 module _ (s : List ℕ) (p N : ℕ) {r : Explained} where
-  pub too-high : maxPrivilege < p → r ≡ unchained NoPrivilege → ExplainedAs r (explainedIn s p N (leb p maxPrivilege))
+  pub too-high : maxPrivilege < p → r ≡ withoutChain NoPrivilege → ExplainedAs r (explainedIn s p N (leb p maxPrivilege))
   too-high h q = rw (lt-leb p maxPrivilege h) (unchained-as NoPrivilege (refused 30 0) q refl refl refl)
 
   module _ (h : p ≤ maxPrivilege) {z : Bool} (e : z ≡ has p N) where
-    pub needed-not : z ≡ false → r ≡ unchained NotNeeded → ExplainedAs r (explainedIn s p N (leb p maxPrivilege))
+    pub needed-not : z ≡ false → r ≡ withoutChain NotNeeded → ExplainedAs r (explainedIn s p N (leb p maxPrivilege))
     needed-not f q = rw (le-leb p maxPrivilege h, sym e ∙ f) (unchained-as NotNeeded not-needed q refl refl refl)
 
     pub needed : z ≡ true → ExplainedAs r (explained (map placedNumber (chainOf s p))) → ExplainedAs r (explainedIn s p N (leb p maxPrivilege))

@@ -12,7 +12,7 @@ ghost use lib.Dec.{leb};
 ghost use Rattle.accessors.specs.Internal.{ReadableSheet};
 ghost use Rattle.chains.specs.Explaining.{explainedIn, explanation};
 ghost use Rattle.chains.specs.Answers.{ExplainedAs};
-ghost use Rattle.following.specs.Internal.{unchained, RootNeeds};
+ghost use Rattle.following.specs.Internal.{withoutChain, RootNeeds};
 ghost use Rattle.program.specs.Limits.{maxPrivilege};
 
 // Why the sheet needs a privilege, on any bytes and any number: the type checker's refusals, then 30, then that it is not needed or the chain.
@@ -59,7 +59,7 @@ fn explain_needs(s: &[u8], c: Counts, needs: u32, privilege: u32) -> Explained
 }
 
 fn without_chain(answer: Explanation) -> Explained
-    ensures { λ r. ⌜ r ≡ unchained answer ⌝ }
+    ensures { λ r. ⌜ r ≡ withoutChain answer ⌝ }
 {
     Explained {
         answer: answer,

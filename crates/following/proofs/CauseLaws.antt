@@ -26,7 +26,7 @@ use Rattle.rules.specs.Steps.{callStep}
 use Rattle.rules.specs.declared.bindings.Bindings.{Bindings}
 use Rattle.checker.proofs.TermLaws.{post-guard, call-is, call-stops}
 use Rattle.typing.specs.Places.{placed}
-use Rattle.chains.specs.Explaining.{needing, latentOf, needs, isCause}
+use Rattle.chains.specs.Explaining.{needing, inLatent, needs, isCause}
 use Rattle.places.proofs.PlaceLaws.{_and_, all, among, at-record, most, term-of, tree-is}
 
 -- the latent set of a function type is that of its record
@@ -67,9 +67,9 @@ module _ {s : List ℕ} {c : Counts} {t : ℕ} {b : Bindings} {n : ℕ} (R : Rea
       guard-contains p g l ∙ ap (λ (g : ℕ). contains p (guardIn g)) (post-guard (at-record R h) e q) ∙ ap cause (sym (tree-is R h e))
 
   module _ (e : x .kind ≡ 5) (j : Inferred) (q : inferredModel j ≡ termJudgement s (context b) n (x .first)) where
-    call-cause : latentOf (typesOf s) p (inferredModel j) ≡ cause (tree s t)
+    call-cause : inLatent (typesOf s) p (inferredModel j) ≡ cause (tree s t)
     unfolding isCause termJudgement
-    call-cause = ap (latentOf (typesOf s) p) q ∙ ap cause (sym (tree-is R h e))
+    call-cause = ap (inLatent (typesOf s) p) q ∙ ap cause (sym (tree-is R h e))
 
     pub part-typed : needs (typesOf s) (authority s) p (placed (context b) n (tree s t)) ≡ true → tagOf the-type j ≡ 1 → ⊥
     unfolding needs termJudgement
@@ -77,7 +77,7 @@ module _ {s : List ℕ} {c : Counts} {t : ℕ} {b : Bindings} {n : ℕ} (R : Rea
 
     module _ {φ N : ℕ} (g : j ≡ Typed φ N) where
       pub call-typed : {r : Bool} → r ≡ has p (typesOf s .latent φ) → r ≡ cause (tree s t)
-      call-typed f = f ∙ ap (λ (j : Inferred). latentOf (typesOf s) p (inferredModel j)) (sym g) ∙ call-cause
+      call-typed f = f ∙ ap (λ (j : Inferred). inLatent (typesOf s) p (inferredModel j)) (sym g) ∙ call-cause
 
       pub part-function : needs (typesOf s) (authority s) p (placed (context b) n (tree s t)) ≡ true → typesOf s .isFun φ ≡ true
       unfolding needs termJudgement

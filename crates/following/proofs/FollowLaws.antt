@@ -13,7 +13,7 @@ use Rattle.program.specs.declared.records.Counts.{Counts}
 use Rattle.subtyping.proofs.KnownLaws.{known-none}
 use Rattle.typing.specs.Places.{Placed, placedNumber, rootOf}
 use Rattle.typing.specs.Laws.Places.{tree-number}
-use Rattle.chains.specs.Explaining.{needs, next, followedBy, chain, chainOf, explained}
+use Rattle.chains.specs.Explaining.{needs, next, chainFrom, chain, chainOf, explained}
 use Rattle.chains.specs.Answers.{ExplainedAs}
 use Rattle.places.specs.Internal.{placedAt, AtRoot}
 use Rattle.places.proofs.PlaceLaws.{root-place-ready, root-placed}
@@ -36,7 +36,7 @@ pub record Along (s : List ℕ) (p : ℕ) (terms : List ℕ) (rest : ℕ → Lis
 
 module _ (s : List ℕ) (p : ℕ) where
   abbrev onward-from : Option Placed → ℕ → List Placed
-  onward-from o k = followedBy (typesOf s) (authority s) p o λ y. chain (typesOf s) (authority s) p k y
+  onward-from o k = chainFrom (typesOf s) (authority s) p o λ y. chain (typesOf s) (authority s) p k y
 
   abbrev chain-from : Placed → ℕ → List Placed
   chain-from x k = chain (typesOf s) (authority s) p k x

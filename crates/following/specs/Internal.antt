@@ -16,7 +16,7 @@ use Rattle.typing.specs.Places.{Placed, placed, rootOf}
 use Rattle.chains.specs.Explaining.{needs, isCause, testsIt, next}
 use Rattle.chains.specs.declared.answer.Explanation.{Explanation}
 use Rattle.chains.specs.declared.answer.Explained.{Explained}
-use Rattle.places.specs.Internal.{placedAt, ReadyPlace, Children, childrenOf, childAt}
+use Rattle.places.specs.Internal.{placedAt, ReadyPlace, Children, childrenOf, childAt, ReadyChild}
 use Rattle.places.specs.declared.Place.{Place}
 use Rattle.places.specs.declared.Child.{Child}
 
@@ -75,7 +75,7 @@ pub record FollowingOther (s : List ℕ) (c : Counts) (l : List ℕ) (p : ℕ) (
 
 -- a child that may be the next
 pub record JudgeableChild (s : List ℕ) (c : Counts) (l : List ℕ) (p : ℕ) (y : Child) : Type 0 where
-  pub ready : y .present ≡ true → ReadyPlace s c (y .place)
+  pub ready : ReadyChild s c y
   pub known : Known (typesOf s) l
   pub privilege : p < privilegeCount
 
@@ -97,5 +97,5 @@ pub record RootNeeds (s : List ℕ) (c : Counts) (N : ℕ) : Type 0 where
   pub needs-are : (p : ℕ) → needs (typesOf s) (authority s) p (rootOf s) ≡ has p N
 
 -- an answer with no chain
-abbrev pub unchained : Explanation → Explained
-unchained a = record { answer = a; terms = replicate maxNesting 0 }
+abbrev pub withoutChain : Explanation → Explained
+withoutChain a = record { answer = a; terms = replicate maxNesting 0 }

@@ -22,16 +22,16 @@ use Rattle.semantics.specs.Recording.{decidedIn, decisionsMade, decisions, Reco
 use Rattle.semantics.specs.RecordTheorems.{traced-clear, refused-unrecorded}
 use Rattle.semantics.specs.Theorems.{course-clear, course-found, run-course, counts-few}
 use Rattle.traces.specs.Traces.{Event, recorded}
-use Rattle.stores.specs.declared.state.Out.{Out}
+use Rattle.stores.specs.declared.values.Out.{Out}
 use Rattle.stores.specs.Words.{outOf}
 use Rattle.stores.specs.Cells.{zerosLike}
 use Rattle.access.specs.Access.{ModeIs}
 use Rattle.machine.specs.Steps.{callsLeft, cellsMade, postsMade, saturatedMade, entriesMade}
 use Rattle.machine.specs.Store.{Done, storeOf, doneOf}
-use Rattle.refinement.specs.Claims.{outcomeOf, countsOf, laidOut, Refined}
+use Rattle.refinement.specs.Claims.{outcomeOf, runCounts, laidOut, Refined}
 use Rattle.refinement.specs.Theorems.{eager-refined, lazy-refined}
 use Rattle.interp.specs.Answers.{refusalCause, refusalPlace, outcomeModel, countsModel, runModel, requestOf, buffersOf, after, afterRecording}
-use Rattle.interp.specs.Internal.{Cleared, Admits, StartAccess, rejectedRun, rootDone, Tallied, RootEvaluated}
+use Rattle.interp.specs.Internal.{Cleared, Admits, StartAccess, refusedRecording, rootDone, Tallied, RootEvaluated}
 use Rattle.interp.specs.Laws.{access-authorised, access-is, tallied-at, tallied-after}
 use Rattle.interp.specs.declared.answer.RunRefusal.{RunRefusal}
 use Rattle.interp.specs.declared.answer.Run.the-variants.{Refused, Ran as IsRan}
@@ -43,7 +43,7 @@ use Rattle.interp.specs.declared.answer.Admission.the-variants.{Admitted
 use Rattle.interp.proofs.StartLaws.{laid-length}
 
 -- ---- a run that is turned back
-pub refused-after : (s : List ℕ) (q : Request) (cells posts frames noted : List ℕ) (f : RunRefusal) {r : RecordedRun} → r ≡ rejectedRun f
+pub refused-after : (s : List ℕ) (q : Request) (cells posts frames noted : List ℕ) (f : RunRefusal) {r : RecordedRun} → r ≡ refusedRecording f
     → screen (runConditions s q (sizes (buffersOf cells posts frames))) ≡ found (refusalCause f) (refusalPlace f)
     → afterRecording r cells posts frames noted ≡ recording s q (buffersOf cells posts frames) noted
 refused-after s q cells posts frames noted f t e =
@@ -113,7 +113,7 @@ pub tallied-by : (calls : ℕ) {w : ℕ} {n cells posts frames noted cells′ : 
     }) (buffersOf cells′ posts frames) noted
 tallied-by calls e z = record {
   word-is = ap (λ (d : Done). d .out) e;
-  made-is = ap (λ (d : Done). countsOf calls (d .store .counters)) e;
+  made-is = ap (λ (d : Done). runCounts calls (d .store .counters)) e;
   entries-are = ap (λ (d : Done). entriesMade (d .store .counters)) e;
   cells-are = z ∙ ap (λ (d : Done). zerosLike (d .store .cells)) e;
   posts-are = ap (λ (d : Done). d .store .posts) e;
@@ -195,13 +195,13 @@ module _ (s start : List ℕ) (e : Bool) (cells posts noted : List ℕ) (calls d
 -- ---- each runner turned back
 module _ (s start : List ℕ) (e : Bool) (cells posts noted : List ℕ) (calls depth : ℕ) where
   pub eager-refused : {a : Admission} {f : RunRefusal} {r : RecordedRun} → a ≡ NotAdmitted f → Admits s start (length cells) (length posts) true calls depth a
-      → r ≡ rejectedRun f → afterRecording r cells posts [] noted ≡ recording s (requestOf eager e start calls depth) (buffersOf cells posts []) noted
+      → r ≡ refusedRecording f → afterRecording r cells posts [] noted ≡ recording s (requestOf eager e start calls depth) (buffersOf cells posts []) noted
   eager-refused {f = f} p h t =
       refused-after s (requestOf eager e start calls depth) cells posts [] noted f t
       (subst (Admits s start (length cells) (length posts) true calls depth) p h)
 
   pub lazy-refused : (frames : List ℕ) {a : Admission} {f : RunRefusal} {r : RecordedRun} → a ≡ NotAdmitted f
-      → Admits s start (length cells) (length posts) (eqb (length frames) frameNumbers) calls depth a → r ≡ rejectedRun f
+      → Admits s start (length cells) (length posts) (eqb (length frames) frameNumbers) calls depth a → r ≡ refusedRecording f
       → afterRecording r cells posts frames noted ≡ recording s (requestOf lazy e start calls depth) (buffersOf cells posts frames) noted
   lazy-refused frames {f = f} p h t =
       refused-after s (requestOf lazy e start calls depth) cells posts frames noted f t

@@ -1,10 +1,11 @@
 -- 01's numbers and values for each case of a run's answer, and a call of a runner in the words of the meaning.
-use mathlib.Core.Bool.{Bool}
-use mathlib.Core.List.{List}
+use mathlib.Core.Bool.{Bool, true}
+use mathlib.Core.List.{List, []}
 use Prim.Native.Nat.{ℕ}
+use Rattle.program.specs.Limits.{maxDepth}
 use Rattle.program.specs.Answers.{decodingCause, decodingPlace}
 use Rattle.semantics.specs.Runs as runs
-use Rattle.semantics.specs.Runs.{Runner, Request, Buffers, ground-bool, ground-num, ended, stopped, RunCounts, Answer, refused, ran, After}
+use Rattle.semantics.specs.Runs.{Runner, eager, Request, Buffers, ground-bool, ground-num, ended, stopped, Answer, refused, ran, After}
 use Rattle.semantics.specs.Recording.{Recorded}
 use Rattle.stores.specs.Stops.{stopCause, stopPlace}
 use Rattle.interp.specs.declared.answer.RunRefusal.{RunRefusal}
@@ -13,7 +14,7 @@ use Rattle.interp.specs.declared.answer.Ground.{Ground}
 use Rattle.interp.specs.declared.answer.Ground.the-variants.{Bool as VBool, Num}
 use Rattle.interp.specs.declared.answer.Outcome.{Outcome}
 use Rattle.interp.specs.declared.answer.Outcome.the-variants.{End, Stop}
-use Rattle.interp.specs.declared.answer.Made.{Made}
+use Rattle.interp.specs.declared.answer.RunCounts.{RunCounts}
 use Rattle.interp.specs.declared.answer.Run.{Run}
 use Rattle.interp.specs.declared.answer.Run.the-variants.{Refused, Ran}
 use Rattle.interp.specs.declared.answer.RecordedRun.{RecordedRun}
@@ -41,7 +42,7 @@ outcomeModel (End v) = ended (groundModel v)
 outcomeModel (Stop x) = stopped (stopCause x) (stopPlace x)
 
 -- "both carry calls, cells and posts made"; 02, W10: "ends and stops carry that count beside the calls"
-abbrev pub countsModel : Made → RunCounts
+abbrev pub countsModel : RunCounts → runs.RunCounts
 countsModel m = record { calls = m .calls; cells = m .cells; posts = m .posts; saturated = m .saturated }
 
 abbrev pub runModel : Run → Answer
@@ -51,6 +52,10 @@ runModel (Ran o m) = ran (outcomeModel o) (countsModel m)
 -- ---- a call of a runner
 abbrev pub requestOf : Runner → (enforce : Bool) (start : List ℕ) (calls depth : ℕ) → Request
 requestOf r e start calls depth = record { runner = r; enforce = e; start = start; calls = calls; depth = depth }
+
+-- "eagerly, checks in force, on an empty stack, with 100 open calls": what the program (01), the register block (W2) and the lines (W6) ask for
+abbrev pub emptyStackRequest : (calls : ℕ) → Request
+emptyStackRequest calls = requestOf eager true [] calls maxDepth
 
 abbrev pub buffersOf : (cells posts frames : List ℕ) → Buffers
 buffersOf cells posts frames = record { cells = cells; posts = posts; frames = frames }

@@ -20,7 +20,7 @@ use Rattle.termtable.specs.Table.{TermWords}
 use Rattle.stores.specs.Cells.{zerosLike}
 use Rattle.machine.specs.Steps.{entriesMade}
 use Rattle.machine.specs.Store.{Done, storeOf, evalAt}
-use Rattle.refinement.specs.Claims.{outcomeOf, countsOf}
+use Rattle.refinement.specs.Claims.{outcomeOf, runCounts}
 use Rattle.interp.specs.Answers.{refusalCause, refusalPlace, countsModel, runModel}
 use Rattle.interp.specs.declared.answer.Admission.{Admission}
 use Rattle.interp.specs.declared.answer.Admission.the-variants.{Admitted, Refused as NotAdmitted}
@@ -73,8 +73,8 @@ Admits s start cells posts frames calls depth (NotAdmitted f) =
 
 -- ---- evaluation
 -- a run that is turned back has no entry
-abbrev pub rejectedRun : RunRefusal → RecordedRun
-rejectedRun f = record { run = Refused f; entries = 0 }
+abbrev pub refusedRecording : RunRefusal → RecordedRun
+refusedRecording f = record { run = Refused f; entries = 0 }
 
 -- what the interpreter comes to at the root, with the terms' words in `terms` and a record lent
 abbrev pub rootDone : (terms : List ℕ) (root mode access calls depth : ℕ) → Buffers → (noted : List ℕ) → Done
@@ -84,7 +84,7 @@ rootDone terms root mode access calls depth b t =
 -- word, counts and entries from what it comes to, and the stores: cells cleared, posts, frames and record as it leaves them
 pub record Tallied (calls : ℕ) (d : Done) (r : Tally) (b : Buffers) (noted : List ℕ) : Type 0 where
   pub word-is : r .word ≡ d .out
-  pub made-is : countsModel (r .made) ≡ countsOf calls (d .store .counters)
+  pub made-is : countsModel (r .made) ≡ runCounts calls (d .store .counters)
   pub entries-are : r .entries ≡ entriesMade (d .store .counters)
   pub cells-are : b .cells ≡ zerosLike (d .store .cells)
   pub posts-are : b .posts ≡ d .store .posts

@@ -7,7 +7,7 @@ ghost use Rattle.interp.specs.Internal.{Admits};
 ghost use Rattle.accessors.specs.Internal.{ReadableSheet};
 use crate::answer::Admission;
 use crate::answer::RunRefusal;
-use crate::start::start_ok;
+use crate::start::stack_ok;
 use program::answer::Decoded;
 use program::limits::MAX_CALLS;
 use program::limits::MAX_CELLS;
@@ -41,7 +41,7 @@ fn admit_readable(
     requires { ⌜ ReadableSheet (now s) c ⌝ }
     ensures { λ r. ⌜ Admits (now (s .entry)) (now (start .entry)) cells posts frames calls depth r ⌝ }
 {
-    if !start_ok(start, c.principals) {
+    if !stack_ok(start, c.principals) {
         return Admission::Refused(RunRefusal::Start);
     }
     if !buffers_ok(cells, posts, frames) {

@@ -1,6 +1,6 @@
 // The answer of a run. specs/Answers.antt gives the paper's number and values of each case.
 use program::records::Counts;
-use stores::state::Stop;
+use stores::values::Stop;
 
 // 1 to 8 and 31 are the reader's; 14 to 16 follow in this order.
 pub enum RunRefusal {
@@ -27,7 +27,7 @@ pub enum Outcome {
 }
 
 // Calls, cells and posts made, and the sums and differences that were saturated.
-pub struct Made {
+pub struct RunCounts {
     pub calls: usize,
     pub cells: usize,
     pub posts: usize,
@@ -36,7 +36,7 @@ pub struct Made {
 
 pub enum Run {
     Refused(RunRefusal),
-    Ran { outcome: Outcome, made: Made },
+    Ran { outcome: Outcome, made: RunCounts },
 }
 
 // A run with a record: what it tells without one, and the number of entries.
@@ -48,6 +48,6 @@ pub struct RecordedRun {
 // What evaluating a root gives, as a word, with what was made and the number of entries in the record.
 pub struct Tally {
     pub word: u64,
-    pub made: Made,
+    pub made: RunCounts,
     pub entries: usize,
 }

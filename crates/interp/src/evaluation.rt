@@ -2,7 +2,7 @@
 ghost use Rattle.evaluator.specs.Contracts.{TermTable};
 ghost use Rattle.interp.specs.Answers.{buffersOf};
 ghost use Rattle.interp.specs.Internal.{rootDone, Tallied};
-use crate::answer::Made;
+use crate::answer::RunCounts;
 use crate::answer::Tally;
 use program::limits::TERM_PLACES;
 
@@ -40,7 +40,7 @@ pub fn evaluate_words(
         &mut word,
     );
     stores::cells::clear(cells);
-    let made = Made {
+    let made = RunCounts {
         calls: allowed - n[0],
         cells: n[1],
         posts: n[2],

@@ -10,7 +10,7 @@ ghost use Rattle.program.specs.Limits.{frameNumbers};
 ghost use Rattle.accessors.specs.Internal.{FormedSheet};
 ghost use Rattle.refinement.specs.Claims.{outcomeOf};
 ghost use Rattle.interp.specs.Answers.{outcomeModel, requestOf, buffersOf, after, afterRecording};
-ghost use Rattle.interp.specs.Internal.{Cleared, rejectedRun, RootEvaluated};
+ghost use Rattle.interp.specs.Internal.{Cleared, refusedRecording, RootEvaluated};
 
 pub mod admission;
 pub mod answer;
@@ -31,8 +31,8 @@ use program::limits::TERM_PLACES;
 use program::records::Counts;
 use start::lay_frames;
 use start::start_access;
-use stores::state::Out;
-use stores::state::Stop;
+use stores::values::Out;
+use stores::values::Stop;
 use stores::words::out_of;
 use termtable::decode_terms;
 
@@ -43,15 +43,15 @@ fn outcome_of(root: u16, out: Out) -> Outcome
     match out {
         Out::Stop(x) => Outcome::Stop(x),
         Out::Val(v) => match v {
-            stores::state::Value::Bool(b) => Outcome::End(answer::Ground::Bool(b)),
-            stores::state::Value::Num(n) => Outcome::End(answer::Ground::Num(n)),
-            stores::state::Value::Fun { body, env } => Outcome::Stop(Stop::Stuck(root)),
+            stores::values::Value::Bool(b) => Outcome::End(answer::Ground::Bool(b)),
+            stores::values::Value::Num(n) => Outcome::End(answer::Ground::Num(n)),
+            stores::values::Value::Fun { body, env } => Outcome::Stop(Stop::Stuck(root)),
         },
     }
 }
 
 fn rejected_run(f: RunRefusal) -> RecordedRun
-    ensures { λ r. ⌜ r ≡ rejectedRun f ⌝ }
+    ensures { λ r. ⌜ r ≡ refusedRecording f ⌝ }
 {
     RecordedRun {
         run: Run::Refused(f),

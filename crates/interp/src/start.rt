@@ -26,7 +26,7 @@ fn principals_known(start: &[u32], count: u8) -> bool
 }
 
 // Whether it is a stack of at most 16 whole frames of known principals.
-pub fn start_ok(start: &[u32], count: u8) -> bool
+pub fn stack_ok(start: &[u32], count: u8) -> bool
     ensures { λ r. ⌜ r ≡ stackOk count (now (start .entry)) ⌝ }
 {
     if MAX_START < start.len() {

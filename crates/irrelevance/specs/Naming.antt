@@ -16,8 +16,8 @@ pub data Naming : Type 0 where
   named : (term : ℕ) → Naming
 
 -- the lowest term that names p
-abbrev pub firstNaming : List ℕ → (p : ℕ) → Option ℕ
-firstNaming s p = lowest (λ t. not (names s p t)) 0 (terms s)
+abbrev pub lowestNaming : List ℕ → (p : ℕ) → Option ℕ
+lowestNaming s p = lowest (λ t. not (names s p t)) 0 (terms s)
 
 abbrev pub namingOf : Option ℕ → Naming
 namingOf none = unnamed
@@ -28,4 +28,4 @@ abbrev pub namingConditions : List ℕ → (p : ℕ) → List Condition
 namingConditions s p = decodingConditions s ++ unless 30 (leb p maxPrivilege) ∷ []
 
 unfoldable pub naming : List ℕ → (p : ℕ) → Naming
-naming s p = unlessFound refused (screen (namingConditions s p)) λ _. namingOf (firstNaming s p)
+naming s p = unlessFound refused (screen (namingConditions s p)) λ _. namingOf (lowestNaming s p)

@@ -12,14 +12,14 @@ use Rattle.program.specs.declared.records.Counts.{Counts}
 use Rattle.typing.specs.Places.{Placed, placed, numberOf}
 use Rattle.typing.specs.Laws.Places.{tree-number}
 use Rattle.rules.specs.Inference.{context}
-use Rattle.places.specs.Internal.{placedAt, childrenOf, childrenAt, childAt, Reached}
+use Rattle.places.specs.Internal.{placedAt, childrenOf, childrenAt, childAt, Reached, ReadyChild}
 use Rattle.places.specs.declared.Child.{Child}
 use Rattle.places.proofs.PlaceLaws.{there, not-there}
 use Rattle.subterms.specs.Smallest.{subterms}
 use Rattle.subterms.specs.Judging.{withNumber}
 use Rattle.subterms.specs.Laws.Subterms.{subtermsIn}
 use Rattle.subterms.specs.Laws.Numbers.{firstOf, firstOf-none, firstOf-assoc, number-append, number-above}
-use Rattle.judging.specs.Internal.{Searchable, FoundAs}
+use Rattle.judging.specs.Internal.{FoundAs}
 
 -- ---- a term and its children by their position
 module _ (T : Types) (t : ℕ) where
@@ -99,7 +99,7 @@ module _ (s : List ℕ) (t : ℕ) (y : Child) (e : y .present ≡ true) where
       ∙ λ i. cond ((ap (λ (k : ℕ). eqb k t) (tree-number s (y .place .term)) ∙ q) i) (some (placedAt s (y .place))) (below (typesOf s) t Γ n here)
 
   -- what is sought has a higher number
-  pub found-above : {c : Counts} {r : Child} → Searchable s c y → y .place .term < t → r .present ≡ false → FoundAs s c t (childAt s y) r
+  pub found-above : {c : Counts} {r : Child} → ReadyChild s c y → y .place .term < t → r .present ≡ false → FoundAs s c t (childAt s y) r
   found-above {r = r} h l a = record {
     is = not-there s r a
         ∙ sym (ap (λ (o : Option Placed). withNumber t (subtermsIn (typesOf s) o)) (there s y e)
@@ -107,7 +107,7 @@ module _ (s : List ℕ) (t : ℕ) (y : Child) (e : y .present ≡ true) where
     ready = λ f. absurd (true≢false (sym f ∙ a));
   }
 
-  pub found-here : {c : Counts} → Searchable s c y → y .place .term ≡ t → FoundAs s c t (childAt s y) y
+  pub found-here : {c : Counts} → ReadyChild s c y → y .place .term ≡ t → FoundAs s c t (childAt s y) y
   found-here h q = record { is = there s y e ∙ sym (number-is true (eq-eqb (y .place .term) t q)); ready = h }
 
   module _ (other : y .place .term ≡ t → ⊥) where

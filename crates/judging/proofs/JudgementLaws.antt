@@ -17,13 +17,13 @@ use Rattle.typing.specs.declared.answer.Inferred.{Inferred}
 use Rattle.accessors.specs.Internal.{FormedSheet}
 use Rattle.typing.specs.Verdicts.{termJudgement}
 use Rattle.rules.specs.Inference.{inferredModel, context}
-use Rattle.places.specs.Internal.{AtRoot, childAt}
+use Rattle.places.specs.Internal.{AtRoot, childAt, ReadyChild}
 use Rattle.places.proofs.PlaceLaws.{root-place-ready, root-child}
 use Rattle.places.specs.declared.Place.{Place}
 use Rattle.places.specs.declared.Child.{Child}
 use Rattle.subterms.specs.Judging.{withNumber, JudgedTerm, refused, judgedAs, judgedOf, judging}
 use Rattle.subterms.specs.Laws.Subterms.{subtermsIn}
-use Rattle.judging.specs.Internal.{Searchable, FoundAs, judgedAt, judgedIn}
+use Rattle.judging.specs.Internal.{FoundAs, judgedAt, judgedIn}
 
 -- ---- the reader's answer
 module _ (s : List ℕ) (t : ℕ) {d : Decoded} (p : decodedModel d ≡ decoding s) where
@@ -37,7 +37,7 @@ module _ (s : List ℕ) (t : ℕ) {d : Decoded} (p : decodedModel d ≡ decoding
 
 -- ---- a readable sheet, from what is found in the root
 module _ {s : List ℕ} {c : Counts} (S : FormedSheet s c) {y : Child} (at-root : AtRoot c y) where
-  pub root-searchable : Searchable s c y
+  pub root-searchable : ReadyChild s c y
   root-searchable h = root-place-ready S at-root
 
   module _ (t : ℕ) {r : Child} (f : FoundAs s c t (childAt s y) r) where

@@ -1,5 +1,4 @@
 -- What the contracts of internal functions say. No reader of the public promise needs this file.
-use mathlib.Core.Bool.{true}
 use mathlib.Core.List.{List, []}
 use mathlib.Core.Option.{Option, some}
 use mathlib.Core.Path.{_≡_}
@@ -8,21 +7,17 @@ use Rattle.program.specs.Layout.{authority, typesOf}
 use Rattle.program.specs.Terms.{program}
 use Rattle.program.specs.declared.records.Counts.{Counts}
 use Rattle.typing.specs.Places.{Placed}
-use Rattle.places.specs.Internal.{placedAt, childAt, ReadyPlace}
+use Rattle.places.specs.Internal.{placedAt, childAt, ReadyChild}
 use Rattle.places.specs.declared.Place.{Place}
 use Rattle.places.specs.declared.Child.{Child}
 use Rattle.subterms.specs.Smallest.{subterms}
 use Rattle.subterms.specs.Judging.{withNumber, JudgedTerm, judgedOf}
 use Rattle.subterms.specs.Laws.Subterms.{subtermsIn}
 
--- a place that is there may be judged
-abbrev pub Searchable : List ℕ → Counts → Child → Type 0
-Searchable s c y = y .present ≡ true → ReadyPlace s c (y .place)
-
 -- term t among those in a child, or none
 pub record FoundAs (s : List ℕ) (c : Counts) (t : ℕ) (o : Option Placed) (r : Child) : Type 0 where
   pub is : childAt s r ≡ withNumber t (subtermsIn (typesOf s) o)
-  pub ready : Searchable s c r
+  pub ready : ReadyChild s c r
 
 -- what is told of the term at a place
 abbrev pub judgedAt : List ℕ → Place → JudgedTerm

@@ -5,12 +5,12 @@ use places::first_child;
 use places::second_child;
 use places::third_child;
 use program::records::Counts;
-ghost use Rattle.places.specs.Internal.{childAt};
-ghost use Rattle.judging.specs.Internal.{Searchable, FoundAs};
+ghost use Rattle.places.specs.Internal.{childAt, ReadyChild};
+ghost use Rattle.judging.specs.Internal.{FoundAs};
 
 // Term t, if it is the child y or stands in it.
 pub fn find(s: &[u8], c: Counts, y: Child, t: u32) -> Child
-    requires { ⌜ Searchable (now s) c y ⌝ }
+    requires { ⌜ ReadyChild (now s) c y ⌝ }
     ensures { λ r. ⌜ FoundAs (now (s .entry)) c t (childAt (now (s .entry)) y) r ⌝ }
 {
     if !y.present {

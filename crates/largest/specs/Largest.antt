@@ -1,18 +1,12 @@
 -- Runs for which a buffer is asked for as the largest. 02, W2: "here and later, a buffer asked for as the largest and lent in another length is 15".
-use mathlib.Core.Bool.{Bool, true}
+use mathlib.Core.Bool.{Bool}
 use mathlib.Core.List.{List, [], _∷_, _++_}
 use Prim.Native.Nat.{ℕ}
 use lib.Dec.{eqb}
 use lib.ListN.{length}
-use Rattle.program.specs.Limits.{maxDepth}
 use Rattle.program.specs.Screening.{Condition, screen, unlessFound, unless}
 use Rattle.program.specs.Decoding.{decodingConditions}
-use Rattle.semantics.specs.Runs.{eager, Request, Buffers, startOk, refused, After, run}
-use Rattle.interp.specs.Answers.{requestOf}
-
--- "eagerly, checks in force, on an empty stack, with 100 open calls"
-abbrev pub eagerRequest : (calls : ℕ) → Request
-eagerRequest calls = requestOf eager true [] calls maxDepth
+use Rattle.semantics.specs.Runs.{Request, Buffers, startOk, refused, After, run}
 
 -- whether a lent buffer has the largest length
 abbrev pub isLargest : (most : ℕ) (buffer : List ℕ) → Bool

@@ -1,8 +1,8 @@
 // A run for which buffers are asked for as the largest.
 ghost use mathlib.Core.List.{[]};
 ghost use mathlib.Core.Path.{_≡_};
-ghost use Rattle.interp.specs.Answers.{buffersOf, after};
-ghost use Rattle.largest.specs.Largest.{eagerRequest, largestRun};
+ghost use Rattle.interp.specs.Answers.{buffersOf, after, emptyStackRequest};
+ghost use Rattle.largest.specs.Largest.{largestRun};
 use interp::answer::Run;
 use interp::answer::RunRefusal;
 use program::answer::Decoded;
@@ -17,7 +17,7 @@ pub fn run_largest(
     posts: &mut [u32],
 ) -> Run
     ensures { λ r. ⌜ after r (now (cells .exit)) (now (posts .exit)) []
-        ≡ largestRun right (now (sheet .entry)) (eagerRequest calls) (buffersOf (now (cells .entry)) (now (posts .entry)) []) ⌝ }
+        ≡ largestRun right (now (sheet .entry)) (emptyStackRequest calls) (buffersOf (now (cells .entry)) (now (posts .entry)) []) ⌝ }
 {
     if right {
         return interp::run_eager(sheet, &[], calls, MAX_DEPTH, true, cells, posts);

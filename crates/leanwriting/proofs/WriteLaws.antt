@@ -8,6 +8,7 @@ use native.Mathlib.Numerals.{add-one}
 use native.Mathlib.Omega.{arith}
 use lib.ListN.{length, take, drop, getD, set, length-append, length-drop}
 use lib.Seq.{paste, paste-zero, paste-suc, length-paste, length-take-le, take-all, take-at, drop-append-add, drop-drop}
+use Rattle.program.specs.Bytes.{overwrite}
 use Rattle.program.specs.Layout.{typeField, types, terms}
 use Rattle.program.specs.declared.records.Counts.{Counts}
 use Rattle.erasure.specs.Kept.{keptBelow, gather}
@@ -16,38 +17,38 @@ use Rattle.erasure.specs.Laws.Kept.{kept-most, kept-strict, kept-mono, gather-y
 use Rattle.erasure.specs.Laws.Bytes.{lean-size}
 use Rattle.erasure.specs.Laws.Types.{new-types-most}
 use Rattle.erasure.specs.Laws.Terms.{new-terms-most}
-use Rattle.leanwriting.specs.Internal.{over, SheetReady}
+use Rattle.leanwriting.specs.Internal.{SheetReady}
 use Rattle.renumbering.specs.declared.types.TypeNumbers.{TypeNumbers}
 use Rattle.renumbering.specs.declared.terms.TermNumbers.{TermNumbers}
 use Rattle.renumbering.proofs.TableLaws.{count-none, count-yes, count-no}
 
 -- ---- one part after another
 module _ (b : List ℕ) (at : ℕ) where
-  pub over-none : b ≡ over b at []
+  pub over-none : b ≡ overwrite b at []
   over-none = paste-zero b at []
 
   module _ (xs : List ℕ) (h : at + length xs ≤ length b) where
     front-length : length (take at b ++ xs) ≡ at + length xs
     front-length = length-append (take at b) xs ∙ ap (λ (k : ℕ). k + length xs) (length-take-le at b (omega arith))
 
-    pub over-length : length (over b at xs) ≡ length b
+    pub over-length : length (overwrite b at xs) ≡ length b
     over-length =
         length-append (take at b ++ xs) (drop (at + length xs) b) ∙ omega (arith, front-length, length-drop (at + length xs) b)
 
-    behind : (ys : List ℕ) → drop (at + length xs + length ys) (over b at xs) ≡ drop (at + length xs + length ys) b
+    behind : (ys : List ℕ) → drop (at + length xs + length ys) (overwrite b at xs) ≡ drop (at + length xs + length ys) b
     behind ys =
-        ap (λ (k : ℕ). drop (k + length ys) (over b at xs)) (sym front-length)
+        ap (λ (k : ℕ). drop (k + length ys) (overwrite b at xs)) (sym front-length)
         ∙ drop-append-add (take at b ++ xs) (drop (at + length xs) b) (length ys) ∙ drop-drop (length ys) (at + length xs) b
 
-    pub over-more : (ys : List ℕ) {x : List ℕ} (place : ℕ) → x ≡ over b at xs → place ≡ at + length xs → over x place ys
-        ≡ over b at (xs ++ ys)
+    pub over-more : (ys : List ℕ) {x : List ℕ} (place : ℕ) → x ≡ overwrite b at xs → place ≡ at + length xs → overwrite x place ys
+        ≡ overwrite b at (xs ++ ys)
     over-more ys place e q =
         let both : at + length xs + length ys ≡ at + length (xs ++ ys) = omega (arith, length-append xs ys) in
-        (λ i. over (e i) (q i) ys)
+        (λ i. overwrite (e i) (q i) ys)
         ∙ (λ i. take-at (take at b ++ xs) (drop (at + length xs) b) (at + length xs) front-length i ++ ys ++ behind ys i)
         ∙ (λ i. append-assoc (take at b) xs ys i ++ drop (both i) b)
 
-pub paste-over : (b : List ℕ) (at : ℕ) (xs : List ℕ) (n : ℕ) → n ≤ length xs → paste b at xs n ≡ over b at (take n xs)
+pub paste-over : (b : List ℕ) (at : ℕ) (xs : List ℕ) (n : ℕ) → n ≤ length xs → paste b at xs n ≡ overwrite b at (take n xs)
 paste-over b at xs n h = ap (λ (k : ℕ). take at b ++ take n xs ++ drop (at + k) b) (sym (length-take-le n xs h))
 
 -- ---- n bytes that are copied one by one, the first i already
@@ -87,7 +88,7 @@ term-gathering s b at h = record { wide = λ t. refl; room = h }
 -- of the first t, those that are kept stand in the list, and so many they are
 pub record Gathered (keep : ℕ → Bool) (bytes : ℕ → List ℕ) (b : List ℕ) (at t count : ℕ) (x : List ℕ) : Type 0 where
   pub count-is : count ≡ keptBelow keep t
-  pub list-is : x ≡ over b at (gather keep bytes t)
+  pub list-is : x ≡ overwrite b at (gather keep bytes t)
 
 -- the same of the first `next` of all n records
 pub record WrittenBelow (keep : ℕ → Bool) (bytes : ℕ → List ℕ) (all : ℕ) (b : List ℕ) (at n next count : ℕ) (x : List ℕ) : Type 0 where
@@ -130,21 +131,21 @@ module _ {keep : ℕ → Bool} {bytes : ℕ → List ℕ} {w : ℕ} {b : List �
       count-is = count-yes keep t (D .count-is) k;
       list-is = e ∙ ap (λ (r : List ℕ). paste x (at + w * count) r w) q
           ∙ paste-over x (at + w * count) (bytes t) w (omega (arith, G .wide t))
-          ∙ ap (over x (at + w * count)) (take-all w (bytes t) (omega (arith, G .wide t)))
+          ∙ ap (overwrite x (at + w * count)) (take-all w (bytes t) (omega (arith, G .wide t)))
           ∙ over-more b at (gather keep bytes t) (inside (omega arith)) (bytes t) (at + w * count) (D .list-is)
           (ap (λ (z : ℕ). at + w * z) (D .count-is) ∙ ap (λ (z : ℕ). at + z) (sym (gather-length keep bytes w (G .wide) t)))
-          ∙ ap (over b at) (sym (gather-yes keep bytes w (G .wide) t k)) ∙ ap (λ (z : ℕ). over b at (gather keep bytes z)) (sym next);
+          ∙ ap (overwrite b at) (sym (gather-yes keep bytes w (G .wide) t k)) ∙ ap (λ (z : ℕ). overwrite b at (gather keep bytes z)) (sym next);
     }
 
   -- one is not
   pub gathered-no : keep t ≡ false → Gathered keep bytes b at (t + 1) count x
   gathered-no k = record {
     count-is = count-no keep t (D .count-is) k;
-    list-is = D .list-is ∙ ap (over b at) (sym (gather-no keep bytes w (G .wide) t k)) ∙ ap (λ (z : ℕ). over b at (gather keep bytes z)) (sym next);
+    list-is = D .list-is ∙ ap (overwrite b at) (sym (gather-no keep bytes w (G .wide) t k)) ∙ ap (λ (z : ℕ). overwrite b at (gather keep bytes z)) (sym next);
   }
 
-  pub gathered-all : {m : ℕ} → t ≡ m → x ≡ over b at (gather keep bytes m)
-  gathered-all q = D .list-is ∙ ap (λ (z : ℕ). over b at (gather keep bytes z)) q
+  pub gathered-all : {m : ℕ} → t ≡ m → x ≡ overwrite b at (gather keep bytes m)
+  gathered-all q = D .list-is ∙ ap (λ (z : ℕ). overwrite b at (gather keep bytes z)) q
 
 -- ---- the whole sheet
 module _ (b A B C D E : List ℕ) (room : length (A ++ (B ++ C ++ (D ++ E))) ≤ length b) where
@@ -152,7 +153,8 @@ module _ (b A B C D E : List ℕ) (room : length (A ++ (B ++ C ++ (D ++ E))) ≤
   sizes =
       length-append A (B ++ C ++ (D ++ E)) ∙ omega (arith, length-append (B ++ C) (D ++ E), length-append B C, length-append D E)
 
-  pub in-turn : {b₁ b₂ b₃ b₄ b₅ : List ℕ} (p q r t : ℕ) → b₁ ≡ over b 0 A → b₂ ≡ over b₁ p B → b₃ ≡ over b₂ q C → b₄ ≡ over b₃ r D → b₅ ≡ over b₄ t E
+  pub in-turn : {b₁ b₂ b₃ b₄ b₅ : List ℕ} (p q r t : ℕ) → b₁ ≡ overwrite b 0 A → b₂ ≡ overwrite b₁ p B → b₃ ≡ overwrite b₂ q C → b₄ ≡ overwrite b₃ r D
+      → b₅ ≡ overwrite b₄ t E
       → p ≡ length A → q ≡ p + length B → r ≡ q + length C → t ≡ r + length D
       → b₅ ≡ A ++ (B ++ C ++ (D ++ E)) ++ drop (length (A ++ (B ++ C ++ (D ++ E)))) b
   in-turn p q r t e₁ e₂ e₃ e₄ e₅ h₁ h₂ h₃ h₄ =
@@ -164,9 +166,9 @@ module _ (b A B C D E : List ℕ) (room : length (A ++ (B ++ C ++ (D ++ E))) ≤
       let f₄ = e₄ ∙ over-more b 0 (A ++ B ++ C) (omega (arith, sizes)) D r f₃ (omega arith) in
       let f₅ = e₅ ∙ over-more b 0 (A ++ B ++ C ++ D) (omega (arith, sizes)) E t f₄ (omega arith) in
       let same : A ++ B ++ C ++ D ++ E ≡ A ++ (B ++ C ++ (D ++ E)) = simp append-assoc in
-      let start : (xs : List ℕ) → over b 0 xs ≡ xs ++ drop (length xs) b = λ xs.
+      let start : (xs : List ℕ) → overwrite b 0 xs ≡ xs ++ drop (length xs) b = λ xs.
       let z : 0 + length xs ≡ length xs = omega arith in ap (λ (k : ℕ). xs ++ drop k b) z in
-      f₅ ∙ ap (over b 0) same ∙ start (A ++ (B ++ C ++ (D ++ E)))
+      f₅ ∙ ap (overwrite b 0) same ∙ start (A ++ (B ++ C ++ (D ++ E)))
 
 -- its parts' places
 module _ {s : List ℕ} {c : Counts} {y : TypeNumbers} {m : TermNumbers} (R : SheetReady s c y m) where
@@ -214,10 +216,10 @@ module _ {s : List ℕ} {c : Counts} {y : TypeNumbers} {m : TermNumbers} (R : Sh
     at-types = omega (arith, R .sheet .counts .principals-are)
 
     pub sheet-put : {b₁ b₂ b₃ b₄ b₅ : List ℕ} → b₁ ≡ paste b 0 s (8 + 4 * c .principals)
-        → b₂ ≡ over b₁ (8 + 4 * c .principals) (3 ∷ bytes16 (10 * y .count))
-        → b₃ ≡ over b₂ (8 + 4 * c .principals + 3) (gather (keptType s) (typeBytes s) (types s))
-        → b₄ ≡ over b₃ (8 + 4 * c .principals + 3 + 10 * y .count) (4 ∷ bytes16 (8 * m .count))
-        → b₅ ≡ over b₄ (8 + 4 * c .principals + 3 + 10 * y .count + 3) (gather (keptTerm s) (termBytes s) (terms s))
+        → b₂ ≡ overwrite b₁ (8 + 4 * c .principals) (3 ∷ bytes16 (10 * y .count))
+        → b₃ ≡ overwrite b₂ (8 + 4 * c .principals + 3) (gather (keptType s) (typeBytes s) (types s))
+        → b₄ ≡ overwrite b₃ (8 + 4 * c .principals + 3 + 10 * y .count) (4 ∷ bytes16 (8 * m .count))
+        → b₅ ≡ overwrite b₄ (8 + 4 * c .principals + 3 + 10 * y .count + 3) (gather (keptTerm s) (termBytes s) (terms s))
         → b₅ ≡ leanSheet s ++ drop (length (leanSheet s)) b
     unfolding leanSheet
     sheet-put {b₁} {b₂} {b₃} {b₄} {b₅} e₁ e₂ e₃ e₄ e₅ =
@@ -225,6 +227,6 @@ module _ {s : List ℕ} {c : Counts} {y : TypeNumbers} {m : TermNumbers} (R : Sh
         (gather (keptTerm s) (termBytes s) (terms s)) room
         (8 + 4 * c .principals) (8 + 4 * c .principals + 3) (8 + 4 * c .principals + 3 + 10 * y .count) (8 + 4 * c .principals + 3 + 10 * y .count + 3)
         (e₁ ∙ ap (paste b 0 s) at-types ∙ paste-over b 0 s (typeField s) (omega (arith, R .sheet .well-formed .terms-inside)))
-        (e₂ ∙ ap (λ (z : ℕ). over b₁ (8 + 4 * c .principals) (3 ∷ bytes16 (10 * z))) (R .types-numbered .count-is)) e₃
-        (e₄ ∙ ap (λ (z : ℕ). over b₃ (8 + 4 * c .principals + 3 + 10 * y .count) (4 ∷ bytes16 (8 * z))) (R .terms-numbered .count-is)) e₅
+        (e₂ ∙ ap (λ (z : ℕ). overwrite b₁ (8 + 4 * c .principals) (3 ∷ bytes16 (10 * z))) (R .types-numbered .count-is)) e₃
+        (e₄ ∙ ap (λ (z : ℕ). overwrite b₃ (8 + 4 * c .principals + 3 + 10 * y .count) (4 ∷ bytes16 (8 * z))) (R .terms-numbered .count-is)) e₅
         (at-types ∙ sym prefix-length) refl (omega (arith, R .types-numbered .count-is, types-length)) refl

@@ -1,7 +1,7 @@
 -- What the contracts of internal functions say. No reader of the public promise needs this file.
-use mathlib.Core.List.{List, _++_}
+use mathlib.Core.List.{List}
 use Prim.Native.Nat.{ℕ, _+_, _*_, _<_, _≤_}
-use lib.ListN.{length, take, drop}
+use lib.ListN.{length}
 use Rattle.program.specs.Layout.{types, terms}
 use Rattle.program.specs.declared.records.Counts.{Counts}
 use Rattle.accessors.specs.Internal.{FormedSheet}
@@ -46,5 +46,3 @@ pub record SheetPuttable (s : List ℕ) (c : Counts) (y : TypeNumbers) (m : Term
   pub room : length (leanSheet s) ≤ length buffer
 
 -- ---- a list with others in place of those that stand at a place
-abbrev pub over : List ℕ → (at : ℕ) → List ℕ → List ℕ
-over b at xs = take at b ++ xs ++ drop (at + length xs) b

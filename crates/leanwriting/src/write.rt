@@ -4,10 +4,11 @@ ghost use mathlib.Core.Path.{_≡_};
 ghost use Prim.Native.Nat.{_+_, _≤_};
 ghost use lib.ListN.{length, drop};
 ghost use lib.Seq.{paste};
+ghost use Rattle.program.specs.Bytes.{overwrite};
 ghost use Rattle.program.specs.Layout.{types as typeCount, terms as termCount};
 ghost use Rattle.erasure.specs.Kept.{gather};
 ghost use Rattle.erasure.specs.Lean.{keptType, keptTerm, bytes16, typeBytes, termBytes, leanSheet};
-ghost use Rattle.leanwriting.specs.Internal.{over, Puttable, TypesPuttable, TermsPuttable, SheetPuttable};
+ghost use Rattle.leanwriting.specs.Internal.{Puttable, TypesPuttable, TermsPuttable, SheetPuttable};
 use crate::records::term_bytes;
 use crate::records::type_bytes;
 use accessors::term;
@@ -15,7 +16,7 @@ use program::limits::TERM_PLACES;
 use program::limits::TYPE_PLACES;
 use program::records::Counts;
 use renumbering::terms::TermNumbers;
-use renumbering::terms::is_idle;
+use renumbering::terms::is_erased;
 use renumbering::types::TypeNumbers;
 
 // Writes the first n bytes of a list at a place of the buffer.
@@ -33,7 +34,7 @@ fn put(buffer: &mut [u8], at: usize, from: &[u8], n: usize)
 // Writes a field's tag and length.
 fn put_head(buffer: &mut [u8], at: usize, tag: u8, size: u16)
     requires { ⌜ at + 3 ≤ length (now buffer) ⌝ }
-    ensures { λ _. ⌜ now (buffer .exit) ≡ over (now (buffer .entry)) at (tag ∷ bytes16 size) ⌝ }
+    ensures { λ _. ⌜ now (buffer .exit) ≡ overwrite (now (buffer .entry)) at (tag ∷ bytes16 size) ⌝ }
 {
     let head = [tag, (size / 256) as u8, (size % 256) as u8];
     put(buffer, at, &head, 3);
@@ -43,7 +44,7 @@ fn put_head(buffer: &mut [u8], at: usize, tag: u8, size: u16)
 fn put_types(s: &[u8], c: Counts, types: &[u16; TYPE_PLACES], buffer: &mut [u8], at: usize)
     requires { ⌜ TypesPuttable (now s) c (now types) (now buffer) at ⌝ }
     ensures { λ _. ⌜ now (buffer .exit)
-        ≡ over (now (buffer .entry)) at (gather (keptType (now (s .entry))) (typeBytes (now (s .entry))) (typeCount (now (s .entry)))) ⌝ }
+        ≡ overwrite (now (buffer .entry)) at (gather (keptType (now (s .entry))) (typeBytes (now (s .entry))) (typeCount (now (s .entry)))) ⌝ }
 {
     let n = c.types;
     let mut count = 0;
@@ -71,7 +72,7 @@ fn put_terms(
 )
     requires { ⌜ TermsPuttable (now s) c (now types) (now terms) (now buffer) at ⌝ }
     ensures { λ _. ⌜ now (buffer .exit)
-        ≡ over (now (buffer .entry)) at (gather (keptTerm (now (s .entry))) (termBytes (now (s .entry))) (termCount (now (s .entry)))) ⌝ }
+        ≡ overwrite (now (buffer .entry)) at (gather (keptTerm (now (s .entry))) (termBytes (now (s .entry))) (termCount (now (s .entry)))) ⌝ }
 {
     let n = c.terms;
     let mut count = 0;
@@ -80,7 +81,7 @@ fn put_terms(
         let t = next;
         let x = term(s, c, t);
         next += 1;
-        if !is_idle(x.kind) {
+        if !is_erased(x.kind) {
             let r = term_bytes(s, c, types, terms, t);
             put(buffer, at + 8 * count, &r, 8);
             count += 1;

@@ -7,10 +7,10 @@ use lib.Dec.{eqb}
 use lib.ListN.{length, take, drop, length-drop, drop-of-length-le}
 use lib.Seq.{take-all}
 use Rattle.program.specs.Limits.{maxCells}
-use Rattle.interp.specs.Answers.{buffersOf, after}
+use Rattle.interp.specs.Answers.{buffersOf, after, emptyStackRequest}
 use Rattle.interp.specs.declared.answer.Run.{Run}
-use Rattle.largest.specs.Largest.{eagerRequest, largestRun}
-use Rattle.queues.specs.Queues.{Job, partOf}
+use Rattle.largest.specs.Largest.{largestRun}
+use Rattle.queues.specs.Queues.{Job, jobSheet}
 use Rattle.lines.specs.Serving.{behind, jobRun}
 use Rattle.lines.proofs.ListLaws.{take-least, drop-least}
 
@@ -19,7 +19,7 @@ module _ (job : Job) (place : ℕ) (store cells posts : List ℕ) (at : ℕ) (lo
   abbrev rest-posts : List ℕ
   rest-posts = take (length posts - at) (drop at posts)
 
-  pub part-is : take (job .offset + job .length - job .offset) (drop (job .offset) store) ≡ partOf job store
+  pub part-is : take (job .offset + job .length - job .offset) (drop (job .offset) store) ≡ jobSheet job store
   part-is = let e : job .offset + job .length - job .offset ≡ job .length = omega arith in ap (λ (n : ℕ). take n (drop (job .offset) store)) e
 
   pub rest-is : rest-posts ≡ drop place posts
@@ -32,9 +32,9 @@ module _ (job : Job) (place : ℕ) (store cells posts : List ℕ) (at : ℕ) (lo
 
   pub job-run : (r : Run) (cells′ ys : List ℕ)
       → after r cells′ ys [] ≡ largestRun (eqb (length cells) maxCells) (take (job .offset + job .length - job .offset) (drop (job .offset) store))
-      (eagerRequest (job .calls)) (buffersOf cells rest-posts [])
+      (emptyStackRequest (job .calls)) (buffersOf cells rest-posts [])
       → after r cells′ (take at posts ++ (ys ++ drop (length posts - at) (drop at posts))) [] ≡ jobRun job place store (buffersOf cells posts [])
   job-run r cells′ ys e =
       (λ i. after r cells′ (back-is ys i) [])
       ∙ ap (behind place (buffersOf cells posts []))
-      (e ∙ (λ i. largestRun (eqb (length cells) maxCells) (part-is i) (eagerRequest (job .calls)) (buffersOf cells (rest-is i) [])))
+      (e ∙ (λ i. largestRun (eqb (length cells) maxCells) (part-is i) (emptyStackRequest (job .calls)) (buffersOf cells (rest-is i) [])))

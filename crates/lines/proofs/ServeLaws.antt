@@ -8,14 +8,14 @@ use native.Mathlib.Omega.{arith}
 use lib.ListN.{length, getD, length-drop}
 use Rattle.program.specs.Limits.{maxCells}
 use Rattle.semantics.specs.Runs.{Buffers, refused, After, postCount}
-use Rattle.interp.specs.Answers.{buffersOf, runModel, outcomeModel, countsModel, after}
+use Rattle.interp.specs.Answers.{buffersOf, runModel, outcomeModel, countsModel, after, emptyStackRequest}
 use Rattle.interp.specs.declared.answer.RunRefusal.{RunRefusal}
 use Rattle.interp.specs.declared.answer.Outcome.{Outcome}
-use Rattle.interp.specs.declared.answer.Made.{Made}
+use Rattle.interp.specs.declared.answer.RunCounts.{RunCounts}
 use Rattle.interp.specs.declared.answer.Run.{Run}
 use Rattle.interp.specs.declared.answer.Run.the-variants.{Refused, Ran}
-use Rattle.largest.specs.Largest.{eagerRequest, isLargest}
-use Rattle.queues.specs.Queues.{maxLines, Job, State, inside, Turn, nobody, serves, turnAt, turnOf, partOf, dequeued}
+use Rattle.largest.specs.Largest.{isLargest}
+use Rattle.queues.specs.Queues.{maxLines, Job, Lines as LinesOf, inside, Turn, nobody, serves, turnAt, turnOf, jobSheet, afterTurn}
 use Rattle.lines.specs.Serving.{restFrom, jobRun, jobAfter, idle, answered, servedAs, serveTurn, serveOf}
 use Rattle.queues.specs.Answers.{noQueue, jobModel, queueModel, linesModel}
 use Rattle.queues.specs.Internal.{hasJob, Next}
@@ -27,20 +27,21 @@ use Rattle.queues.specs.Laws.{queue-is}
 
 -- ---- the place moves
 -- what is required of a run's posts, once it is known that it was not refused
-pub made-room : (q : Lines) (l : ℕ) (x : Run) {o : Outcome} {m : Made} → Movable q l x → x ≡ Ran o m → q .place + m .posts < 2 ^ 64
+pub made-room : (q : Lines) (l : ℕ) (x : Run) {o : Outcome} {m : RunCounts} → Movable q l x → x ≡ Ran o m → q .place + m .posts < 2 ^ 64
 made-room q l x h e = subst (λ (r : Run). q .place + postCount (runModel r) < 2 ^ 64) e (h .room)
 
 -- by the posts that the run made
-module _ (s : State) (l : ℕ) (rest : List Job) (place : ℕ) {x : Run} {s′ : State} where
-  pub by-refused : {f : RunRefusal} → x ≡ Refused f → s′ ≡ dequeued s l rest place → s′ ≡ dequeued s l rest (place + postCount (runModel x))
-  by-refused e h = h ∙ ap (dequeued s l rest) (sym (ap (λ (r : Run). place + postCount (runModel r)) e ∙ add-zero place))
+module _ (s : LinesOf) (l : ℕ) (rest : List Job) (place : ℕ) {x : Run} {s′ : LinesOf} where
+  pub by-refused : {f : RunRefusal} → x ≡ Refused f → s′ ≡ afterTurn s l rest place → s′ ≡ afterTurn s l rest (place + postCount (runModel x))
+  by-refused e h = h ∙ ap (afterTurn s l rest) (sym (ap (λ (r : Run). place + postCount (runModel r)) e ∙ add-zero place))
 
-  pub by-ran : {o : Outcome} {m : Made} → x ≡ Ran o m → s′ ≡ dequeued s l rest (place + m .posts) → s′ ≡ dequeued s l rest (place + postCount (runModel x))
-  by-ran e h = h ∙ ap (dequeued s l rest) (sym (ap (λ (r : Run). place + postCount (runModel r)) e))
+  pub by-ran : {o : Outcome} {m : RunCounts} → x ≡ Ran o m → s′ ≡ afterTurn s l rest (place + m .posts)
+      → s′ ≡ afterTurn s l rest (place + postCount (runModel x))
+  by-ran e h = h ∙ ap (afterTurn s l rest) (sym (ap (λ (r : Run). place + postCount (runModel r)) e))
 
 -- ---- a serve
 module _ (q : Lines) (l : ℕ) (next : Next q l) (store cells posts : List ℕ) where
-  abbrev S : State
+  abbrev S : LinesOf
   S = linesModel q
 
   abbrev B : Buffers
@@ -68,14 +69,14 @@ module _ (q : Lines) (l : ℕ) (next : Next q l) (store cells posts : List ℕ) 
       unfolding serveOf
       by-inside e = ap (λ (t : Turn). serveTurn t S store B) turn-is ∙ ap (λ (y : Bool). servedAs S l R (jobAfter y J (q .place) store B)) (sym e)
 
-      pub outside-served : (x : Bool) → x ≡ inside J store → x ≡ false → {s : State} → s ≡ dequeued S l R (q .place)
+      pub outside-served : (x : Bool) → x ≡ inside J store → x ≡ false → {s : LinesOf} → s ≡ afterTurn S l R (q .place)
           → record { answer = answered (refused 28 0); line = l; state = s; buffers = B } ≡ serveOf S store B
       outside-served x e f g =
-          (λ i. record { answer = answered (refused 28 0); line = l; state = (g ∙ ap (dequeued S l R) (sym (add-zero (q .place)))) i; buffers = B })
+          (λ i. record { answer = answered (refused 28 0); line = l; state = (g ∙ ap (afterTurn S l R) (sym (add-zero (q .place)))) i; buffers = B })
           ∙ sym (by-inside (sym f ∙ e))
 
-      pub run-served : (x : Bool) → x ≡ inside J store → x ≡ true → (r : Run) {cells′ posts′ : List ℕ} {s : State}
-          → after r cells′ posts′ [] ≡ jobRun J (q .place) store B → s ≡ dequeued S l R (q .place + postCount (runModel r))
+      pub run-served : (x : Bool) → x ≡ inside J store → x ≡ true → (r : Run) {cells′ posts′ : List ℕ} {s : LinesOf}
+          → after r cells′ posts′ [] ≡ jobRun J (q .place) store B → s ≡ afterTurn S l R (q .place + postCount (runModel r))
           → record { answer = answered (runModel r); line = l; state = s; buffers = buffersOf cells′ posts′ [] } ≡ serveOf S store B
       run-served x e f r {cells′ = cells′} {posts′ = posts′} h g =
           (λ i. record { answer = answered (runModel r); line = l; state = g i; buffers = buffersOf cells′ posts′ [] }) ∙ ap (servedAs S l R) h
@@ -92,6 +93,7 @@ module _ (q : Lines) (l : ℕ) (next : Next q l) (store cells posts : List ℕ) 
               omega (
                 arith,
                 length-drop (q .place) posts,
-                largest-posts (partOf J store) (eagerRequest (J .calls)) (restFrom (q .place) B) (isLargest maxCells cells) (outcomeModel o) (countsModel m)
+                largest-posts (jobSheet J store) (emptyStackRequest (J .calls)) (restFrom (q .place) B) (isLargest maxCells cells) (outcomeModel o)
+                    (countsModel m)
                     (sym e),
               )

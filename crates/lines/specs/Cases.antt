@@ -10,7 +10,7 @@ use Rattle.semantics.specs.Access.{addAuthorised}
 use Rattle.semantics.specs.Runs.{Buffers, ground-num, ended, stopped, refused, ran, zeros, course, run}
 use Rattle.interp.specs.Answers.{buffersOf}
 use Rattle.largest.specs.Largest.{largestRun}
-use Rattle.queues.specs.Queues.{State, start, turnFrom}
+use Rattle.queues.specs.Queues.{Lines, newLines, turnFrom}
 use Rattle.lines.specs.Serving.{ServeAnswer, idle, answered, Served, serveOf}
 use Rattle.queues.specs.Cases.{store, whole, empty, waiting}
 
@@ -24,7 +24,7 @@ Heard = ServeAnswer × ℕ × ℕ × ℕ × List ℕ
 abbrev heard : Served → Heard
 heard r = (r .answer, r .line, r .state .turn, r .state .place, r .buffers .posts)
 
-abbrev after1 : State
+abbrev after1 : Lines
 after1 = record { queues = [] ∷ (whole ∷ []) ∷ [] ∷ (empty ∷ []) ∷ []; turn = 2; place = 1 }
 
 pub first-leaves : serveOf waiting store (buffersWith (1 ∷ 2 ∷ [])) .state ≡ after1
@@ -37,7 +37,7 @@ unfolding serveOf turnFrom largestRun run screen refuseAt course eval apply eval
 first-served = refl
 
 -- a refused job uses up its turn
-abbrev after2 : State
+abbrev after2 : Lines
 after2 = record { queues = [] ∷ (whole ∷ []) ∷ [] ∷ [] ∷ []; turn = 0; place = 1 }
 
 pub second-leaves : serveOf after1 store (buffersWith (7 ∷ 2 ∷ [])) .state ≡ after2
@@ -76,6 +76,6 @@ pub many-places :
 unfolding serveOf turnFrom largestRun run screen refuseAt course eval apply evalWith addAuthorised has meet union insert remove subset
 many-places = (refl, refl)
 
-pub nobody-waits : serveOf start store (buffersWith []) .answer ≡ idle
+pub nobody-waits : serveOf newLines store (buffersWith []) .answer ≡ idle
 unfolding serveOf turnFrom largestRun run screen refuseAt course eval apply evalWith addAuthorised has meet union insert remove subset
 nobody-waits = refl

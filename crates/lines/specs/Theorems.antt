@@ -15,6 +15,7 @@ use lib.Dec.{leb}
 use lib.ListN.{length, getD, set, take, drop, length-append, length-map, length-take, length-drop, length-reverse, length-set, take-append-drop, List·getD-append, List·getD-eq-default}
 use lib.Seq.{getD-set-same, getD-set-other, take-at, drop-at, drop-drop}
 use borrow.Author.Tests.{eq-eqb, ne-eqb, ltb-true, leb-false, le-leb, lt-leb}
+use Rattle.interp.specs.Answers.{emptyStackRequest}
 use Rattle.program.specs.Layout.{root}
 use Rattle.program.specs.Screening.{Screening, clear, found, refuseAt, screen, unless, unlessFound}
 use Rattle.program.specs.Decoding.{decodingConditions, decoding, Readable}
@@ -25,10 +26,10 @@ use Rattle.semantics.specs.Runs.{Request, Buffers, Sizes, sizes, startOk, buffe
 use Rattle.semantics.specs.Claims.{Few}
 use Rattle.semantics.specs.Laws.Starting.{countsIn}
 use Rattle.semantics.specs.Theorems.{refused-exactly}
-use Rattle.largest.specs.Largest.{eagerRequest, isLargest, largestConditions, refusedWith, largestRun}
+use Rattle.largest.specs.Largest.{isLargest, largestConditions, refusedWith, largestRun}
 use Rattle.lines.specs.Sessions.{Operation, add, serve, stepped, session, servesIn, only, addedIf, addedBy, inTurn, servedBy, addedIn, servedIn, Sound}
 use Rattle.largest.specs.Theorems.{same-run, largest-few, largest-untouched, largest-lengths}
-use Rattle.queues.specs.Queues.{maxLines, maxJobs, Job, State, start, queueAt, addConditions, enqueued, addedTo, addOf, inside, Turn, nobody, serves, turnAt, nextLine, turnFrom, turnOf, partOf, dequeued}
+use Rattle.queues.specs.Queues.{maxLines, maxJobs, Job, Lines as LinesOf, newLines, queueAt, addConditions, enqueued, addedTo, addOf, inside, Turn, nobody, serves, turnAt, nextLine, turnFrom, turnOf, jobSheet, afterTurn}
 use Rattle.queues.specs.Answers.{noQueue, jobModel, queueModel, linesModel}
 use Rattle.queues.specs.Laws.{queue-is}
 use Rattle.queues.specs.declared.state.Queue.{Queue}
@@ -37,14 +38,14 @@ use Rattle.queues.specs.Theorems.{FirstWaiting, served-first, nobody-waiting}
 use Rattle.lines.specs.Serving.{restFrom, behind, jobRun, jobAfter, idle, answered, Served, servedAs, serveTurn, serveOf}
 
 -- ---- states that the entries make
-none-waits : (l : ℕ) → queueAt start l ≡ []
+none-waits : (l : ℕ) → queueAt newLines l ≡ []
 none-waits zero = refl
 none-waits (suc zero) = refl
 none-waits (suc (suc zero)) = refl
 none-waits (suc (suc (suc zero))) = refl
 none-waits (suc (suc (suc (suc l)))) = refl
 
-pub start-sound : Sound start
+pub start-sound : Sound newLines
 start-sound = record { four = refl; turn-below = omega arith; few = λ l. omega (arith, ap length (none-waits l)) }
 
 -- Any struct is read as one, whoever made it: it has four queues of eight places.
@@ -87,11 +88,11 @@ module _ (qs : List (List Job)) (four : length qs ≡ maxLines) (k : ℕ) (below
   still-four = length-set qs k js ∙ four
 
 -- what an add that is done shows
-record Open (s : State) (k : ℕ) : Type 0 where
+record Open (s : LinesOf) (k : ℕ) : Type 0 where
   below : k < maxLines
   room : length (queueAt s k) < maxJobs
 
-is-open : (s : State) (k : ℕ) (j : Job) (store : List ℕ) → screen (addConditions s k j store) ≡ clear → Open s k
+is-open : (s : LinesOf) (k : ℕ) (j : Job) (store : List ℕ) → screen (addConditions s k j store) ≡ clear → Open s k
 is-open s k j store e =
     let none = clear-none (addConditions s k j store) e in
     record {
@@ -100,11 +101,12 @@ is-open s k j store e =
     }
 
 -- the line that has its turn is one of the four
-served-below : {n : ℕ} {s : State} {t k : ℕ} {j : Job} {js : List Job} → FirstWaiting n s t k j js → k < maxLines
+served-below : {n : ℕ} {s : LinesOf} {t k : ℕ} {j : Job} {js : List Job} → FirstWaiting n s t k j js → k < maxLines
 served-below v = omega (arith, v .line-is)
 
 -- ---- each operation makes such a state of such a state
-add-sound : (s : State) (k : ℕ) (j : Job) (store : List ℕ) → Sound s → (x : Screening) → screen (addConditions s k j store) ≡ x → Sound (addedTo x s k j .state)
+add-sound : (s : LinesOf) (k : ℕ) (j : Job) (store : List ℕ) → Sound s → (x : Screening) → screen (addConditions s k j store) ≡ x
+    → Sound (addedTo x s k j .state)
 add-sound s k j store h clear e =
     let o = is-open s k j store e in
     record {
@@ -114,7 +116,7 @@ add-sound s k j store h clear e =
     }
 add-sound s k j store h (found c p) e = h
 
-serve-sound : (s : State) (store : List ℕ) (b : Buffers) → Sound s → (t : Turn) → turnOf s ≡ t → Sound (serveTurn t s store b .state)
+serve-sound : (s : LinesOf) (store : List ℕ) (b : Buffers) → Sound s → (t : Turn) → turnOf s ≡ t → Sound (serveTurn t s store b .state)
 serve-sound s store b h nobody e = h
 serve-sound s store b h (serves k j js) e =
     let v = served-first s (h .turn-below) k j js e in
@@ -124,12 +126,12 @@ serve-sound s store b h (serves k j js) e =
       few = still-few (s .queues) (h .four) k (served-below v) js (omega (arith, ap length (v .oldest-first), h .few k)) (h .few);
     }
 
-pub step-sound : (o : Operation) (s : State) → Sound s → Sound (stepped o s)
+pub step-sound : (o : Operation) (s : LinesOf) → Sound s → Sound (stepped o s)
 unfolding addOf serveOf
 step-sound (add k j store) s h = add-sound s k j store h (screen (addConditions s k j store)) refl
 step-sound (serve store b) s h = serve-sound s store b h (turnOf s) refl
 
-pub session-sound : (os : List Operation) (s : State) → Sound s → Sound (session os s)
+pub session-sound : (os : List Operation) (s : LinesOf) → Sound s → Sound (session os s)
 session-sound [] s h = h
 session-sound (o ∷ os) s h = session-sound os (stepped o s) (step-sound o s h)
 
@@ -140,7 +142,7 @@ is-only {k} {l} j e = λ i. cond (eq-eqb k l e i) (j ∷ []) []
 is-other : {k l : ℕ} (j : Job) → (k ≡ l → ⊥) → only l k j ≡ []
 is-other {k} {l} j ne = λ i. cond (ne-eqb k l ne i) (j ∷ []) []
 
-module _ (l : ℕ) (s : State) (h : Sound s) where
+module _ (l : ℕ) (s : LinesOf) (h : Sound s) where
   add-balance : (k : ℕ) (j : Job) (store : List ℕ) (x : Screening) → screen (addConditions s k j store) ≡ x
       → queueAt s l ++ addedIf (addedTo x s k j .answer) l k j ≡ queueAt (addedTo x s k j .state) l
   add-balance k j store (found c p) e = append-nil (queueAt s l)
@@ -174,7 +176,7 @@ module _ (l : ℕ) (s : State) (h : Sound s) where
   balance (add k j store) = add-balance k j store (screen (addConditions s k j store)) refl
   balance (serve store b) = append-nil (queueAt s l) ∙ serve-balance store b (turnOf s) refl
 
-pub in-order : (l : ℕ) (os : List Operation) (s : State) → Sound s → queueAt s l ++ addedIn l os s ≡ servedIn l os s ++ queueAt (session os s) l
+pub in-order : (l : ℕ) (os : List Operation) (s : LinesOf) → Sound s → queueAt s l ++ addedIn l os s ≡ servedIn l os s ++ queueAt (session os s) l
 in-order l [] s h = append-nil (queueAt s l)
 in-order l (o ∷ os) s h =
     sym (append-assoc (queueAt s l) (addedBy l o s) (addedIn l os (stepped o s)))
@@ -184,8 +186,8 @@ in-order l (o ∷ os) s h =
     ∙ sym (append-assoc (servedBy l o s) (servedIn l os (stepped o s)) (queueAt (session os (stepped o s)) l))
 
 -- "The queues start empty, and only these entries change them": of each line, what was added is what was served, in that order, and then what waits.
-pub from-the-start : (l : ℕ) (os : List Operation) → addedIn l os start ≡ servedIn l os start ++ queueAt (session os start) l
-from-the-start l os = sym (ap (λ (xs : List Job). xs ++ addedIn l os start) (none-waits l)) ∙ in-order l os start start-sound
+pub from-the-start : (l : ℕ) (os : List Operation) → addedIn l os newLines ≡ servedIn l os newLines ++ queueAt (session os newLines) l
+from-the-start l os = sym (ap (λ (xs : List Job). xs ++ addedIn l os newLines) (none-waits l)) ∙ in-order l os newLines start-sound
 
 -- ---- "A job with j jobs before it in its own queue has its turn within 4 × (j + 1) runs"
 -- how many lines have their turn before this one
@@ -193,7 +195,7 @@ abbrev distance : (turn line : ℕ) → ℕ
 distance t l = (l + maxLines - t) % maxLines
 
 -- While a line has a job, somebody is served: it, or another line after whose turn it is nearer.
-record Nearer (s : State) (n t l : ℕ) : Type 0 where
+record Nearer (s : LinesOf) (n t l : ℕ) : Type 0 where
   line : ℕ
   job : Job
   rest : List Job
@@ -206,7 +208,7 @@ passes-by t l h g ne = omega arith
 another : (k t l : ℕ) → l < maxLines → distance (nextLine k) l < distance t l → k ≡ l → ⊥
 another k t l h g e = omega arith
 
-nearer : (n : ℕ) (s : State) (t l : ℕ) (j : Job) (js : List Job) → queueAt s l ≡ j ∷ js → t < maxLines → l < maxLines → distance t l < n → Nearer s n t l
+nearer : (n : ℕ) (s : LinesOf) (t l : ℕ) (j : Job) (js : List Job) → queueAt s l ≡ j ∷ js → t < maxLines → l < maxLines → distance t l < n → Nearer s n t l
 unfolding turnFrom
 nearer zero s t l j js e h g a = absurd (omega arith)
 nearer (suc n) s t l j js e h g a = go (queueAt s t) refl (ℕ-discrete t l) (nearer n s (nextLine t) l j js e (omega arith) g)
@@ -236,7 +238,7 @@ first-of [] n h = absurd (omega arith)
 first-of (x ∷ xs) n h = (x, xs, refl)
 
 -- an add leaves the turn
-pub add-turn : (k : ℕ) (j : Job) (store : List ℕ) (s : State) → addOf s k j store .state .turn ≡ s .turn
+pub add-turn : (k : ℕ) (j : Job) (store : List ℕ) (s : LinesOf) → addOf s k j store .state .turn ≡ s .turn
 unfolding addOf
 add-turn k j store s = go (screen (addConditions s k j store))
   where
@@ -245,18 +247,18 @@ add-turn k j store s = go (screen (addConditions s k j store))
     go (found c p) = refl
 
 module _ (l : ℕ) (below : l < maxLines) where
-  abbrev TurnReached : List Operation → State → ℕ → Type 0
+  abbrev TurnReached : List Operation → LinesOf → ℕ → Type 0
   TurnReached os s n = n < length (queueAt s l) → distance (s .turn) l + 4 * n < servesIn os → n < length (servedIn l os s)
 
   -- its own turn: one job less is before it
-  own-turn : (os : List Operation) (s s′ : State) (n : ℕ) (j : Job) → queueAt s l ≡ j ∷ queueAt s′ l → ((m : ℕ) → TurnReached os s′ m)
+  own-turn : (os : List Operation) (s s′ : LinesOf) (n : ℕ) (j : Job) → queueAt s l ≡ j ∷ queueAt s′ l → ((m : ℕ) → TurnReached os s′ m)
       → n < length (queueAt s l)
       → distance (s .turn) l + 4 * n < suc (servesIn os) → n < suc (length (servedIn l os s′))
   own-turn os s s′ zero j e next h g = omega arith
   own-turn os s s′ (suc n) j e next h g = omega (arith, next n (omega (arith, ap length e)) (omega arith))
 
   -- a serve, of this line or of another one
-  serve-reached : (store : List ℕ) (b : Buffers) (os : List Operation) (s : State) → Sound s → ((s′ : State) → Sound s′ → (m : ℕ) → TurnReached os s′ m)
+  serve-reached : (store : List ℕ) (b : Buffers) (os : List Operation) (s : LinesOf) → Sound s → ((s′ : LinesOf) → Sound s′ → (m : ℕ) → TurnReached os s′ m)
       → (n : ℕ)
       → TurnReached (serve store b ∷ os) s n
   unfolding serveOf
@@ -268,7 +270,7 @@ module _ (l : ℕ) (below : l < maxLines) where
       r : Nearer s maxLines (s .turn) l
       r = nearer maxLines s (s .turn) l (waiting .0) (waiting .1) (waiting .2) (h .turn-below) below (omega arith)
 
-      s′ : State
+      s′ : LinesOf
       s′ = serveOf s store b .state
 
       turn-is : s′ .turn ≡ nextLine (r .line)
@@ -288,7 +290,7 @@ module _ (l : ℕ) (below : l < maxLines) where
           let other = ap (inTurn l) (r .turn-is) ∙ is-other (r .job) (another (r .line) (s .turn) l below y) in
           omega (arith, counted other, next s′ (step-sound (serve store b) s h) n (omega (arith, ap length (split other))) (omega (arith, turn-is)))
 
-  reached : (os : List Operation) (s : State) → Sound s → (n : ℕ) → TurnReached os s n
+  reached : (os : List Operation) (s : LinesOf) → Sound s → (n : ℕ) → TurnReached os s n
   reached [] s h n w g = absurd (omega arith)
   reached (add k j store ∷ os) s h n w g =
       reached os (stepped (add k j store) s) (step-sound (add k j store) s h) n
@@ -297,11 +299,11 @@ module _ (l : ℕ) (below : l < maxLines) where
   reached (serve store b ∷ os) s h n w g = serve-reached store b os s h (reached os) n w g
 
   -- It is among the jobs of its line that had their turn, in its place: after the j before it.
-  pub record HasTurn (j : ℕ) (os : List Operation) (s : State) : Type 0 where
+  pub record HasTurn (j : ℕ) (os : List Operation) (s : LinesOf) : Type 0 where
     pub soon : j < length (servedIn l os s)
     pub itself : (none : Job) → getD (servedIn l os s) j none ≡ getD (queueAt s l) j none
 
-  pub turn-comes : (j : ℕ) (os : List Operation) (s : State) → Sound s → j < length (queueAt s l) → 4 * (j + 1) ≤ servesIn os → HasTurn j os s
+  pub turn-comes : (j : ℕ) (os : List Operation) (s : LinesOf) → Sound s → j < length (queueAt s l) → 4 * (j + 1) ≤ servesIn os → HasTurn j os s
   turn-comes j os s h w g =
       let soon : j < length (servedIn l os s) = reached os s h j w (omega arith) in
       record {
@@ -314,7 +316,7 @@ module _ (l : ℕ) (below : l < maxLines) where
 -- ---- one serve
 -- "Lines are served in turn": this one is the first with a job from the turn on, and then it is the next line's turn. It is line 0's at first (`start`), and
 -- no add moves it (`add-turn`).
-pub record ServedInTurn (s : State) (r : Served) : Type 0 where
+pub record ServedInTurn (s : LinesOf) (r : Served) : Type 0 where
   pub job : Job
   pub rest : List Job
   pub first : FirstWaiting maxLines s (s .turn) (r .line) job rest
@@ -323,16 +325,16 @@ pub record ServedInTurn (s : State) (r : Served) : Type 0 where
   pub others-stay : (l : ℕ) → (r .line ≡ l → ⊥) → queueAt (r .state) l ≡ queueAt s l
 
 -- "with no job nothing changes and the answer says so"
-abbrev pub AllEmpty : State → Type 0
+abbrev pub AllEmpty : LinesOf → Type 0
 AllEmpty s = (l : ℕ) → l < maxLines → queueAt s l ≡ []
 
-nobody-there : (n : ℕ) (s : State) (t : ℕ) → t < maxLines → AllEmpty s → turnFrom n s t ≡ nobody
+nobody-there : (n : ℕ) (s : LinesOf) (t : ℕ) → t < maxLines → AllEmpty s → turnFrom n s t ≡ nobody
 unfolding turnFrom
 nobody-there zero s t h e = refl
 nobody-there (suc n) s t h e =
     (λ i. turnAt t (e t h i) (λ _. turnFrom n s (nextLine t))) ∙ nobody-there n s (nextLine t) (omega arith) e
 
-module _ (s : State) (sound : Sound s) (store : List ℕ) (b : Buffers) where
+module _ (s : LinesOf) (sound : Sound s) (store : List ℕ) (b : Buffers) where
   pub served-in-turn : (a : Answer) → serveOf s store b .answer ≡ answered a → ServedInTurn s (serveOf s store b)
   unfolding serveOf
   served-in-turn a = go (turnOf s) refl
@@ -363,7 +365,7 @@ module _ (s : State) (sound : Sound s) (store : List ℕ) (b : Buffers) where
       go (serves l j js) e = absurd (let y : _≡_ {A = ℕ} 0 1 = cc in omega arith)
 
 -- A refused job leaves the place and every buffer.
-pub record Left (s : State) (b : Buffers) (r : Served) : Type 0 where
+pub record Left (s : LinesOf) (b : Buffers) (r : Served) : Type 0 where
   pub place-stays : r .state .place ≡ s .place
   pub buffers-stay : r .buffers ≡ b
 
@@ -386,12 +388,12 @@ drop-front (suc n) [] [] h = refl
 drop-front (suc n) [] (y ∷ ys) h = absurd (omega arith)
 drop-front (suc n) (x ∷ xs) ys h = drop-front n xs ys h
 
-module _ (s : State) (store : List ℕ) (b : Buffers) where
+module _ (s : LinesOf) (store : List ℕ) (b : Buffers) where
   run-left : (j : Job) (c p : ℕ) → jobRun j (s .place) store b .answer ≡ refused c p
       → jobRun j (s .place) store b ≡ record { answer = refused c p; buffers = b }
   run-left j c p e = whole-again (s .place) b c p _ λ i. record {
     answer = e i;
-    buffers = largest-untouched (partOf j store) (eagerRequest (j .calls)) (restFrom (s .place) b) (isLargest maxCells (b .cells)) c p e i;
+    buffers = largest-untouched (jobSheet j store) (emptyStackRequest (j .calls)) (restFrom (s .place) b) (isLargest maxCells (b .cells)) c p e i;
   }
 
   job-left : (inside : Bool) (j : Job) (c p : ℕ) → jobAfter inside j (s .place) store b .answer ≡ refused c p
@@ -411,7 +413,7 @@ module _ (s : State) (store : List ℕ) (b : Buffers) where
 
   -- The counts that are told are those of a run.
   job-few : (inside : Bool) (j : Job) (o : Outcome) (k : RunCounts) → jobAfter inside j (s .place) store b .answer ≡ ran o k → Few k
-  job-few true j o k e = largest-few (partOf j store) (eagerRequest (j .calls)) (restFrom (s .place) b) (isLargest maxCells (b .cells)) o k e
+  job-few true j o k e = largest-few (jobSheet j store) (emptyStackRequest (j .calls)) (restFrom (s .place) b) (isLargest maxCells (b .cells)) o k e
   job-few false j o k e = absurd (let y : _≡_ {A = ℕ} 0 1 = cc in omega arith)
 
   pub served-few : (o : Outcome) (k : RunCounts) → serveOf s store b .answer ≡ answered (ran o k) → Few k
@@ -448,7 +450,7 @@ module _ (s : State) (store : List ℕ) (b : Buffers) where
     where
       by-inside : (inside : Bool) (l : ℕ) (j : Job) (js : List Job) → BuffersKept (servedAs s l js (jobAfter inside j (s .place) store b))
       by-inside true l j js =
-          run-kept l js _ (largest-lengths (partOf j store) (eagerRequest (j .calls)) (restFrom (s .place) b) (isLargest maxCells (b .cells)))
+          run-kept l js _ (largest-lengths (jobSheet j store) (emptyStackRequest (j .calls)) (restFrom (s .place) b) (isLargest maxCells (b .cells)))
       by-inside false l j js = record { lengths = refl; before = refl }
 
       go : (t : Turn) → BuffersKept (serveTurn t s store b)
@@ -496,22 +498,22 @@ module _ (sheet : List ℕ) (q : Request) (b : Buffers) where
 
 -- the posts that a job's run makes, in order
 abbrev pub jobPosts : Job → (place : ℕ) (store : List ℕ) → Buffers → List ℕ
-jobPosts j at store b = coursePosts (course (partOf j store) (eagerRequest (j .calls)) (sizes (restFrom at b)))
+jobPosts j at store b = coursePosts (course (jobSheet j store) (emptyStackRequest (j .calls)) (sizes (restFrom at b)))
 
 -- "the next job writes from the place where the last one stopped": the place moves by the posts told, they stand in the list from the old place on, and what
 -- is behind them is as it was. What is before them: `serve-keeps`.
-pub record Followed (s : State) (store : List ℕ) (b : Buffers) (j : Job) (k : RunCounts) (r : Served) : Type 0 where
+pub record Followed (s : LinesOf) (store : List ℕ) (b : Buffers) (j : Job) (k : RunCounts) (r : Served) : Type 0 where
   pub moved : r .state .place ≡ s .place + k .posts
   pub as-many : length (jobPosts j (s .place) store b) ≡ k .posts
   pub stand : take (k .posts) (drop (s .place) (r .buffers .posts)) ≡ jobPosts j (s .place) store b
   pub behind-stay : drop (r .state .place) (r .buffers .posts) ≡ drop (r .state .place) (b .posts)
 
-module _ (s : State) (store : List ℕ) (b : Buffers) (l : ℕ) (j : Job) (rest : List Job) (turn : turnOf s ≡ serves l j rest) where
+module _ (s : LinesOf) (store : List ℕ) (b : Buffers) (l : ℕ) (j : Job) (rest : List Job) (turn : turnOf s ≡ serves l j rest) where
   abbrev P : List ℕ
-  P = partOf j store
+  P = jobSheet j store
 
   abbrev Q : Request
-  Q = eagerRequest (j .calls)
+  Q = emptyStackRequest (j .calls)
 
   abbrev R : Buffers
   R = restFrom (s .place) b
@@ -522,12 +524,12 @@ module _ (s : State) (store : List ℕ) (b : Buffers) (l : ℕ) (j : Job) (rest 
 
   -- "A job refused when served, first by 28 if the store is shorter then, uses up its turn and its number is told"
   pub outside-answered : inside j store ≡ false
-      → serveOf s store b ≡ record { answer = answered (refused 28 0); line = l; state = dequeued s l rest (s .place); buffers = b }
+      → serveOf s store b ≡ record { answer = answered (refused 28 0); line = l; state = afterTurn s l rest (s .place); buffers = b }
   outside-answered e =
-      by-inside e ∙ (λ i. record { answer = answered (refused 28 0); line = l; state = dequeued s l rest (add-zero (s .place) i); buffers = b })
+      by-inside e ∙ (λ i. record { answer = answered (refused 28 0); line = l; state = afterTurn s l rest (add-zero (s .place) i); buffers = b })
 
   -- "15 is tested on what is left": of a readable sheet in the store, with the largest cell store lent, whatever its allowance
-  module _ (within : inside j store ≡ true) (readable : Readable (partOf j store)) (largest : length (b .cells) ≡ maxCells) where
+  module _ (within : inside j store ≡ true) (readable : Readable (jobSheet j store)) (largest : length (b .cells) ≡ maxCells) where
     is-run : serveOf s store b .answer ≡ answered (run P Q R .answer)
     is-run =
         ap (λ (r : Served). r .answer) (by-inside within) ∙ (λ i. answered (largestRun (eq-eqb (length (b .cells)) maxCells largest i) P Q R .answer))

@@ -4,7 +4,7 @@ ghost use mathlib.Core.List.{[]};
 ghost use mathlib.Core.Path.{_≡_};
 ghost use Prim.Native.Nat.{_+_, min as least};
 ghost use Rattle.interp.specs.Answers.{after, buffersOf, runModel};
-ghost use Rattle.queues.specs.Queues.{inside as insideOf, dequeued};
+ghost use Rattle.queues.specs.Queues.{inside as insideOf, afterTurn};
 ghost use Rattle.queues.specs.Answers.{jobModel, queueModel, linesModel};
 ghost use Rattle.lines.specs.Serving.{jobRun, serveOf};
 ghost use Rattle.semantics.specs.Runs.{postCount};
@@ -18,14 +18,14 @@ use answer::Served;
 use interp::answer::Run;
 use largest::run_largest;
 use program::limits::MAX_CELLS;
+use queues::after_turn;
 use queues::inside;
-use queues::next_line;
+use queues::line_in_turn;
 use queues::queue::dequeue;
 use queues::state::Job;
 use queues::state::Lines;
 use queues::state::MAX_LINES;
 use queues::state::Queue;
-use queues::turned;
 
 fn lower(a: usize, b: usize) -> usize
     ensures { λ r. ⌜ r ≡ least a b ⌝ }
@@ -47,13 +47,13 @@ fn run_job(job: Job, place: usize, store: &[u8], cells: &mut [u8], posts: &mut [
 }
 
 // The place moves by the posts that a run made. One that was refused made none.
-fn passed(q: Lines, line: usize, rest: Queue, x: Run) -> Lines
+fn advance(q: Lines, line: usize, rest: Queue, x: Run) -> Lines
     requires { ⌜ Movable q line x ⌝ }
-    ensures { λ r. ⌜ linesModel r ≡ dequeued (linesModel q) line (queueModel rest) (q .place + postCount (runModel x)) ⌝ }
+    ensures { λ r. ⌜ linesModel r ≡ afterTurn (linesModel q) line (queueModel rest) (q .place + postCount (runModel x)) ⌝ }
 {
     match x {
-        Run::Refused(f) => turned(q, line, rest, q.place),
-        Run::Ran { outcome, made } => turned(q, line, rest, q.place + made.posts),
+        Run::Refused(f) => after_turn(q, line, rest, q.place),
+        Run::Ran { outcome, made } => after_turn(q, line, rest, q.place + made.posts),
     }
 }
 
@@ -62,7 +62,7 @@ pub fn serve(q: Lines, store: &[u8], cells: &mut [u8], posts: &mut [u32]) -> Ser
     ensures { λ r. ⌜ servedModel r (now (cells .exit)) (now (posts .exit))
         ≡ serveOf (linesModel q) (now (store .entry)) (buffersOf (now (cells .entry)) (now (posts .entry)) []) ⌝ }
 {
-    let line = next_line(q);
+    let line = line_in_turn(q);
     if MAX_LINES <= line {
         return Served {
             answer: ServeAnswer::Idle,
@@ -75,7 +75,7 @@ pub fn serve(q: Lines, store: &[u8], cells: &mut [u8], posts: &mut [u32]) -> Ser
     let job = taken.job;
     let rest = taken.rest;
     if !inside(job.offset, job.length, store.len()) {
-        let lines = turned(q, line, rest, q.place);
+        let lines = after_turn(q, line, rest, q.place);
         return Served {
             answer: ServeAnswer::Outside,
             line: line as u32,
@@ -83,7 +83,7 @@ pub fn serve(q: Lines, store: &[u8], cells: &mut [u8], posts: &mut [u32]) -> Ser
         };
     }
     let run = run_job(job, q.place, store, cells, posts);
-    let lines = passed(q, line, rest, run);
+    let lines = advance(q, line, rest, run);
     Served {
         answer: ServeAnswer::Run(run),
         line: line as u32,

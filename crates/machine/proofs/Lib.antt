@@ -1,3 +1,3 @@
-pub mod EnterLaws
+pub mod TailLaws
 pub mod NoteLaws
 pub mod StepLaws

@@ -7,8 +7,9 @@ use native.Mathlib.Omega.{arith}
 use lib.ListN.{length, getD, set, take, drop}
 use lib.Seq.{getD-set-other}
 use borrow.Author.Tests.{lt-ltb, le-ltb}
-use Rattle.traces.specs.Traces.{Event, decisionByte, eventBytes}
-use Rattle.machine.specs.Steps.{entriesMade, decisionOf, overwrite, makesEntry, noteCounters, noteBytes, Noted}
+use Rattle.program.specs.Bytes.{overwrite, bit}
+use Rattle.traces.specs.Traces.{Event, eventBytes}
+use Rattle.machine.specs.Steps.{entriesMade, decidedEvent, makesEntry, noteCounters, noteBytes, Noted}
 
 -- four numbers that are set one after another
 four-set : (l : List ℕ) (i a b c d : ℕ) → i + 4 ≤ length l
@@ -21,19 +22,19 @@ four-set (w ∷ x ∷ y ∷ z ∷ l) zero a b c d h = refl
 four-set (w ∷ l) (suc i) a b c d h = ap (λ (s : List ℕ). w ∷ s) (four-set l i a b c d (omega arith))
 
 module _ (l : List ℕ) (i t p : ℕ) (b : Bool) {y : ℕ} where
-  pub entry-is : i + 4 ≤ length l → y ≡ decisionByte b
-      → set (set (set (set l i (t / 256)) (i + 1) (t % 256)) (i + 2) p) (i + 3) y ≡ overwrite i (eventBytes (decisionOf t p b)) l
+  pub entry-is : i + 4 ≤ length l → y ≡ bit b
+      → set (set (set (set l i (t / 256)) (i + 1) (t % 256)) (i + 2) p) (i + 3) y ≡ overwrite l i (eventBytes (decidedEvent t p b))
   entry-is h e =
       let e₁ : i + 1 ≡ suc i = omega arith in
       let e₂ : i + 2 ≡ suc (suc i) = omega arith in
       let e₃ : i + 3 ≡ suc (suc (suc i)) = omega arith in
-      let e₄ : suc (suc (suc (suc i))) ≡ i + length (eventBytes (decisionOf t p b)) = omega arith in
-      (λ k. set (set (set (set l i (t / 256)) (e₁ k) (t % 256)) (e₂ k) p) (e₃ k) (e k)) ∙ four-set l i (t / 256) (t % 256) p (decisionByte b) h
-      ∙ sym (append-assoc (take i l) (eventBytes (decisionOf t p b)) (drop (suc (suc (suc (suc i)))) l))
-      ∙ ap (λ (j : ℕ). take i l ++ eventBytes (decisionOf t p b) ++ drop j l) e₄
+      let e₄ : suc (suc (suc (suc i))) ≡ i + length (eventBytes (decidedEvent t p b)) = omega arith in
+      (λ k. set (set (set (set l i (t / 256)) (e₁ k) (t % 256)) (e₂ k) p) (e₃ k) (e k)) ∙ four-set l i (t / 256) (t % 256) p (bit b) h
+      ∙ sym (append-assoc (take i l) (eventBytes (decidedEvent t p b)) (drop (suc (suc (suc (suc i)))) l))
+      ∙ ap (λ (j : ℕ). take i l ++ eventBytes (decidedEvent t p b) ++ drop j l) e₄
 
 module _ (e : Event) (n l : List ℕ) where
-  pub note-made : {l′ : List ℕ} → entriesMade n < length l / 4 → l′ ≡ overwrite (4 * entriesMade n) (eventBytes e) l
+  pub note-made : {l′ : List ℕ} → entriesMade n < length l / 4 → l′ ≡ overwrite l (4 * entriesMade n) (eventBytes e)
       → Noted e n l (set n 5 (entriesMade n + 1)) l′
   unfolding noteCounters noteBytes
   note-made h q = record {

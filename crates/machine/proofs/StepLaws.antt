@@ -15,7 +15,7 @@ use Rattle.program.specs.Limits.{noGuard, maxNumber}
 use Rattle.stores.specs.Words.{booleanWord, numberWord, intervalWord, undecidedWord, stopWord, sortOf, payloadOf, envOf}
 use Rattle.access.specs.Access.{enforced, intervalMode, grantedOf, allowedOf}
 use Rattle.termtable.specs.Table.{wordSmall, wordGuard}
-use Rattle.machine.specs.Steps.{postsMade, modeOf, resultWord, lessWord, intervalResult, numbersResult, operateOf, saturatesOf, operateSaturates, countersSaturated, operateCounters, Operated, decisionOf, noteCounters, noteBytes, Noted, guardPassed, numberDecides, Guarded, causeOf, entryOf, listedAs, postCause, postWord, postCounters, postList, PostAppended}
+use Rattle.machine.specs.Steps.{postsMade, modeOf, resultWord, lessWord, intervalResult, numbersResult, operateOf, saturatesOf, operateSaturates, countersSaturated, operateCounters, Operated, decidedEvent, noteCounters, noteBytes, Noted, guardPassed, numberDecides, Guarded, causeOf, entryOf, listedAs, postCause, postWord, postCounters, postList, PostAppended}
 use Rattle.machine.proofs.NoteLaws.{note-others}
 
 -- ---- what two numbers give, by the kind
@@ -166,7 +166,7 @@ module _ (t x access : ℕ) (n f noted : List ℕ) {g : ℕ} (e : g ≡ wordGuar
     }
 
     pub guard-decided : {a : Bool} {n′ f′ noted′ : List ℕ} → b ≡ true → a ≡ grantedOf (modeOf n) access f g → f′ ≡ f
-        → Noted (decisionOf t g a) n noted n′ noted′
+        → Noted (decidedEvent t g a) n noted n′ noted′
         → Guarded t x access n f noted a n′ f′ noted′
     unfolding guardPassed allowedOf
     guard-decided on q same d = record {

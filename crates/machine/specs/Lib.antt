@@ -1,4 +1,4 @@
 pub mod Steps
 pub mod Store
 pub mod Lower
-pub mod Enter
+pub mod Tails

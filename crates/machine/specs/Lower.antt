@@ -5,10 +5,10 @@ use Prim.Native.Nat.{ℕ, _<_}
 use Rattle.program.specs.Decoding.{isGuard}
 use Rattle.privileges.specs.Sets.{privilegeCount}
 use Rattle.termtable.specs.Table.{wordSmall, wordFirst, wordSecond, wordThird, wordGuard}
-use Rattle.machine.specs.Store.{Action, childless, letrec, call, if, check, enable, sign, test, binary, post}
+use Rattle.machine.specs.Store.{Action, immediate, letrec, call, if, check, enable, sign, test, binary, post}
 
 abbrev pub evaluatesFirst : Action → Bool
-evaluatesFirst childless = false
+evaluatesFirst immediate = false
 evaluatesFirst letrec = false
 evaluatesFirst call = true
 evaluatesFirst if = true
@@ -20,7 +20,7 @@ evaluatesFirst binary = true
 evaluatesFirst post = true
 
 abbrev pub evaluatesSecond : Action → Bool
-evaluatesSecond childless = false
+evaluatesSecond immediate = false
 evaluatesSecond letrec = false
 evaluatesSecond call = true
 evaluatesSecond if = true
@@ -32,7 +32,7 @@ evaluatesSecond binary = true
 evaluatesSecond post = false
 
 abbrev pub evaluatesThird : Action → Bool
-evaluatesThird childless = false
+evaluatesThird immediate = false
 evaluatesThird letrec = true
 evaluatesThird call = false
 evaluatesThird if = true
@@ -44,7 +44,7 @@ evaluatesThird binary = false
 evaluatesThird post = false
 
 abbrev pub readsPrivilege : Action → Bool
-readsPrivilege childless = false
+readsPrivilege immediate = false
 readsPrivilege letrec = false
 readsPrivilege call = false
 readsPrivilege if = false
@@ -56,7 +56,7 @@ readsPrivilege binary = false
 readsPrivilege post = false
 
 abbrev pub readsGuard : Action → Bool
-readsGuard childless = false
+readsGuard immediate = false
 readsGuard letrec = false
 readsGuard call = false
 readsGuard if = false

@@ -1,11 +1,12 @@
 -- What the steps that evaluate no other term give, and the counters of a run: calls left, cells made, posts made, its mode, the saturated results, and
 -- the entries in its record.
 use mathlib.Core.Bool.{Bool, true, false, cond}
-use mathlib.Core.List.{List, _++_}
+use mathlib.Core.List.{List}
 use mathlib.Core.Path.{_≡_}
 use Prim.Native.Nat.{ℕ, _+_, _-_, _*_, _/_, _%_, min}
 use lib.Dec.{leb, ltb, eqb}
-use lib.ListN.{length, getD, set, take, drop}
+use lib.ListN.{length, getD, set}
+use Rattle.program.specs.Bytes.{overwrite}
 use Rattle.program.specs.Limits.{noGuard, maxNumber}
 use Rattle.traces.specs.Traces.{Event, eventBytes}
 use Rattle.stores.specs.Words.{booleanWord, numberWord, intervalWord, undecidedWord, stopWord, sortOf, payloadOf, envOf}
@@ -75,13 +76,10 @@ pub record Operated (kind t a b : ℕ) (n : List ℕ) (r : ℕ) (n′ : List ℕ
 
 -- ---- the record of a run, 02, W12: "each check, test and guard they decide as term, privilege and yes or no"
 
-abbrev pub decisionOf : (t p : ℕ) (answer : Bool) → Event
-decisionOf t p b = record { term = t; privilege = p; decided = b }
+abbrev pub decidedEvent : (t p : ℕ) (answer : Bool) → Event
+decidedEvent t p b = record { term = t; privilege = p; decided = b }
 
 -- the bytes at a place and behind it are these
-abbrev pub overwrite : (at : ℕ) (bytes l : List ℕ) → List ℕ
-overwrite i b l = take i l ++ b ++ drop (i + length b) l
-
 -- whether an entry is made: something is decided, and "a full record takes no more"
 abbrev pub makesEntry : (decides : Bool) (counters noted : List ℕ) → Bool
 makesEntry d n l = cond d (ltb (entriesMade n) (length l / 4)) false
@@ -90,7 +88,7 @@ unfoldable pub noteCounters : (decides : Bool) (counters noted : List ℕ) → L
 noteCounters d n l = cond (makesEntry d n l) (set n 5 (entriesMade n + 1)) n
 
 unfoldable pub noteBytes : (decides : Bool) → Event → (counters noted : List ℕ) → List ℕ
-noteBytes d e n l = cond (makesEntry d n l) (overwrite (4 * entriesMade n) (eventBytes e) l) l
+noteBytes d e n l = cond (makesEntry d n l) (overwrite l (4 * entriesMade n) (eventBytes e)) l
 
 pub record Noted (e : Event) (n l n′ l′ : List ℕ) : Type 0 where
   pub counters-are : n′ ≡ noteCounters true n l
@@ -112,7 +110,7 @@ guardDecides mode x w = cond (eqb (sortOf w) 1) (numberDecides mode x) false
 
 -- the event of that decision
 abbrev pub guardEvent : (t x mode access : ℕ) (frames : List ℕ) → Event
-guardEvent t x mode access f = decisionOf t (wordGuard x) (grantedOf mode access f (wordGuard x))
+guardEvent t x mode access f = decidedEvent t (wordGuard x) (grantedOf mode access f (wordGuard x))
 
 pub record Guarded (t x access : ℕ) (n frames noted : List ℕ) (r : Bool) (n′ frames′ noted′ : List ℕ) : Type 0 where
   pub answer-is : r ≡ guardPassed (modeOf n) access frames (wordGuard x)

@@ -9,7 +9,7 @@ use Rattle.stores.specs.Words.{booleanWord, intervalWord, functionWord, stopWor
 use Rattle.termtable.specs.Table.{wordKind, wordSmall, wordFirst, wordSecond, wordThird, wordAuthority, wordGuard}
 use Rattle.stores.specs.Cells.{lookOf, cellSet, nextCell}
 use Rattle.access.specs.Access.{enforced, grantedOf, allowedOf, signAccess, signFrames, enableAccess, enableFrames, enabledNow, restoreFrames}
-use Rattle.machine.specs.Steps.{callsLeft, cellsMade, modeOf, operateOf, operateCounters, decisionOf, noteCounters, noteBytes, guardDecides, postCause, postWord, postCounters, postList}
+use Rattle.machine.specs.Steps.{callsLeft, cellsMade, modeOf, operateOf, operateCounters, decidedEvent, noteCounters, noteBytes, guardDecides, postCause, postWord, postCounters, postList}
 
 -- ---- the state of a run between two steps: its counters, the lent stores and the bytes of its record
 pub record Store : Type 0 where
@@ -36,30 +36,30 @@ withFrames f st = storeOf (st .counters) (st .cells) (st .posts) f (st .noted)
 abbrev pub withEntry : (decides : Bool) (t p access : ℕ) → Store → Store
 withEntry d t p access st =
     storeOf (noteCounters d (st .counters) (st .noted)) (st .cells) (st .posts) (st .frames)
-    (noteBytes d (decisionOf t p (grantedOf (modeOf (st .counters)) access (st .frames) p)) (st .counters) (st .noted))
+    (noteBytes d (decidedEvent t p (grantedOf (modeOf (st .counters)) access (st .frames) p)) (st .counters) (st .noted))
 
 -- what follows a value; a stop stays
 unfoldable pub andThen : Done → (ℕ → Store → Done) → Done
 andThen d k = cond (isStop (d .out)) d (k (d .out) (d .store))
 
-abbrev pub Runs : Type 0
-Runs = (env access : ℕ) → Store → Done
+abbrev pub StoreEvaluation : Type 0
+StoreEvaluation = (env access : ℕ) → Store → Done
 
-abbrev pub Applier : Type 0
-Applier = (t fun arg access : ℕ) → Store → Done
+abbrev pub StoreApplication : Type 0
+StoreApplication = (t fun arg access : ℕ) → Store → Done
 
 -- ---- the fifteen kinds by what they do; a number above 14 is read as 14
 pub data Action : Type 0 where
-  childless letrec call if check enable sign test binary post : Action
+  immediate letrec call if check enable sign test binary post : Action
 
 unfoldable pub actionOf : (kind : ℕ) → Action
 actionOf k =
-    cond (leb k 3) childless (cond (eqb k 4) letrec (cond (eqb k 5) call (cond (eqb k 6) if (cond (eqb k 7) check
+    cond (leb k 3) immediate (cond (eqb k 4) letrec (cond (eqb k 5) call (cond (eqb k 6) if (cond (eqb k 7) check
     (cond (eqb k 8) enable (cond (eqb k 9) sign (cond (eqb k 10) test (cond (leb k 13) binary post))))))))
 
 -- boolean, number, variable, function
-unfoldable pub leafOf : (cells : List ℕ) (t word env : ℕ) → ℕ
-leafOf cells t x env =
+unfoldable pub immediateWord : (cells : List ℕ) (t word env : ℕ) → ℕ
+immediateWord cells t x env =
     cond (eqb (wordKind x) 0) (booleanWord (ltb 0 (wordSmall x))) (cond (eqb (wordKind x) 1) (intervalWord (wordFirst x) (wordSecond x))
     (cond (eqb (wordKind x) 2) (lookOf cells t env (wordFirst x)) (functionWord (wordSecond x) env)))
 
@@ -82,32 +82,32 @@ callBound w behind st =
     (st .frames) (st .noted)
 
 -- ---- the kinds of terms
-unfoldable pub letrecS : Runs → (body t : ℕ) → Runs
+unfoldable pub letrecS : StoreEvaluation → (body t : ℕ) → StoreEvaluation
 letrecS p body t env access st = cond (hasRoom st) (p (ownCell st) access (cellBound (functionWord body (ownCell st)) env st)) (doneOf (stopWord 21 t) st)
 
-unfoldable pub callS : Runs → Runs → Applier → (t : ℕ) → Runs
+unfoldable pub callS : StoreEvaluation → StoreEvaluation → StoreApplication → (t : ℕ) → StoreEvaluation
 callS p q ap t env access st = andThen (p env access st) (λ f st₁. andThen (q env access st₁) (λ v st₂. ap t f v access st₂))
 
 unfoldable pub branchS : (t word : ℕ) → (onTrue onFalse : Done) → Store → Done
 branchS t w p q st =
     cond (eqb (sortOf w) 0) (cond (eqb (payloadOf w) 2) (doneOf (stopWord 36 t) st) (cond (ltb 0 (payloadOf w)) p q)) (doneOf (stopWord 18 t) st)
 
-unfoldable pub ifS : Runs → Runs → Runs → (t : ℕ) → Runs
+unfoldable pub ifS : StoreEvaluation → StoreEvaluation → StoreEvaluation → (t : ℕ) → StoreEvaluation
 ifS p q r t env access st = andThen (p env access st) (λ w st₁. branchS t w (q env access st₁) (r env access st₁) st₁)
 
 -- a check that is passed over decides nothing
 abbrev pub checked : (t p access : ℕ) → Store → Store
 checked t p access st = withEntry (enforced (modeOf (st .counters))) t p access st
 
-unfoldable pub checkS : Runs → (p t : ℕ) → Runs
+unfoldable pub checkS : StoreEvaluation → (p t : ℕ) → StoreEvaluation
 checkS r p t env access st =
     cond (allowedOf (modeOf (st .counters)) access (st .frames) p) (r env access (checked t p access st)) (doneOf (stopWord 17 t) (checked t p access st))
 
-unfoldable pub testS : Runs → Runs → (p t : ℕ) → Runs
+unfoldable pub testS : StoreEvaluation → StoreEvaluation → (p t : ℕ) → StoreEvaluation
 testS r q p t env access st =
     cond (grantedOf (modeOf (st .counters)) access (st .frames) p) (r env access (withEntry true t p access st)) (q env access (withEntry true t p access st))
 
-unfoldable pub signS : Runs → (authorised : ℕ) → Runs
+unfoldable pub signS : StoreEvaluation → (authorised : ℕ) → StoreEvaluation
 signS r authorised env access st =
     r env (signAccess (modeOf (st .counters)) access authorised) (withFrames (signFrames (modeOf (st .counters)) access (st .frames) authorised) st)
 
@@ -115,7 +115,7 @@ signS r authorised env access st =
 abbrev pub restored : (mode access old : ℕ) → Done → Done
 restored mode access old d = doneOf (d .out) (withFrames (restoreFrames mode access (d .store .frames) old) (d .store))
 
-unfoldable pub enableS : Runs → (p : ℕ) → Runs
+unfoldable pub enableS : StoreEvaluation → (p : ℕ) → StoreEvaluation
 enableS r p env access st =
     restored (modeOf (st .counters)) access (enabledNow (modeOf (st .counters)) access (st .frames))
     (r env (enableAccess (modeOf (st .counters)) access p) (withFrames (enableFrames (modeOf (st .counters)) access (st .frames) p) st))
@@ -124,7 +124,7 @@ unfoldable pub operateDone : (kind t a b : ℕ) → Store → Done
 operateDone kind t a b st =
     doneOf (operateOf (modeOf (st .counters)) kind t a b) (storeOf (operateCounters kind a b (st .counters)) (st .cells) (st .posts) (st .frames) (st .noted))
 
-unfoldable pub binaryS : Runs → Runs → (kind t : ℕ) → Runs
+unfoldable pub binaryS : StoreEvaluation → StoreEvaluation → (kind t : ℕ) → StoreEvaluation
 binaryS p q kind t env access st = andThen (p env access st) (λ a st₁. andThen (q env access st₁) (λ b st₂. operateDone kind t a b st₂))
 
 -- the word of the post's term says its channel and its guard, which is decided in the access of the post
@@ -138,11 +138,11 @@ postDone t x access w st =
     (storeOf (postCounters c (guarded t x access w st .counters)) (st .cells) (postList x w c (st .counters) (st .posts)) (st .frames)
     (guarded t x access w st .noted))
 
-unfoldable pub postS : Runs → (t x : ℕ) → Runs
+unfoldable pub postS : StoreEvaluation → (t x : ℕ) → StoreEvaluation
 postS p t x env access st = andThen (p env access st) (λ w st₁. postDone t x access w st₁)
 
-abbrev pub byAction : Action → (ℕ → Runs) → Applier → (t word : ℕ) → Runs
-byAction childless ev ap t x env access st = doneOf (leafOf (st .cells) t x env) st
+abbrev pub byAction : Action → (ℕ → StoreEvaluation) → StoreApplication → (t word : ℕ) → StoreEvaluation
+byAction immediate ev ap t x env access st = doneOf (immediateWord (st .cells) t x env) st
 byAction letrec ev ap t x env access st = letrecS (ev (wordThird x)) (wordSecond x) t env access st
 byAction call ev ap t x env access st = callS (ev (wordFirst x)) (ev (wordSecond x)) ap t env access st
 byAction if ev ap t x env access st = ifS (ev (wordFirst x)) (ev (wordSecond x)) (ev (wordThird x)) t env access st
@@ -154,24 +154,24 @@ byAction binary ev ap t x env access st = binaryS (ev (wordFirst x)) (ev (wordSe
 byAction post ev ap t x env access st = postS (ev (wordFirst x)) t x env access st
 
 -- a body begins: 20, then 21, or its argument is bound, with one call less
-unfoldable pub begin : (ℕ → Runs) → (t fun arg access : ℕ) → Store → Done
+unfoldable pub begin : (ℕ → StoreEvaluation) → (t fun arg access : ℕ) → Store → Done
 begin ev t f v access st =
     cond (eqb (callsLeft (st .counters)) 0) (doneOf (stopWord 20 t) st)
     (cond (hasRoom st) (ev (payloadOf f) (ownCell st) access (callBound v (envOf f) st)) (doneOf (stopWord 21 t) st))
 
 module _ (terms : List ℕ) where
-  unfoldable pub step : (ℕ → Runs) → Applier → (t : ℕ) → Runs
+  unfoldable pub step : (ℕ → StoreEvaluation) → StoreApplication → (t : ℕ) → StoreEvaluation
   step ev ap t env access st = byAction (actionOf (wordKind (getD terms t 0))) ev ap t (getD terms t 0) env access st
 
   -- terms with numbers below n
-  unfoldable pub below : Applier → (n t : ℕ) → Runs
-  below ap zero t env access st = doneOf (stopWord 18 t) st
-  below ap (suc n) t env access st = cond (eqb t n) (step (below ap n) ap t env access st) (below ap n t env access st)
+  unfoldable pub evalBelow : StoreApplication → (n t : ℕ) → StoreEvaluation
+  evalBelow ap zero t env access st = doneOf (stopWord 18 t) st
+  evalBelow ap (suc n) t env access st = cond (eqb t n) (step (evalBelow ap n) ap t env access st) (evalBelow ap n t env access st)
 
   -- 18 for what is no function, then 19. A term's number has 16 bits; one past the table has the word 0, which is a boolean's.
-  unfoldable pub applyAt : (depth : ℕ) → Applier
+  unfoldable pub applyAt : (depth : ℕ) → StoreApplication
   applyAt zero t f v access st = cond (eqb (sortOf f) 2) (doneOf (stopWord 19 t) st) (doneOf (stopWord 18 t) st)
-  applyAt (suc k) t f v access st = cond (eqb (sortOf f) 2) (begin (below (applyAt k) 65536) t f v access st) (doneOf (stopWord 18 t) st)
+  applyAt (suc k) t f v access st = cond (eqb (sortOf f) 2) (begin (evalBelow (applyAt k) 65536) t f v access st) (doneOf (stopWord 18 t) st)
 
-  unfoldable pub evalAt : (depth t : ℕ) → Runs
-  evalAt k = below (applyAt k) 65536
+  unfoldable pub evalAt : (depth t : ℕ) → StoreEvaluation
+  evalAt k = evalBelow (applyAt k) 65536

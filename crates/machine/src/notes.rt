@@ -2,11 +2,12 @@
 ghost use mathlib.Core.Path.{_≡_};
 ghost use Prim.Native.Nat.{_+_, _≤_};
 ghost use lib.ListN.{length};
-ghost use Rattle.traces.specs.Traces.{decisionByte, eventBytes};
-ghost use Rattle.machine.specs.Steps.{decisionOf, overwrite, Noted};
+ghost use Rattle.program.specs.Bytes.{overwrite, bit};
+ghost use Rattle.traces.specs.Traces.{eventBytes};
+ghost use Rattle.machine.specs.Steps.{decidedEvent, Noted};
 
 fn decision(yes: bool) -> u8
-    ensures { λ r. ⌜ r ≡ decisionByte yes ⌝ }
+    ensures { λ r. ⌜ r ≡ bit yes ⌝ }
 {
     if yes { 1 } else { 0 }
 }
@@ -14,7 +15,7 @@ fn decision(yes: bool) -> u8
 // The entry at a place: the term, highest byte first, the privilege, and 1 for yes or 0 for no.
 fn put_entry(noted: &mut [u8], at: usize, t: u16, p: u8, yes: bool)
     requires { ⌜ at + 4 ≤ length (now noted) ⌝ }
-    ensures { λ _. ⌜ now (noted .exit) ≡ overwrite at (eventBytes (decisionOf t p yes)) (now (noted .entry)) ⌝ }
+    ensures { λ _. ⌜ now (noted .exit) ≡ overwrite (now (noted .entry)) at (eventBytes (decidedEvent t p yes)) ⌝ }
 {
     noted[at] = (t / 256) as u8;
     noted[at + 1] = (t % 256) as u8;
@@ -24,7 +25,7 @@ fn put_entry(noted: &mut [u8], at: usize, t: u16, p: u8, yes: bool)
 
 // Notes what is decided on privilege p at term t. A full record takes no more.
 pub fn note(noted: &mut [u8], counters: &mut [usize; 6], t: u16, p: u8, yes: bool)
-    ensures { λ _. ⌜ Noted (decisionOf t p yes) (now (counters .entry)) (now (noted .entry)) (now (counters .exit)) (now (noted .exit)) ⌝ }
+    ensures { λ _. ⌜ Noted (decidedEvent t p yes) (now (counters .entry)) (now (noted .entry)) (now (counters .exit)) (now (noted .exit)) ⌝ }
 {
     let made = counters[5];
     if made < noted.len() / 4 {

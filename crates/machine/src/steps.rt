@@ -11,7 +11,7 @@ ghost use Rattle.program.specs.Limits.{maxNumber};
 use crate::notes::note;
 use access::enforces;
 use access::granted;
-use access::intervals;
+use access::interval_mode;
 use program::limits::MAX_NUMBER;
 use program::limits::NO_GUARD;
 use std::num::wrapping_add_usize;
@@ -92,7 +92,7 @@ pub fn operate(counters: &mut [usize; 6], kind: u8, t: u16, a: u64, b: u64) -> u
     if words::sort(b) != 1 {
         return words::stop(18, t);
     }
-    if intervals(counters[3]) {
+    if interval_mode(counters[3]) {
         return operate_intervals(kind, a, b);
     }
     let x = words::payload(a);
@@ -156,7 +156,7 @@ fn entry(high: u16, low: u16) -> u32
 fn listed(mode: usize, x: u64, w: u64) -> u32
     ensures { λ r. ⌜ r ≡ listedAs mode x w ⌝ }
 {
-    if intervals(mode) {
+    if interval_mode(mode) {
         return entry(words::payload(w), words::env(w));
     }
     entry(small_of(x) as u16, words::payload(w))

@@ -27,7 +27,7 @@ use Rattle.program.specs.declared.answer.Decoded.the-variants.{Readable, Refuse
 use Rattle.program.specs.declared.records.Counts.{Counts}
 use Rattle.program.specs.declared.records.TermRecord.{TermRecord}
 use Rattle.semantics.specs.Names.{namedBy, names}
-use Rattle.irrelevance.specs.Naming.{Naming, refused, unnamed, named, namingOf, firstNaming, naming}
+use Rattle.irrelevance.specs.Naming.{Naming, refused, unnamed, named, namingOf, lowestNaming, naming}
 use Rattle.naming.specs.Internal.{NamingSheet, NamingTerm}
 
 -- ---- a term of a kind that names none
@@ -97,13 +97,13 @@ module _ {s : List ℕ} {c : Counts} {p t : ℕ} (R : NamingTerm s c p t) {x : T
 -- ---- 30
 module _ (s : List ℕ) (p : ℕ) where
   abbrev readableAnswer : Bool → Naming
-  readableAnswer low = unlessFound refused (screen (unless 30 low ∷ [])) (λ _. namingOf (firstNaming s p))
+  readableAnswer low = unlessFound refused (screen (unless 30 low ∷ [])) (λ _. namingOf (lowestNaming s p))
 
   pub too-high : maxPrivilege < p → refused 30 0 ≡ readableAnswer (leb p maxPrivilege)
   unfolding screen refuseAt
   too-high h = λ i. readableAnswer (sym (lt-leb p maxPrivilege h) i)
 
-  pub not-above : p ≤ maxPrivilege → {a : Naming} → a ≡ namingOf (firstNaming s p) → a ≡ readableAnswer (leb p maxPrivilege)
+  pub not-above : p ≤ maxPrivilege → {a : Naming} → a ≡ namingOf (lowestNaming s p) → a ≡ readableAnswer (leb p maxPrivilege)
   unfolding screen refuseAt
   not-above h e = e ∙ λ i. readableAnswer (sym (le-leb p maxPrivilege h) i)
 
@@ -114,13 +114,13 @@ module _ (s : List ℕ) (p : ℕ) where
     unreadable-naming {f} e = λ i.
         unlessFound refused
         (sym (screen-found (decodingConditions s) (unless 30 (leb p maxPrivilege) ∷ []) (decodingCause f) (decodingPlace f) (sym m ∙ ap decodedModel e)) i)
-        (λ _. namingOf (firstNaming s p))
+        (λ _. namingOf (lowestNaming s p))
 
     pub readable-naming : {c : Counts} → d ≡ Readable c → {a : Naming} → a ≡ readableAnswer (leb p maxPrivilege) → a ≡ naming s p
     unfolding naming decoding
     readable-naming e h = h ∙ λ i.
         unlessFound refused (sym (screen-clear (decodingConditions s) (unless 30 (leb p maxPrivilege) ∷ []) (sym m ∙ ap decodedModel e)) i) (λ _. namingOf
-        (firstNaming s p))
+        (lowestNaming s p))
 
 -- ---- the search
 pub naming-term : {s : List ℕ} {c : Counts} {p t n : ℕ} → NamingSheet s c p → n ≡ terms s → t < n → NamingTerm s c p t
@@ -132,7 +132,7 @@ module _ (s : List ℕ) (p : ℕ) where
 
   -- the search from t on finds what the whole search finds
   abbrev pub Seeking : (t : ℕ) → Type 0
-  Seeking t = firstNaming s p ≡ lowest other t (terms s - t)
+  Seeking t = lowestNaming s p ≡ lowest other t (terms s - t)
 
   -- none of the first t of all n terms names it
   pub record NotNamedBelow (n t : ℕ) : Type 0 where
@@ -144,11 +144,11 @@ module _ (s : List ℕ) (p : ℕ) where
   seek-start = lowest-starts other (terms s)
 
   module _ {t n : ℕ} (e : n ≡ terms s) (k : Seeking t) where
-    pub seek-here : t < n → {b : Bool} → b ≡ names s p t → b ≡ true → named t ≡ namingOf (firstNaming s p)
+    pub seek-here : t < n → {b : Bool} → b ≡ names s p t → b ≡ true → named t ≡ namingOf (lowestNaming s p)
     seek-here h q z = ap namingOf (lowest-here other t (terms s) (omega (arith, e, h)) (ap not (sym q ∙ z)) ∙ sym k)
 
     pub seek-more : t < n → {b : Bool} → b ≡ names s p t → b ≡ false → Seeking (t + 1)
     seek-more h q z = k ∙ lowest-more other t (terms s) (omega (arith, e, h)) (ap not (sym q ∙ z))
 
-    pub seek-past : n ≤ t → unnamed ≡ namingOf (firstNaming s p)
+    pub seek-past : n ≤ t → unnamed ≡ namingOf (lowestNaming s p)
     seek-past h = ap namingOf (lowest-past other t (terms s) (omega (arith, e, h)) ∙ sym k)

@@ -6,7 +6,7 @@ ghost use Rattle.program.specs.Limits.{maxPrivilege};
 ghost use Rattle.program.specs.Screening.{screen, unlessFound, unless};
 ghost use Rattle.accessors.specs.Internal.{FormedSheet};
 ghost use Rattle.semantics.specs.Names.{names as namesOf};
-ghost use Rattle.irrelevance.specs.Naming.{refused, firstNaming, namingOf, naming};
+ghost use Rattle.irrelevance.specs.Naming.{refused, lowestNaming, namingOf, naming};
 ghost use Rattle.irrelevance.specs.Answers.{namedModel};
 ghost use Rattle.naming.specs.Internal.{NamingSheet, NamingTerm};
 use accessors::guard;
@@ -30,19 +30,19 @@ pub fn names(sheet: &[u8], privilege: u32) -> Named
 // The same of a readable sheet with its counts.
 fn names_readable(s: &[u8], c: Counts, privilege: u32) -> Named
     requires { ⌜ FormedSheet (now s) c ⌝ }
-    ensures { λ r. ⌜ namedModel r ≡ unlessFound refused (screen (unless 30 (leb privilege maxPrivilege) ∷ [])) (λ _. namingOf (firstNaming (now
+    ensures { λ r. ⌜ namedModel r ≡ unlessFound refused (screen (unless 30 (leb privilege maxPrivilege) ∷ [])) (λ _. namingOf (lowestNaming (now
         (s .entry)) privilege)) ⌝ }
 {
     if MAX_PRIVILEGE_NUMBER < privilege {
         return Named::NoPrivilege;
     }
-    first_naming(s, c, privilege as u8)
+    lowest_naming(s, c, privilege as u8)
 }
 
 // The lowest term that names p.
-fn first_naming(s: &[u8], c: Counts, p: u8) -> Named
+fn lowest_naming(s: &[u8], c: Counts, p: u8) -> Named
     requires { ⌜ NamingSheet (now s) c p ⌝ }
-    ensures { λ r. ⌜ namedModel r ≡ namingOf (firstNaming (now (s .entry)) p) ⌝ }
+    ensures { λ r. ⌜ namedModel r ≡ namingOf (lowestNaming (now (s .entry)) p) ⌝ }
 {
     let n = c.terms;
     let mut t = 0;

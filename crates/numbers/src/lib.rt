@@ -4,7 +4,7 @@ ghost use Rattle.typing.specs.Answers.{faultCause, faultPlace};
 ghost use Rattle.stores.specs.Stops.{stopCause, stopPlace};
 ghost use Rattle.interp.specs.Answers.{refusalCause, refusalPlace};
 ghost use Rattle.numbers.specs.Codes.{CodeIs};
-use stores::state::Stop;
+use stores::values::Stop;
 use typing::answer::Fault;
 
 pub struct Code {
@@ -13,7 +13,7 @@ pub struct Code {
 }
 
 // 1 to 8, and 31.
-pub fn of_reader(f: program::answer::Refusal) -> Code
+pub fn of_decoding(f: program::answer::Refusal) -> Code
     ensures { λ r. ⌜ CodeIs (decodingCause f) (decodingPlace f) r ⌝ }
 {
     match f {
@@ -74,7 +74,7 @@ pub fn of_refusal(f: interp::answer::RunRefusal) -> Code
     ensures { λ r. ⌜ CodeIs (refusalCause f) (refusalPlace f) r ⌝ }
 {
     match f {
-        interp::answer::RunRefusal::Unreadable(x) => of_reader(x),
+        interp::answer::RunRefusal::Unreadable(x) => of_decoding(x),
         interp::answer::RunRefusal::Start => Code {
             cause: 14,
             place: 0,

@@ -23,7 +23,7 @@ use Rattle.places.specs.Internal.{AtRoot, childAt}
 use Rattle.places.proofs.PlaceLaws.{root-place-ready, root-child}
 use Rattle.subterms.specs.Smallest.{subterms, FaultyTerm, smallestOf, Piece, unreadable, pieceFrom, pieceOf, recordLength, recordOf}
 use Rattle.subterms.specs.Laws.Subterms.{subtermsIn}
-use Rattle.subterms.specs.Theorems.{record-inside, place-most, length-most}
+use Rattle.subterms.specs.Theorems.{record-inside, offset-most, length-most}
 use Rattle.subterms.specs.declared.answer.Piece.the-variants.{Smallest, NoPiece, Unreadable}
 use Rattle.smallest.specs.Internal.{candidateModel, Visitable, VisitedAs}
 use Rattle.smallest.specs.declared.candidates.Candidate.{Candidate}
@@ -53,7 +53,7 @@ module _ (s : List ℕ) {d : Decoded} (p : decodedModel d ≡ decoding s) where
 -- ---- a readable sheet
 nothing-is : (x : Candidate) → tagOf the-type x ≡ 0 → candidateModel x ≡ none
 nothing-is Nothing h = refl
-nothing-is (candidate.Refused t n f) h = absurd (omega (arith, h))
+nothing-is (candidate.Faulty t n f) h = absurd (omega (arith, h))
 
 module _ {s : List ℕ} {c : Counts} (S : FormedSheet s c) {y : Child} (at-root : AtRoot c y) where
   pub root-visitable : {l : List ℕ} → Known (typesOf s) l → Visitable s c l y
@@ -70,7 +70,7 @@ module _ {s : List ℕ} {c : Counts} (S : FormedSheet s c) {y : Child} (at-root 
         (sym (nothing-is (v .smallest) e) ∙ found-is)
         (record { piece-is = refl; at-is = refl; len-is = refl }))
 
-    pub smallest-located : {t n : ℕ} {g : Fault} → v .smallest ≡ candidate.Refused t n g
+    pub smallest-located : {t n : ℕ} {g : Fault} → v .smallest ≡ candidate.Faulty t n g
         → LocatedAs s (pieceIn s) (record { piece = Smallest t n g; at = 14 + 4 * c .principals + 10 * c .types + 8 * t; len = 8 })
     smallest-located {t} {n} {g} e =
         subst
@@ -83,7 +83,7 @@ module _ {s : List ℕ} {c : Counts} (S : FormedSheet s c) {y : Child} (at-root 
 module _ (s : List ℕ) {r : Located} (h : LocatedAs s (pieceOf s) r) where
   -- a place of at most 65,535, and eight bytes
   pub ends-near : r .at + r .len ≤ 65543
-  ends-near = omega (arith, h .at-is, h .len-is, place-most s, length-most s)
+  ends-near = omega (arith, h .at-is, h .len-is, offset-most s, length-most s)
 
   pub ends-inside : r .at + r .len ≤ length s
   ends-inside = omega (arith, h .at-is, h .len-is, record-inside s)

@@ -70,7 +70,7 @@ fn locate_readable(s: &[u8], c: Counts) -> Located
     let x = found.smallest;
     match x {
         Candidate::Nothing => nowhere(Piece::NoPiece),
-        Candidate::Refused { term, count, fault } => Located {
+        Candidate::Faulty { term, count, fault } => Located {
             piece: Piece::Smallest {
                 term: term,
                 count: count,

@@ -65,8 +65,12 @@ given false x = none
 abbrev pub childAt : List ℕ → Child → Option Placed
 childAt s r = given (r .present) (placedAt s (r .place))
 
+-- a child that is there may be judged
+abbrev pub ReadyChild : List ℕ → Counts → Child → Type 0
+ReadyChild s c y = y .present ≡ true → ReadyPlace s c (y .place)
+
 -- a child of term t as it is due; a place that is there is lower and may be judged
 pub record Reached (s : List ℕ) (c : Counts) (t : ℕ) (r : Child) (due : Option Placed) : Type 0 where
   pub is : childAt s r ≡ due
   pub lower : r .present ≡ true → r .place .term < t
-  pub ready : r .present ≡ true → ReadyPlace s c (r .place)
+  pub ready : ReadyChild s c r

@@ -7,9 +7,9 @@ use Rattle.program.specs.Screening.{lowest}
 use Rattle.program.specs.declared.search.Found.{Found}
 use Rattle.program.specs.declared.search.Found.the-variants.{At, Nothing}
 
-abbrev pub foundOf : Found → Option ℕ
-foundOf (At x) = some x
-foundOf Nothing = none
+abbrev pub foundModel : Found → Option ℕ
+foundModel (At x) = some x
+foundModel Nothing = none
 
 -- records 0 to t - 1 of a table of so many are right, so that from t on the search finds what the whole search finds
 pub record Passed (ok : ℕ → Bool) (count n t : ℕ) : Type 0 where

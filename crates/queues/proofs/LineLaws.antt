@@ -8,7 +8,7 @@ use lib.Dec.{ltb, leb}
 use lib.ListN.{length, getD, set}
 use borrow.Author.Tests.{lt-ltb, le-ltb, le-leb, lt-leb, leb-true, leb-false, not-true, not-false}
 use Rattle.program.specs.Screening.{clear, found, refuseAt, screen, unless}
-use Rattle.queues.specs.Queues.{maxLines, maxJobs, Job, State, start, queueAt, inside, Added, addedTo, addOf, nobody, turnAt, nextLine, turnFrom, turnOf, dequeued}
+use Rattle.queues.specs.Queues.{maxLines, maxJobs, Job, Lines as LinesOf, newLines, queueAt, inside, Added, addedTo, addOf, nobody, turnAt, nextLine, turnFrom, turnOf, afterTurn}
 use Rattle.queues.specs.Answers.{noQueue, queueModel, linesModel}
 use Rattle.queues.specs.Internal.{hasJob, SizeIs, Next}
 use Rattle.queues.specs.declared.state.Queue.{Queue}
@@ -29,7 +29,7 @@ module _ (offset size n : ℕ) where
       go false e = sym (lt-leb (offset + size) n (omega (arith, leb-false size (n - offset) e)))
 
 -- ---- queues
-pub none-anywhere : (q : Queue) → queueModel q ≡ [] → linesModel (record { queues = q ∷ q ∷ q ∷ q ∷ []; turn = 0; place = 0 }) ≡ start
+pub none-anywhere : (q : Queue) → queueModel q ≡ [] → linesModel (record { queues = q ∷ q ∷ q ∷ q ∷ []; turn = 0; place = 0 }) ≡ newLines
 none-anywhere q e = λ i. record { queues = e i ∷ e i ∷ e i ∷ e i ∷ []; turn = 0; place = 0 }
 
 by-size : (js : List Job) → ltb 0 (length js) ≡ hasJob js
@@ -40,7 +40,7 @@ pub waiting : (q : Lines) (l n : ℕ) → SizeIs (getD (q .queues) l noQueue) n 
 waiting q l n e = ap (ltb 0) (e .size-is) ∙ by-size (queueModel (getD (q .queues) l noQueue)) ∙ ap hasJob (sym (queue-is q l))
 
 -- ---- whose turn it is
-module _ (s : State) where
+module _ (s : LinesOf) where
   here : (n t : ℕ) → hasJob (queueAt s t) ≡ true → turnFrom (suc n) s t ≡ turnAt t (queueAt s t) (λ _. nobody)
   unfolding turnFrom
   here n t = go (queueAt s t)
@@ -58,7 +58,7 @@ module _ (s : State) where
       go (j ∷ js) e = absurd (true≢false e)
 
 module _ (q : Lines) where
-  abbrev S : State
+  abbrev S : LinesOf
   S = linesModel q
 
   is-next : (l : ℕ) → l < maxLines → hasJob (queueAt S l) ≡ true → turnOf S ≡ turnAt l (queueAt S l) (λ _. nobody) → Next q l
@@ -101,7 +101,7 @@ module _ (q : Lines) where
 
 -- ---- a line has had its turn
 pub turn-over : (q : Lines) (l at : ℕ) (rest : Queue) → linesModel (record { queues = set (q .queues) l rest; turn = (l + 1) % maxLines; place = at })
-    ≡ dequeued (linesModel q) l (queueModel rest) at
+    ≡ afterTurn (linesModel q) l (queueModel rest) at
 turn-over q l at rest =
     let same : (l + 1) % maxLines % maxLines ≡ nextLine l = omega arith in
     λ i. record { queues = map-set queueModel (q .queues) l rest i; turn = same i; place = at }

@@ -4,7 +4,7 @@ use Prim.Native.Nat.{ℕ, _%_}
 use lib.ListN.{take}
 use Rattle.program.specs.Screening.{Screening, clear, found}
 use Rattle.queues.specs.Queues as queues
-use Rattle.queues.specs.Queues.{State, maxLines}
+use Rattle.queues.specs.Queues.{Lines as LinesOf, maxLines}
 use Rattle.queues.specs.declared.state.Job.{Job}
 use Rattle.queues.specs.declared.state.Queue.{Queue}
 use Rattle.queues.specs.declared.state.Lines.{Lines}
@@ -30,7 +30,7 @@ abbrev pub queueModel : Queue → List queues.Job
 queueModel q = map jobModel (take (q .count) (q .jobs))
 
 -- a turn above 3 is read modulo 4
-abbrev pub linesModel : Lines → State
+abbrev pub linesModel : Lines → LinesOf
 linesModel q = record { queues = map queueModel (q .queues); turn = q .turn % maxLines; place = q .place }
 
 -- "A line other than 0 to 3 is 27, a part outside the store 28 and a full queue 29"; no place is named, so it is 0

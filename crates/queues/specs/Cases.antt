@@ -3,7 +3,7 @@ use mathlib.Core.List.{List, [], _∷_}
 use mathlib.Core.Path.{_≡_, refl}
 use Prim.Native.Nat.{ℕ}
 use Rattle.program.specs.Screening.{clear, found, refuseAt, screen}
-use Rattle.queues.specs.Queues.{Job, State, start, addOf}
+use Rattle.queues.specs.Queues.{Job, Lines, newLines, addOf}
 use Rattle.queues.specs.Answers.{jobOf}
 
 -- 01's sheet of 78 bytes, which posts 7 and ends in it
@@ -35,10 +35,10 @@ empty = jobOf 79 0 0
 abbrev beyond : Job
 beyond = jobOf 2 78 0
 
-abbrev pub waiting : State
+abbrev pub waiting : Lines
 waiting = record { queues = [] ∷ (whole ∷ whole ∷ []) ∷ [] ∷ (empty ∷ []) ∷ []; turn = 0; place = 0 }
 
-pub adds : addOf (addOf (addOf start 1 whole store .state) 3 empty store .state) 1 whole store ≡ record { answer = clear; state = waiting }
+pub adds : addOf (addOf (addOf newLines 1 whole store .state) 3 empty store .state) 1 whole store ≡ record { answer = clear; state = waiting }
 unfolding addOf screen refuseAt
 adds = refl
 
@@ -52,7 +52,7 @@ unfolding addOf screen refuseAt
 outside = refl
 
 -- "tested in that order": a part outside the store for a line whose queue is full is 28
-abbrev full : State
+abbrev full : Lines
 full = record {
   queues = (whole ∷ whole ∷ whole ∷ whole ∷ whole ∷ whole ∷ whole ∷ whole ∷ []) ∷ [] ∷ [] ∷ [] ∷ [];
   turn = 0;

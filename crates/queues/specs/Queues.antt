@@ -20,21 +20,21 @@ pub record Job : Type 0 where
   pub calls : ℕ
 
 -- The queues of lines 0 to 3, each with its oldest job first; the line whose turn it is; the place in the list of posts where the last job stopped.
-pub record State : Type 0 where
+pub record Lines : Type 0 where
   pub queues : List (List Job)
   pub turn : ℕ
   pub place : ℕ
 
 -- "The queues start empty", "from line 0"
-abbrev pub start : State
-start = record { queues = [] ∷ [] ∷ [] ∷ [] ∷ []; turn = 0; place = 0 }
+abbrev pub newLines : Lines
+newLines = record { queues = [] ∷ [] ∷ [] ∷ [] ∷ []; turn = 0; place = 0 }
 
-abbrev pub queueAt : State → (line : ℕ) → List Job
+abbrev pub queueAt : Lines → (line : ℕ) → List Job
 queueAt s l = getD (s .queues) l []
 
 -- its part of the store
-abbrev pub partOf : Job → (store : List ℕ) → List ℕ
-partOf j store = take (j .length) (drop (j .offset) store)
+abbrev pub jobSheet : Job → (store : List ℕ) → List ℕ
+jobSheet j store = take (j .length) (drop (j .offset) store)
 
 -- whether a job's part lies in the store; an empty part may lie at its very end
 abbrev pub inside : Job → (store : List ℕ) → Bool
@@ -43,23 +43,23 @@ inside j store = leb (j .offset + j .length) (length store)
 -- ---- a job is added
 
 -- "A line other than 0 to 3 is 27, a part outside the store 28 and a full queue 29, tested in that order"
-abbrev pub addConditions : State → (line : ℕ) → Job → (store : List ℕ) → List Condition
+abbrev pub addConditions : Lines → (line : ℕ) → Job → (store : List ℕ) → List Condition
 addConditions s l j store = unless 27 (ltb l maxLines) ∷ unless 28 (inside j store) ∷ unless 29 (ltb (length (queueAt s l)) maxJobs) ∷ []
 
 -- what an add answers, `clear` if it is done, and what it leaves
 pub record Added : Type 0 where
   pub answer : Screening
-  pub state : State
+  pub state : Lines
 
-abbrev pub enqueued : State → (line : ℕ) → Job → State
+abbrev pub enqueued : Lines → (line : ℕ) → Job → Lines
 enqueued s l j = record { queues = set (s .queues) l (queueAt s l ++ (j ∷ [])); turn = s .turn; place = s .place }
 
 -- "and the queues don't change"
-abbrev pub addedTo : Screening → State → (line : ℕ) → Job → Added
+abbrev pub addedTo : Screening → Lines → (line : ℕ) → Job → Added
 addedTo clear s l j = record { answer = clear; state = enqueued s l j }
 addedTo (found c p) s l j = record { answer = found c p; state = s }
 
-unfoldable pub addOf : State → (line : ℕ) → Job → (store : List ℕ) → Added
+unfoldable pub addOf : Lines → (line : ℕ) → Job → (store : List ℕ) → Added
 addOf s l j store = addedTo (screen (addConditions s l j store)) s l j
 
 -- ---- whose turn it is
@@ -79,13 +79,13 @@ abbrev pub nextLine : (line : ℕ) → ℕ
 nextLine l = (l + 1) % maxLines
 
 -- the first of so many lines, from this one on, that has a job
-unfoldable pub turnFrom : (lines : ℕ) → State → (line : ℕ) → Turn
+unfoldable pub turnFrom : (lines : ℕ) → Lines → (line : ℕ) → Turn
 turnFrom zero s l = nobody
 turnFrom (suc n) s l = turnAt l (queueAt s l) λ _. turnFrom n s (nextLine l)
 
-abbrev pub turnOf : State → Turn
+abbrev pub turnOf : Lines → Turn
 turnOf s = turnFrom maxLines s (s .turn)
 
 -- "uses up its turn", refused or not
-abbrev pub dequeued : State → (line : ℕ) (rest : List Job) (place : ℕ) → State
-dequeued s l js at = record { queues = set (s .queues) l js; turn = nextLine l; place = at }
+abbrev pub afterTurn : Lines → (line : ℕ) (rest : List Job) (place : ℕ) → Lines
+afterTurn s l js at = record { queues = set (s .queues) l js; turn = nextLine l; place = at }

@@ -8,10 +8,10 @@ use Prim.Native.Nat.{ℕ, zero, suc, _+_, _-_, _%_, _<_}
 use native.Mathlib.Omega.{arith}
 use Rattle.program.specs.Screening.{Screening, clear, found, screen, First}
 use Rattle.program.specs.Laws.Screening.{found≢clear, found-first, first-found}
-use Rattle.queues.specs.Queues.{maxLines, Job, State, queueAt, addConditions, addedTo, addOf, nobody, serves, turnAt, nextLine, turnFrom, turnOf}
+use Rattle.queues.specs.Queues.{maxLines, Job, Lines, queueAt, addConditions, addedTo, addOf, nobody, serves, turnAt, nextLine, turnFrom, turnOf}
 
 -- ---- a job is added
-module _ (s : State) (l : ℕ) (j : Job) (store : List ℕ) where
+module _ (s : Lines) (l : ℕ) (j : Job) (store : List ℕ) where
   answer-is : (x : Screening) → addedTo x s l j .answer ≡ x
   answer-is clear = refl
   answer-is (found c p) = refl
@@ -35,18 +35,18 @@ module _ (s : State) (l : ℕ) (j : Job) (store : List ℕ) where
 -- ---- whose turn it is
 
 -- so many lines from this one on have no job
-abbrev pub EmptyFrom : State → (line count : ℕ) → Type 0
+abbrev pub EmptyFrom : Lines → (line count : ℕ) → Type 0
 EmptyFrom s t n = (i : ℕ) → i < n → queueAt s ((t + i) % maxLines) ≡ []
 
 -- "in turn …, empty lines skipped, oldest job first": of so many lines from the turn on, this one is the first with a job
-pub record FirstWaiting (lines : ℕ) (s : State) (turn line : ℕ) (j : Job) (rest : List Job) : Type 0 where
+pub record FirstWaiting (lines : ℕ) (s : Lines) (turn line : ℕ) (j : Job) (rest : List Job) : Type 0 where
   pub skipped : ℕ
   pub within : skipped < lines
   pub line-is : line ≡ (turn + skipped) % maxLines
   pub empty-before : EmptyFrom s turn skipped
   pub oldest-first : queueAt s line ≡ j ∷ rest
 
-module _ (s : State) where
+module _ (s : Lines) where
   -- an empty line and those behind it
   one-more : (t : ℕ) → t < maxLines → queueAt s t ≡ [] → (n : ℕ) → EmptyFrom s (nextLine t) n → EmptyFrom s t (suc n)
   one-more t h e n rest zero l = let z : (t + zero) % maxLines ≡ t = omega arith in ap (queueAt s) z ∙ e

@@ -2,7 +2,7 @@
 ghost use mathlib.Core.Path.{_≡_};
 ghost use Prim.Native.Nat.{_+_, _<_};
 ghost use lib.Dec.{leb};
-ghost use Rattle.queues.specs.Queues.{maxLines, start, queueAt, addOf, dequeued};
+ghost use Rattle.queues.specs.Queues.{maxLines, newLines, queueAt, addOf, afterTurn};
 ghost use Rattle.queues.specs.Answers.{jobOf, queueModel, linesModel, addedModel};
 ghost use Rattle.queues.specs.Internal.{hasJob, Next};
 
@@ -21,7 +21,7 @@ use state::MAX_LINES;
 use state::Queue;
 
 pub fn new_lines() -> Lines
-    ensures { λ r. ⌜ linesModel r ≡ start ⌝ }
+    ensures { λ r. ⌜ linesModel r ≡ newLines ⌝ }
 {
     let none = empty();
     Lines {
@@ -90,7 +90,7 @@ fn waits(q: Lines, line: usize) -> bool
 }
 
 // The line whose turn it is: the first from `turn` on that has a job, or 4 if none has.
-pub fn next_line(q: Lines) -> usize
+pub fn line_in_turn(q: Lines) -> usize
     ensures { λ r. ⌜ Next q r ⌝ }
 {
     let a = q.turn % MAX_LINES;
@@ -113,9 +113,9 @@ pub fn next_line(q: Lines) -> usize
 }
 
 // A line has had its turn: these jobs are left of it, the next line is due, and posts go on at this place.
-pub fn turned(q: Lines, line: usize, rest: Queue, place: usize) -> Lines
+pub fn after_turn(q: Lines, line: usize, rest: Queue, place: usize) -> Lines
     requires { ⌜ line < maxLines ⌝ }
-    ensures { λ r. ⌜ linesModel r ≡ dequeued (linesModel q) line (queueModel rest) place ⌝ }
+    ensures { λ r. ⌜ linesModel r ≡ afterTurn (linesModel q) line (queueModel rest) place ⌝ }
 {
     let mut r = q;
     r.queues[line] = rest;

@@ -17,7 +17,7 @@ use Rattle.semantics.specs.Runs.{eager, Request, sizes, stack, runConditions, e
 use Rattle.intervals.specs.Pairs.{pairsOk, overIntervals}
 use Rattle.intervals.specs.Runs.{intervalConditions, intervalRun}
 use Rattle.intervals.specs.Theorems.{run-clear, run-found, few-clear}
-use Rattle.stores.specs.declared.state.Out.{Out}
+use Rattle.stores.specs.declared.values.Out.{Out}
 use Rattle.stores.specs.Words.{payloadOf, envOf, outOf}
 use Rattle.access.specs.Access.{ModeIs}
 use Rattle.refinement.specs.Claims.{decidedBy, intervalOutcomeIn, intervalOutcomeBy, intervalOutcomeOf, IntervalTable}

@@ -19,13 +19,13 @@ use Rattle.ranges.specs.declared.answer.IntervalRun.{IntervalRun}
 use Rattle.ranges.specs.declared.answer.IntervalRun.the-variants.{Refused, Ran}
 
 -- "An end is a range, or yes, no or undecided"
-abbrev pub truthOf : Truth → Option Bool
-truthOf Yes = some true
-truthOf No = some false
-truthOf Undecided = none
+abbrev pub truthModel : Truth → Option Bool
+truthModel Yes = some true
+truthModel No = some false
+truthModel Undecided = none
 
 abbrev pub intervalGroundModel : IntervalGround → GroundOf intervals
-intervalGroundModel (OfTruth t) = ground-bool (truthOf t)
+intervalGroundModel (OfTruth t) = ground-bool (truthModel t)
 intervalGroundModel (OfInterval lowest highest) = ground-num (interval lowest highest)
 
 abbrev pub intervalOutcomeModel : IntervalOutcome → OutcomeOf intervals
@@ -41,10 +41,10 @@ abbrev pub intervalRefusalPlace : IntervalRefusal → ℕ
 intervalRefusalPlace (Run f) = refusalPlace f
 intervalRefusalPlace Pairs = 0
 
-abbrev pub intervalModel : IntervalRun → AnswerOf intervals
-intervalModel (Refused f) = refused (intervalRefusalCause f) (intervalRefusalPlace f)
-intervalModel (Ran o m) = ran (intervalOutcomeModel o) (countsModel m)
+abbrev pub intervalRunModel : IntervalRun → AnswerOf intervals
+intervalRunModel (Refused f) = refused (intervalRefusalCause f) (intervalRefusalPlace f)
+intervalRunModel (Ran o m) = ran (intervalOutcomeModel o) (countsModel m)
 
 -- its answer and what the buffers then hold; an eager run has no frame store
 abbrev pub afterIntervals : IntervalRun → (cells posts : List ℕ) → AfterOf intervals
-afterIntervals r cells posts = record { answer = intervalModel r; buffers = buffersOf cells posts [] }
+afterIntervals r cells posts = record { answer = intervalRunModel r; buffers = buffersOf cells posts [] }

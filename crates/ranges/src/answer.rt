@@ -1,6 +1,6 @@
 // The answer of a run over ranges. specs/Answers.antt gives the papers' number and values of each case.
-use interp::answer::Made;
-use stores::state::Stop;
+use interp::answer::RunCounts;
+use stores::values::Stop;
 
 pub enum Truth {
     Yes,
@@ -28,6 +28,6 @@ pub enum IntervalRun {
     Refused(IntervalRefusal),
     Ran {
         outcome: IntervalOutcome,
-        made: Made,
+        made: RunCounts,
     },
 }

@@ -8,12 +8,12 @@ ghost use Rattle.intervals.specs.Runs.{intervalRun};
 ghost use Rattle.refinement.specs.Claims.{decidedBy, intervalOutcomeOf};
 ghost use Rattle.interp.specs.Answers.{requestOf, buffersOf};
 ghost use Rattle.interp.specs.Internal.{Cleared};
-ghost use Rattle.ranges.specs.Answers.{truthOf, intervalOutcomeModel, afterIntervals};
+ghost use Rattle.ranges.specs.Answers.{truthModel, intervalOutcomeModel, afterIntervals};
 ghost use Rattle.ranges.specs.Internal.{PairedRun};
 
 pub mod answer;
 
-use access::interval_mode;
+use access::mode_over_intervals;
 use answer::IntervalGround;
 use answer::IntervalOutcome;
 use answer::IntervalRefusal;
@@ -27,8 +27,8 @@ use pairs::lay_pairs;
 use pairs::pairs_ok;
 use program::limits::TERM_PLACES;
 use program::records::Counts;
-use stores::state::Out;
-use stores::state::Stop;
+use stores::values::Out;
+use stores::values::Stop;
 use stores::words::env;
 use stores::words::out_of;
 use stores::words::payload;
@@ -36,7 +36,7 @@ use termtable::decode_terms;
 
 // What a boolean's payload says.
 fn truth_of(payload: u16) -> Truth
-    ensures { λ r. ⌜ truthOf r ≡ decidedBy payload ⌝ }
+    ensures { λ r. ⌜ truthModel r ≡ decidedBy payload ⌝ }
 {
     if payload == 2 {
         return Truth::Undecided;
@@ -55,14 +55,14 @@ fn outcome_of(root: u16, word: u64) -> IntervalOutcome
     match out {
         Out::Stop(x) => IntervalOutcome::Stop(x),
         Out::Val(v) => match v {
-            stores::state::Value::Bool(b) => {
+            stores::values::Value::Bool(b) => {
                 IntervalOutcome::End(IntervalGround::Truth(truth_of(payload(word))))
             }
-            stores::state::Value::Num(n) => IntervalOutcome::End(IntervalGround::Interval {
+            stores::values::Value::Num(n) => IntervalOutcome::End(IntervalGround::Interval {
                 lowest: payload(word),
                 highest: env(word),
             }),
-            stores::state::Value::Fun { body, env } => IntervalOutcome::Stop(Stop::Stuck(root)),
+            stores::values::Value::Fun { body, env } => IntervalOutcome::Stop(Stop::Stuck(root)),
         },
     }
 }
@@ -98,7 +98,7 @@ fn evaluate(
         posts,
         &mut frames,
         &mut none,
-        interval_mode(enforce),
+        mode_over_intervals(enforce),
         access,
         calls,
         depth,

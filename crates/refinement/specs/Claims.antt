@@ -16,9 +16,9 @@ use Rattle.semantics.specs.Runs.{Request, Buffers, Sizes, sizes, ground-bool, g
 use Rattle.semantics.specs.Recording.{withEntries}
 use Rattle.intervals.specs.Intervals.{interval, intervals}
 use Rattle.intervals.specs.Pairs.{pairOf}
-use Rattle.stores.specs.declared.state.Value.the-variants.{Bool as VBool, Num, Fun}
-use Rattle.stores.specs.declared.state.Out.{Out}
-use Rattle.stores.specs.declared.state.Out.the-variants.{Val, Stop as Stopped}
+use Rattle.stores.specs.declared.values.Value.the-variants.{Bool as VBool, Num, Fun}
+use Rattle.stores.specs.declared.values.Out.{Out}
+use Rattle.stores.specs.declared.values.Out.the-variants.{Val, Stop as Stopped}
 use Rattle.stores.specs.Words.{sortOf, payloadOf, envOf, outBy, outOf}
 use Rattle.termtable.specs.Table.{wordKind, wordFirst, wordSecond, WordOf}
 use Rattle.machine.specs.Steps.{callsLeft, cellsMade, postsMade, saturatedMade, entriesMade, wrapped}
@@ -57,8 +57,8 @@ pub record IntervalTable (s : List ℕ) (c : Counts) (pairs table : List ℕ) : 
   pub highest-is : (t : ℕ) → t < terms s → kindByte s t ≡ 1 → wordSecond (getD table t 0) ≡ pairOf s pairs t .high
 
 -- what was made, of so many calls allowed: the counters hold the calls that are left
-abbrev pub countsOf : (calls : ℕ) → (counters : List ℕ) → RunCounts
-countsOf c n = record { calls = c - callsLeft n; cells = cellsMade n; posts = postsMade n; saturated = saturatedMade n }
+abbrev pub runCounts : (calls : ℕ) → (counters : List ℕ) → RunCounts
+runCounts c n = record { calls = c - callsLeft n; cells = cellsMade n; posts = postsMade n; saturated = saturatedMade n }
 
 -- the counter of saturated results has 64 bits
 abbrev pub wrappedCounts : RunCounts → RunCounts
@@ -81,7 +81,7 @@ startOf mode q b t = storeOf (q .calls ∷ 0 ∷ 0 ∷ mode ∷ 0 ∷ 0 ∷ []) 
 pub record RefinedBy {D : Domain} (decodes : (root word : ℕ) → OutcomeOf D) (root : ℕ) (q : Request) (b : Buffers) (noted : List ℕ) (d : Done)
     (x : ResultOf D) (decided : List Event) : Type 0 where
   pub same-outcome : decodes root (d .out) ≡ outcome root x
-  pub same-counts : countsOf (q .calls) (d .store .counters) ≡ wrappedCounts (counts q (sizes b) (left x))
+  pub same-counts : runCounts (q .calls) (d .store .counters) ≡ wrappedCounts (counts q (sizes b) (left x))
   pub same-posts : d .store .posts ≡ inOrder (left x) ++ drop (length (inOrder (left x))) (b .posts)
   pub same-sizes : sizesOf (d .store) ≡ sizes b
   pub same-entries : entriesMade (d .store .counters) ≡ length (recorded (length noted) decided)

@@ -9,7 +9,7 @@ use mir.Val.{boolByte}
 use borrow.Author.Tests.{eq-eqb, ne-eqb}
 use Rattle.program.specs.Bytes.{byte}
 use Rattle.semantics.specs.Runs.{Buffers, areLargest, ran, After}
-use Rattle.interp.specs.Answers.{refusalCause, refusalPlace, runModel, outcomeModel, countsModel, buffersOf, after}
+use Rattle.interp.specs.Answers.{refusalCause, refusalPlace, runModel, outcomeModel, countsModel, buffersOf, after, emptyStackRequest}
 use Rattle.interp.specs.declared.answer.Run.{Run}
 use Rattle.interp.specs.declared.answer.Run.the-variants.{Refused, Ran}
 use Rattle.interp.specs.declared.answer.RunRefusal as refusals
@@ -17,12 +17,12 @@ use Rattle.interp.specs.declared.answer.Ground.{Ground}
 use Rattle.interp.specs.declared.answer.Ground.the-variants.{Bool as VBool, Num}
 use Rattle.interp.specs.declared.answer.Outcome.{Outcome}
 use Rattle.interp.specs.declared.answer.Outcome.the-variants.{End, Stop as Stopped}
-use Rattle.interp.specs.declared.answer.Made.{Made}
+use Rattle.interp.specs.declared.answer.RunCounts.{RunCounts}
 use Rattle.stores.specs.Stops.{stopCause, stopPlace}
-use Rattle.stores.specs.declared.state.Stop.{Stop}
+use Rattle.stores.specs.declared.values.Stop.{Stop}
 use Rattle.numbers.specs.Codes.{CodeIs}
 use Rattle.numbers.specs.declared.Code.{Code}
-use Rattle.largest.specs.Largest.{eagerRequest, largestRun}
+use Rattle.largest.specs.Largest.{largestRun}
 use Rattle.largest.specs.Theorems.{largest-few}
 use Rattle.blocks.specs.Block.{maxAddress, allowance, RunRegisters, registersOf, without, afterRun, isKept, Register, kept, fixed}
 use Rattle.blocks.specs.Laws.{at-inside}
@@ -32,13 +32,14 @@ use Rattle.registers.specs.Internal.{endRegisters, FewCalls}
 
 -- its calls
 pub few-calls : (s : List ℕ) (calls : ℕ) (cells posts : List ℕ) (right : Bool) (x : Run) (cells′ posts′ : List ℕ)
-    → after x cells′ posts′ [] ≡ largestRun right s (eagerRequest calls) (buffersOf cells posts []) → FewCalls x
+    → after x cells′ posts′ [] ≡ largestRun right s (emptyStackRequest calls) (buffersOf cells posts []) → FewCalls x
 few-calls s calls cells posts right (Refused f) cells′ posts′ e = tt
 few-calls s calls cells posts right (Ran o m) cells′ posts′ e =
-    largest-few s (eagerRequest calls) (buffersOf cells posts []) right (outcomeModel o) (countsModel m) (sym (ap (λ (a : After). a .answer) e)) .calls-most
+    largest-few s (emptyStackRequest calls) (buffersOf cells posts []) right (outcomeModel o) (countsModel m)
+    (sym (ap (λ (a : After). a .answer) e)) .calls-most
 
 -- ---- what its answer puts into the registers
-module _ (m : Made) where
+module _ (m : RunCounts) where
   pub stop-registers : {o : Outcome} {x : Stop} {c : Code} → o ≡ Stopped x → CodeIs (stopCause x) (stopPlace x) c
       → record { flag = 2; cause = c .cause; value = 0; calls = m .calls; place = c .place } ≡ registersOf (ran (outcomeModel o) (countsModel m))
   stop-registers e k =
@@ -74,11 +75,11 @@ module _ (block s cells posts : List ℕ) (v : ℕ) where
   not-run ne = sym (ap (λ (x : Bool). commanded x block s B) (ne-eqb v 1 ne))
 
   pub has-run : v ≡ 1 → (x : Run) {calls : ℕ} {cells′ posts′ : List ℕ} {t : RunRegisters} {block′ : List ℕ} → calls ≡ allowance block
-      → after x cells′ posts′ [] ≡ largestRun (areLargest B) s (eagerRequest calls) B → t ≡ registersOf (runModel x) → block′ ≡ afterRun block t
+      → after x cells′ posts′ [] ≡ largestRun (areLargest B) s (emptyStackRequest calls) B → t ≡ registersOf (runModel x) → block′ ≡ afterRun block t
       → done block′ (buffersOf cells′ posts′ []) ≡ commanded (eqb v 1) block s B
   has-run e x {cells′ = cells′} {posts′ = posts′} f g h k =
       (λ i. done ((k ∙ ap (afterRun block) h) i) (buffersOf cells′ posts′ []))
-      ∙ ap (ranOn block) (g ∙ ap (λ (n : ℕ). largestRun (areLargest B) s (eagerRequest n) B) f)
+      ∙ ap (ranOn block) (g ∙ ap (λ (n : ℕ). largestRun (areLargest B) s (emptyStackRequest n) B) f)
       ∙ sym (ap (λ (x : Bool). commanded x block s B) (eq-eqb v 1 e))
 
   module _ (a : ℕ) where

@@ -2,10 +2,10 @@
 use mathlib.Core.List.{List, []}
 use Prim.Native.Nat.{ℕ}
 use Rattle.interp.specs.Answers.{buffersOf}
-use Rattle.blocks.specs.Answers.{accessModel}
+use Rattle.blocks.specs.Answers.{writeAnswerModel}
 use Rattle.registers.specs.Writes as writes
 use Rattle.registers.specs.declared.Written.{Written}
 
 -- with what the buffers then hold
 abbrev pub writtenModel : Written → (cells posts : List ℕ) → writes.Written
-writtenModel w cells posts = record { access = accessModel (w .access); block = w .block .bytes; buffers = buffersOf cells posts [] }
+writtenModel w cells posts = record { answer = writeAnswerModel (w .answer); block = w .block .bytes; buffers = buffersOf cells posts [] }

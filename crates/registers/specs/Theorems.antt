@@ -10,19 +10,19 @@ use lib.Dec.{leb, eqb, lit≤}
 use lib.ListN.{length, length-set}
 use lib.Seq.{getD-set-same, getD-set-other}
 use borrow.Author.Tests.{leb-true, ne-eqb}
+use Rattle.interp.specs.Answers.{emptyStackRequest}
 use Rattle.privileges.specs.Booleans.{and-left, and-right}
 use Rattle.program.specs.Bytes.{byte}
 use Rattle.semantics.specs.Runs.{Buffers, areLargest, refused}
-use Rattle.largest.specs.Largest.{eagerRequest}
 use Rattle.largest.specs.Theorems.{largest-untouched}
-use Rattle.blocks.specs.Block.{blockBytes, maxAddress, newBlock, allowance, RunRegisters, registersOf, without, afterRun, access-refused, isKept, Register, command, status, kept, fixed, absent, registerAt}
+use Rattle.blocks.specs.Block.{blockBytes, maxAddress, newBlock, allowance, RunRegisters, registersOf, without, afterRun, write-refused, isKept, Register, command, status, kept, fixed, absent, registerAt}
 use Rattle.blocks.specs.Laws.{at-kept, at-fixed, at-absent}
 use Rattle.blocks.specs.Theorems.{run-keeps}
 use Rattle.registers.specs.Writes.{blockRun, done, ranOn, commanded, writeTo, writeOf}
 
 -- ---- "An address above 15 is answered with 23 and leaves the block."
 pub absent-written : (block : List ℕ) (a : ℕ) → maxAddress < a → (v : ℕ) (s : List ℕ) (b : Buffers)
-    → writeOf block a v s b ≡ record { access = access-refused 23 0; block = block; buffers = b }
+    → writeOf block a v s b ≡ record { answer = write-refused 23 0; block = block; buffers = b }
 absent-written block a above v s b = ap (λ (r : Register). writeTo r block a v s b) (at-absent a above)
 
 -- ---- "Other command values and writes to 2 and 6 to 15 change nothing."
@@ -147,7 +147,7 @@ module _ (block : List ℕ) (a v : ℕ) (s : List ℕ) (b : Buffers) where
       ∙ beside-untouched (eqb a 1) (leb a maxAddress) (isKept a)
 
 pub refusal-untouched : (block s : List ℕ) (b : Buffers) (c p : ℕ) → blockRun block s b .answer ≡ refused c p → writeOf block 0 1 s b .buffers ≡ b
-refusal-untouched block s b c p e = largest-untouched s (eagerRequest (allowance block)) b (areLargest b) c p e
+refusal-untouched block s b c p e = largest-untouched s (emptyStackRequest (allowance block)) b (areLargest b) c p e
 
 -- ---- a block keeps its 16 bytes
 command-length : (x : Bool) (block s : List ℕ) (b : Buffers) → length block ≡ blockBytes → length (commanded x block s b .block) ≡ 16

@@ -9,8 +9,8 @@ ghost use Rattle.registers.specs.Answers.{writtenModel};
 
 mod outcome;
 
-use blocks::block::Access;
 use blocks::block::Block;
+use blocks::block::WriteAnswer;
 use blocks::kept;
 use blocks::update::after_run;
 use blocks::update::stored;
@@ -21,7 +21,7 @@ use program::limits::MAX_POSTS;
 
 // The answer of a write, and the block as it leaves it.
 pub struct Written {
-    pub access: Access,
+    pub answer: WriteAnswer,
     pub block: Block,
 }
 
@@ -39,7 +39,7 @@ fn command(b: Block, value: u8, sheet: &[u8], cells: &mut [u8], posts: &mut [u32
 {
     if value != 1 {
         return Written {
-            access: Access::Done,
+            answer: WriteAnswer::Done,
             block: b,
         };
     }
@@ -47,7 +47,7 @@ fn command(b: Block, value: u8, sheet: &[u8], cells: &mut [u8], posts: &mut [u32
     let right = (cells.len() == MAX_CELLS) & (posts.len() == MAX_POSTS);
     let r = largest::run_largest(sheet, calls, right, cells, posts);
     Written {
-        access: Access::Done,
+        answer: WriteAnswer::Done,
         block: after_run(b, of_run(r)),
     }
 }
@@ -67,15 +67,15 @@ pub fn write(
     match address {
         0 => command(b, value, sheet, cells, posts),
         1 => Written {
-            access: Access::Done,
+            answer: WriteAnswer::Done,
             block: stored(b, 1, without(b.bytes[1], value)),
         },
         2..=15 => Written {
-            access: Access::Done,
+            answer: WriteAnswer::Done,
             block: kept(b, address, value),
         },
         _ => Written {
-            access: Access::Refused,
+            answer: WriteAnswer::Refused,
             block: b,
         },
     }

@@ -9,9 +9,9 @@ ghost use Rattle.blocks.specs.Internal.{registersModel};
 ghost use Rattle.registers.specs.Internal.{endRegisters, FewCalls};
 use blocks::block::RunRegisters;
 use interp::answer::Ground;
-use interp::answer::Made;
 use interp::answer::Outcome;
 use interp::answer::Run;
+use interp::answer::RunCounts;
 
 fn ended(value: u16, calls: u16) -> RunRegisters
     ensures { λ r. ⌜ registersModel r ≡ endRegisters value calls ⌝ }
@@ -25,7 +25,7 @@ fn ended(value: u16, calls: u16) -> RunRegisters
     }
 }
 
-fn of_outcome(o: Outcome, m: Made) -> RunRegisters
+fn of_outcome(o: Outcome, m: RunCounts) -> RunRegisters
     requires { ⌜ m .calls ≤ maxCalls ⌝ }
     ensures { λ r. ⌜ registersModel r ≡ registersOf (ran (outcomeModel o) (countsModel m)) ⌝ }
 {

@@ -15,7 +15,7 @@ use Rattle.program.specs.declared.records.Counts.{Counts}
 use Rattle.program.specs.declared.records.TermRecord.{TermRecord}
 use Rattle.accessors.specs.Internal.{FormedSheet}
 use Rattle.erasure.specs.Kept.{keptBelow}
-use Rattle.erasure.specs.Lean.{idle, keptTerm, newTerm, untested, erasable}
+use Rattle.erasure.specs.Lean.{isErased, keptTerm, newTerm, untested, erasable}
 use Rattle.erasure.specs.Laws.Terms.{idle-kept, idle-gone, idle-child, term-kept, term-idle}
 use Rattle.renumbering.specs.Internal.{Tabulated}
 
@@ -28,7 +28,7 @@ module _ {s : List ℕ} {c : Counts} (S : FormedSheet s c) {t : ℕ} (l : t < te
   kind-read = ap (λ (r : TermRecord). r .kind) term-read
 
   module _ {b : Bool} (f : b ≡ (leb 7 (x .kind) && leb (x .kind) 8)) where
-    idle-is : b ≡ idle s t
+    idle-is : b ≡ isErased s t
     idle-is = f ∙ ap (λ (r : TermRecord). leb 7 (r .kind) && leb (r .kind) 8) term-read
 
     pub kept-here : b ≡ false → keptTerm s t ≡ true

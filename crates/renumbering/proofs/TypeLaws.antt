@@ -18,12 +18,12 @@ use Rattle.program.specs.declared.records.Counts.{Counts}
 use Rattle.program.specs.declared.records.TypeRecord.{TypeRecord}
 use Rattle.accessors.specs.Internal.{FormedSheet}
 use Rattle.erasure.specs.Kept.{keptBelow}
-use Rattle.erasure.specs.Lean.{alike, orSelf, heads, head, keptType, newType}
+use Rattle.erasure.specs.Lean.{alike, orSelf, representatives, representative, keptType, newType}
 use Rattle.erasure.specs.Laws.Kept.{kept-strict}
 use Rattle.erasure.specs.Laws.Types.{lower, head-is, heads-head, head-of, head-kept, number-kept, number-merged, number-head}
 use Rattle.renumbering.specs.Internal.{Tabulated, MergingType, MergingPair, TypesReady}
 
-head-number : (s : List ℕ) (a b : ℕ) → head s a ≡ head s b → newType s a ≡ newType s b
+head-number : (s : List ℕ) (a b : ℕ) → representative s a ≡ representative s b → newType s a ≡ newType s b
 unfolding newType
 head-number s a b e = ap (keptBelow (keptType s)) e
 
@@ -47,14 +47,14 @@ module _ {s l : List ℕ} {c : Counts} {t u : ℕ} (P : MergingPair s c l t u) w
   formed : WellFormed s
   formed = P .merging .sheet .well-formed
 
-  -- the same number, the same head
-  same-number : (a b : ℕ) → a < t → b < t → eqb (getD l a 0) (getD l b 0) ≡ eqb (getD (heads s t) a 0) (getD (heads s t) b 0)
+  -- the same number, the same representative
+  same-number : (a b : ℕ) → a < t → b < t → eqb (getD l a 0) (getD l b 0) ≡ eqb (getD (representatives s t) a 0) (getD (representatives s t) b 0)
   same-number a b p q =
       let i = P .merging .inside in
       (λ k. eqb (P .merging .numbers .each a p k) (P .merging .numbers .each b q k))
-      ∙ bool-ext (eqb (newType s a) (newType s b)) (eqb (head s a) (head s b))
-      (λ e. eq-eqb (head s a) (head s b) (number-head s formed a b (omega arith) (omega arith) (eqb-true (newType s a) (newType s b) e)))
-      (λ e. eq-eqb (newType s a) (newType s b) (head-number s a b (eqb-true (head s a) (head s b) e)))
+      ∙ bool-ext (eqb (newType s a) (newType s b)) (eqb (representative s a) (representative s b))
+      (λ e. eq-eqb (representative s a) (representative s b) (number-head s formed a b (omega arith) (omega arith) (eqb-true (newType s a) (newType s b) e)))
+      (λ e. eq-eqb (newType s a) (newType s b) (head-number s a b (eqb-true (representative s a) (representative s b) e)))
       ∙ (λ k. eqb (sym (heads-head s formed t a i p) k) (sym (heads-head s formed t b i q) k))
 
   module _ {x y : TypeRecord} (ex : x ≡ typeRecord s c t) (ey : y ≡ typeRecord s c u) where
@@ -65,18 +65,18 @@ module _ {s l : List ℕ} {c : Counts} {t u : ℕ} (P : MergingPair s c l t u) w
     lower-parts = parts-below (P .merging .sheet) (omega (arith, P .below, P .merging .inside)) (omega (arith, P .below)) (omega (arith, P .below)) ey
 
     pub alike-is : (eqb (y .kind) (x .kind) && eqb (getD l (y .arg) 0) (getD l (x .arg) 0) && eqb (getD l (y .res) 0) (getD l (x .res) 0))
-        ≡ alike s (heads s t) t u
+        ≡ alike s (representatives s t) t u
     alike-is =
         let xs = type-read (P .merging .sheet) (P .merging .inside) ex in
         let ys = type-read (P .merging .sheet) (omega (arith, P .below, P .merging .inside)) ey in
         (λ i. eqb (y .kind) (x .kind) && same-number (y .arg) (x .arg) (lower-parts .arg-below) (upper-parts .arg-below) i
         && same-number (y .res) (x .res) (lower-parts .res-below) (upper-parts .res-below) i)
-        ∙ λ i. eqb (ys i .kind) (xs i .kind) && eqb (getD (heads s t) (ys i .arg) 0) (getD (heads s t) (xs i .arg) 0)
-        && eqb (getD (heads s t) (ys i .res) 0) (getD (heads s t) (xs i .res) 0)
+        ∙ λ i. eqb (ys i .kind) (xs i .kind) && eqb (getD (representatives s t) (ys i .arg) 0) (getD (representatives s t) (xs i .arg) 0)
+        && eqb (getD (representatives s t) (ys i .res) 0) (getD (representatives s t) (xs i .res) 0)
 
 -- ---- the search for the first
 abbrev pub differs : List ℕ → (t u : ℕ) → Bool
-differs s t u = not (alike s (heads s t) t u)
+differs s t u = not (alike s (representatives s t) t u)
 
 -- no type below u is alike, so that from u on the search finds what the whole search finds
 pub record NoneAlikeBelow (s : List ℕ) (t u : ℕ) : Type 0 where
@@ -87,24 +87,24 @@ pub merging : {s l : List ℕ} {c : Counts} {t n : ℕ} → FormedSheet s c → 
 merging S T h e = record { sheet = S; numbers = T; inside = omega arith }
 
 module _ {s l : List ℕ} {c : Counts} {t : ℕ} (M : MergingType s c l t) where
-  pub found-head : {u : ℕ} → some u ≡ lowest (differs s t) 0 t → u ≡ head s t
+  pub found-head : {u : ℕ} → some u ≡ lowest (differs s t) 0 t → u ≡ representative s t
   found-head e = ap (orSelf t) e ∙ sym (head-is s (M .sheet .well-formed) t (M .inside))
 
-  pub own-head : none ≡ lowest (differs s t) 0 t → t ≡ head s t
+  pub own-head : none ≡ lowest (differs s t) 0 t → t ≡ representative s t
   own-head e = ap (orSelf t) e ∙ sym (head-is s (M .sheet .well-formed) t (M .inside))
 
-  -- ---- a type by its head
-  module _ {h : ℕ} (e : h ≡ head s t) where
+  -- ---- a type by its representative
+  module _ {h : ℕ} (e : h ≡ representative s t) where
     pub head-first : h ≡ t → keptType s t ≡ true
     unfolding keptType
-    head-first q = eq-eqb (head s t) t (sym e ∙ q)
+    head-first q = eq-eqb (representative s t) t (sym e ∙ q)
 
     pub first-number : h ≡ t → {count : ℕ} → count ≡ keptBelow (keptType s) t → count ≡ newType s t
     first-number q k = k ∙ sym (number-kept s (M .sheet .well-formed) t (head-first q))
 
     pub head-other : (h ≡ t → ⊥) → keptType s t ≡ false
     unfolding keptType
-    head-other q = ne-eqb (head s t) t (λ r. q (e ∙ r))
+    head-other q = ne-eqb (representative s t) t (λ r. q (e ∙ r))
 
     pub head-below : (h ≡ t → ⊥) → h < t
     head-below q = omega (arith, head-of s (M .sheet .well-formed) t (M .inside) .low)
@@ -119,13 +119,13 @@ module _ {s y : List ℕ} {c : Counts} (R : TypesReady s c y) {t : ℕ} (l : t <
 
   number-first : newType s t ≡ keptBelow (keptType s) t → keptType s t ≡ true
   unfolding newType keptType
-  number-first e = go (eqb (head s t) t) refl
+  number-first e = go (eqb (representative s t) t) refl
     where
-      go : (b : Bool) → eqb (head s t) t ≡ b → b ≡ true
+      go : (b : Bool) → eqb (representative s t) t ≡ b → b ≡ true
       go true q = refl
       go false q =
-          let other : (head s t ≡ t → ⊥) = eqb-false (head s t) t q in
-          absurd (omega (arith, kept-strict (keptType s) (head s t) t (head-kept s w t l) (omega (arith, other, head-of s w t l .low))))
+          let other : (representative s t ≡ t → ⊥) = eqb-false (representative s t) t q in
+          absurd (omega (arith, kept-strict (keptType s) (representative s t) t (head-kept s w t l) (omega (arith, other, head-of s w t l .low))))
 
   -- it is kept if its number is the count of those below it that are
   pub entry-first : getD y t 0 ≡ count → keptType s t ≡ true

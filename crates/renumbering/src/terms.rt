@@ -17,7 +17,7 @@ pub struct TermNumbers {
 }
 
 // Whether a kind is that of checks or of enables.
-pub fn is_idle(kind: u8) -> bool
+pub fn is_erased(kind: u8) -> bool
     ensures { λ r. ⌜ r ≡ (leb 7 kind && leb kind 8) ⌝ }
 {
     (7 <= kind) & (kind <= 8)
@@ -37,7 +37,7 @@ pub fn number_terms(s: &[u8], c: Counts) -> TermNumbers
         let x = term(s, c, t);
         let inner = x.first as usize;
         t += 1;
-        if is_idle(x.kind) {
+        if is_erased(x.kind) {
             numbers[i] = numbers[inner];
         } else {
             numbers[i] = count;

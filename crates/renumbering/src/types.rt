@@ -1,7 +1,7 @@
 // Types whose records become equal are merged into the first of them; those that are kept are numbered anew without gaps.
 ghost use mathlib.Core.Path.{_≡_};
 ghost use Rattle.accessors.specs.Internal.{FormedSheet};
-ghost use Rattle.erasure.specs.Lean.{alike as alikeOf, heads, head};
+ghost use Rattle.erasure.specs.Lean.{alike as alikeOf, representatives, representative};
 ghost use Rattle.renumbering.specs.Internal.{MergingType, MergingPair, TypesNumbered};
 use accessors::type_record;
 use program::limits::TYPE_PLACES;
@@ -17,7 +17,7 @@ pub struct TypeNumbers {
 // types are merged.
 fn alike(s: &[u8], c: Counts, numbers: &[u16; TYPE_PLACES], t: u16, u: u16) -> bool
     requires { ⌜ MergingPair (now s) c (now numbers) t u ⌝ }
-    ensures { λ r. ⌜ r ≡ alikeOf (now (s .entry)) (heads (now (s .entry)) t) t u ⌝ }
+    ensures { λ r. ⌜ r ≡ alikeOf (now (s .entry)) (representatives (now (s .entry)) t) t u ⌝ }
 {
     let x = type_record(s, c, t);
     let y = type_record(s, c, u);
@@ -31,7 +31,7 @@ fn alike(s: &[u8], c: Counts, numbers: &[u16; TYPE_PLACES], t: u16, u: u16) -> b
 // The type into which t is merged: the first whose record becomes equal to its own.
 fn first_alike(s: &[u8], c: Counts, numbers: &[u16; TYPE_PLACES], t: u16) -> u16
     requires { ⌜ MergingType (now s) c (now numbers) t ⌝ }
-    ensures { λ r. ⌜ r ≡ head (now (s .entry)) t ⌝ }
+    ensures { λ r. ⌜ r ≡ representative (now (s .entry)) t ⌝ }
 {
     let mut u = 0;
     while u < t {

@@ -22,8 +22,8 @@ use Rattle.numbers.specs.declared.Code.{Code}
 use Rattle.interp.specs.declared.answer.Run.{Run}
 use Rattle.interp.specs.declared.answer.Run.the-variants.{Refused, Ran}
 use Rattle.replies.specs.Replies as replies
-use Rattle.replies.specs.Replies.{refusal, screened, decodeReply, unfit, runReply, written, writtenNine, notDone, replied, Called, called, leftReply, leftAll}
-use Rattle.replies.specs.Internal.{replyOf, ofDecoded, Small, Put}
+use Rattle.replies.specs.Replies.{refusal, screened, decodeReply, unfit, runReply, written, writtenNine, notDone, replied, Called, called, returnedReply, returnedRun}
+use Rattle.replies.specs.Internal.{replyModel, ofDecoded, RunReplyFits, Put}
 use Rattle.replies.specs.declared.Reply.{Reply}
 
 -- a promise about the case that a match found
@@ -76,31 +76,31 @@ module _ (size least : ℕ) (list answer : List ℕ) where
 
 -- ---- the list is too short
 module _ (answer : List ℕ) (h : length answer < 8) where
-  pub short-answer : (r : replies.Reply) → leftReply 3 answer ≡ replied answer r
+  pub short-answer : (r : replies.Reply) → returnedReply 3 answer ≡ replied answer r
   short-answer r = λ i. cond (sym (lt-ltb (length answer) 8 h) i) (notDone answer) (written r answer)
 
-  pub short-run : (b : Buffers) (a : After) → leftAll 3 answer b ≡ called answer b a
-  short-run b a = λ i. cond (sym (lt-ltb (length answer) 8 h) i) (leftAll 3 answer b)
+  pub short-run : (b : Buffers) (a : After) → returnedRun 3 answer b ≡ called answer b a
+  short-run b a = λ i. cond (sym (lt-ltb (length answer) 8 h) i) (returnedRun 3 answer b)
       (record { reply = written (runReply (a .answer)) answer; buffers = a .buffers })
 
 -- ---- it holds the reply
-module _ (answer : List ℕ) (h : 8 ≤ length answer) {x : Reply} {R : replies.Reply} (e : replyOf x ≡ R) {status : ℕ} {after : List ℕ}
+module _ (answer : List ℕ) (h : 8 ≤ length answer) {x : Reply} {R : replies.Reply} (e : replyModel x ≡ R) {status : ℕ} {after : List ℕ}
     (put : Put x answer status after) where
-  pub in-place : leftReply status after ≡ written R answer
-  in-place = (λ i. leftReply (put .status-is i) (put .list-is i)) ∙ (λ i. written (e i) answer)
+  pub in-place : returnedReply status after ≡ written R answer
+  in-place = (λ i. returnedReply (put .status-is i) (put .list-is i)) ∙ (λ i. written (e i) answer)
 
-  pub given : leftReply status after ≡ replied answer R
+  pub given : returnedReply status after ≡ replied answer R
   given = in-place ∙ (λ i. cond (sym (le-ltb (length answer) 8 h) i) (notDone answer) (written R answer))
 
-module _ (answer : List ℕ) (h : 8 ≤ length answer) (b b′ : Buffers) (a : After) (r : Run) {x : Reply} (e : replyOf x ≡ runReply (runModel r)) {status : ℕ}
+module _ (answer : List ℕ) (h : 8 ≤ length answer) (b b′ : Buffers) (a : After) (r : Run) {x : Reply} (e : replyModel x ≡ runReply (runModel r)) {status : ℕ}
     {after : List ℕ} (put : Put x answer status after) where
   abbrev whole : After → Called
   whole y = record { reply = written (runReply (y .answer)) answer; buffers = y .buffers }
 
-  pub run-given : record { answer = runModel r; buffers = b′ } ≡ a → leftAll status after b′ ≡ called answer b a
+  pub run-given : record { answer = runModel r; buffers = b′ } ≡ a → returnedRun status after b′ ≡ called answer b a
   run-given p =
       (λ i. record { reply = in-place answer h e put i; buffers = b′ }) ∙ ap whole p
-      ∙ (λ i. cond (sym (le-ltb (length answer) 8 h) i) (leftAll 3 answer b) (whole a))
+      ∙ (λ i. cond (sym (le-ltb (length answer) 8 h) i) (returnedRun 3 answer b) (whole a))
 
 -- ---- a ninth number follows the eight
 pub run-eight : (a : Answer) → length (runReply a .numbers) ≡ 8
@@ -114,11 +114,11 @@ module _ (answer : List ℕ) (room : 9 ≤ length answer) (R : replies.Reply) (e
   nine =
       ap (λ (r : List ℕ). set (R .numbers ++ r) 8 n) (drop-cons answer 8 0 (omega arith)) ∙ set-at (R .numbers) (getD answer 8 0) (drop 9 answer) n 8 eight
 
-  pub in-nine : {x : Reply} → replyOf x ≡ R → {status : ℕ} {after : List ℕ} → Put x answer status after
-      → leftReply status (set after 8 n) ≡ writtenNine R n answer
+  pub in-nine : {x : Reply} → replyModel x ≡ R → {status : ℕ} {after : List ℕ} → Put x answer status after
+      → returnedReply status (set after 8 n) ≡ writtenNine R n answer
   in-nine e {status = status} {after = after} put =
-      let first : leftReply status after ≡ written R answer = in-place answer (omega arith) e put in
-      (λ i. leftReply (first i .status) (set (first i .numbers) 8 n)) ∙ ap (leftReply (R .status)) nine
+      let first : returnedReply status after ≡ written R answer = in-place answer (omega arith) e put in
+      (λ i. returnedReply (first i .status) (set (first i .numbers) 8 n)) ∙ ap (returnedReply (R .status)) nine
 
 -- ---- the reader's answer
 pub decoded-as : (s : List ℕ) (d : Decoded) → decodedModel d ≡ decoding s → Counted s d → ofDecoded d ≡ decodeReply s
@@ -127,6 +127,6 @@ decoded-as s (Readable c) e k =
     (λ i. record { status = 0; numbers = 0 ∷ 0 ∷ 0 ∷ k .terms-are i ∷ k .principals-are i ∷ k .types-are i ∷ 0 ∷ 0 ∷ [] }) ∙ (λ i. screened s (e i))
 
 -- ---- a run's counts are small
-pub small : (s : List ℕ) (q : Request) (b : Buffers) (r : Run) → runModel r ≡ run s q b .answer → Small r
+pub small : (s : List ℕ) (q : Request) (b : Buffers) (r : Run) → runModel r ≡ run s q b .answer → RunReplyFits r
 small s q b (Refused f) e = tt
 small s q b (Ran o m) e = counts-few s q b (outcomeModel o) (countsModel m) (sym e)

@@ -4,6 +4,7 @@ use mathlib.Core.List.{List, [], _∷_, _++_}
 use Prim.Native.Nat.{ℕ, _+_}
 use lib.Dec.{ltb, eqb}
 use lib.ListN.{length, drop}
+use Rattle.program.specs.Bytes.{bit}
 use Rattle.program.specs.Layout.{principals, types, terms}
 use Rattle.program.specs.Screening.{Screening, clear, found}
 use Rattle.program.specs.Decoding.{decoding}
@@ -35,9 +36,6 @@ abbrev pub typecheckReply : List ℕ → Reply
 typecheckReply s = verdictReply (verdict s)
 
 -- a boolean's number
-abbrev pub bit : Bool → ℕ
-bit b = cond b 1 0
-
 -- an end: 0 and a boolean, or 1 and a number; a stop: its cause and term; both with calls, cells, posts and saturated results
 abbrev pub finished : Outcome → RunCounts → Reply
 finished (ended (ground-bool b)) k = record { status = 0; numbers = 0 ∷ 0 ∷ 0 ∷ bit b ∷ k .calls ∷ k .cells ∷ k .posts ∷ k .saturated ∷ [] }
@@ -86,12 +84,12 @@ called answer b a = cond (short answer) (record { reply = notDone answer; buffer
     (record { reply = written (runReply (a .answer)) answer; buffers = a .buffers })
 
 -- 0 passes over the checks, and any other number has them in force.
-abbrev pub enforces : (enforce : ℕ) → Bool
-enforces n = not (eqb n 0)
+abbrev pub enforceFlag : (enforce : ℕ) → Bool
+enforceFlag n = not (eqb n 0)
 
 -- what a C function returned and left, in these words
-abbrev pub leftReply : (status : ℕ) (answer : List ℕ) → Reply
-leftReply status answer = record { status = status; numbers = answer }
+abbrev pub returnedReply : (status : ℕ) (answer : List ℕ) → Reply
+returnedReply status answer = record { status = status; numbers = answer }
 
-abbrev pub leftAll : (status : ℕ) (answer : List ℕ) → Buffers → Called
-leftAll status answer b = record { reply = leftReply status answer; buffers = b }
+abbrev pub returnedRun : (status : ℕ) (answer : List ℕ) → Buffers → Called
+returnedRun status answer b = record { reply = returnedReply status answer; buffers = b }

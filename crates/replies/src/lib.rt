@@ -6,11 +6,11 @@ ghost use Rattle.typing.specs.Answers.{verdictModel};
 ghost use Rattle.interp.specs.Answers.{runModel, outcomeModel, countsModel};
 ghost use Rattle.semantics.specs.Claims.{Few};
 ghost use Rattle.replies.specs.Replies.{answerNumbers, refusal, verdictReply, finished, runReply};
-ghost use Rattle.replies.specs.Internal.{replyOf, ofDecoded, withCounts, Small, Put};
+ghost use Rattle.replies.specs.Internal.{replyModel, ofDecoded, withCounts, RunReplyFits, Put};
 use interp::answer::Ground;
-use interp::answer::Made;
 use interp::answer::Outcome;
 use interp::answer::Run;
+use interp::answer::RunCounts;
 use numbers::Code;
 use program::answer::Decoded;
 use typing::answer::Verdict;
@@ -27,7 +27,7 @@ pub struct Reply {
 
 // A refusal, by its number and place.
 pub fn refused(x: Code) -> Reply
-    ensures { λ r. ⌜ replyOf r ≡ refusal (x .cause) (x .place) ⌝ }
+    ensures { λ r. ⌜ replyModel r ≡ refusal (x .cause) (x .place) ⌝ }
 {
     Reply {
         status: 2,
@@ -36,10 +36,10 @@ pub fn refused(x: Code) -> Reply
 }
 
 pub fn of_decoded(d: Decoded) -> Reply
-    ensures { λ r. ⌜ replyOf r ≡ ofDecoded d ⌝ }
+    ensures { λ r. ⌜ replyModel r ≡ ofDecoded d ⌝ }
 {
     match d {
-        Decoded::Refused(f) => refused(numbers::of_reader(f)),
+        Decoded::Refused(f) => refused(numbers::of_decoding(f)),
         Decoded::Readable(c) => Reply {
             status: 0,
             numbers: [
@@ -57,10 +57,10 @@ pub fn of_decoded(d: Decoded) -> Reply
 }
 
 pub fn of_verdict(v: Verdict) -> Reply
-    ensures { λ r. ⌜ replyOf r ≡ verdictReply (verdictModel v) ⌝ }
+    ensures { λ r. ⌜ replyModel r ≡ verdictReply (verdictModel v) ⌝ }
 {
     match v {
-        Verdict::Unreadable(f) => refused(numbers::of_reader(f)),
+        Verdict::Unreadable(f) => refused(numbers::of_decoding(f)),
         Verdict::Refused(f) => refused(numbers::of_fault(f)),
         Verdict::Accepted { terms, ty, needs } => Reply {
             status: 0,
@@ -70,9 +70,9 @@ pub fn of_verdict(v: Verdict) -> Reply
 }
 
 // What a run tells, with its counts.
-pub fn counted(status: u32, first: Code, sort: u32, value: u32, m: Made) -> Reply
+pub fn counted(status: u32, first: Code, sort: u32, value: u32, m: RunCounts) -> Reply
     requires { ⌜ Few (countsModel m) ⌝ }
-    ensures { λ r. ⌜ replyOf r ≡ withCounts status (first .cause) (first .place) sort value m ⌝ }
+    ensures { λ r. ⌜ replyModel r ≡ withCounts status (first .cause) (first .place) sort value m ⌝ }
 {
     Reply {
         status: status,
@@ -89,9 +89,9 @@ pub fn counted(status: u32, first: Code, sort: u32, value: u32, m: Made) -> Repl
     }
 }
 
-fn of_outcome(o: Outcome, m: Made) -> Reply
+fn of_outcome(o: Outcome, m: RunCounts) -> Reply
     requires { ⌜ Few (countsModel m) ⌝ }
-    ensures { λ r. ⌜ replyOf r ≡ finished (outcomeModel o) (countsModel m) ⌝ }
+    ensures { λ r. ⌜ replyModel r ≡ finished (outcomeModel o) (countsModel m) ⌝ }
 {
     let none = Code { cause: 0, place: 0 };
     match o {
@@ -104,8 +104,8 @@ fn of_outcome(o: Outcome, m: Made) -> Reply
 }
 
 pub fn of_run(x: Run) -> Reply
-    requires { ⌜ Small x ⌝ }
-    ensures { λ r. ⌜ replyOf r ≡ runReply (runModel x) ⌝ }
+    requires { ⌜ RunReplyFits x ⌝ }
+    ensures { λ r. ⌜ replyModel r ≡ runReply (runModel x) ⌝ }
 {
     match x {
         Run::Refused(f) => refused(numbers::of_refusal(f)),

@@ -15,11 +15,11 @@ use Rattle.semantics.specs.Runs.{Buffers, Sizes, sizes, course, answerOf, After
 use Rattle.interp.specs.Answers.{refusalCause, refusalPlace, outcomeModel, countsModel, runModel, buffersOf, after}
 use Rattle.interp.specs.declared.answer.RunRefusal.{RunRefusal}
 use Rattle.interp.specs.declared.answer.Outcome.{Outcome}
-use Rattle.interp.specs.declared.answer.Made.{Made}
+use Rattle.interp.specs.declared.answer.RunCounts.{RunCounts}
 use Rattle.interp.specs.declared.answer.Run.{Run}
 use Rattle.interp.specs.declared.answer.Run.the-variants.{Refused, Ran}
-use Rattle.text.specs.Text.{line, acceptanceText, outcomeText, countsText, refusalText, programRequest, eagerSizes, answer, ofRun, ofVerdict, printed}
-use Rattle.report.specs.Reports.{ReportAnswer, written, tooShort, unfit, Report, leaving, delivered, used, reported}
+use Rattle.text.specs.Text.{line, acceptanceText, outcomeText, countsText, refusalText, programRequest, eagerSizes, programAnswer, ofRun, ofVerdict, printed}
+use Rattle.report.specs.Reports.{ReportAnswer, written, tooShort, unfit, Report, afterReport, delivered, buffersAfterReport, reported}
 use Rattle.drafts.specs.Internal.{contents, DraftHolds, draftBytes}
 use Rattle.report.specs.Internal.{LargestBuffers, RunReported, Rendered, Delivered}
 use Rattle.report.specs.declared.answer.Reported.{Reported}
@@ -77,7 +77,7 @@ module _ (s : List ℕ) (terms type needs : ℕ) (b : Buffers) (cells posts : Li
   }
 
   -- 209 bytes at most, as `accepted` tells
-  pub ran-reported : {o : Outcome} {m : Made} {r : Draft} → x ≡ Ran o m
+  pub ran-reported : {o : Outcome} {m : RunCounts} {r : Draft} → x ≡ Ran o m
       → DraftHolds (acceptanceText terms type needs ++ line (outcomeText (outcomeModel o) ++ countsText (countsModel m))) 209 r
       → RunReported s terms type needs b (buffersOf cells posts []) r
   ran-reported {o = o} {m = m} e p = record {
@@ -92,13 +92,13 @@ module _ (s : List ℕ) (b : Buffers) where
       → Rendered s b b r
   unfolding printed
   rejected-reported e k p = record {
-    contents-are = p .contents-are ∙ (λ i. refusalText (k .cause-is i) (k .place-is i)) ∙ ap (λ (v : Verdict). ofVerdict v (λ _. answer s)) e;
+    contents-are = p .contents-are ∙ (λ i. refusalText (k .cause-is i) (k .place-is i)) ∙ ap (λ (v : Verdict). ofVerdict v (λ _. programAnswer s)) e;
     len-most = omega (arith, p .len-most);
-    buffers-are = ap (λ (v : Verdict). used v s b) e;
+    buffers-are = ap (λ (v : Verdict). buffersAfterReport v s b) e;
   }
 
   -- the answer depends on the buffers' lengths alone
-  same-answer : sizes b ≡ eagerSizes → run s programRequest b .answer ≡ answer s
+  same-answer : sizes b ≡ eagerSizes → run s programRequest b .answer ≡ programAnswer s
   unfolding run
   same-answer e = ap (λ (z : Sizes). answerOf (root s) programRequest z (course s programRequest z)) e
 
@@ -106,9 +106,9 @@ module _ (s : List ℕ) (b : Buffers) where
       → Rendered s b b′ r
   unfolding printed
   accepted-reported {n = n} {τ = τ} {N = N} e z p = record {
-    contents-are = p .contents-are ∙ ap (ofRun (acceptanceText n τ N)) (same-answer z) ∙ ap (λ (v : Verdict). ofVerdict v (λ _. answer s)) e;
+    contents-are = p .contents-are ∙ ap (ofRun (acceptanceText n τ N)) (same-answer z) ∙ ap (λ (v : Verdict). ofVerdict v (λ _. programAnswer s)) e;
     len-most = p .len-most;
-    buffers-are = p .buffers-are ∙ ap (λ (v : Verdict). used v s b) e;
+    buffers-are = p .buffers-are ∙ ap (λ (v : Verdict). buffersAfterReport v s b) e;
   }
 
 pub buffers-largest : (cells posts : List ℕ) → LargestBuffers cells posts → sizes (buffersOf cells posts []) ≡ eagerSizes
@@ -120,19 +120,19 @@ module _ (s cells posts text : List ℕ) where
   B = buffersOf cells posts []
 
   abbrev by : Bool → Report
-  by f = cond f (delivered (leb (length (printed s)) (length text)) (printed s) text (used (verdict s) s B)) (whole unfit B text)
+  by f = cond f (delivered (leb (length (printed s)) (length text)) (printed s) text (buffersAfterReport (verdict s) s B)) (whole unfit B text)
 
-  pub other-cells : (length cells ≡ maxCells → ⊥) → leaving Unfit cells posts text ≡ reported s B text
+  pub other-cells : (length cells ≡ maxCells → ⊥) → afterReport Unfit cells posts text ≡ reported s B text
   unfolding reported
   other-cells h = sym (ap (λ (f : Bool). by (f && eqb (length posts) maxPosts)) (ne-eqb (length cells) maxCells h))
 
-  pub other-posts : length cells ≡ maxCells → (length posts ≡ maxPosts → ⊥) → leaving Unfit cells posts text ≡ reported s B text
+  pub other-posts : length cells ≡ maxCells → (length posts ≡ maxPosts → ⊥) → afterReport Unfit cells posts text ≡ reported s B text
   unfolding reported
   other-posts e h = sym (ap (λ (f : Bool). by (f && eqb (length posts) maxPosts)) (eq-eqb (length cells) maxCells e)
       ∙ ap (λ (f : Bool). by (true && f)) (ne-eqb (length posts) maxPosts h))
 
   pub all-reported : {cells′ posts′ text′ : List ℕ} {d : Draft} {r : Reported} → length cells ≡ maxCells → length posts ≡ maxPosts
-      → Rendered s B (buffersOf cells′ posts′ []) d → Delivered (contents d) text r text′ → leaving r cells′ posts′ text′ ≡ reported s B text
+      → Rendered s B (buffersOf cells′ posts′ []) d → Delivered (contents d) text r text′ → afterReport r cells′ posts′ text′ ≡ reported s B text
   unfolding reported
   all-reported {cells′ = cells′} {posts′ = posts′} e f p q =
       q .leaves cells′ posts′

@@ -11,7 +11,7 @@ use Rattle.interp.specs.Answers.{buffersOf}
 use Rattle.text.specs.Text.{acceptanceText, programRequest, ofRun, printed}
 use Rattle.drafts.specs.Internal.{contents, draftBytes}
 use Rattle.drafts.specs.declared.draft.Draft.{Draft}
-use Rattle.report.specs.Reports.{leaving, delivered, used}
+use Rattle.report.specs.Reports.{afterReport, delivered, buffersAfterReport}
 use Rattle.report.specs.declared.answer.Reported.{Reported}
 
 -- buffers of the largest lengths
@@ -28,8 +28,8 @@ pub record RunReported (s : List ℕ) (terms type needs : ℕ) (b b′ : Buffers
 pub record Rendered (s : List ℕ) (b b′ : Buffers) (r : Draft) : Type 0 where
   pub contents-are : contents r ≡ printed s
   pub len-most : r .len ≤ draftBytes
-  pub buffers-are : b′ ≡ used (verdict s) s b
+  pub buffers-are : b′ ≡ buffersAfterReport (verdict s) s b
 
 -- whatever the other buffers hold
 pub record Delivered (p text : List ℕ) (r : Reported) (text′ : List ℕ) : Type 0 where
-  pub leaves : (cells posts : List ℕ) → leaving r cells posts text′ ≡ delivered (leb (length p) (length text)) p text (buffersOf cells posts [])
+  pub leaves : (cells posts : List ℕ) → afterReport r cells posts text′ ≡ delivered (leb (length p) (length text)) p text (buffersOf cells posts [])

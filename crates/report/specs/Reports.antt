@@ -27,8 +27,8 @@ pub record Report : Type 0 where
   pub buffers : Buffers
   pub text : List ℕ
 
-abbrev pub leaving : Reported → (cells posts text : List ℕ) → Report
-leaving r cells posts text = record { answer = reportedModel r; buffers = buffersOf cells posts []; text = text }
+abbrev pub afterReport : Reported → (cells posts text : List ℕ) → Report
+afterReport r cells posts text = record { answer = reportedModel r; buffers = buffersOf cells posts []; text = text }
 
 -- a text stands at the front of the place for it, whose rest is untouched; where it does not fit, all of it is
 abbrev pub delivered : (fits : Bool) (p text : List ℕ) → Buffers → Report
@@ -36,12 +36,12 @@ delivered true p text b = record { answer = written (length p); buffers = b; tex
 delivered false p text b = record { answer = tooShort (length p); buffers = b; text = text }
 
 -- the buffers after a sheet with this verdict: a refused one is not run
-abbrev pub used : Verdict → List ℕ → Buffers → Buffers
-used (accepted n τ N) s b = run s programRequest b .buffers
-used (rejected c p) s b = b
+abbrev pub buffersAfterReport : Verdict → List ℕ → Buffers → Buffers
+buffersAfterReport (accepted n τ N) s b = run s programRequest b .buffers
+buffersAfterReport (rejected c p) s b = b
 
 -- "with the largest … buffers"
 unfoldable pub reported : (s : List ℕ) → Buffers → (text : List ℕ) → Report
 reported s b text =
-    cond (areLargest b) (delivered (leb (length (printed s)) (length text)) (printed s) text (used (verdict s) s b))
+    cond (areLargest b) (delivered (leb (length (printed s)) (length text)) (printed s) text (buffersAfterReport (verdict s) s b))
     (record { answer = unfit; buffers = b; text = text })

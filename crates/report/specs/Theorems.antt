@@ -12,7 +12,7 @@ use Rattle.typing.specs.Verdicts.{verdict}
 use Rattle.semantics.specs.Runs.{Buffers, areLargest}
 use Rattle.text.specs.Text.{printed}
 use Rattle.text.specs.Theorems.{text-most}
-use Rattle.report.specs.Reports.{written, tooShort, unfit, Report, leaving, delivered, used, reported}
+use Rattle.report.specs.Reports.{written, tooShort, unfit, Report, afterReport, delivered, buffersAfterReport, reported}
 use Rattle.report.specs.declared.answer.Reported.{Reported}
 use Rattle.report.specs.declared.answer.Reported.the-variants.{Written}
 
@@ -24,7 +24,8 @@ by s text u b large fits = cond large (delivered fits (printed s) text u) (recor
 pub always-written : (s : List ℕ) (b : Buffers) (text : List ℕ) → areLargest b ≡ true → 209 ≤ length text → reported s b text .answer
     ≡ written (length (printed s))
 unfolding reported
-always-written s b text e h = λ i. by s text (used (verdict s) s b) b (e i) (le-leb (length (printed s)) (length text) (omega (arith, text-most s)) i) .answer
+always-written s b text e h =
+    λ i. by s text (buffersAfterReport (verdict s) s b) b (e i) (le-leb (length (printed s)) (length text) (omega (arith, text-most s)) i) .answer
 
 -- ---- what is written is the text, at the front of the place for it
 pub record TextWritten (s : List ℕ) (n : ℕ) (text : List ℕ) : Type 0 where
@@ -40,7 +41,7 @@ written-front s text text′ {n = n} l e = record {
 }
 
 by-cases : (s : List ℕ) (u b : Buffers) (text cells posts text′ : List ℕ) {n : ℕ} (large fits : Bool)
-    → leaving (Written n) cells posts text′ ≡ by s text u b large fits → TextWritten s n text′
+    → afterReport (Written n) cells posts text′ ≡ by s text u b large fits → TextWritten s n text′
 by-cases s u b text cells posts text′ {n = n} true true e =
     let f : written n ≡ written (length (printed s)) = ap (λ (r : Report). r .answer) e in
     written-front s text text′ (cc) (ap (λ (r : Report). r .text) e)
@@ -51,9 +52,9 @@ by-cases s u b text cells posts text′ {n = n} false fits e =
     let f : written n ≡ unfit = ap (λ (r : Report). r .answer) e in
     absurd (let z : _≡_ {A = ℕ} 0 1 = cc in omega arith)
 
-pub text-written : (s : List ℕ) (b : Buffers) (text cells posts text′ : List ℕ) {r : Reported} {n : ℕ} → r ≡ Written n → leaving r cells posts text′
+pub text-written : (s : List ℕ) (b : Buffers) (text cells posts text′ : List ℕ) {r : Reported} {n : ℕ} → r ≡ Written n → afterReport r cells posts text′
     ≡ reported s b text → TextWritten s n text′
 unfolding reported
 text-written s b text cells posts text′ e h =
-    by-cases s (used (verdict s) s b) b text cells posts text′ (areLargest b) (leb (length (printed s)) (length text))
-    (sym (ap (λ (z : Reported). leaving z cells posts text′) e) ∙ h)
+    by-cases s (buffersAfterReport (verdict s) s b) b text cells posts text′ (areLargest b) (leb (length (printed s)) (length text))
+    (sym (ap (λ (z : Reported). afterReport z cells posts text′) e) ∙ h)

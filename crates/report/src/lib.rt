@@ -6,8 +6,8 @@ use checker::typecheck;
 use drafts::draft::Draft;
 use interp::answer::Run;
 use interp::run_eager;
+use numbers::of_decoding;
 use numbers::of_fault;
-use numbers::of_reader;
 use numbers::of_refusal;
 use program::limits::MAX_CALLS;
 use program::limits::MAX_CELLS;
@@ -18,14 +18,14 @@ ghost use mathlib.Core.List.{[]};
 ghost use mathlib.Core.Path.{_≡_};
 ghost use Prim.Native.Nat.{_≤_};
 ghost use Rattle.interp.specs.Answers.{buffersOf};
-ghost use Rattle.report.specs.Reports.{leaving, reported};
+ghost use Rattle.report.specs.Reports.{afterReport, reported};
 ghost use Rattle.drafts.specs.Internal.{contents, draftBytes};
 ghost use Rattle.report.specs.Internal.{LargestBuffers, RunReported, Rendered, Delivered};
 
 // Judges the sheet and, if it is accepted, runs it eagerly, checks in force, on an empty stack with the largest allowances, in the lent cell store
 // and list of posts, which must be the largest. The text goes to the front of `text`, if it fits there.
 pub fn report(sheet: &[u8], cells: &mut [u8], posts: &mut [u32], text: &mut [u8]) -> Reported
-    ensures { λ r. ⌜ leaving r (now (cells .exit)) (now (posts .exit)) (now (text .exit))
+    ensures { λ r. ⌜ afterReport r (now (cells .exit)) (now (posts .exit)) (now (text .exit))
         ≡ reported (now (sheet .entry)) (buffersOf (now (cells .entry)) (now (posts .entry)) []) (now (text .entry)) ⌝ }
 {
     if cells.len() != MAX_CELLS {
@@ -46,7 +46,7 @@ fn render(sheet: &[u8], cells: &mut [u8], posts: &mut [u32]) -> Draft
 {
     let v = typecheck(sheet);
     match v {
-        Verdict::Unreadable(f) => drafts::lines::refusal(of_reader(f)),
+        Verdict::Unreadable(f) => drafts::lines::refusal(of_decoding(f)),
         Verdict::Refused(f) => drafts::lines::refusal(of_fault(f)),
         Verdict::Accepted { terms, ty, needs } => run_accepted(
             sheet,

@@ -17,9 +17,9 @@ use Rattle.program.specs.declared.records.Counts.{Counts}
 use Rattle.program.specs.declared.records.TermRecord.{TermRecord}
 use Rattle.program.specs.declared.records.TypeRecord.{TypeRecord}
 use Rattle.typing.specs.Subtyping.{subtype, wider}
-use Rattle.typing.specs.Rules.{bound, postNeeds}
+use Rattle.typing.specs.Rules.{lookupType, postNeeds}
 use Rattle.typing.specs.Checking.{Judgement, typed, fault, _next_, require, variableType, joined}
-use Rattle.program.specs.Search.{foundOf}
+use Rattle.program.specs.Search.{foundModel}
 use Rattle.accessors.specs.Internal.{FormedSheet}
 use Rattle.subtyping.specs.Laws.Records.{function-is, TypeParts, type-parts}
 use Rattle.rules.specs.Inference.{inferredModel}
@@ -49,14 +49,14 @@ module _ (x : TermRecord) (t : ℕ) (Γ : List ℕ) where
   other (suc zero) v n m = absurd (m refl)
   other (suc (suc k)) v n m = refl
 
-  module _ (n : x .kind ≡ 0 → ⊥) (m : x .kind ≡ 1 → ⊥) {f : Found} (p : foundOf f ≡ bound Γ (x .first)) where
+  module _ (n : x .kind ≡ 0 → ⊥) (m : x .kind ≡ 1 → ⊥) {f : Found} (p : foundModel f ≡ lookupType Γ (x .first)) where
     pub leaf-bound : {ty : ℕ} → f ≡ At ty → typed ty 0 ≡ leafStep x t Γ
     unfolding leafStep
-    leaf-bound e = ap (variableType t) (sym (ap foundOf e) ∙ p) ∙ other (x .kind) (variableType t (bound Γ (x .first))) n m
+    leaf-bound e = ap (variableType t) (sym (ap foundModel e) ∙ p) ∙ other (x .kind) (variableType t (lookupType Γ (x .first))) n m
 
     pub leaf-unbound : f ≡ Nothing → fault 9 t ≡ leafStep x t Γ
     unfolding leafStep
-    leaf-unbound e = ap (variableType t) (sym (ap foundOf e) ∙ p) ∙ other (x .kind) (variableType t (bound Γ (x .first))) n m
+    leaf-unbound e = ap (variableType t) (sym (ap foundModel e) ∙ p) ∙ other (x .kind) (variableType t (lookupType Γ (x .first))) n m
 
 pub result-less : (k : ℕ) → k ≡ 13 → 0 ≡ binaryResult k
 unfolding binaryResult
@@ -82,10 +82,10 @@ module _ (x : ℕ) where
 
 -- ---- two branches
 module _ {w : Found} (t N : ℕ) where
-  pub joined-typed : {ty : ℕ} → w ≡ At ty → typed ty N ≡ joined t (foundOf w) N
+  pub joined-typed : {ty : ℕ} → w ≡ At ty → typed ty N ≡ joined t (foundModel w) N
   joined-typed e = rw e refl
 
-  pub joined-fault : w ≡ Nothing → fault 26 t ≡ joined t (foundOf w) N
+  pub joined-fault : w ≡ Nothing → fault 26 t ≡ joined t (foundModel w) N
   joined-fault e = rw e refl
 
 -- ---- a typed last child

@@ -26,27 +26,27 @@ abbrev pub context : Bindings → List ℕ
 context b = lastFirst (b .types) (b .len)
 
 -- how many bindings judging a term adds; of a term of a readable sheet it is less than the term's height (Laws/Room.antt)
-abbrev pub room : Term → ℕ
-room (boolean at b) = 0
-room (number at n) = 0
-room (variable at i) = 0
-room (function at ty body) = 1 + room body
-room (letrec at ty body rest) = max (2 + room body) (1 + room rest)
-room (call at f a) = max (room f) (room a)
-room (if at c y o) = max (room c) (max (room y) (room o))
-room (check at p c) = room c
-room (enable at p c) = room c
-room (sign at n c) = room c
-room (test at p y o) = max (room y) (room o)
-room (binary at op a b) = max (room a) (room b)
-room (post at ch g c) = room c
+abbrev pub bindingDepth : Term → ℕ
+bindingDepth (boolean at b) = 0
+bindingDepth (number at n) = 0
+bindingDepth (variable at i) = 0
+bindingDepth (function at ty body) = 1 + bindingDepth body
+bindingDepth (letrec at ty body rest) = max (2 + bindingDepth body) (1 + bindingDepth rest)
+bindingDepth (call at f a) = max (bindingDepth f) (bindingDepth a)
+bindingDepth (if at c y o) = max (bindingDepth c) (max (bindingDepth y) (bindingDepth o))
+bindingDepth (check at p c) = bindingDepth c
+bindingDepth (enable at p c) = bindingDepth c
+bindingDepth (sign at n c) = bindingDepth c
+bindingDepth (test at p y o) = max (bindingDepth y) (bindingDepth o)
+bindingDepth (binary at op a b) = max (bindingDepth a) (bindingDepth b)
+bindingDepth (post at ch g c) = bindingDepth c
 
-unfoldable pub roomAt : List ℕ → (t : ℕ) → ℕ
-roomAt s t = room (tree s t)
+unfoldable pub bindingDepthAt : List ℕ → (t : ℕ) → ℕ
+bindingDepthAt s t = bindingDepth (tree s t)
 
 -- what judging term t asks
 pub record Ready (s : List ℕ) (c : Counts) (t : ℕ) (b : Bindings) (n : ℕ) : Type 0 where
   pub sheet : FormedSheet s c
   pub inside : t < terms s
   pub principal : n < principals s
-  pub fits : b .len + roomAt s t ≤ maxNesting
+  pub fits : b .len + bindingDepthAt s t ≤ maxNesting

@@ -10,7 +10,7 @@ use Rattle.program.specs.Layout.{Types}
 use Rattle.program.specs.declared.records.TermRecord.{TermRecord}
 use Rattle.program.specs.declared.records.TypeRecord.{TypeRecord}
 use Rattle.typing.specs.Subtyping.{subtype, wider}
-use Rattle.typing.specs.Rules.{bound, postNeeds}
+use Rattle.typing.specs.Rules.{lookupType, postNeeds}
 use Rattle.typing.specs.Checking.{Judgement, typed, _next_, require, variableType, joined}
 use Rattle.rules.specs.Inference.{context}
 use Rattle.rules.specs.declared.bindings.Bindings.{Bindings}
@@ -27,7 +27,7 @@ leafBy (suc zero) v = typed 1 0
 leafBy (suc (suc k)) v = v
 
 unfoldable pub leafStep : TermRecord → (at : ℕ) → List ℕ → Judgement
-leafStep x at Γ = leafBy (x .kind) (variableType at (bound Γ (x .first)))
+leafStep x at Γ = leafBy (x .kind) (variableType at (lookupType Γ (x .first)))
 
 unfoldable pub checkStep : (p : ℕ) → Judgement → Judgement
 checkStep p j = j next λ τ N. typed τ (insert p N)

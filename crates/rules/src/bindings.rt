@@ -4,8 +4,8 @@ use program::search::Found;
 ghost use mathlib.Core.Path.{_≡_};
 ghost use Prim.Native.Nat.{_<_, _≤_};
 ghost use Rattle.program.specs.Limits.{maxNesting};
-ghost use Rattle.typing.specs.Rules.{bound};
-ghost use Rattle.program.specs.Search.{foundOf};
+ghost use Rattle.typing.specs.Rules.{lookupType};
+ghost use Rattle.program.specs.Search.{foundModel};
 ghost use Rattle.rules.specs.Inference.{context};
 ghost use Rattle.rules.specs.Steps.{Pushed};
 
@@ -40,7 +40,7 @@ pub fn push(b: Bindings, ty: u16) -> Bindings
 // The type of binding i, 0 for the nearest.
 pub fn lookup(b: Bindings, i: u16) -> Found
     requires { ⌜ b .len ≤ maxNesting ⌝ }
-    ensures { λ r. ⌜ foundOf r ≡ bound (context b) i ⌝ }
+    ensures { λ r. ⌜ foundModel r ≡ lookupType (context b) i ⌝ }
 {
     if b.len <= (i as usize) {
         return Found::Nothing;

@@ -21,7 +21,7 @@ ghost use Rattle.program.specs.Layout.{typesOf, guardIn};
 ghost use Rattle.typing.specs.Rules.{postNeeds};
 ghost use Rattle.typing.specs.Checking.{joined as joinedOf};
 ghost use Rattle.program.specs.Decoding.{isGuard};
-ghost use Rattle.program.specs.Search.{foundOf};
+ghost use Rattle.program.specs.Search.{foundModel};
 ghost use Rattle.subtyping.specs.Known.{KnownSheet, KnownSheetPrivilege, Answered};
 ghost use Rattle.rules.specs.Inference.{inferredModel, context};
 ghost use Rattle.rules.specs.Steps.{
@@ -73,7 +73,7 @@ pub fn checked(p: u8, j: Inferred) -> Inferred
     }
 }
 
-// Of an enable of privilege p, where the signing principal may use the set `may`: its child's judgement.
+// Of an enable of privilege p, where the signing principal may use the set `authorised`: its child's judgement.
 pub fn enabled(authorised: u32, p: u8, j: Inferred) -> Inferred
     requires { ⌜ p < privilegeCount ⌝ }
     ensures { λ r. ⌜ inferredModel r ≡ enableStep authorised p (inferredModel j) ⌝ }
@@ -93,7 +93,7 @@ pub fn enabled(authorised: u32, p: u8, j: Inferred) -> Inferred
     }
 }
 
-// Of a sign, whose principal may use the set `may`: its child's judgement.
+// Of a sign, whose principal may use the set `authorised`: its child's judgement.
 pub fn signed(authorised: u32, t: u16, j: Inferred) -> Inferred
     ensures { λ r. ⌜ inferredModel r ≡ signStep authorised t (inferredModel j) ⌝ }
 {
@@ -110,7 +110,7 @@ pub fn signed(authorised: u32, t: u16, j: Inferred) -> Inferred
 }
 
 // The needs of a post whose channel has this guard byte: its number's, with the privilege of the guard.
-fn guarded(guard: u8, needs: u32) -> u32
+fn post_needs(guard: u8, needs: u32) -> u32
     requires { ⌜ isGuard guard ≡ true ⌝ }
     ensures { λ r. ⌜ r ≡ postNeeds (guardIn guard) needs ⌝ }
 {
@@ -131,7 +131,7 @@ pub fn posted(guard: u8, t: u16, j: Inferred) -> Inferred
     if ty == 1 {
         return Inferred::Typed {
             ty: 1,
-            needs: guarded(guard, needs),
+            needs: post_needs(guard, needs),
         };
     }
     Inferred::Faulty(Fault::Type(t))
@@ -139,7 +139,7 @@ pub fn posted(guard: u8, t: u16, j: Inferred) -> Inferred
 
 // Of two branches: the wider of their types, if there is one, and the needs of the term.
 pub fn joined(t: u16, w: Found, needs: u32) -> Inferred
-    ensures { λ r. ⌜ inferredModel r ≡ joinedOf t (foundOf w) needs ⌝ }
+    ensures { λ r. ⌜ inferredModel r ≡ joinedOf t (foundModel w) needs ⌝ }
 {
     match w {
         Found::At(ty) => Inferred::Typed {
@@ -203,7 +203,7 @@ pub fn branched(
 }
 
 // Less gives a boolean, sum and difference a number.
-pub fn result_of(kind: u8) -> u16
+pub fn binary_result(kind: u8) -> u16
     ensures { λ r. ⌜ r ≡ binaryResult kind ⌝ }
 {
     if kind == 13 { 0 } else { 1 }

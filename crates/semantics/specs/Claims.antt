@@ -29,15 +29,15 @@ pub record OnChannel (s : List ℕ) (x : ℕ) : Type 0 where
   pub below : x < channels s * 65536
 
 -- 02, W12: "each check, test and guard": term t asks for privilege p
-pub data Queries (s : List ℕ) (t p : ℕ) : Type 0 where
-  by-check : kindOf (kindByte s t) ≡ Check → small s t ≡ p → Queries s t p
-  by-test : kindOf (kindByte s t) ≡ Test → small s t ≡ p → Queries s t p
-  by-guard : kindOf (kindByte s t) ≡ Post → guardOf s (small s t) ≡ some p → Queries s t p
+pub data NamesAt (s : List ℕ) (t p : ℕ) : Type 0 where
+  by-check : kindOf (kindByte s t) ≡ Check → small s t ≡ p → NamesAt s t p
+  by-test : kindOf (kindByte s t) ≡ Test → small s t ≡ p → NamesAt s t p
+  by-guard : kindOf (kindByte s t) ≡ Post → guardOf s (small s t) ≡ some p → NamesAt s t p
 
 -- a decision of a run: about a privilege that one of the sheet's terms asks for
 pub record Decision (s : List ℕ) (t p : ℕ) : Type 0 where
   pub a-term : t < terms s
-  pub queries : Queries s t p
+  pub queries : NamesAt s t p
 
 -- How large the counts are that a run tells: a cell has eight of 65,536 bytes.
 pub record Few (k : RunCounts) : Type 0 where

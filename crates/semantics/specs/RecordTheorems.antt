@@ -28,7 +28,7 @@ use Rattle.semantics.specs.Runs.{Request, Buffers, Sizes, sizes, runCond
 use Rattle.semantics.specs.Recording.{tracedCourse, decidedIn, decisionsMade, decisions, Recorded, withEntries, recordedWith, recording}
 use Rattle.semantics.specs.Laws.Tracing.{forget, evaluation-forgets, outcome-forgotten, counts-forgotten, posts-forgotten}
 use Rattle.semantics.specs.Laws.Saturation.{listedIn, evaluation-load}
-use Rattle.semantics.specs.Claims.{Each, Queries, by-check, by-test, by-guard, Decision}
+use Rattle.semantics.specs.Claims.{Each, NamesAt, by-check, by-test, by-guard, Decision}
 use Rattle.semantics.specs.Laws.Posts.{evaluation-decides}
 use Rattle.semantics.specs.Laws.Refusals.{refused-last, others-go-on}
 use Rattle.semantics.specs.Laws.Starting.{clear-well, clear-calls}
@@ -146,7 +146,7 @@ module _ (s : List ℕ) (w : WellFormed s) where
   decision-low : (t p : ℕ) → Decision s t p → (t < maxTerms) × (p < privilegeCount)
   decision-low t p d = (omega (arith, d .a-term, w .terms-most), go (d .queries))
     where
-      go : Queries s t p → p < privilegeCount
+      go : NamesAt s t p → p < privilegeCount
       go (by-check k e) = subst (λ (x : ℕ). x < privilegeCount) e (small-privilege t (d .a-term) Check k refl)
       go (by-test k e) = subst (λ (x : ℕ). x < privilegeCount) e (small-privilege t (d .a-term) Test k refl)
       go (by-guard k e) =
@@ -165,8 +165,8 @@ each-taken E (suc n) (x ∷ xs) h = (h .0, each-taken E n xs (h .1))
 
 -- Of a list of bytes:
 module _ (s : List ℕ) (bytes : Bytes s) (q : Request) (b : Buffers) where
-  pub decisions-queried : Each (IsDecision s) (decisions s q (sizes b))
-  decisions-queried = go (screen (runConditions s q (sizes b))) refl
+  pub decisions-named : Each (IsDecision s) (decisions s q (sizes b))
+  decisions-named = go (screen (runConditions s q (sizes b))) refl
     where
       go : (x : Screening) → screen (runConditions s q (sizes b)) ≡ x → Each (IsDecision s) (decisions s q (sizes b))
       go clear h =
@@ -175,11 +175,11 @@ module _ (s : List ℕ) (bytes : Bytes s) (q : Request) (b : Buffers) where
       go (found c p) h = subst (λ (c : Course). Each (IsDecision s) (decisionsMade c)) (sym (traced-found s q (sizes b) c p h)) tt
 
   -- Every entry of the record is such a decision, and fits its four bytes.
-  pub entries-queried : (t : List ℕ) → Each (IsDecision s) (recorded (length t) (decisions s q (sizes b)))
-  entries-queried t = each-taken (IsDecision s) (length t / 4) (decisions s q (sizes b)) decisions-queried
+  pub entries-named : (t : List ℕ) → Each (IsDecision s) (recorded (length t) (decisions s q (sizes b)))
+  entries-named t = each-taken (IsDecision s) (length t / 4) (decisions s q (sizes b)) decisions-named
 
   pub entries-fit : Starts s q b → (t : List ℕ) → Storable (recorded (length t) (decisions s q (sizes b)))
-  entries-fit st t = storable s (clear-well s q b (starts-screened s q b st)) (recorded (length t) (decisions s q (sizes b))) (entries-queried t)
+  entries-fit st t = storable s (clear-well s q b (starts-screened s q b st)) (recorded (length t) (decisions s q (sizes b))) (entries-named t)
 
 -- ---- "and yes or no": a run goes on after a check or guard that is yes, and after a test
 -- a decision that is no is of a test, so that each check and guard is yes

@@ -23,11 +23,11 @@ use Rattle.rules.specs.Inference.{inferredModel, context}
 use Rattle.places.specs.Internal.{placedAt, ReadyPlace, childrenOf, childrenAt, childAt, Reached}
 use Rattle.places.specs.declared.Place.{Place}
 use Rattle.places.specs.declared.Child.{Child}
-use Rattle.subterms.specs.Smallest.{subterms, FaultyTerm, refusedAs, smaller, refusedAt, smallestOf}
+use Rattle.subterms.specs.Smallest.{subterms, FaultyTerm, faultyAs, smaller, faultyAt, smallestOf}
 use Rattle.subterms.specs.Laws.Subterms.{subtermsIn}
 use Rattle.subterms.specs.Laws.Order.{smaller-one, smaller-none, passed, smallest-append}
 use Rattle.subterms.specs.Laws.Pieces.{listed-count}
-use Rattle.smallest.specs.Internal.{ownOf, orOwn, placeJudgement, Judgeable, sizeIn, VisitedAs, ConcludedFrom}
+use Rattle.smallest.specs.Internal.{orOwn, placeJudgement, Judgeable, sizeIn, VisitedAs, CombinedFrom}
 use Rattle.smallest.specs.declared.candidates.Candidate.the-variants.{Nothing}
 use Rattle.smallest.specs.declared.visit.Visited.{Visited}
 
@@ -67,10 +67,10 @@ module _ (T : Types) (A : ℕ → ℕ) where
   three : (l m k : List Placed) → smallestOf T A (l ++ m ++ k) ≡ smaller (smaller (smallestOf T A l) (smallestOf T A m)) (smallestOf T A k)
   three l m k = smallest-append T A (l ++ m) k ∙ ap (λ (o : Option FaultyTerm). smaller o (smallestOf T A k)) (smallest-append T A l m)
 
-  own-then : (x : Placed) {o p : Option FaultyTerm} → o ≡ p → smaller (refusedAt T A x) o ≡ smaller (refusedAt T A x) p
-  own-then x e = ap (smaller (refusedAt T A x)) e
+  own-then : (x : Placed) {o p : Option FaultyTerm} → o ≡ p → smaller (faultyAt T A x) o ≡ smaller (faultyAt T A x) p
+  own-then x e = ap (smaller (faultyAt T A x)) e
 
-  below-is : (Γ : List ℕ) (n : ℕ) (c : Term) → smallestOf T A (subterms T Γ n c) ≡ smaller (refusedAt T A (placed Γ n c)) (below Γ n c)
+  below-is : (Γ : List ℕ) (n : ℕ) (c : Term) → smallestOf T A (subterms T Γ n c) ≡ smaller (faultyAt T A (placed Γ n c)) (below Γ n c)
   unfolding smallestOf
   below-is Γ n (boolean at b) = refl
   below-is Γ n (number at k) = refl
@@ -105,19 +105,18 @@ module _ (T : Types) (A : ℕ → ℕ) where
 
   -- so the term itself counts only where none is
   or-own : (c : Term) (j : Judgement) (o : Option FaultyTerm) → ((y : FaultyTerm) → o ≡ some y → y .count < size c)
-      → smaller (refusedAs c j) o ≡ orOwn o (refusedAs c j)
+      → smaller (faultyAs (numberOf c) (size c) j) o ≡ orOwn o (faultyAs (numberOf c) (size c) j)
   or-own c (typed τ N) none h = refl
   or-own c (typed τ N) (some y) h = refl
   or-own c (fault cause at) none h = refl
   or-own c (fault cause at) (some y) h = passed _ y (h y refl)
 
-  smallest-is : (Γ : List ℕ) (n : ℕ) (c : Term) → smallestOf T A (subterms T Γ n c) ≡ orOwn (below Γ n c) (refusedAs c (infer T A Γ n c))
-  unfolding refusedAt
+  smallest-is : (Γ : List ℕ) (n : ℕ) (c : Term) → smallestOf T A (subterms T Γ n c) ≡ orOwn (below Γ n c) (faultyAs (numberOf c) (size c) (infer T A Γ n c))
+  unfolding faultyAt
   smallest-is Γ n c = below-is Γ n c ∙ or-own c (infer T A Γ n c) (below Γ n c) (λ y e. below-fewer Γ n c y e)
 
-refused-own : (c : Term) (t n : ℕ) (j : Judgement) → numberOf c ≡ t → size c ≡ n → refusedAs c j ≡ ownOf t n j
-refused-own c t n (typed τ N) e f = refl
-refused-own c t n (fault cause at) e f = λ i. some (record { term = e i; count = f i; cause = cause; place = at })
+refused-own : (c : Term) (t n : ℕ) (j : Judgement) → numberOf c ≡ t → size c ≡ n → faultyAs (numberOf c) (size c) j ≡ faultyAs t n j
+refused-own c t n j e f = λ i. faultyAs (e i) (f i) j
 
 -- ---- no child
 pub nothing-found : (s : List ℕ) (y : Child) {l : List ℕ} → y .present ≡ false → Known (typesOf s) l
@@ -158,7 +157,7 @@ module _ {s : List ℕ} {c : Counts} {at : Place} (R : ReadyPlace s c at) {i j k
   counts-fit = omega (arith, counts-are, size-most s (R .sheet .well-formed) (at .term) (R .inside))
 
   pub found-there : {r : Inferred} {l‴ : List ℕ} → Answered (typesOf s) (inferredModel r) (placeJudgement s at) l‴ → {x : Visited}
-      → ConcludedFrom (at .term) r i j k x → VisitedAs s (some (placedAt s at)) x l‴
+      → CombinedFrom (at .term) r i j k x → VisitedAs s (some (placedAt s at)) x l‴
   unfolding termJudgement
   found-there {r} a {x} q =
       let T = typesOf s in
@@ -168,7 +167,7 @@ module _ {s : List ℕ} {c : Counts} {at : Place} (R : ReadyPlace s c at) {i j k
         count-is = q .count-is ∙ counts-are;
         smallest-is = q .smallest-is
             ∙ (λ z. orOwn (smaller (smaller (at-first .smallest-is z) (at-second .smallest-is z)) (at-third .smallest-is z))
-            (ownOf (at .term) (counts-are z) (a .is z)))
+            (faultyAs (at .term) (counts-are z) (a .is z)))
             ∙ ap (orOwn (below T A (context (at .bindings)) (at .principal) (tree s (at .term))))
             (sym (refused-own (tree s (at .term)) (at .term) (size (tree s (at .term))) (termJudgement s (context (at .bindings)) (at .principal) (at .term))
             (tree-number s (at .term)) refl))

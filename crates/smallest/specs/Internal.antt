@@ -1,5 +1,4 @@
 -- What the contracts of internal functions say. No reader of the public promise needs this file.
-use mathlib.Core.Bool.{true}
 use mathlib.Core.List.{List}
 use mathlib.Core.Option.{Option, none, some}
 use mathlib.Core.Path.{_≡_}
@@ -8,16 +7,16 @@ use Rattle.program.specs.Layout.{authority, typesOf}
 use Rattle.program.specs.Terms.{size}
 use Rattle.program.specs.declared.records.Counts.{Counts}
 use Rattle.typing.specs.Places.{Placed, placed}
-use Rattle.typing.specs.Checking.{Judgement, typed, fault}
+use Rattle.typing.specs.Checking.{Judgement}
 use Rattle.typing.specs.Answers.{faultCause, faultPlace}
 use Rattle.typing.specs.declared.answer.Inferred.{Inferred}
 use Rattle.subtyping.specs.Known.{Known}
 use Rattle.typing.specs.Verdicts.{termJudgement}
 use Rattle.rules.specs.Inference.{inferredModel, context}
-use Rattle.places.specs.Internal.{ReadyPlace, childrenAt}
+use Rattle.places.specs.Internal.{ReadyPlace, childrenAt, ReadyChild}
 use Rattle.places.specs.declared.Place.{Place}
 use Rattle.places.specs.declared.Child.{Child}
-use Rattle.subterms.specs.Smallest.{FaultyTerm, smaller, smallestOf}
+use Rattle.subterms.specs.Smallest.{FaultyTerm, smaller, smallestOf, faultyAs}
 use Rattle.subterms.specs.Claims.{judgementAt}
 use Rattle.subterms.specs.Laws.Subterms.{subtermsIn}
 use Rattle.smallest.specs.declared.candidates.Candidate.{Candidate}
@@ -28,12 +27,7 @@ use Rattle.smallest.specs.declared.visit.Visited.{Visited}
 -- ---- candidates
 abbrev pub candidateModel : Candidate → Option FaultyTerm
 candidateModel Nothing = none
-candidateModel (candidate.Refused t n f) = some (record { term = t; count = n; cause = faultCause f; place = faultPlace f })
-
--- term t with so many terms in it, if that is its judgement
-abbrev pub ownOf : (t count : ℕ) → Judgement → Option FaultyTerm
-ownOf t n (typed τ N) = none
-ownOf t n (fault cause at) = some (record { term = t; count = n; cause = cause; place = at })
+candidateModel (candidate.Faulty t n f) = some (record { term = t; count = n; cause = faultCause f; place = faultPlace f })
 
 abbrev pub orOwn : (below own : Option FaultyTerm) → Option FaultyTerm
 orOwn none own = own
@@ -62,7 +56,7 @@ sizeIn none = 0
 sizeIn (some (placed Γ n c)) = size c
 
 pub record Visitable (s : List ℕ) (c : Counts) (l : List ℕ) (y : Child) : Type 0 where
-  pub ready : y .present ≡ true → ReadyPlace s c (y .place)
+  pub ready : ReadyChild s c y
   pub known : Known (typesOf s) l
 
 -- what is found of a term where it stands, or of none, and what is known then
@@ -73,9 +67,9 @@ pub record VisitedAs (s : List ℕ) (o : Option Placed) (r : Visited) (l : List 
   pub known : Known (typesOf s) l
 
 -- what is found of term t from its judgement and what is found of its children
-pub record ConcludedFrom (t : ℕ) (r : Inferred) (i j k x : Visited) : Type 0 where
+pub record CombinedFrom (t : ℕ) (r : Inferred) (i j k x : Visited) : Type 0 where
   pub judged-is : x .judged ≡ r
   pub count-is : x .count ≡ 1 + i .count + j .count + k .count
   pub smallest-is : candidateModel (x .smallest)
       ≡ orOwn (smaller (smaller (candidateModel (i .smallest)) (candidateModel (j .smallest))) (candidateModel (k .smallest)))
-      (ownOf t (1 + i .count + j .count + k .count) (inferredModel r))
+      (faultyAs t (1 + i .count + j .count + k .count) (inferredModel r))

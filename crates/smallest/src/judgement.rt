@@ -85,7 +85,7 @@ fn binary(kind: u8, t: u16, i: Inferred, j: Inferred) -> Inferred
     let Inferred::Typed { ty, needs } = i else {
         return i;
     };
-    let result = steps::result_of(kind);
+    let result = steps::binary_result(kind);
     steps::computed(result, t, ty, needs, j)
 }
 

@@ -13,7 +13,7 @@ use typing::answer::Inferred;
 ghost use Prim.Native.Nat.{_+_, _≤_};
 ghost use Rattle.program.specs.Limits.{maxTerms};
 ghost use Rattle.places.specs.Internal.{childAt};
-ghost use Rattle.smallest.specs.Internal.{Visitable, VisitedAs, ConcludedFrom};
+ghost use Rattle.smallest.specs.Internal.{Visitable, VisitedAs, CombinedFrom};
 
 // What is found of a term: its judgement, how many terms there are in it, itself counted, and the smallest of them that is refused. Of a child that is
 // absent it is nothing.
@@ -46,13 +46,13 @@ pub fn visit(s: &[u8], c: Counts, known: &mut Known, y: Child) -> Visited
     let j_judged = j.judged;
     let k_judged = k.judged;
     let r = judgement(s, c, known, at, i_judged, j_judged, k_judged);
-    conclude(at.term, r, i, j, k)
+    combine(at.term, r, i, j, k)
 }
 
 // What is found of term t, judged so, from what is found of its children.
-fn conclude(t: u16, r: Inferred, i: Visited, j: Visited, k: Visited) -> Visited
+fn combine(t: u16, r: Inferred, i: Visited, j: Visited, k: Visited) -> Visited
     requires { ⌜ 1 + i .count + j .count + k .count ≤ maxTerms ⌝ }
-    ensures { λ x. ⌜ ConcludedFrom t r i j k x ⌝ }
+    ensures { λ x. ⌜ CombinedFrom t r i j k x ⌝ }
 {
     let count = 1 + i.count + j.count + k.count;
     let i_smallest = i.smallest;

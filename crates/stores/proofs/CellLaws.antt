@@ -10,7 +10,7 @@ use lib.Dec.{ltb}
 use borrow.Author.Tests.{eq-eqb, ne-eqb, le-leb, lt-leb, le-ltb, lt-ltb, ltb-true, ltb-false}
 use Rattle.program.specs.Bytes.{word16}
 use Rattle.stores.specs.Words.{stopWord}
-use Rattle.stores.specs.Cells.{behindOf, walkOf, cellWord, lookOf, cellSet, madeWith, storeWith, Bound}
+use Rattle.stores.specs.Cells.{behindOf, walkOf, cellWord, lookOf, cellSet, madeWith, storeWith, BindsCell}
 
 module _ (cells : List ℕ) (e : ℕ) where
   pub behind-none : e ≡ 0 → 0 ≡ behindOf cells e
@@ -58,16 +58,16 @@ module _ (cells : List ℕ) (t env k e : ℕ) (p : e ≡ walkOf cells env k) whe
 
 -- one more cell, or none
 module _ (made w behind : ℕ) (l : List ℕ) where
-  pub bind-full : length l / 8 ≤ made → Bound made w behind l 0 l
+  pub bind-full : length l / 8 ≤ made → BindsCell made w behind l 0 l
   unfolding madeWith storeWith
   bind-full h = record { made-is = simp (le-ltb made (length l / 8) h); store-is = simp (le-ltb made (length l / 8) h) }
 
-  pub bind-room : {l′ : List ℕ} → made < length l / 8 → l′ ≡ cellSet l made w behind → Bound made w behind l (made + 1) l′
+  pub bind-room : {l′ : List ℕ} → made < length l / 8 → l′ ≡ cellSet l made w behind → BindsCell made w behind l (made + 1) l′
   unfolding madeWith storeWith
   bind-room h q = record { made-is = simp (lt-ltb made (length l / 8) h); store-is = q ∙ sym (simp (lt-ltb made (length l / 8) h)) }
 
 -- what a new cell, or none, says of the room
-module _ (made w behind : ℕ) (l : List ℕ) {r : ℕ} {l′ : List ℕ} (b : Bound made w behind l r l′) where
+module _ (made w behind : ℕ) (l : List ℕ) {r : ℕ} {l′ : List ℕ} (b : BindsCell made w behind l r l′) where
   by-room : (c : Bool) → ltb made (length l / 8) ≡ c → (r ≡ cond c (made + 1) 0) × (l′ ≡ cond c (cellSet l made w behind) l)
   unfolding madeWith storeWith
   by-room c e =

@@ -2,8 +2,8 @@
 use mathlib.Core.Path.{_≡_, sym, _∙_}
 use Prim.Native.Nat.{ℕ}
 use borrow.Author.Tests.{ne-eqb}
-use Rattle.stores.specs.declared.state.Stop.the-variants.{Undecided}
-use Rattle.stores.specs.declared.state.Out.the-variants.{Stop as Stopped}
+use Rattle.stores.specs.declared.values.Stop.the-variants.{Undecided}
+use Rattle.stores.specs.declared.values.Out.the-variants.{Stop as Stopped}
 use Rattle.stores.specs.Words.{sortOf, payloadOf, envOf, outBy, outOf}
 
 module _ (w : ℕ) {k n : ℕ} (p : k ≡ sortOf w) (q : n ≡ payloadOf w) where

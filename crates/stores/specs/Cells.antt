@@ -40,7 +40,7 @@ madeWith made l = cond (ltb made (length l / 8)) (made + 1) 0
 unfoldable pub storeWith : (made w behind : ℕ) → List ℕ → List ℕ
 storeWith made w behind l = cond (ltb made (length l / 8)) (cellSet l made w behind) l
 
-pub record Bound (made w behind : ℕ) (l : List ℕ) (r : ℕ) (l′ : List ℕ) : Type 0 where
+pub record BindsCell (made w behind : ℕ) (l : List ℕ) (r : ℕ) (l′ : List ℕ) : Type 0 where
   pub made-is : r ≡ madeWith made l
   pub store-is : l′ ≡ storeWith made w behind l
 

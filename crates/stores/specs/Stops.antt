@@ -1,7 +1,7 @@
 -- The papers' numbers of the stops, 01's 17 to 22 and 02's 36, and the term that stops.
 use Prim.Native.Nat.{ℕ}
-use Rattle.stores.specs.declared.state.Stop.{Stop}
-use Rattle.stores.specs.declared.state.Stop.the-variants.{Check, Stuck, OpenCalls, Calls, Cells, Posts, Undecided}
+use Rattle.stores.specs.declared.values.Stop.{Stop}
+use Rattle.stores.specs.declared.values.Stop.the-variants.{Check, Stuck, OpenCalls, Calls, Cells, Posts, Undecided}
 
 abbrev pub stopCause : Stop → ℕ
 stopCause (Check t) = 17

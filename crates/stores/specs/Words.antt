@@ -5,10 +5,10 @@
 use mathlib.Core.Bool.{Bool, cond}
 use Prim.Native.Nat.{ℕ, _+_, _*_, _/_, _%_}
 use lib.Dec.{ltb, eqb}
-use Rattle.stores.specs.declared.state.Value.the-variants.{Bool as VBool, Num, Fun}
-use Rattle.stores.specs.declared.state.Stop.the-variants.{Check, Stuck, OpenCalls, Calls, Cells, Posts, Undecided}
-use Rattle.stores.specs.declared.state.Out.{Out}
-use Rattle.stores.specs.declared.state.Out.the-variants.{Val, Stop as Stopped}
+use Rattle.stores.specs.declared.values.Value.the-variants.{Bool as VBool, Num, Fun}
+use Rattle.stores.specs.declared.values.Stop.the-variants.{Check, Stuck, OpenCalls, Calls, Cells, Posts, Undecided}
+use Rattle.stores.specs.declared.values.Out.{Out}
+use Rattle.stores.specs.declared.values.Out.the-variants.{Val, Stop as Stopped}
 
 abbrev pub booleanWord : Bool → ℕ
 booleanWord b = cond b 65536 0

@@ -4,7 +4,7 @@ ghost use mathlib.Core.Path.{_≡_};
 ghost use Prim.Native.Nat.{_+_, _*_, _<_, _≤_};
 ghost use lib.ListN.{length};
 ghost use Rattle.program.specs.Bytes.{word16, withWord16};
-ghost use Rattle.stores.specs.Cells.{behindOf, walkOf, cellWord, lookOf, cellSet, nextCell, Bound, zerosLike};
+ghost use Rattle.stores.specs.Cells.{behindOf, walkOf, cellWord, lookOf, cellSet, nextCell, BindsCell, zerosLike};
 ghost use Rattle.stores.specs.Returns.{Returned};
 use crate::words;
 
@@ -96,7 +96,7 @@ pub fn next_cell(made: usize) -> u16
 
 // Gives the next cell a word and the cell behind it, and says how many are made then. If the store has none, it is 0, and nothing is written.
 pub fn bind(cells: &mut [u8], made: usize, w: u64, behind: u16) -> usize
-    ensures { λ r. ⌜ Bound made w behind (now (cells .entry)) r (now (cells .exit)) ⌝ }
+    ensures { λ r. ⌜ BindsCell made w behind (now (cells .entry)) r (now (cells .exit)) ⌝ }
 {
     if cells.len() / 8 <= made {
         return 0;

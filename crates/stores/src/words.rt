@@ -3,9 +3,9 @@
 // known within limits has its lowest value as payload and its highest in the place of the environment; a boolean that is not decided has payload 2.
 ghost use mathlib.Core.Path.{_≡_};
 ghost use Rattle.stores.specs.Words.{booleanWord, numberWord, intervalWord, undecidedWord, functionWord, stopWord, sortOf, payloadOf, envOf, isStop, outOf};
-use crate::state::Out;
-use crate::state::Stop;
-use crate::state::Value;
+use crate::values::Out;
+use crate::values::Stop;
+use crate::values::Value;
 
 pub fn boolean(b: bool) -> u64
     ensures { λ r. ⌜ r ≡ booleanWord b ⌝ }

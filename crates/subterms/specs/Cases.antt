@@ -10,7 +10,7 @@ use Rattle.typing.specs.Subtyping.{subtypeIn, subtype, wider}
 use Rattle.typing.specs.Rules.{removeAuthorised}
 use Rattle.typing.specs.Checking.{infer}
 use Rattle.typing.specs.Verdicts.{Verdict, accepted, rejected, verdict}
-use Rattle.subterms.specs.Smallest.{refusedAt, smallestOf, Piece, smallest, no-piece, unreadable, pieceOf, recordOf}
+use Rattle.subterms.specs.Smallest.{faultyAt, smallestOf, Piece, smallest, no-piece, unreadable, pieceOf, recordOf}
 use Rattle.subterms.specs.Judging.{withNumber, JudgedTerm, typed-under, refused, judging}
 
 abbrev sheet : (terms : ℕ) (records : List ℕ) → List ℕ
@@ -112,7 +112,7 @@ cases =
     ∷ query [] (rejected 1 0) (unreadable 1 0) [] ∷ []
 
 pub worked : map observed cases ≡ map due cases
-unfolding cases pieceOf smallestOf refusedAt verdict decoding screen refuseAt infer subtype subtypeIn wider removeAuthorised has meet union insert remove subset
+unfolding cases pieceOf smallestOf faultyAt verdict decoding screen refuseAt infer subtype subtypeIn wider removeAuthorised has meet union insert remove subset
 worked = refl
 
 -- a row: a sheet, a term's number, and what is told of it

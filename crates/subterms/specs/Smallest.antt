@@ -35,9 +35,9 @@ pub record FaultyTerm : Type 0 where
   pub cause : ℕ
   pub place : ℕ
 
-abbrev pub refusedAs : Term → Judgement → Option FaultyTerm
-refusedAs c (typed τ N) = none
-refusedAs c (fault cause at) = some (record { term = numberOf c; count = size c; cause = cause; place = at })
+abbrev pub faultyAs : (term count : ℕ) → Judgement → Option FaultyTerm
+faultyAs t n (typed τ N) = none
+faultyAs t n (fault cause at) = some (record { term = t; count = n; cause = cause; place = at })
 
 -- "the term with the fewest terms in it, …, ties to the lowest number"
 abbrev pub before : (x y : FaultyTerm) → Bool
@@ -49,12 +49,12 @@ smaller (some x) none = some x
 smaller (some x) (some y) = some (cond (before y x) y x)
 
 module _ (T : Types) (A : ℕ → ℕ) where
-  unfoldable pub refusedAt : Placed → Option FaultyTerm
-  refusedAt (placed Γ n c) = refusedAs c (infer T A Γ n c)
+  unfoldable pub faultyAt : Placed → Option FaultyTerm
+  faultyAt (placed Γ n c) = faultyAs (numberOf c) (size c) (infer T A Γ n c)
 
   unfoldable pub smallestOf : List Placed → Option FaultyTerm
   smallestOf [] = none
-  smallestOf (x ∷ l) = smaller (refusedAt x) (smallestOf l)
+  smallestOf (x ∷ l) = smaller (faultyAt x) (smallestOf l)
 
 -- the answer: the smallest one, with its count of terms; "no piece"; or "the reader's refusal"
 pub data Piece : Type 0 where
@@ -70,10 +70,10 @@ unfoldable pub pieceOf : List ℕ → Piece
 pieceOf s = unlessFound unreadable (decoding s) λ _. pieceFrom (smallestOf (typesOf s) (authority s) (subterms (typesOf s) [] 0 (program s)))
 
 -- "those eight bytes of the caller's own sheet that are its record": where they begin, how many there are, and they themselves; none without a piece
-abbrev pub recordPlace : List ℕ → Piece → ℕ
-recordPlace s (smallest t n c p) = termAt s t
-recordPlace s no-piece = 0
-recordPlace s (unreadable c p) = 0
+abbrev pub recordOffset : List ℕ → Piece → ℕ
+recordOffset s (smallest t n c p) = termAt s t
+recordOffset s no-piece = 0
+recordOffset s (unreadable c p) = 0
 
 abbrev pub recordLength : Piece → ℕ
 recordLength (smallest t n c p) = 8
@@ -81,4 +81,4 @@ recordLength no-piece = 0
 recordLength (unreadable c p) = 0
 
 abbrev pub recordOf : List ℕ → Piece → List ℕ
-recordOf s p = take (recordLength p) (drop (recordPlace s p) s)
+recordOf s p = take (recordLength p) (drop (recordOffset s p) s)

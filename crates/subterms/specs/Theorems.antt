@@ -22,7 +22,7 @@ use Rattle.typing.specs.Checking.{Judgement, typed, fault, infer}
 use Rattle.typing.specs.Verdicts.{accepted, rejected, concluded, judgement, verdict}
 use Rattle.typing.specs.Laws.Checking.{infer-complete, infer-derives}
 use Rattle.typing.specs.Laws.Faults.{decoding-readers}
-use Rattle.subterms.specs.Smallest.{subterms, FaultyTerm, smallestOf, Piece, smallest, no-piece, unreadable, pieceFrom, pieceOf, recordPlace, recordLength}
+use Rattle.subterms.specs.Smallest.{subterms, FaultyTerm, smallestOf, Piece, smallest, no-piece, unreadable, pieceFrom, pieceOf, recordOffset, recordLength}
 use Rattle.subterms.specs.Claims.{byRules, HasFault, has-fault, Stands, Faulty, SmallestPiece}
 use Rattle.subterms.specs.Laws.Judgements.{ruled}
 use Rattle.subterms.specs.Laws.Numbers.{within-standard}
@@ -180,19 +180,19 @@ module _ (s : List ℕ) where
       back h (given-unreadable e) = absurd (let z : clear ≡ found _ _ = sym (h .readable) ∙ e in let y : _≡_ {A = ℕ} 0 1 = cc in omega arith)
 
   -- The record of the piece lies in the sheet.
-  pub record-inside : recordPlace s (pieceOf s) + recordLength (pieceOf s) ≤ length s
+  pub record-inside : recordOffset s (pieceOf s) + recordLength (pieceOf s) ≤ length s
   record-inside = go given
     where
-      go : {a : Piece} → PieceGiven s a → recordPlace s a + recordLength a ≤ length s
+      go : {a : Piece} → PieceGiven s a → recordOffset s a + recordLength a ≤ length s
       go (given-smallest h p r) = omega (arith, h .inside, well-formed s (root-faulty s r .0) .terms-inside)
       go (given-none h) = omega arith
       go (given-unreadable e) = omega arith
 
-  -- It begins in the first 65,535 bytes, since a sheet has no more, and is eight bytes long or none.
-  pub place-most : recordPlace s (pieceOf s) ≤ 65535
-  place-most = go given
+  -- It begins at byte 65,535 at the latest, since a sheet is shorter, and is eight bytes long or none.
+  pub offset-most : recordOffset s (pieceOf s) ≤ 65535
+  offset-most = go given
     where
-      go : {a : Piece} → PieceGiven s a → recordPlace s a ≤ 65535
+      go : {a : Piece} → PieceGiven s a → recordOffset s a ≤ 65535
       go (given-smallest h p r) =
           let w = well-formed s (root-faulty s r .0) in
           omega (arith, h .inside, w .terms-most, w .types-most, w .principals-most)

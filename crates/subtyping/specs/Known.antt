@@ -16,14 +16,14 @@ pub record TypePair (a b : ℕ) : Type 0 where
   pub first-below : a < maxTypes
   pub second-below : b < maxTypes
 
-abbrev pub wordOf : (a b : ℕ) → ℕ
-wordOf a b = a * 8 + b / 32
+abbrev pub wordIndex : (a b : ℕ) → ℕ
+wordIndex a b = a * 8 + b / 32
 
 unfoldable pub knows : List ℕ → (a b : ℕ) → Bool
-knows l a b = has (b % 32) (getD l (wordOf a b) 0)
+knows l a b = has (b % 32) (getD l (wordIndex a b) 0)
 
 unfoldable pub withPair : List ℕ → (a b : ℕ) → List ℕ
-withPair l a b = set l (wordOf a b) (insert (b % 32) (getD l (wordOf a b) 0))
+withPair l a b = set l (wordIndex a b) (insert (b % 32) (getD l (wordIndex a b) 0))
 
 -- what is known is so
 pub record Known (T : Types) (l : List ℕ) : Type 0 where

@@ -9,7 +9,7 @@ ghost use mathlib.Core.Path.{_≡_};
 ghost use lib.Dec.{leb, ltb};
 ghost use Rattle.program.specs.Layout.{typesOf};
 ghost use Rattle.typing.specs.Subtyping.{subtype as subtypeOf, wider as widerOf};
-ghost use Rattle.program.specs.Search.{foundOf};
+ghost use Rattle.program.specs.Search.{foundModel};
 ghost use Rattle.subtyping.specs.Known.{KnownSheet, Answered};
 
 // Whether t is a function type of a sheet with these counts.
@@ -58,7 +58,7 @@ pub fn subtype(s: &[u8], c: Counts, known: &mut Known, a: u16, b: u16) -> bool
 // The wider of two types, if one is a subtype of the other. Equal types, the common case, pass the first test at once.
 pub fn wider(s: &[u8], c: Counts, known: &mut Known, a: u16, b: u16) -> Found
     requires { ⌜ KnownSheet (now s) c (now known) ⌝ }
-    ensures { λ r. ⌜ Answered (typesOf (now (s .entry))) (foundOf r) (widerOf (typesOf (now (s .entry))) a b) (now (known .exit)) ⌝ }
+    ensures { λ r. ⌜ Answered (typesOf (now (s .entry))) (foundModel r) (widerOf (typesOf (now (s .entry))) a b) (now (known .exit)) ⌝ }
 {
     if subtype(s, c, known, a, b) {
         return Found::At(b);

@@ -4,7 +4,7 @@ ghost use Rattle.program.specs.Layout.{terms};
 ghost use Rattle.program.specs.Screening.{lowest};
 ghost use Rattle.program.specs.Decoding.{termOk};
 ghost use Rattle.accessors.specs.Internal.{Laid};
-ghost use Rattle.program.specs.Search.{foundOf};
+ghost use Rattle.program.specs.Search.{foundModel};
 ghost use Rattle.termrecords.specs.Internal.{LaidTerm, shapeIf, shapeOf, shapeAt, isWrong};
 use accessors::table_term;
 use program::limits::MAX_PRIVILEGE;
@@ -101,7 +101,7 @@ fn is_wrong(x: Shape) -> bool
 // The lowest term record at fault.
 pub fn bad_term(s: &[u8], c: Counts) -> Found
     requires { ⌜ Laid (now s) c ⌝ }
-    ensures { λ r. ⌜ foundOf r ≡ lowest (termOk (now (s .entry))) 0 (terms (now (s .entry))) ⌝ }
+    ensures { λ r. ⌜ foundModel r ≡ lowest (termOk (now (s .entry))) 0 (terms (now (s .entry))) ⌝ }
 {
     let n = c.terms;
     let mut t = 0;

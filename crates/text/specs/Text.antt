@@ -1,15 +1,15 @@
 -- What is printed of a sheet: 01, "The program and its print".
-use mathlib.Core.Bool.{true, cond}
+use mathlib.Core.Bool.{cond}
 use mathlib.Core.List.{List, [], _∷_, _++_}
 use Prim.Native.Char.{code}
 use Prim.Native.Nat.{ℕ, zero, suc, _+_, _/_, _%_}
 use Prim.Native.String.{String, [] as ended-text, _∷_ as _then_}
 use lib.Dec.{ltb, eqb}
-use Rattle.program.specs.Limits.{maxCalls, maxDepth, maxCells, maxPosts}
+use Rattle.program.specs.Limits.{maxCalls, maxCells, maxPosts}
 use Rattle.program.specs.Layout.{root}
 use Rattle.typing.specs.Verdicts.{Verdict, accepted, rejected, verdict}
-use Rattle.semantics.specs.Runs.{eager, Request, Sizes, course, ground-bool, ground-num, Outcome, ended, stopped, RunCounts, Answer, refused, ran, answerOf}
-use Rattle.interp.specs.Answers.{requestOf}
+use Rattle.semantics.specs.Runs.{Request, Sizes, course, ground-bool, ground-num, Outcome, ended, stopped, RunCounts, Answer, refused, ran, answerOf}
+use Rattle.interp.specs.Answers.{emptyStackRequest}
 
 -- ---- characters and numbers
 
@@ -78,13 +78,13 @@ refusalText c t = line (labelled "refused " c ++ placeText t)
 
 -- "judges it and runs it eagerly, checks in force, on an empty stack with the largest allowances and buffers"; an eager run has no frame store
 abbrev pub programRequest : Request
-programRequest = requestOf eager true [] maxCalls maxDepth
+programRequest = emptyStackRequest maxCalls
 
 abbrev pub eagerSizes : Sizes
 eagerSizes = record { cells = maxCells; posts = maxPosts; frames = 0 }
 
-abbrev pub answer : List ℕ → Answer
-answer s = answerOf (root s) programRequest eagerSizes (course s programRequest eagerSizes)
+abbrev pub programAnswer : List ℕ → Answer
+programAnswer s = answerOf (root s) programRequest eagerSizes (course s programRequest eagerSizes)
 
 -- The run of an accepted sheet is never turned back (Theorems: accepted-runs).
 abbrev pub ofRun : (accepted : List ℕ) → Answer → List ℕ
@@ -97,4 +97,4 @@ ofVerdict (accepted n τ N) run = ofRun (acceptanceText n τ N) (run tt)
 ofVerdict (rejected c p) run = refusalText c p
 
 unfoldable pub printed : List ℕ → List ℕ
-printed s = ofVerdict (verdict s) λ _. answer s
+printed s = ofVerdict (verdict s) λ _. programAnswer s

@@ -22,7 +22,7 @@ use Rattle.typing.specs.Theorems.{acceptance}
 use Rattle.semantics.specs.Runs.{eager, startOk, buffersOk, limitsOk, runConditions, evaluation, settled, course, ground-bool, ground-num}
 use Rattle.semantics.specs.Runs.{Outcome, ended, stopped, RunCounts, Answer, refused, ran, answerOf}
 use Rattle.text.specs.Text.{ascii, digit, hexadecimal, decimalIn, decimal, line, labelled, typeLine, acceptanceText, placeText, outcomeText, countsText, refusalText}
-use Rattle.text.specs.Text.{programRequest, eagerSizes, answer, ofRun, ofVerdict, printed}
+use Rattle.text.specs.Text.{programRequest, eagerSizes, programAnswer, ofRun, ofVerdict, printed}
 
 -- ---- the decimal digits of a number of 64 bits, however long
 -- a number below 10 ^ k has no more than k digits
@@ -49,7 +49,7 @@ starts s r =
     screen-clear (decodingConditions s) (unless 14 (startOk s programRequest) ∷ unless 15 (buffersOk eager eagerSizes)
     ∷ unless 16 (limitsOk programRequest) ∷ []) r
 
-pub accepted-runs : (s : List ℕ) (n τ N : ℕ) → verdict s ≡ accepted n τ N → (o : Outcome) × (k : RunCounts) × (answer s ≡ ran o k)
+pub accepted-runs : (s : List ℕ) (n τ N : ℕ) → verdict s ≡ accepted n τ N → (o : Outcome) × (k : RunCounts) × (programAnswer s ≡ ran o k)
 unfolding course
 accepted-runs s n τ N e = (
   _,
@@ -155,4 +155,4 @@ verdict-most (rejected c p) a = refusal-most c p
 
 pub text-most : (s : List ℕ) → length (printed s) ≤ 209
 unfolding printed
-text-most s = verdict-most (verdict s) (answer s)
+text-most s = verdict-most (verdict s) (programAnswer s)

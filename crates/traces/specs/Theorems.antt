@@ -14,7 +14,7 @@ use Rattle.traces.specs.Traces.{Event, traceBytes, recorded, wellFormedR
 use Rattle.traces.specs.Comparing.{Subsequence, occurs, Comparison, refused, fits, diverges, compared, ifBoth, comparison}
 use Rattle.traces.specs.Claims.{WellFormedRecord, Storable, Fits, Diverges}
 use Rattle.traces.specs.Laws.Subsequences.{whole, beginning, no-longer, occurs-decides}
-use Rattle.traces.specs.Laws.Greedy.{placed, placed-occurs, placed-least, compared-fits, compared-diverges}
+use Rattle.traces.specs.Laws.Greedy.{matched, placed-occurs, placed-least, compared-fits, compared-diverges}
 use Rattle.traces.specs.Laws.Records.{bytes-well-formed, bytes-trace, bytes-take, bytes-below, trace-back, well-formed-true, true-well-formed}
 
 -- ---- subsequences
@@ -25,20 +25,20 @@ decides u o = occurs-decides u o
 
 -- ---- two lists of events
 module _ (u o : List Event) where
-  shorter-occurs : (j : ℕ) → j ≤ placed u o → Subsequence (take j u) o
-  shorter-occurs j h = subst (λ (x : List Event). Subsequence x o) (take-take j (placed u o) u h) (beginning j (placed-occurs u o))
+  shorter-occurs : (j : ℕ) → j ≤ matched u o → Subsequence (take j u) o
+  shorter-occurs j h = subst (λ (x : List Event). Subsequence x o) (take-take j (matched u o) u h) (beginning j (placed-occurs u o))
 
-  all-placed : Subsequence u o → length u ≤ placed u o
+  all-placed : Subsequence u o → length u ≤ matched u o
   all-placed s = placed-least (length u) u o (omega arith) (subst (λ (x : List Event). Subsequence x o) (sym (take-length u)) s)
 
   -- It fits exactly if the unit's events occur there in that order, and the number missing is how many more the office has.
   pub compared-as-fits : (m : ℕ) → (compared u o ≡ fits m) ↔ Fits u o m
-  compared-as-fits m = (λ e. there (decLt (placed u o) (length u)) e, back)
+  compared-as-fits m = (λ e. there (decLt (matched u o) (length u)) e, back)
     where
-      there : Dec (placed u o < length u) → compared u o ≡ fits m → Fits u o m
-      there (yes h) e = let f : fits m ≡ diverges (placed u o) = sym e ∙ compared-diverges u o h in absurd (let z : _≡_ {A = ℕ} 0 1 = cc in omega arith)
+      there : Dec (matched u o < length u) → compared u o ≡ fits m → Fits u o m
+      there (yes h) e = let f : fits m ≡ diverges (matched u o) = sym e ∙ compared-diverges u o h in absurd (let z : _≡_ {A = ℕ} 0 1 = cc in omega arith)
       there (no h) e =
-          let s = subst (λ (x : List Event). Subsequence x o) (take-all (placed u o) u (omega arith)) (placed-occurs u o) in
+          let s = subst (λ (x : List Event). Subsequence x o) (take-all (matched u o) u (omega arith)) (placed-occurs u o) in
           let f : fits (length o - length u) ≡ fits m = sym (compared-fits u o (omega arith)) ∙ e in
           let g : length o - length u ≡ m = cc in
           record { in-order = s; missing-is = omega (arith, no-longer s) }
@@ -50,15 +50,15 @@ module _ (u o : List Event) where
 
   -- It diverges at k exactly if k is the first entry up to which the unit's do not occur.
   pub compared-as-diverges : (k : ℕ) → (compared u o ≡ diverges k) ↔ Diverges u o k
-  compared-as-diverges k = (λ e. there (decLt (placed u o) (length u)) e, back)
+  compared-as-diverges k = (λ e. there (decLt (matched u o) (length u)) e, back)
     where
-      there : Dec (placed u o < length u) → compared u o ≡ diverges k → Diverges u o k
+      there : Dec (matched u o < length u) → compared u o ≡ diverges k → Diverges u o k
       there (no h) e =
           let f : diverges k ≡ fits (length o - length u) = sym e ∙ compared-fits u o (omega arith) in
           absurd (let z : _≡_ {A = ℕ} 0 1 = cc in omega arith)
       there (yes h) e =
-          let f : diverges (placed u o) ≡ diverges k = sym (compared-diverges u o h) ∙ e in
-          let g : placed u o ≡ k = cc in
+          let f : diverges (matched u o) ≡ diverges k = sym (compared-diverges u o h) ∙ e in
+          let g : matched u o ≡ k = cc in
           record {
             an-entry = omega arith;
             up-to = λ s. omega (arith, placed-least (suc k) u o (omega arith) s);
@@ -68,8 +68,8 @@ module _ (u o : List Event) where
       back : Diverges u o k → compared u o ≡ diverges k
       back d =
           let least = placed-least k u o (omega (arith, d .an-entry)) (d .shorter k (omega arith)) in
-          let most : (suc k ≤ placed u o → ⊥) = λ h. d .up-to (shorter-occurs (suc k) h) in
-          let e : placed u o ≡ k = omega (arith, most) in
+          let most : (suc k ≤ matched u o → ⊥) = λ h. d .up-to (shorter-occurs (suc k) h) in
+          let e : matched u o ≡ k = omega (arith, most) in
           compared-diverges u o (omega (arith, d .an-entry)) ∙ ap diverges e
 
 -- ---- two records
@@ -99,11 +99,11 @@ module _ (u o : List ℕ) where
   by-form false w = inr (λ i. ifBoth (w i) u o)
 
   never-refused : (c p : ℕ) → compared (trace u) (trace o) ≡ refused c p → ⊥
-  never-refused c p e = go (decLt (placed (trace u) (trace o)) (length (trace u)))
+  never-refused c p e = go (decLt (matched (trace u) (trace o)) (length (trace u)))
     where
-      go : Dec (placed (trace u) (trace o) < length (trace u)) → ⊥
+      go : Dec (matched (trace u) (trace o) < length (trace u)) → ⊥
       go (yes h) =
-          let f : diverges (placed (trace u) (trace o)) ≡ refused c p = sym (compared-diverges (trace u) (trace o) h) ∙ e in
+          let f : diverges (matched (trace u) (trace o)) ≡ refused c p = sym (compared-diverges (trace u) (trace o) h) ∙ e in
           let z : _≡_ {A = ℕ} 0 1 = cc in
           omega arith
       go (no h) =

@@ -1,23 +1,20 @@
 -- The events of a run, and the bytes of a record of them. 02, W12: "Both runners can record each check, test and guard they decide as term, privilege and
 -- yes or no, in the order met".
-use mathlib.Core.Bool.{Bool, true, false, cond, _&&_}
+use mathlib.Core.Bool.{Bool, true, false, _&&_}
 use mathlib.Core.List.{List, [], _∷_, _++_}
 use Prim.Native.Nat.{ℕ, _+_, _*_, _/_, _%_}
 use lib.Dec.{eqb, leb}
 use lib.ListN.{take}
-use Rattle.program.specs.Bytes.{byte}
+use Rattle.program.specs.Bytes.{byte, bit}
 
 pub record Event : Type 0 where
   pub term : ℕ
   pub privilege : ℕ
   pub decided : Bool
 
-abbrev pub decisionByte : Bool → ℕ
-decisionByte b = cond b 1 0
-
 -- "An entry has four bytes: term (2, highest byte first), privilege, and 1 for yes or 0 for no."
 abbrev pub eventBytes : Event → List ℕ
-eventBytes e = e .term / 256 ∷ e .term % 256 ∷ e .privilege ∷ decisionByte (e .decided) ∷ []
+eventBytes e = e .term / 256 ∷ e .term % 256 ∷ e .privilege ∷ bit (e .decided) ∷ []
 
 unfoldable pub traceBytes : List Event → List ℕ
 traceBytes [] = []

@@ -8,7 +8,7 @@ ghost use Rattle.program.specs.Layout.{types};
 ghost use Rattle.program.specs.Screening.{lowest};
 ghost use Rattle.program.specs.Decoding.{fresh, typeOk};
 ghost use Rattle.accessors.specs.Internal.{Laid};
-ghost use Rattle.program.specs.Search.{foundOf};
+ghost use Rattle.program.specs.Search.{foundModel};
 ghost use Rattle.typerecords.specs.Internal.{leWord, WordAt, TableAt, TypesBefore, DepthsBefore, DepthIs};
 use accessors::type_record;
 use program::limits::MAX_TYPE_DEPTH;
@@ -144,7 +144,7 @@ fn type_depth(s: &[u8], c: Counts, depths: &[u8; TYPE_PLACES], t: u16) -> Depth
 // The lowest type record at fault.
 pub fn bad_type(s: &[u8], c: Counts) -> Found
     requires { ⌜ Laid (now s) c ⌝ }
-    ensures { λ r. ⌜ foundOf r ≡ lowest (typeOk (now (s .entry))) 0 (types (now (s .entry))) ⌝ }
+    ensures { λ r. ⌜ foundModel r ≡ lowest (typeOk (now (s .entry))) 0 (types (now (s .entry))) ⌝ }
 {
     let mut depths = [0u8; TYPE_PLACES];
     let n = c.types;

@@ -9,7 +9,7 @@ use Rattle.privileges.specs.Sets.{union, insert, remove, subset}
 use Rattle.program.specs.Layout.{Types}
 use Rattle.program.specs.Terms.{Term, boolean, number, variable, function, letrec, call, if, check, enable, sign, test, binary, post}
 use Rattle.typing.specs.Subtyping.{subtype, wider}
-use Rattle.typing.specs.Rules.{bound, removeAuthorised, postNeeds, resultType}
+use Rattle.typing.specs.Rules.{lookupType, removeAuthorised, postNeeds, resultType}
 
 pub data Judgement : Type 0 where
   typed : (type needs : ℕ) → Judgement
@@ -45,7 +45,7 @@ module _ (T : Types) (A : ℕ → ℕ) where
   unfoldable pub infer : (Γ : List ℕ) (n : ℕ) → Term → Judgement
   infer Γ n (boolean at b) = typed 0 0
   infer Γ n (number at k) = typed 1 0
-  infer Γ n (variable at i) = variableType at (bound Γ i)
+  infer Γ n (variable at i) = variableType at (lookupType Γ i)
   infer Γ n (function at ty body) = infer (T .arg ty ∷ Γ) n body next λ τ N. bodyFits at ty τ N (typed ty 0)
   infer Γ n (letrec at ty body rest) = infer (T .arg ty ∷ ty ∷ Γ) n body next λ τ N. infer (ty ∷ Γ) n rest next λ ρ M.
       bodyFits at ty τ N (typed ρ (union (T .latent ty) M))

@@ -79,7 +79,7 @@ pub data OtherFault (T : Types) (A : ℕ → ℕ) (Γ : List ℕ) (n : ℕ) : (c
       → infer T A (ty ∷ Γ) n rest ≡ typed ρ M → (N ⊆ T .latent ty → ⊥) → OtherFault T A Γ n 12 at (letrec at ty body rest)
 
 -- some term in c, in the bindings and under the principal that it has there, is as `Is` says
-pub record SomePart (T : Types) (Is : List ℕ → ℕ → Term → Type 0) (Γ : List ℕ) (n : ℕ) (c : Term) : Type 0 where
+pub record SomeSubterm (T : Types) (Is : List ℕ → ℕ → Term → Type 0) (Γ : List ℕ) (n : ℕ) (c : Term) : Type 0 where
   pub bindings : List ℕ
   pub principal : ℕ
   pub part : Term
@@ -87,13 +87,13 @@ pub record SomePart (T : Types) (Is : List ℕ → ℕ → Term → Type 0) (Γ 
   pub is : Is bindings principal part
 
 -- a fault of a term: some term in it is wrong as the fault's number says
-abbrev pub MismatchedPart : Types → (ℕ → ℕ) → List ℕ → ℕ → Term → (cause at : ℕ) → Type 0
-MismatchedPart T A Γ n c cause at = SomePart T (λ Δ m d. Mismatch T A Δ m cause at d) Γ n c
+abbrev pub MismatchedSubterm : Types → (ℕ → ℕ) → List ℕ → ℕ → Term → (cause at : ℕ) → Type 0
+MismatchedSubterm T A Γ n c cause at = SomeSubterm T (λ Δ m d. Mismatch T A Δ m cause at d) Γ n c
 
 -- and of 10
-abbrev pub OtherTypeFaultyPart : Types → (ℕ → ℕ) → List ℕ → ℕ → Term → (at : ℕ) → Type 0
-OtherTypeFaultyPart T A Γ n c at = SomePart T (λ Δ m d. OtherTypeFault T A Δ m at d) Γ n c
+abbrev pub OtherTypeFaultySubterm : Types → (ℕ → ℕ) → List ℕ → ℕ → Term → (at : ℕ) → Type 0
+OtherTypeFaultySubterm T A Γ n c at = SomeSubterm T (λ Δ m d. OtherTypeFault T A Δ m at d) Γ n c
 
 -- and of 9, 11 and 12
-abbrev pub OtherFaultyPart : Types → (ℕ → ℕ) → List ℕ → ℕ → Term → (cause at : ℕ) → Type 0
-OtherFaultyPart T A Γ n c cause at = SomePart T (λ Δ m d. OtherFault T A Δ m cause at d) Γ n c
+abbrev pub OtherFaultySubterm : Types → (ℕ → ℕ) → List ℕ → ℕ → Term → (cause at : ℕ) → Type 0
+OtherFaultySubterm T A Γ n c cause at = SomeSubterm T (λ Δ m d. OtherFault T A Δ m cause at d) Γ n c

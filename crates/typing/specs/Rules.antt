@@ -12,10 +12,10 @@ use Rattle.program.specs.Terms.{Op, sum, difference, less, Term, boolean, numbe
 use Rattle.typing.specs.Subtyping.{Subtype, Wider}
 
 -- a variable's type: "variable: first, 0 for the nearest binding"
-abbrev pub bound : List ℕ → (i : ℕ) → Option ℕ
-bound [] i = none
-bound (τ ∷ Γ) zero = some τ
-bound (τ ∷ Γ) (suc i) = bound Γ i
+abbrev pub lookupType : List ℕ → (i : ℕ) → Option ℕ
+lookupType [] i = none
+lookupType (τ ∷ Γ) zero = some τ
+lookupType (τ ∷ Γ) (suc i) = lookupType Γ i
 
 -- "Enable removes p if p is in A of the signing principal, else changes nothing."
 unfoldable pub removeAuthorised : (ℕ → ℕ) → (n p N : ℕ) → ℕ
@@ -67,7 +67,7 @@ pub data Derives (W : Variant) (T : Types) (A : ℕ → ℕ) : (Γ : List ℕ) (
   -- "Booleans, numbers, variables and functions: needs empty." Figure 3: true, x, fun.
   d-boolean : {Γ : List ℕ} {n at : ℕ} {b : Bool} → Derives W T A Γ n (boolean at b) 0 0
   d-number : {Γ : List ℕ} {n at k : ℕ} → Derives W T A Γ n (number at k) 1 0
-  d-variable : {Γ : List ℕ} {n at i τ : ℕ} → bound Γ i ≡ some τ → Derives W T A Γ n (variable at i) τ 0
+  d-variable : {Γ : List ℕ} {n at i τ : ℕ} → lookupType Γ i ≡ some τ → Derives W T A Γ n (variable at i) τ 0
   -- "A body has exactly the result type; its needs lie in the latent set." "In a body of kind 3 variable 0 is the argument."
   d-function : {Γ : List ℕ} {n at ty N : ℕ} {body : Term} → T .isFun ty ≡ true → Derives W T A (T .arg ty ∷ Γ) n body (T .res ty) N
       → N ⊆ T .latent ty → Derives W T A Γ n (function at ty body) ty 0

@@ -25,7 +25,7 @@ use Rattle.program.specs.Laws.Guards.{program-in-range, program-unguarded}
 use Rattle.typing.specs.Subtyping.{Subtype, sub-same, Wider, wider-second, wider-first, subtype}
 use Rattle.typing.specs.Rules.{Variant, base, afterW1, afterW4, current, Derives, d-post, d-widen}
 use Rattle.typing.specs.Checking.{Judgement, typed, fault, _next_, require, infer}
-use Rattle.typing.specs.Faults.{Mismatch, OtherTypeFault, OtherFault, MismatchedPart, OtherTypeFaultyPart, OtherFaultyPart}
+use Rattle.typing.specs.Faults.{Mismatch, OtherTypeFault, OtherFault, MismatchedSubterm, OtherTypeFaultySubterm, OtherFaultySubterm}
 use Rattle.typing.specs.Verdicts.{accepted, rejected, concluded, judgement, verdict, SheetDerivesBy, SheetDerives}
 use Rattle.typing.specs.Laws.Subtyping.{sub-trans, sub-antisym, subtype-sound, subtype-complete, wider-above}
 use Rattle.typing.specs.Laws.Checking.{infer-complete, infer-afterW1, infer-derives, typed-least, derives-least}
@@ -232,13 +232,13 @@ guarded-post {p = p} (d-widen d s) = let h = guarded-post d in (s .all p (h .0),
 -- ---- what W5's numbers say
 -- A term that is a call of what isn't a function, a call with an argument that doesn't fit, or an if or test with branches of which neither fits the other
 -- is told so: by 24, 25 or 26 in that order, at that term. It is 24 whatever the argument is: "at one call 24 goes before 25".
-pub wrong-inferred : (T : Types) (A : ℕ → ℕ) (Γ : List ℕ) (n cause at : ℕ) (c : Term) → Mismatch T A Γ n cause at c → infer T A Γ n c ≡ fault cause at
-wrong-inferred T A Γ n cause at c w = wrong-fault T A w
+pub mismatch-inferred : (T : Types) (A : ℕ → ℕ) (Γ : List ℕ) (n cause at : ℕ) (c : Term) → Mismatch T A Γ n cause at c → infer T A Γ n c ≡ fault cause at
+mismatch-inferred T A Γ n cause at c w = wrong-fault T A w
 
 -- "all other type faults stay 10, and the place is still the term"; of an if whatever its branches are: "at one if 10 before 26"; of a function or letrec
 -- whatever its body needs: "10 before 12" (01)
-pub ten-inferred : (T : Types) (A : ℕ → ℕ) (Γ : List ℕ) (n at : ℕ) (c : Term) → OtherTypeFault T A Γ n at c → infer T A Γ n c ≡ fault 10 at
-ten-inferred T A Γ n at c t = ten-fault T A t
+pub other-type-fault-inferred : (T : Types) (A : ℕ → ℕ) (Γ : List ℕ) (n at : ℕ) (c : Term) → OtherTypeFault T A Γ n at c → infer T A Γ n c ≡ fault 10 at
+other-type-fault-inferred T A Γ n at c t = ten-fault T A t
 
 -- a refusal that is neither the reader's nor the root's is the rules', of a readable sheet
 record Ruled (s : List ℕ) (cause at : ℕ) : Type 0 where
@@ -265,34 +265,34 @@ rejected-by-rules s cause at e l not-13 not-31 = screened (decoding s) refl e
         ⊎-elim (λ k. absurd (omega arith)) (λ k. absurd (not-31 (sym z ∙ k))) (decoding-readers s c p h)
 
 -- a term of the sheet, in the bindings and under the principal that it has there, is wrong as the number says, and its number is `at`
-abbrev pub TypeFault : List ℕ → (cause at : ℕ) → Type 0
-TypeFault s cause at = MismatchedPart (typesOf s) (authority s) [] 0 (program s) cause at
+abbrev pub SheetMismatch : List ℕ → (cause at : ℕ) → Type 0
+SheetMismatch s cause at = MismatchedSubterm (typesOf s) (authority s) [] 0 (program s) cause at
 
 -- A sheet is refused by 24, 25 or 26 at a term only if that term is a call of what isn't a function, a call with an argument that doesn't fit, or an if
 -- or test with branches of which neither fits the other, in the bindings and under the principal that it has in the sheet, and its children have types
--- (Faults: Wrong, Within). No other number from 24 on is told but the reader's 31.
-pub type-faults : (s : List ℕ) (cause at : ℕ) → verdict s ≡ rejected cause at → 24 ≤ cause → (cause ≡ 31 → ⊥) → TypeFault s cause at
+-- (Faults: Mismatch, Within). No other number from 24 on is told but the reader's 31.
+pub type-faults : (s : List ℕ) (cause at : ℕ) → verdict s ≡ rejected cause at → 24 ≤ cause → (cause ≡ 31 → ⊥) → SheetMismatch s cause at
 type-faults s cause at e l other =
     let h = rejected-by-rules s cause at e (omega arith) (λ h. omega arith) other in
     infer-faulty (typesOf s) (authority s) (lower-types s (well-formed s (h .readable))) [] 0 (program s) cause at (h .is) l
 
 -- A sheet is refused by 10 at a term only if the body there has another type than the function's result, the condition is no boolean, an operand or what
--- is posted is no number, in the bindings and under the principal that the term has in the sheet, and its children have types (Faults: Ten).
-pub other-type-faults : (s : List ℕ) (at : ℕ) → verdict s ≡ rejected 10 at → OtherTypeFaultyPart (typesOf s) (authority s) [] 0 (program s) at
+-- is posted is no number, in the bindings and under the principal that the term has in the sheet, and its children have types (Faults: OtherTypeFault).
+pub other-type-faults : (s : List ℕ) (at : ℕ) → verdict s ≡ rejected 10 at → OtherTypeFaultySubterm (typesOf s) (authority s) [] 0 (program s) at
 other-type-faults s at e =
     let h = rejected-by-rules s 10 at e (omega arith) (λ h. omega (arith, h)) (λ h. omega (arith, h)) in
     infer-ten (typesOf s) (authority s) (lower-types s (well-formed s (h .readable))) [] 0 (program s) 10 at (h .is) refl
 
 -- ---- what 01's other numbers say
 -- "9 variable past the bindings, … 11 needs of a sign, 12 needs of a body": a term that is so, and whose children have types, is told so, at that term
-pub beyond-inferred : (T : Types) (A : ℕ → ℕ) (Γ : List ℕ) (n cause at : ℕ) (c : Term) → OtherFault T A Γ n cause at c → infer T A Γ n c ≡ fault cause at
-beyond-inferred T A Γ n cause at c b = beyond-fault T A b
+pub other-fault-inferred : (T : Types) (A : ℕ → ℕ) (Γ : List ℕ) (n cause at : ℕ) (c : Term) → OtherFault T A Γ n cause at c → infer T A Γ n c ≡ fault cause at
+other-fault-inferred T A Γ n cause at c b = beyond-fault T A b
 
 -- A sheet is refused by 9, 11 or 12 at a term only if that term is a variable past the bindings, a sign whose child needs what isn't in A of its principal,
 -- or a function or recursive binder whose body needs what isn't in the latent set, in the bindings and under the principal that it has in the sheet, and
--- its children have types (Faults: Beyond). No other number from 9 to 23 is told but 10 and 13.
+-- its children have types (Faults: OtherFault). No other number from 9 to 23 is told but 10 and 13.
 pub other-faults : (s : List ℕ) (cause at : ℕ) → verdict s ≡ rejected cause at → 9 ≤ cause → cause < 24 → (cause ≡ 10 → ⊥) → (cause ≡ 13 → ⊥)
-    → OtherFaultyPart (typesOf s) (authority s) [] 0 (program s) cause at
+    → OtherFaultySubterm (typesOf s) (authority s) [] 0 (program s) cause at
 other-faults s cause at e l u not-10 not-13 =
     let h = rejected-by-rules s cause at e l not-13 (λ h. omega arith) in
     infer-beyond (typesOf s) (authority s) (lower-types s (well-formed s (h .readable))) [] 0 (program s) cause at (h .is) u not-10

@@ -26,37 +26,37 @@ pub const FRAME_ROOM: usize = FRAME_NUMBERS + 1;
 
 pub const PAIR_ROOM: usize = 2 * TERM_PLACES + 2;
 
-pub fn max_start() -> [u32; START_ROOM]
+pub fn start_buffer() -> [u32; START_ROOM]
     ensures { λ r. ⌜ maxStart + 8 ≡ length r ⌝ }
 {
     [0; START_ROOM]
 }
 
-pub fn max_sheet() -> [u8; SHEET_ROOM]
+pub fn sheet_buffer() -> [u8; SHEET_ROOM]
     ensures { λ r. ⌜ maxSheet + 1 ≡ length r ⌝ }
 {
     [0; SHEET_ROOM]
 }
 
-pub fn max_cells() -> [u8; CELL_ROOM]
+pub fn cell_buffer() -> [u8; CELL_ROOM]
     ensures { λ r. ⌜ maxCells + 1 ≡ length r ⌝ }
 {
     [0; CELL_ROOM]
 }
 
-pub fn max_posts() -> [u32; POST_ROOM]
+pub fn post_buffer() -> [u32; POST_ROOM]
     ensures { λ r. ⌜ maxPosts + 1 ≡ length r ⌝ }
 {
     [0; POST_ROOM]
 }
 
-pub fn max_frames() -> [u32; FRAME_ROOM]
+pub fn frame_buffer() -> [u32; FRAME_ROOM]
     ensures { λ r. ⌜ frameNumbers + 1 ≡ length r ⌝ }
 {
     [0; FRAME_ROOM]
 }
 
-pub fn max_pairs() -> [u16; PAIR_ROOM]
+pub fn pair_buffer() -> [u16; PAIR_ROOM]
     ensures { λ r. ⌜ 2 * maxTerms + 2 ≡ length r ⌝ }
 {
     [0; PAIR_ROOM]

@@ -4,18 +4,18 @@
 use replies::ANSWER_NUMBERS;
 use replies::LONG_ANSWER;
 use vector_io::buffers::PAIR_ROOM;
+use vector_io::buffers::cell_buffer;
 use vector_io::buffers::fill_all;
 use vector_io::buffers::fill_cells;
 use vector_io::buffers::fill_numbers;
-use vector_io::buffers::max_cells;
-use vector_io::buffers::max_frames;
-use vector_io::buffers::max_pairs;
-use vector_io::buffers::max_posts;
-use vector_io::buffers::max_sheet;
-use vector_io::buffers::max_start;
+use vector_io::buffers::frame_buffer;
 use vector_io::buffers::mix_all;
 use vector_io::buffers::mix_cells;
 use vector_io::buffers::mix_numbers;
+use vector_io::buffers::pair_buffer;
+use vector_io::buffers::post_buffer;
+use vector_io::buffers::sheet_buffer;
+use vector_io::buffers::start_buffer;
 use vector_io::input::Vector;
 use vector_io::input::least;
 use vector_io::input::read_pairs;
@@ -311,7 +311,7 @@ fn over_intervals(
     cells: &mut [u8],
     posts: &mut [u32],
 ) {
-    let mut pairs = max_pairs();
+    let mut pairs = pair_buffer();
     let used = least(numbers, PAIR_ROOM);
     rangings(&mut pairs[..used], sheet, start, calls, depth, cells, posts);
 }
@@ -379,11 +379,11 @@ fn next(
 }
 
 fn one() -> bool {
-    let mut start = max_start();
-    let mut sheet = max_sheet();
-    let mut cells = max_cells();
-    let mut posts = max_posts();
-    let mut frames = max_frames();
+    let mut start = start_buffer();
+    let mut sheet = sheet_buffer();
+    let mut cells = cell_buffer();
+    let mut posts = post_buffer();
+    let mut frames = frame_buffer();
     next(&mut start, &mut sheet, &mut cells, &mut posts, &mut frames)
 }
 

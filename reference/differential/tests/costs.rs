@@ -7,17 +7,17 @@ use sheets::extremes::{late_fault, many_checks, most_types, widest, NEEDED};
 use sheets::rng::Rng;
 use std::time::{Duration, Instant};
 
-const MOST: Duration = Duration::from_millis(100);
+const MAX: Duration = Duration::from_millis(100);
 const ROUNDS: usize = 5;
 
 /// How much longer an explanation may take than a judgement of the sheet: once
 /// for each of 32 levels.
-const MOST_JUDGEMENTS: u32 = 32;
+const MAX_JUDGEMENTS: u32 = 32;
 
 /// How much longer the search for the smallest faulty piece may take than a
 /// judgement of a whole sheet: each term is judged once, and there is more to
 /// hand on.
-const MOST_FOR_A_PIECE: u32 = 10;
+const MAX_FOR_A_PIECE: u32 = 10;
 
 #[test]
 fn branches_of_deep_types_are_judged_soon() {
@@ -32,7 +32,7 @@ fn branches_of_deep_types_are_judged_soon() {
         typecheck_with::<Library>(&sheet);
     });
     println!("costly branches judged in {fastest:?}");
-    assert!(fastest <= MOST, "{fastest:?}, {MOST:?} are allowed");
+    assert!(fastest <= MAX, "{fastest:?}, {MAX:?} are allowed");
 }
 
 #[test]
@@ -54,7 +54,7 @@ fn deep_needs_are_explained_in_terms_times_nesting() {
         });
         let times = explained.as_secs_f64() / judged.as_secs_f64();
         println!("{name}: judged in {judged:?}, explained in {explained:?}, {times:.1} times that");
-        assert!(explained <= judged * MOST_JUDGEMENTS, "{name}");
+        assert!(explained <= judged * MAX_JUDGEMENTS, "{name}");
     }
 }
 
@@ -79,7 +79,7 @@ fn pieces_are_found_by_judging_each_term_once() {
         });
         let times = found.as_secs_f64() / judged.as_secs_f64();
         println!("{name}: judged in {judged:?}, searched in {found:?}, {times:.1} times that");
-        assert!(found <= judged * MOST_FOR_A_PIECE, "{name}");
+        assert!(found <= judged * MAX_FOR_A_PIECE, "{name}");
     }
 }
 
@@ -98,7 +98,7 @@ fn full_sheets_are_made_lean_soon() {
             erase::<Library>(&sheet);
         });
         println!("{name} made lean in {fastest:?}");
-        assert!(fastest <= MOST, "{name}: {fastest:?}, {MOST:?} are allowed");
+        assert!(fastest <= MAX, "{name}: {fastest:?}, {MAX:?} are allowed");
     }
 }
 

@@ -1,10 +1,11 @@
 //! The names in the documents exist. In the tables of `docs/ARCHITECTURE.md`
 //! each definition and theorem is made in the file that is given for it, and
 //! each function in its module; what is defined has code or a theorem, and
-//! each crate has a row. The definitions that a text speaks of exist, and so
-//! do the names that the templates of the definitions' rows import, and every
-//! link of a document leads to a file and to a heading of it. Where the
-//! repository is not around this workspace, there is nothing to compare.
+//! each crate has a row. The definitions that a text or a comment speaks of
+//! exist, and so do the names that the templates of the definitions' rows
+//! import, and every link of a document leads to a file and to a heading of it.
+//! Where the repository is not around this workspace, there is nothing to
+//! compare.
 
 mod repository;
 
@@ -46,19 +47,30 @@ fn functions_exist() {
     }
 }
 
-/// A word of letters with a capital inside it is the name of a definition.
+/// In the documents, and in the comments of the crates.
 #[test]
 fn definitions_in_text_exist() {
     let sources: Vec<String> = every_source("specs").collect();
+    let lacks = |word: &&str| !sources.iter().any(|source| has_word(source, word));
     for name in DOCUMENTS {
         let text = document(name);
-        let quoted = text.lines().flat_map(quoted);
-        let words = quoted.flat_map(|text| text.split(|c| !part_of_name(c)));
-        let words = words.filter(|word| word.chars().all(char::is_alphanumeric));
-        let words = words.filter(|word| word.starts_with(char::is_lowercase));
-        let words = words.filter(|word| word.contains(char::is_uppercase));
-        let lacks = |word: &&str| !sources.iter().any(|source| has_word(source, word));
-        none(name, words.filter(lacks));
+        none(name, text.lines().flat_map(definitions_of).filter(lacks));
+    }
+    let folder = repository().join("crates");
+    for path in [files_below(&folder, "antt"), files_below(&folder, "rt")].concat() {
+        let text = fs::read_to_string(&path).expect("a text");
+        let comments = text.lines().filter(|line| is_comment(line));
+        let lacking = comments.flat_map(definitions_of).filter(lacks);
+        none(&path.display().to_string(), lacking);
+    }
+}
+
+#[test]
+fn what_a_text_cites_exists() {
+    for name in DOCUMENTS {
+        let text = document(name);
+        let cited = text.split("(`").skip(1).filter_map(cited);
+        none(name, cited.flat_map(|cell| missing_in(&cell)));
     }
 }
 
@@ -295,6 +307,26 @@ fn words(names: &str) -> impl Iterator<Item = &str> {
         .flat_map(|path| path.split('.'))
 }
 
+/// What a text cites behind this place as "(`crate`, File: names)", as a cell
+/// of a table has it.
+fn cited(text: &str) -> Option<String> {
+    let (crate_name, rest) = text.split_once("`, ")?;
+    let (file, rest) = rest.split_once(": ")?;
+    let (names, _) = rest.split_once([')', ';'])?;
+    let is_path = |path: &str| path.split('/').all(|part| part.chars().all(part_of_name));
+    let cell = format!("{crate_name}/{}: {names}", file.replace('/', "."));
+    (is_path(crate_name) && is_path(file)).then_some(cell)
+}
+
+/// The definitions that a line speaks of: the words in backticks that are of
+/// letters and digits alone, with a capital inside.
+fn definitions_of(line: &str) -> impl Iterator<Item = &str> {
+    let words = quoted(line).flat_map(|text| text.split(|c| !part_of_name(c)));
+    let words = words.filter(|word| word.chars().all(char::is_alphanumeric));
+    let words = words.filter(|word| word.starts_with(char::is_lowercase));
+    words.filter(|word| word.contains(char::is_uppercase))
+}
+
 /// What stands in backticks.
 fn quoted(text: &str) -> impl Iterator<Item = &str> {
     text.split('`').skip(1).step_by(2)
@@ -380,10 +412,14 @@ fn files(directory: &Path) -> Vec<String> {
         .collect()
 }
 
+fn is_comment(line: &str) -> bool {
+    let line = line.trim_start();
+    line.starts_with("--") || line.starts_with("//")
+}
+
 fn without_comments(text: &str) -> String {
-    let comment = |line: &str| line.starts_with("--") || line.starts_with("//");
     text.lines()
-        .filter(|line| !comment(line.trim_start()))
+        .filter(|line| !is_comment(line))
         .flat_map(|line| [line, "\n"])
         .collect()
 }

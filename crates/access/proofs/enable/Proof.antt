@@ -4,8 +4,8 @@ use borrow.Author.Needs.{needs}
 use Rattle.access.proofs.enable.Statement.{statement}
 use Rattle.access.proofs.enable.Tie as tie
 
-is-lazy-requires : tie.Need-is-lazy-requires
-is-lazy-requires c κs = search needs
+lazy-mode-requires : tie.Need-lazy-mode-requires
+lazy-mode-requires c κs = search needs
 
 first-enabled-requires : tie.Need-first-enabled-requires
 first-enabled-requires c κs = search needs
@@ -27,8 +27,8 @@ returns c =
     let at-number-at = c .before .before .before .before in
     let at-first-enabled = at-number-at .before .before .before in
     let at-if1 = at-first-enabled .before in
-    let at-is-lazy = at-if1 .before in
-    enable-lazy _ _ _ (at-is-lazy .is-lazy .ensures) (at-if1 .if1 .taken) (at-first-enabled .first-enabled .ensures) _ (at-number-at .number-at .ensures)
+    let at-lazy-mode = at-if1 .before in
+    enable-lazy _ _ _ (at-lazy-mode .lazy-mode .ensures) (at-if1 .if1 .taken) (at-first-enabled .first-enabled .ensures) _ (at-number-at .number-at .ensures)
     (c .before .before .before .insert .ensures) (c .before .before .put-number .ensures)
 
 low-requires : tie.Need-low-requires
@@ -51,21 +51,21 @@ returns-2 c =
     let at-contains = c .before .before .before .before in
     let at-low = at-contains .before in
     let at-if1 = at-low .before in
-    let at-is-lazy = at-if1 .before in
-    enable-yes _ _ _ (at-is-lazy .is-lazy .ensures) (at-if1 .if1 .left) _ (at-low .low .ensures) (at-contains .contains .ensures)
+    let at-lazy-mode = at-if1 .before in
+    enable-yes _ _ _ (at-lazy-mode .lazy-mode .ensures) (at-if1 .if1 .left) _ (at-low .low .ensures) (at-contains .contains .ensures)
     (c .before .before .before .if2 .taken) (c .before .before .high .ensures) (c .before .insert2 .ensures) (c .pair .ensures)
 
 returns-3 : tie.Need-returns-3
 returns-3 c =
-    let at-is-lazy = c .before .before .before .before in
-    enable-no _ _ _ (at-is-lazy .is-lazy .ensures) (c .before .before .before .if1 .left) _ (c .before .before .low .ensures) (c .before .contains .ensures)
+    let at-lazy-mode = c .before .before .before .before in
+    enable-no _ _ _ (at-lazy-mode .lazy-mode .ensures) (c .before .before .before .if1 .left) _ (c .before .before .low .ensures) (c .before .contains .ensures)
     (c .if2 .left)
 
 pub enable-spec : {M : Type 1} → statement M
 enable-spec =
     tie.close
     (tie.spec
-    is-lazy-requires
+    lazy-mode-requires
     first-enabled-requires
     number-at-requires
     insert-requires

@@ -5,8 +5,8 @@ use borrow.Author.Needs.{needs}
 use Rattle.access.proofs.enabled_now.Statement.{statement}
 use Rattle.access.proofs.enabled_now.Tie as tie
 
-is-lazy-requires : tie.Need-is-lazy-requires
-is-lazy-requires c κs = search needs
+lazy-mode-requires : tie.Need-lazy-mode-requires
+lazy-mode-requires c κs = search needs
 
 first-enabled-requires : tie.Need-first-enabled-requires
 first-enabled-requires c κs = search needs
@@ -19,21 +19,21 @@ same-length c = search needs
 
 returns : tie.Need-returns
 returns c =
-    let at-is-lazy = c .before .before .before .before in
+    let at-lazy-mode = c .before .before .before .before in
     record {
-      answer-is = enabled-lazy _ _ _ (at-is-lazy .is-lazy .ensures) (c .before .before .before .if1 .taken) (c .before .first-enabled .ensures)
+      answer-is = enabled-lazy _ _ _ (at-lazy-mode .lazy-mode .ensures) (c .before .before .before .if1 .taken) (c .before .first-enabled .ensures)
           (c .number-at .ensures);
       store-is = refl;
     }
 
 returns-2 : tie.Need-returns-2
-returns-2 c = record { answer-is = enabled-eager _ _ _ (c .before .is-lazy .ensures) (c .if1 .left); store-is = refl }
+returns-2 c = record { answer-is = enabled-eager _ _ _ (c .before .lazy-mode .ensures) (c .if1 .left); store-is = refl }
 
 pub enabled-now-spec : {M : Type 1} → statement M
 enabled-now-spec =
     tie.close
     (tie.spec
-    is-lazy-requires
+    lazy-mode-requires
     first-enabled-requires
     number-at-requires
     same-length

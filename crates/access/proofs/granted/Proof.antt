@@ -5,8 +5,8 @@ use borrow.Author.Needs.{needs}
 use Rattle.access.proofs.granted.Statement.{statement}
 use Rattle.access.proofs.granted.Tie as tie
 
-is-lazy-requires : tie.Need-is-lazy-requires
-is-lazy-requires c κs = search needs
+lazy-mode-requires : tie.Need-lazy-mode-requires
+lazy-mode-requires c κs = search needs
 
 low-requires : tie.Need-low-requires
 low-requires c κs = search needs
@@ -19,9 +19,9 @@ same-length c = search needs
 
 returns : tie.Need-returns
 returns c =
-    let at-is-lazy = c .before .before .before .before in
+    let at-lazy-mode = c .before .before .before .before in
     record {
-      answer-is = granted-lazy _ _ _ (at-is-lazy .is-lazy .ensures) (c .before .before .before .if1 .taken) _ (c .before .low .ensures)
+      answer-is = granted-lazy _ _ _ (at-lazy-mode .lazy-mode .ensures) (c .before .before .before .if1 .taken) _ (c .before .low .ensures)
           (c .frames-grant .ensures);
       store-is = refl;
     }
@@ -34,7 +34,7 @@ contains-requires c κs = search needs
 
 returns-2 : tie.Need-returns-2
 returns-2 c = record {
-  answer-is = granted-eager _ _ _ (c .before .before .before .is-lazy .ensures) (c .before .before .if1 .left) _ (c .before .high .ensures)
+  answer-is = granted-eager _ _ _ (c .before .before .before .lazy-mode .ensures) (c .before .before .if1 .left) _ (c .before .high .ensures)
       (c .contains .ensures);
   store-is = refl;
 }
@@ -43,7 +43,7 @@ pub granted-spec : {M : Type 1} → statement M
 granted-spec =
     tie.close
     (tie.spec
-    is-lazy-requires
+    lazy-mode-requires
     low-requires
     frames-grant-requires
     same-length

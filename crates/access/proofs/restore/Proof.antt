@@ -4,8 +4,8 @@ use borrow.Author.Needs.{needs}
 use Rattle.access.proofs.restore.Statement.{statement}
 use Rattle.access.proofs.restore.Tie as tie
 
-is-lazy-requires : tie.Need-is-lazy-requires
-is-lazy-requires c κs = search needs
+lazy-mode-requires : tie.Need-lazy-mode-requires
+lazy-mode-requires c κs = search needs
 
 first-enabled-requires : tie.Need-first-enabled-requires
 first-enabled-requires c κs = search needs
@@ -19,18 +19,18 @@ same-length c = search needs
 returns : tie.Need-returns
 returns c =
     let at-if1 = c .before .before .before .before .before in
-    let at-is-lazy = at-if1 .before in
-    restore-lazy _ _ _ (at-is-lazy .is-lazy .ensures) (at-if1 .if1 .taken) (c .before .before .before .first-enabled .ensures) _
+    let at-lazy-mode = at-if1 .before in
+    restore-lazy _ _ _ (at-lazy-mode .lazy-mode .ensures) (at-if1 .if1 .taken) (c .before .before .before .first-enabled .ensures) _
     (c .before .before .put-number .ensures)
 
 returns-2 : tie.Need-returns-2
-returns-2 c = restore-eager _ _ _ (c .before .is-lazy .ensures) (c .if1 .left) _
+returns-2 c = restore-eager _ _ _ (c .before .lazy-mode .ensures) (c .if1 .left) _
 
 pub restore-spec : {M : Type 1} → statement M
 restore-spec =
     tie.close
     (tie.spec
-    is-lazy-requires
+    lazy-mode-requires
     first-enabled-requires
     put-number-requires
     same-length

@@ -4,8 +4,8 @@ use borrow.Author.Needs.{needs}
 use Rattle.access.proofs.sign.Statement.{statement}
 use Rattle.access.proofs.sign.Tie as tie
 
-is-lazy-requires : tie.Need-is-lazy-requires
-is-lazy-requires c κs = search needs
+lazy-mode-requires : tie.Need-lazy-mode-requires
+lazy-mode-requires c κs = search needs
 
 low-requires : tie.Need-low-requires
 low-requires c κs = search needs
@@ -33,8 +33,8 @@ returns c =
     let at-put-number = c .before .before .before .before .before .before in
     let at-low = at-put-number .before .before in
     let at-if1 = at-low .before in
-    let at-is-lazy = at-if1 .before in
-    sign-lazy _ _ _ (at-is-lazy .is-lazy .ensures) (at-if1 .if1 .taken) _ (at-low .low .ensures) (at-put-number .put-number .ensures)
+    let at-lazy-mode = at-if1 .before in
+    sign-lazy _ _ _ (at-lazy-mode .lazy-mode .ensures) (at-if1 .if1 .taken) _ (at-low .low .ensures) (at-put-number .put-number .ensures)
     (c .before .before .put-number2 .ensures)
 
 high-requires : tie.Need-high-requires
@@ -48,15 +48,15 @@ pair-requires c κs = search needs
 
 returns-2 : tie.Need-returns-2
 returns-2 c =
-    let at-is-lazy = c .before .before .before .before in
-    sign-eager _ _ _ (at-is-lazy .is-lazy .ensures) (c .before .before .before .if1 .left) _ (c .before .before .high .ensures) (c .before .meet .ensures)
+    let at-lazy-mode = c .before .before .before .before in
+    sign-eager _ _ _ (at-lazy-mode .lazy-mode .ensures) (c .before .before .before .if1 .left) _ (c .before .before .high .ensures) (c .before .meet .ensures)
     (c .pair .ensures)
 
 pub sign-spec : {M : Type 1} → statement M
 sign-spec =
     tie.close
     (tie.spec
-    is-lazy-requires
+    lazy-mode-requires
     low-requires
     cast-at
     put-number-requires

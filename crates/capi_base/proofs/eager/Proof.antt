@@ -5,7 +5,7 @@ use mathlib.Core.List.{[]}
 use mathlib.Core.Path.{ap}
 use Rattle.semantics.specs.Runs.{eager, After, run}
 use Rattle.interp.specs.Answers.{requestOf, buffersOf}
-use Rattle.replies.specs.Replies.{enforces}
+use Rattle.replies.specs.Replies.{enforceFlag}
 use Rattle.replies.specs.Laws.{short-run, run-given, small}
 use borrow.Author.Needs.{needs}
 use Rattle.capi_base.proofs.eager.Statement.{statement}
@@ -15,7 +15,7 @@ returns : tie.Need-returns
 returns c =
     let start = c .before .before .before .before .before .before in
     short-run (start .args .answer .now) (c .if1 .taken) (buffersOf (start .args .cells .now) (start .args .posts .now) [])
-    (run (start .args .sheet .now) (requestOf eager (enforces (start .args .enforce)) (start .args .start .now) (start .args .calls) (start .args .depth))
+    (run (start .args .sheet .now) (requestOf eager (enforceFlag (start .args .enforce)) (start .args .start .now) (start .args .calls) (start .args .depth))
     (buffersOf (start .args .cells .now) (start .args .posts .now) []))
 
 run-eager-requires : tie.Need-run-eager-requires
@@ -25,7 +25,7 @@ of-run-requires : tie.Need-of-run-requires
 of-run-requires c κs =
     let at-run-eager = c .before .before .before .before in
     let start = at-run-eager .before .before .before .before .before .before .before .before .before in
-    small (start .args .sheet .now) (requestOf eager (enforces (start .args .enforce)) (start .args .start .now) (start .args .calls) (start .args .depth))
+    small (start .args .sheet .now) (requestOf eager (enforceFlag (start .args .enforce)) (start .args .start .now) (start .args .calls) (start .args .depth))
     (buffersOf (start .args .cells .now) (start .args .posts .now) []) (at-run-eager .run-eager .result)
     (ap (λ (a : After). a .answer) (at-run-eager .run-eager .ensures))
 
@@ -50,7 +50,7 @@ returns-2 c =
     let at-if1 = at-run-eager .before .before .before in
     let start = at-if1 .before .before .before .before .before .before in
     run-given (start .args .answer .now) (at-if1 .if1 .left) (buffersOf (start .args .cells .now) (start .args .posts .now) []) _
-    (run (start .args .sheet .now) (requestOf eager (enforces (start .args .enforce)) (start .args .start .now) (start .args .calls) (start .args .depth))
+    (run (start .args .sheet .now) (requestOf eager (enforceFlag (start .args .enforce)) (start .args .start .now) (start .args .calls) (start .args .depth))
     (buffersOf (start .args .cells .now) (start .args .posts .now) [])) (at-run-eager .run-eager .result) (at-of-run .of-run .ensures)
     (c .before .before .put .ensures) (at-run-eager .run-eager .ensures)
 

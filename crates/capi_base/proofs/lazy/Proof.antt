@@ -4,7 +4,7 @@
 use mathlib.Core.Path.{ap}
 use Rattle.semantics.specs.Runs.{lazy, After, run}
 use Rattle.interp.specs.Answers.{requestOf, buffersOf}
-use Rattle.replies.specs.Replies.{enforces}
+use Rattle.replies.specs.Replies.{enforceFlag}
 use Rattle.replies.specs.Laws.{short-run, run-given, small}
 use borrow.Author.Needs.{needs}
 use Rattle.capi_base.proofs.lazy.Statement.{statement}
@@ -14,7 +14,7 @@ returns : tie.Need-returns
 returns c =
     let start = c .before .before .before .before .before .before .before in
     short-run (start .args .answer .now) (c .if1 .taken) (buffersOf (start .args .cells .now) (start .args .posts .now) (start .args .frames .now))
-    (run (start .args .sheet .now) (requestOf lazy (enforces (start .args .enforce)) (start .args .start .now) (start .args .calls) (start .args .depth))
+    (run (start .args .sheet .now) (requestOf lazy (enforceFlag (start .args .enforce)) (start .args .start .now) (start .args .calls) (start .args .depth))
     (buffersOf (start .args .cells .now) (start .args .posts .now) (start .args .frames .now)))
 
 run-lazy-requires : tie.Need-run-lazy-requires
@@ -24,7 +24,7 @@ of-run-requires : tie.Need-of-run-requires
 of-run-requires c κs =
     let at-run-lazy = c .before .before .before .before .before .before in
     let start = at-run-lazy .before .before .before .before .before .before .before .before .before .before .before in
-    small (start .args .sheet .now) (requestOf lazy (enforces (start .args .enforce)) (start .args .start .now) (start .args .calls) (start .args .depth))
+    small (start .args .sheet .now) (requestOf lazy (enforceFlag (start .args .enforce)) (start .args .start .now) (start .args .calls) (start .args .depth))
     (buffersOf (start .args .cells .now) (start .args .posts .now) (start .args .frames .now)) (at-run-lazy .run-lazy .result)
     (ap (λ (a : After). a .answer) (at-run-lazy .run-lazy .ensures))
 
@@ -52,7 +52,7 @@ returns-2 c =
     let at-if1 = at-run-lazy .before .before .before .before in
     let start = at-if1 .before .before .before .before .before .before .before in
     run-given (start .args .answer .now) (at-if1 .if1 .left) (buffersOf (start .args .cells .now) (start .args .posts .now) (start .args .frames .now)) _
-    (run (start .args .sheet .now) (requestOf lazy (enforces (start .args .enforce)) (start .args .start .now) (start .args .calls) (start .args .depth))
+    (run (start .args .sheet .now) (requestOf lazy (enforceFlag (start .args .enforce)) (start .args .start .now) (start .args .calls) (start .args .depth))
     (buffersOf (start .args .cells .now) (start .args .posts .now) (start .args .frames .now))) (at-run-lazy .run-lazy .result) (at-of-run .of-run .ensures)
     (c .before .before .put .ensures) (at-run-lazy .run-lazy .ensures)
 

@@ -35,8 +35,8 @@ save-requires c κs =
 interrupt-requires : tie.Need-interrupt-requires
 interrupt-requires c κs = search needs
 
-of-access-requires : tie.Need-of-access-requires
-of-access-requires c κs = search needs
+of-write-requires : tie.Need-of-write-requires
+of-write-requires c κs = search needs
 
 put-requires : tie.Need-put-requires
 put-requires c κs =
@@ -57,8 +57,8 @@ same-length-4 c = search needs
 
 returns-3 : tie.Need-returns-3
 returns-3 c =
-    let at-of-access = c .before .before .before .before in
-    let at-interrupt = at-of-access .before in
+    let at-of-write = c .before .before .before .before in
+    let at-interrupt = at-of-write .before in
     let at-save = at-interrupt .before .before .before in
     let at-write = at-save .before .before .before .before .before .before .before in
     let at-load = at-write .before .before .before in
@@ -68,7 +68,7 @@ returns-3 c =
     write-given (start .args .block .now) (start .args .answer .now) (at-if1 .if1 .left) (at-if2 .if2 .left) (at-load .load .ensures)
     (c .before .before .put .ensures) (start .args .address) (start .args .value) (start .args .sheet .now)
     (buffersOf (start .args .cells .now) (start .args .posts .now) []) (at-write .write .result) (at-write .write .ensures) (at-save .save .ensures)
-    (at-interrupt .interrupt .ensures) (at-of-access .of-access .ensures)
+    (at-interrupt .interrupt .ensures) (at-of-write .of-write .ensures)
 
 pub write-spec : {M : Type 1} → statement M
 write-spec =
@@ -80,7 +80,7 @@ write-spec =
     write-requires
     save-requires
     interrupt-requires
-    of-access-requires
+    of-write-requires
     put-requires
     same-length
     same-length-2

@@ -6,7 +6,7 @@ use Rattle.replies.specs.Laws.{by}
 use Rattle.compare.specs.Answers.{comparisonModel}
 use Rattle.compare.specs.declared.answer.Comparison.{Comparison}
 use Rattle.capi_compare.specs.Entries.{comparisonReply}
-use Rattle.capi_compare.specs.Internal.{FewEntries}
+use Rattle.capi_compare.specs.Internal.{ComparisonReplyFits}
 use Rattle.capi_compare.proofs.of_comparison.Statement.{statement}
 use Rattle.capi_compare.proofs.of_comparison.Tie as tie
 
@@ -14,13 +14,13 @@ enum-known-x : tie.Need-enum-known-x
 enum-known-x c = search needs
 
 compared-reply-requires : tie.Need-compared-reply-requires
-compared-reply-requires c κs = omega (arith, subst (λ (a : Comparison). FewEntries a) (c .before .x .given .1) (c .before .before .before .pre))
+compared-reply-requires c κs = omega (arith, subst (λ (a : Comparison). ComparisonReplyFits a) (c .before .x .given .1) (c .before .before .before .pre))
 
 enum-known-x-2 : tie.Need-enum-known-x-2
 enum-known-x-2 c = search needs
 
 compared-reply-requires-2 : tie.Need-compared-reply-requires-2
-compared-reply-requires-2 c κs = omega (arith, subst (λ (a : Comparison). FewEntries a) (c .before .x2 .given .1) (c .before .before .before .pre))
+compared-reply-requires-2 c κs = omega (arith, subst (λ (a : Comparison). ComparisonReplyFits a) (c .before .x2 .given .1) (c .before .before .before .pre))
 
 enum-told : tie.Need-enum-told
 enum-told c = search needs

@@ -5,7 +5,7 @@ use borrow.Author.Needs.{needs}
 use mathlib.Core.Path.{refl, subst}
 use Rattle.replies.specs.Laws.{by, refused-as}
 use Rattle.chains.specs.declared.answer.Explanation.{Explanation}
-use Rattle.capi_explain.specs.Internal.{ChainFits, explanationReply}
+use Rattle.capi_explain.specs.Internal.{ExplanationReplyFits, explanationReply}
 use Rattle.capi_explain.proofs.of_explained.Statement.{statement}
 use Rattle.capi_explain.proofs.of_explained.Tie as tie
 
@@ -13,7 +13,7 @@ enum-known-x : tie.Need-enum-known-x
 enum-known-x c = search needs
 
 counted-requires : tie.Need-counted-requires
-counted-requires c κs = omega (arith, subst (λ (a : Explanation). ChainFits a) (c .before .x .given .1) (c .before .before .before .pre))
+counted-requires c κs = omega (arith, subst (λ (a : Explanation). ExplanationReplyFits a) (c .before .x .given .1) (c .before .before .before .pre))
 
 enum-told : tie.Need-enum-told
 enum-told c = search needs
@@ -24,8 +24,8 @@ counted-requires-2 c κs = search needs
 enum-known-x-2 : tie.Need-enum-known-x-2
 enum-known-x-2 c = search needs
 
-of-reader-requires : tie.Need-of-reader-requires
-of-reader-requires c κs = search needs
+of-decoding-requires : tie.Need-of-decoding-requires
+of-decoding-requires c κs = search needs
 
 refused-requires : tie.Need-refused-requires
 refused-requires c κs = search needs
@@ -50,7 +50,7 @@ returns-2 c = by (λ (a : Explanation). explanationReply a) (c .before .enum-tol
 
 returns-3 : tie.Need-returns-3
 returns-3 c = by (λ (a : Explanation). explanationReply a) (c .before .before .before .x2 .given .1)
-    (refused-as _ _ (c .refused .ensures) (c .before .of-reader .ensures))
+    (refused-as _ _ (c .refused .ensures) (c .before .of-decoding .ensures))
 
 returns-4 : tie.Need-returns-4
 returns-4 c = by (λ (a : Explanation). explanationReply a) (c .before .before .before .x3 .given .1)
@@ -68,7 +68,7 @@ of-explained-spec =
     enum-told
     counted-requires-2
     enum-known-x-2
-    of-reader-requires
+    of-decoding-requires
     refused-requires
     enum-known-x-3
     of-fault-requires

@@ -17,8 +17,8 @@ cast-t6 c = search needs
 enum-known-x-2 : tie.Need-enum-known-x-2
 enum-known-x-2 c = search needs
 
-of-reader-requires : tie.Need-of-reader-requires
-of-reader-requires c κs = search needs
+of-decoding-requires : tie.Need-of-decoding-requires
+of-decoding-requires c κs = search needs
 
 refused-requires : tie.Need-refused-requires
 refused-requires c κs = search needs
@@ -49,7 +49,7 @@ returns c = by (λ (a : Erased). eraseReply (erasedModel a)) (c .before .x .give
 
 returns-2 : tie.Need-returns-2
 returns-2 c = by (λ (a : Erased). eraseReply (erasedModel a)) (c .before .before .before .x2 .given .1)
-    (refused-as _ _ (c .refused .ensures) (c .before .of-reader .ensures))
+    (refused-as _ _ (c .refused .ensures) (c .before .of-decoding .ensures))
 
 returns-3 : tie.Need-returns-3
 returns-3 c = by (λ (a : Erased). eraseReply (erasedModel a)) (c .before .before .before .x3 .given .1)
@@ -68,7 +68,7 @@ of-erased-spec =
     enum-known-x
     cast-t6
     enum-known-x-2
-    of-reader-requires
+    of-decoding-requires
     refused-requires
     enum-known-x-3
     of-fault-requires

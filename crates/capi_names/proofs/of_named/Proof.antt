@@ -21,8 +21,8 @@ enum-told c = search needs
 enum-known-n-2 : tie.Need-enum-known-n-2
 enum-known-n-2 c = search needs
 
-of-reader-requires : tie.Need-of-reader-requires
-of-reader-requires c κs = search needs
+of-decoding-requires : tie.Need-of-decoding-requires
+of-decoding-requires c κs = search needs
 
 refused-requires : tie.Need-refused-requires
 refused-requires c κs = search needs
@@ -38,7 +38,7 @@ returns-2 c = by (λ (n : Named). namesReply (namedModel n)) (c .enum-told .give
 
 returns-3 : tie.Need-returns-3
 returns-3 c = by (λ (n : Named). namesReply (namedModel n)) (c .before .before .before .n2 .given .1)
-    (refused-as _ _ (c .refused .ensures) (c .before .of-reader .ensures))
+    (refused-as _ _ (c .refused .ensures) (c .before .of-decoding .ensures))
 
 returns-4 : tie.Need-returns-4
 returns-4 c = by (λ (n : Named). namesReply (namedModel n)) (c .enum-told2 .given .1) refl
@@ -51,7 +51,7 @@ of-named-spec =
     cast-t5
     enum-told
     enum-known-n-2
-    of-reader-requires
+    of-decoding-requires
     refused-requires
     enum-told-2
     returns

@@ -13,8 +13,8 @@ use Rattle.capi_piece.proofs.of_located.Tie as tie
 enum-known-p : tie.Need-enum-known-p
 enum-known-p c = search needs
 
-of-reader-requires : tie.Need-of-reader-requires
-of-reader-requires c κs = search needs
+of-decoding-requires : tie.Need-of-decoding-requires
+of-decoding-requires c κs = search needs
 
 refused-requires : tie.Need-refused-requires
 refused-requires c κs = search needs
@@ -52,7 +52,7 @@ returns c =
     let at-p = c .before .before .before in
     let start = at-p .before .before in
     by (λ (q : Piece). replyBy (start .args .x .at) (start .args .x .len) q) (at-p .p .given .1)
-    (refused-as _ _ (c .refused .ensures) (c .before .of-reader .ensures))
+    (refused-as _ _ (c .refused .ensures) (c .before .of-decoding .ensures))
 
 returns-2 : tie.Need-returns-2
 returns-2 c =
@@ -71,7 +71,7 @@ of-located-spec =
     tie.close
     (tie.spec
     enum-known-p
-    of-reader-requires
+    of-decoding-requires
     refused-requires
     enum-told
     enum-known-p-2

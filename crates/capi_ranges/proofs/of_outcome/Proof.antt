@@ -1,5 +1,5 @@
--- `of_outcome` gives the reply that `rangeFinished` says, by case: a stop as the cause and term that `of_stop` tells (stopped-as), an end as 0 and a truth
--- value (ended-truth) or 1 and a range (ended-range). `counted` adds the counts, of which the last is 0.
+-- `of_outcome` gives the reply that `intervalFinished` says, by case: a stop as the cause and term that `of_stop` tells (stopped-as), an end as 0 and a truth
+-- value (ended-truth) or 1 and a range (ended-interval). `counted` adds the counts, of which the last is 0.
 use borrow.Author.Needs.{needs}
 use mathlib.Core.Path.{_∙_, ap}
 use Rattle.interp.specs.Answers.{countsModel}

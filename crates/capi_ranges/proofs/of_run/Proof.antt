@@ -1,8 +1,8 @@
--- `of_run` gives the reply that `rangeReply` says, by case: a refused run as the cause and place that `of_refusal` tells (refused-as), any other as its
+-- `of_run` gives the reply that `intervalReply` says, by case: a refused run as the cause and place that `of_refusal` tells (refused-as), any other as its
 -- outcome and counts, of which the precondition says that they are few and that none is of saturated results.
 use borrow.Author.Needs.{needs}
 use mathlib.Core.Path.{subst}
-use Rattle.ranges.specs.Answers.{intervalModel}
+use Rattle.ranges.specs.Answers.{intervalRunModel}
 use Rattle.ranges.specs.declared.answer.IntervalRun.{IntervalRun}
 use Rattle.replies.specs.Laws.{by, refused-as}
 use Rattle.capi_ranges.specs.Entries.{intervalReply}
@@ -26,11 +26,11 @@ of-outcome-requires : tie.Need-of-outcome-requires
 of-outcome-requires c κs = subst IntervalReplyFits (c .before .x2 .given .1) (c .before .before .before .pre)
 
 returns : tie.Need-returns
-returns c = by (λ (r : IntervalRun). intervalReply (intervalModel r)) (c .before .before .before .x .given .1)
+returns c = by (λ (r : IntervalRun). intervalReply (intervalRunModel r)) (c .before .before .before .x .given .1)
     (refused-as _ _ (c .refused .ensures) (c .before .of-refusal .ensures))
 
 returns-2 : tie.Need-returns-2
-returns-2 c = by (λ (r : IntervalRun). intervalReply (intervalModel r)) (c .before .before .x2 .given .1) (c .of-outcome .ensures)
+returns-2 c = by (λ (r : IntervalRun). intervalReply (intervalRunModel r)) (c .before .before .x2 .given .1) (c .of-outcome .ensures)
 
 pub of-run-spec : {M : Type 1} → statement M
 of-run-spec =

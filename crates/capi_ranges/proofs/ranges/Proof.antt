@@ -6,7 +6,7 @@ use mathlib.Core.Path.{ap}
 use Rattle.semantics.specs.Runs.{eager, AfterOf}
 use Rattle.intervals.specs.Intervals.{intervals}
 use Rattle.interp.specs.Answers.{requestOf, buffersOf}
-use Rattle.replies.specs.Replies.{enforces}
+use Rattle.replies.specs.Replies.{enforceFlag}
 use Rattle.capi_ranges.proofs.EntryLaws.{short-answer, reply-fits, given}
 use Rattle.capi_ranges.proofs.ranges.Statement.{statement}
 use Rattle.capi_ranges.proofs.ranges.Tie as tie
@@ -14,7 +14,7 @@ use Rattle.capi_ranges.proofs.ranges.Tie as tie
 returns : tie.Need-returns
 returns c =
     let start = c .before .before .before .before .before .before .before in
-    short-answer (start .args .sheet .now) (start .args .pairs .now) (requestOf eager (enforces (start .args .enforce)) (start .args .start .now)
+    short-answer (start .args .sheet .now) (start .args .pairs .now) (requestOf eager (enforceFlag (start .args .enforce)) (start .args .start .now)
     (start .args .calls)
     (start .args .depth)) (buffersOf (start .args .cells .now) (start .args .posts .now) []) (start .args .answer .now) (c .if1 .taken)
 
@@ -26,7 +26,7 @@ of-run-requires c κs =
     let at-run = c .before .before .before .before in
     let start = at-run .before .before .before .before .before .before .before .before .before .before in
     reply-fits (start .args .sheet .now) (start .args .pairs .now)
-    (requestOf eager (enforces (start .args .enforce)) (start .args .start .now) (start .args .calls) (start .args .depth))
+    (requestOf eager (enforceFlag (start .args .enforce)) (start .args .start .now) (start .args .calls) (start .args .depth))
     (buffersOf (start .args .cells .now) (start .args .posts .now) []) (at-run .run .result) (ap (λ (a : AfterOf intervals). a .answer) (at-run .run .ensures))
 
 put-requires : tie.Need-put-requires
@@ -50,7 +50,7 @@ returns-2 c =
     let at-if1 = at-run .before .before .before in
     let start = at-if1 .before .before .before .before .before .before .before in
     given (start .args .sheet .now) (start .args .pairs .now)
-    (requestOf eager (enforces (start .args .enforce)) (start .args .start .now) (start .args .calls) (start .args .depth))
+    (requestOf eager (enforceFlag (start .args .enforce)) (start .args .start .now) (start .args .calls) (start .args .depth))
     (buffersOf (start .args .cells .now) (start .args .posts .now) []) (start .args .answer .now) (at-if1 .if1 .left) (at-run .run .result)
     (at-run .run .ensures) (at-of-run .of-run .ensures) (c .before .before .put .ensures)
 

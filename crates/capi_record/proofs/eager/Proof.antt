@@ -4,7 +4,7 @@ use borrow.Author.Needs.{needs}
 use mathlib.Core.List.{[]}
 use Rattle.semantics.specs.Runs.{eager}
 use Rattle.interp.specs.Answers.{requestOf, buffersOf}
-use Rattle.replies.specs.Replies.{enforces}
+use Rattle.replies.specs.Replies.{enforceFlag}
 use Rattle.capi_record.proofs.EntryLaws.{short-answer, reply-fits, nine-written}
 use Rattle.capi_record.proofs.eager.Statement.{statement}
 use Rattle.capi_record.proofs.eager.Tie as tie
@@ -12,7 +12,7 @@ use Rattle.capi_record.proofs.eager.Tie as tie
 returns : tie.Need-returns
 returns c =
     let start = c .before .before .before .before .before .before .before in
-    short-answer (start .args .sheet .now) (requestOf eager (enforces (start .args .enforce)) (start .args .start .now) (start .args .calls)
+    short-answer (start .args .sheet .now) (requestOf eager (enforceFlag (start .args .enforce)) (start .args .start .now) (start .args .calls)
     (start .args .depth))
     (buffersOf (start .args .cells .now) (start .args .posts .now) []) (start .args .noted .now) (start .args .answer .now) (c .if1 .taken)
 
@@ -24,7 +24,7 @@ put-nine-requires c κs =
     let at-record-eager = c .before .before .before .before .before .before .before in
     let at-if1 = at-record-eager .before .before .before .before in
     let start = at-if1 .before .before .before .before .before .before .before in
-    let given-request = requestOf eager (enforces (start .args .enforce)) (start .args .start .now) (start .args .calls) (start .args .depth) in
+    let given-request = requestOf eager (enforceFlag (start .args .enforce)) (start .args .start .now) (start .args .calls) (start .args .depth) in
     let given-buffers = buffersOf (start .args .cells .now) (start .args .posts .now) [] in
     record {
       reply-fits = reply-fits (start .args .sheet .now) given-request given-buffers (start .args .noted .now) (at-record-eager .record-eager .result)
@@ -49,7 +49,7 @@ returns-2 c =
     let at-record-eager = c .before .before .before .before .before .before .before .before .before .before in
     let at-if1 = at-record-eager .before .before .before .before in
     let start = at-if1 .before .before .before .before .before .before .before in
-    nine-written (start .args .sheet .now) (requestOf eager (enforces (start .args .enforce)) (start .args .start .now) (start .args .calls)
+    nine-written (start .args .sheet .now) (requestOf eager (enforceFlag (start .args .enforce)) (start .args .start .now) (start .args .calls)
     (start .args .depth))
     (buffersOf (start .args .cells .now) (start .args .posts .now) []) (start .args .noted .now) (at-record-eager .record-eager .result)
     (at-record-eager .record-eager .ensures) (start .args .answer .now) (at-if1 .if1 .left) (c .before .before .put-nine .ensures)

@@ -3,7 +3,7 @@
 use borrow.Author.Needs.{needs}
 use Rattle.semantics.specs.Runs.{lazy}
 use Rattle.interp.specs.Answers.{requestOf, buffersOf}
-use Rattle.replies.specs.Replies.{enforces}
+use Rattle.replies.specs.Replies.{enforceFlag}
 use Rattle.capi_record.proofs.EntryLaws.{short-answer, reply-fits, nine-written}
 use Rattle.capi_record.proofs.lazy.Statement.{statement}
 use Rattle.capi_record.proofs.lazy.Tie as tie
@@ -11,7 +11,7 @@ use Rattle.capi_record.proofs.lazy.Tie as tie
 returns : tie.Need-returns
 returns c =
     let start = c .before .before .before .before .before .before .before .before in
-    short-answer (start .args .sheet .now) (requestOf lazy (enforces (start .args .enforce)) (start .args .start .now) (start .args .calls)
+    short-answer (start .args .sheet .now) (requestOf lazy (enforceFlag (start .args .enforce)) (start .args .start .now) (start .args .calls)
     (start .args .depth))
     (buffersOf (start .args .cells .now) (start .args .posts .now) (start .args .frames .now)) (start .args .noted .now) (start .args .answer .now)
     (c .if1 .taken)
@@ -24,7 +24,7 @@ put-nine-requires c κs =
     let at-record-lazy = c .before .before .before .before .before .before .before .before .before in
     let at-if1 = at-record-lazy .before .before .before .before .before in
     let start = at-if1 .before .before .before .before .before .before .before .before in
-    let given-request = requestOf lazy (enforces (start .args .enforce)) (start .args .start .now) (start .args .calls) (start .args .depth) in
+    let given-request = requestOf lazy (enforceFlag (start .args .enforce)) (start .args .start .now) (start .args .calls) (start .args .depth) in
     let given-buffers = buffersOf (start .args .cells .now) (start .args .posts .now) (start .args .frames .now) in
     record {
       reply-fits = reply-fits (start .args .sheet .now) given-request given-buffers (start .args .noted .now) (at-record-lazy .record-lazy .result)
@@ -52,7 +52,7 @@ returns-2 c =
     let at-record-lazy = c .before .before .before .before .before .before .before .before .before .before .before .before in
     let at-if1 = at-record-lazy .before .before .before .before .before in
     let start = at-if1 .before .before .before .before .before .before .before .before in
-    nine-written (start .args .sheet .now) (requestOf lazy (enforces (start .args .enforce)) (start .args .start .now) (start .args .calls)
+    nine-written (start .args .sheet .now) (requestOf lazy (enforceFlag (start .args .enforce)) (start .args .start .now) (start .args .calls)
     (start .args .depth))
     (buffersOf (start .args .cells .now) (start .args .posts .now) (start .args .frames .now)) (start .args .noted .now) (at-record-lazy .record-lazy .result)
     (at-record-lazy .record-lazy .ensures) (start .args .answer .now) (at-if1 .if1 .left) (c .before .before .put-nine .ensures)

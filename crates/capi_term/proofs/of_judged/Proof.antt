@@ -32,8 +32,8 @@ enum-told c = search needs
 enum-known-j-3 : tie.Need-enum-known-j-3
 enum-known-j-3 c = search needs
 
-of-reader-requires : tie.Need-of-reader-requires
-of-reader-requires c κs = search needs
+of-decoding-requires : tie.Need-of-decoding-requires
+of-decoding-requires c κs = search needs
 
 refused-requires-2 : tie.Need-refused-requires-2
 refused-requires-2 c κs = search needs
@@ -50,7 +50,7 @@ returns-3 c = by (λ (j : Judged). termReply (judgedModel j)) (c .enum-told .giv
 
 returns-4 : tie.Need-returns-4
 returns-4 c = by (λ (j : Judged). termReply (judgedModel j)) (c .before .before .before .j3 .given .1)
-    (refused-as _ _ (c .refused2 .ensures) (c .before .of-reader .ensures))
+    (refused-as _ _ (c .refused2 .ensures) (c .before .of-decoding .ensures))
 
 pub of-judged-spec : {M : Type 1} → statement M
 of-judged-spec =
@@ -64,7 +64,7 @@ of-judged-spec =
     refused-requires
     enum-told
     enum-known-j-3
-    of-reader-requires
+    of-decoding-requires
     refused-requires-2
     returns
     returns-2

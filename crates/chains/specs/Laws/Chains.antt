@@ -14,7 +14,7 @@ use Rattle.program.specs.Terms.{Term, boolean, number, variable, function, letr
 use Rattle.program.specs.Laws.Nesting.{height}
 use Rattle.typing.specs.Checking.{Judgement, typed, fault, infer}
 use Rattle.typing.specs.Places.{Placed, placed, childrenIn, children, Among, among-first, among-later}
-use Rattle.chains.specs.Explaining.{needs, latentOf, isCause, testsIt, followed, firstNeeding, orLater, unlessCause, next, followedBy, chain}
+use Rattle.chains.specs.Explaining.{needs, inLatent, isCause, testsIt, followed, firstNeeding, orLater, unlessCause, next, chainFrom, chain}
 use Rattle.chains.specs.Chains.{Neighbours, side-by-side, further, Last, last-alone, last-later, Cause, check-names, call-holds, letrec-holds, post-guarded, Lowest, lowest-first, lowest-later}
 use Rattle.typing.specs.Laws.Places.{EachOf, each-among}
 use Rattle.chains.specs.Laws.Progress.{progress}
@@ -132,13 +132,13 @@ module _ (T : Types) (A : ℕ → ℕ) (p : ℕ) where
 
   chain-ends : (k : ℕ) (x : Placed) → isCause T A p x ≡ true → chain T A p (suc k) x ≡ x ∷ []
   unfolding chain next
-  chain-ends k x e = λ i. x ∷ followedBy T A p (unlessCause T A p (e i) λ _. firstNeeding T A p (followed T A p x)) λ y. chain T A p k y
+  chain-ends k x e = λ i. x ∷ chainFrom T A p (unlessCause T A p (e i) λ _. firstNeeding T A p (followed T A p x)) λ y. chain T A p k y
 
   chain-goes : (k : ℕ) (x y : Placed) → isCause T A p x ≡ false → Lowest T A p y (followed T A p x) → chain T A p (suc k) x ≡ x ∷ chain T A p k y
   unfolding chain next
   chain-goes k x y e r =
-      (λ i. x ∷ followedBy T A p (unlessCause T A p (e i) λ _. firstNeeding T A p (followed T A p x)) λ z. chain T A p k z)
-      ∙ λ i. x ∷ followedBy T A p (lowest-found r i) λ z. chain T A p k z
+      (λ i. x ∷ chainFrom T A p (unlessCause T A p (e i) λ _. firstNeeding T A p (followed T A p x)) λ z. chain T A p k z)
+      ∙ λ i. x ∷ chainFrom T A p (lowest-found r i) λ z. chain T A p k z
 
   -- with as many terms as a term is high, the search ends at a cause
   pub chain-way : (k : ℕ) (x : Placed) → heightOf x ≤ k → needs T A p x ≡ true → Way x (chain T A p k x)
@@ -216,7 +216,7 @@ module _ (T : Types) (A : ℕ → ℕ) (p : ℕ) where
       (way-of y l (λ z m. h z (among-later m)) (λ z m. c z (last-later m)) (λ z w m. f z w (further m)) (λ z w m. r z w (further m)))
 
   -- ---- causes
-  held-by-call : (Γ : List ℕ) (n at : ℕ) (f a : Term) (j : Judgement) → infer T A Γ n f ≡ j → latentOf T p j ≡ true → Cause T A p (placed Γ n (call at f a))
+  held-by-call : (Γ : List ℕ) (n at : ℕ) (f a : Term) (j : Judgement) → infer T A Γ n f ≡ j → inLatent T p j ≡ true → Cause T A p (placed Γ n (call at f a))
   held-by-call Γ n at f a (typed φ N) e h = call-holds e h
   held-by-call Γ n at f a (fault c k) e h = absurd (false≢true h)
 
@@ -240,7 +240,7 @@ module _ (T : Types) (A : ℕ → ℕ) (p : ℕ) where
   pub holds-cause : {x : Placed} → Cause T A p x → isCause T A p x ≡ true
   unfolding isCause
   holds-cause check-names = eq-eqb p p refl
-  holds-cause (call-holds e h) = ap (latentOf T p) e ∙ h
+  holds-cause (call-holds e h) = ap (inLatent T p) e ∙ h
   holds-cause (letrec-holds h) = h
   holds-cause post-guarded = eq-eqb p p refl
 

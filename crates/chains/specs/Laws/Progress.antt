@@ -15,10 +15,10 @@ use Rattle.privileges.specs.Laws.{has-none, has-union, has-insert, has-remove, 
 use Rattle.program.specs.Layout.{Types}
 use Rattle.program.specs.Terms.{Term, boolean, number, variable, function, letrec, call, if, check, enable, sign, test, binary, post, contains}
 use Rattle.typing.specs.Subtyping.{subtype, wider}
-use Rattle.typing.specs.Rules.{bound, removeAuthorised, postNeeds}
+use Rattle.typing.specs.Rules.{lookupType, removeAuthorised, postNeeds}
 use Rattle.typing.specs.Checking.{Judgement, typed, fault, _next_, require, variableType, joined, bodyFits, infer}
 use Rattle.typing.specs.Places.{Placed, placed, Among, among-first, among-later}
-use Rattle.chains.specs.Explaining.{needing, latentOf, needs, isCause, followed}
+use Rattle.chains.specs.Explaining.{needing, inLatent, needs, isCause, followed}
 
 -- ---- a set that has the privilege, by what it is made of
 module _ (p : ℕ) where
@@ -103,7 +103,7 @@ module _ (T : Types) (A : ℕ → ℕ) (p : ℕ) where
   unfolding infer isCause followed
   explainedIf Γ n (boolean at b) f = typed-traced (none-has p)
   explainedIf Γ n (number at k) f = typed-traced (none-has p)
-  explainedIf Γ n (variable at i) f = variable-traced at (bound Γ i)
+  explainedIf Γ n (variable at i) f = variable-traced at (lookupType Γ i)
   explainedIf Γ n (function at ty body) f = next-traced (infer T A (T .arg ty ∷ Γ) n body) _ λ τ N e.
       body-traced at ty τ N λ _. typed-traced (none-has p)
   explainedIf Γ n (letrec at ty body rest) f = next-traced (infer T A (T .arg ty ∷ ty ∷ Γ) n body) _ λ τ N e.
@@ -111,7 +111,7 @@ module _ (T : Types) (A : ℕ → ℕ) (p : ℕ) where
       ⊎-elim (λ m. absurd (true≢false (sym m ∙ f))) (λ m. later (here e′ m)) (union-has p (T .latent ty) M h)
   explainedIf Γ n (call at t a) f = next-traced (infer T A Γ n t) _ λ φ N e. next-traced (infer T A Γ n a) _ λ α M e′.
       require-traced (T .isFun φ) 24 at λ _. require-traced (subtype T α (T .arg φ)) 25 at λ _. typed-traced λ h.
-      ⊎-elim (λ m. absurd (true≢false (sym m ∙ sym (ap (latentOf T p) e) ∙ f)))
+      ⊎-elim (λ m. absurd (true≢false (sym m ∙ sym (ap (inLatent T p) e) ∙ f)))
       (λ u. ⊎-elim (λ m. here e m) (λ m. later (here e′ m)) (union-has p N M u)) (union-has p (T .latent φ) (union N M) h)
   explainedIf Γ n (if at c y o) f = next-traced (infer T A Γ n c) _ λ σ N e. next-traced (infer T A Γ n y) _ λ τ M e′. next-traced (infer T A Γ n o) _ λ ρ K e″.
       require-traced (eqb σ 0) 10 at λ _. joined-traced at _ (wider T τ ρ) λ h.

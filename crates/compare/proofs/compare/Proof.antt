@@ -30,8 +30,8 @@ returns-2 c =
     (sym (not-false (at-well-formed .well-formed .result) (c .before .before .if1 .left)) ∙ at-well-formed .well-formed .ensures)
     (sym (not-true (at-well-formed2 .well-formed2 .result) (c .if2 .taken)) ∙ at-well-formed2 .well-formed2 .ensures)
 
-place-requires : tie.Need-place-requires
-place-requires c κs =
+count-matched-requires : tie.Need-count-matched-requires
+count-matched-requires c κs =
     let at-well-formed2 = c .before in
     let at-well-formed = at-well-formed2 .before .before in
     record {
@@ -48,12 +48,12 @@ returns-3 c =
     as-diverges (start .args .unit .now) (start .args .office .now)
     (sym (not-false (at-well-formed .well-formed .result) (at-if1 .if1 .left)) ∙ at-well-formed .well-formed .ensures)
     (sym (not-false (at-well-formed2 .well-formed2 .result) (c .before .before .if2 .left)) ∙ at-well-formed2 .well-formed2 .ensures)
-    (c .before .place .ensures) (c .if3 .taken)
+    (c .before .count-matched .ensures) (c .if3 .taken)
 
 sub-t9 : tie.Need-sub-t9
 sub-t9 c =
     let start = c .before .before .before .before .before .before .before .before in
-    omega (arith, enough (start .args .unit .now) (start .args .office .now) (c .before .place .ensures) (c .if3 .left))
+    omega (arith, enough (start .args .unit .now) (start .args .office .now) (c .before .count-matched .ensures) (c .if3 .left))
 
 returns-4 : tie.Need-returns-4
 returns-4 c =
@@ -64,7 +64,7 @@ returns-4 c =
     as-fits (start .args .unit .now) (start .args .office .now)
     (sym (not-false (at-well-formed .well-formed .result) (at-if1 .if1 .left)) ∙ at-well-formed .well-formed .ensures)
     (sym (not-false (at-well-formed2 .well-formed2 .result) (c .before .before .if2 .left)) ∙ at-well-formed2 .well-formed2 .ensures)
-    (c .before .place .ensures) (c .if3 .left)
+    (c .before .count-matched .ensures) (c .if3 .left)
 
 pub compare-spec : {M : Type 1} → statement M
 compare-spec =
@@ -74,7 +74,7 @@ compare-spec =
     returns
     well-formed-requires-2
     returns-2
-    place-requires
+    count-matched-requires
     returns-3
     sub-t9
     returns-4)

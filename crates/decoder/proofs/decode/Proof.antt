@@ -14,8 +14,8 @@ enum-known-f c = search needs
 enum-known-c : tie.Need-enum-known-c
 enum-known-c c = search needs
 
-tables-requires : tie.Need-tables-requires
-tables-requires c κs =
+decode-tables-requires : tie.Need-decode-tables-requires
+decode-tables-requires c κs =
     let start = c .before .before .before .before .before in
     header-laid (start .args .sheet .now) (c .before .c .given .1) (c .before .before .before .read-header .ensures)
 
@@ -29,9 +29,9 @@ returns-2 c =
     let at-read-header = c .before .before .before .before in
     let start = at-read-header .before .before in
     tables-found (start .args .sheet .now) (header-laid (start .args .sheet .now) (c .before .before .c .given .1) (at-read-header .read-header .ensures))
-    (c .tables .ensures)
+    (c .decode-tables .ensures)
 
 pub decode-spec : {M : Type 1} → statement M
 decode-spec =
     tie.close
-    (tie.spec read-header-requires enum-known-f enum-known-c tables-requires returns returns-2)
+    (tie.spec read-header-requires enum-known-f enum-known-c decode-tables-requires returns returns-2)

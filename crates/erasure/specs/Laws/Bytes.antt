@@ -12,7 +12,7 @@ use Rattle.program.specs.Layout.{version, principals, typeField, types, typeAt,
 use Rattle.program.specs.Decoding.{formatAt}
 use Rattle.program.specs.Laws.Readable.{WellFormed}
 use Rattle.erasure.specs.Kept.{keptBelow, gather}
-use Rattle.erasure.specs.Lean.{keptType, newTypes, newType, keptTerm, newTerms, bytes16, typeBytes, newPart, termBytes, typePart, termPart, leanSheet}
+use Rattle.erasure.specs.Lean.{keptType, newTypes, newType, keptTerm, newTerms, bytes16, typeBytes, newPart, termBytes, typeFieldBytes, termFieldBytes, leanSheet}
 use Rattle.erasure.specs.Laws.Kept.{kept-most, gather-length, gather-inside, gather-at}
 
 -- a number is read as it is written
@@ -31,7 +31,7 @@ module _ (s : List ℕ) (w : WellFormed s) where
   pub copied : (i : ℕ) → i < typeField s → byte (leanSheet s) i ≡ byte s i
   unfolding leanSheet
   copied i h =
-      List·getD-append (take (typeField s) s) (typePart s ++ termPart s) 0 i (omega (arith, head-length)) ∙ getD-take (typeField s) s i 0 h
+      List·getD-append (take (typeField s) s) (typeFieldBytes s ++ termFieldBytes s) 0 i (omega (arith, head-length)) ∙ getD-take (typeField s) s i 0 h
 
   pub same-version : version (leanSheet s) ≡ version s
   same-version = λ i. copied 3 (omega arith) i * 256 + copied 4 (omega arith) i
@@ -43,13 +43,13 @@ module _ (s : List ℕ) (w : WellFormed s) where
   same-typeField = ap (λ (x : ℕ). 8 + 4 * x) same-principals
 
   -- ---- the types
-  type-part : (i : ℕ) → byte (leanSheet s) (typeField s + i) ≡ byte (typePart s ++ termPart s) i
+  type-part : (i : ℕ) → byte (leanSheet s) (typeField s + i) ≡ byte (typeFieldBytes s ++ termFieldBytes s) i
   unfolding leanSheet
   type-part i =
-      ap (λ (x : ℕ). byte (take (typeField s) s ++ (typePart s ++ termPart s)) (x + i)) (sym head-length)
-      ∙ getD-append-add (take (typeField s) s) (typePart s ++ termPart s) i 0
+      ap (λ (x : ℕ). byte (take (typeField s) s ++ (typeFieldBytes s ++ termFieldBytes s)) (x + i)) (sym head-length)
+      ∙ getD-append-add (take (typeField s) s) (typeFieldBytes s ++ termFieldBytes s) i 0
 
-  at-type : (i j : ℕ) → i ≡ typeField s + j → byte (leanSheet s) i ≡ byte (typePart s ++ termPart s) j
+  at-type : (i j : ℕ) → i ≡ typeField s + j → byte (leanSheet s) i ≡ byte (typeFieldBytes s ++ termFieldBytes s) j
   at-type i j e = ap (byte (leanSheet s)) e ∙ type-part j
 
   pub type-tag : byte (leanSheet s) (typeField (leanSheet s)) ≡ 3
@@ -64,7 +64,7 @@ module _ (s : List ℕ) (w : WellFormed s) where
   pub types-are : types (leanSheet s) ≡ newTypes s
   types-are = ap (λ (x : ℕ). x / 10) type-size ∙ omega arith
 
-  type-length : length (typePart s) ≡ 3 + 10 * newTypes s
+  type-length : length (typeFieldBytes s) ≡ 3 + 10 * newTypes s
   unfolding newTypes
   type-length = omega (arith, gather-length (keptType s) (typeBytes s) 10 (λ t. refl) (types s))
 
@@ -73,8 +73,8 @@ module _ (s : List ℕ) (w : WellFormed s) where
       → byte (leanSheet s) (typeAt (leanSheet s) (keptBelow (keptType s) t) + j) ≡ byte (typeBytes s t) j
   type-byte t k l j h =
       at-type (typeAt (leanSheet s) (keptBelow (keptType s) t) + j) (3 + (10 * keptBelow (keptType s) t + j)) (omega (arith, same-typeField))
-      ∙ past-header 3 (10 * newTypes s) (gather (keptType s) (typeBytes s) (types s) ++ termPart s) (10 * keptBelow (keptType s) t + j)
-      ∙ List·getD-append (gather (keptType s) (typeBytes s) (types s)) (termPart s) 0 (10 * keptBelow (keptType s) t + j)
+      ∙ past-header 3 (10 * newTypes s) (gather (keptType s) (typeBytes s) (types s) ++ termFieldBytes s) (10 * keptBelow (keptType s) t + j)
+      ∙ List·getD-append (gather (keptType s) (typeBytes s) (types s)) (termFieldBytes s) 0 (10 * keptBelow (keptType s) t + j)
       (gather-inside (keptType s) (typeBytes s) 10 (λ t. refl) (types s) t k l j h)
       ∙ gather-at (keptType s) (typeBytes s) 10 (λ t. refl) (types s) t k l j h
 
@@ -82,9 +82,9 @@ module _ (s : List ℕ) (w : WellFormed s) where
   pub termField-is : termField (leanSheet s) ≡ typeField s + (3 + 10 * newTypes s)
   termField-is = omega (arith, same-typeField, types-are)
 
-  at-term : (i j : ℕ) → i ≡ termField (leanSheet s) + j → byte (leanSheet s) i ≡ byte (termPart s) j
+  at-term : (i j : ℕ) → i ≡ termField (leanSheet s) + j → byte (leanSheet s) i ≡ byte (termFieldBytes s) j
   at-term i j e =
-      at-type i (length (typePart s) + j) (omega (arith, termField-is, type-length)) ∙ getD-append-add (typePart s) (termPart s) j 0
+      at-type i (length (typeFieldBytes s) + j) (omega (arith, termField-is, type-length)) ∙ getD-append-add (typeFieldBytes s) (termFieldBytes s) j 0
 
   pub term-tag : byte (leanSheet s) (termField (leanSheet s)) ≡ 4
   term-tag = at-term (termField (leanSheet s)) 0 (omega arith)
@@ -100,11 +100,11 @@ module _ (s : List ℕ) (w : WellFormed s) where
   pub lean-length : length (leanSheet s) ≡ termAt (leanSheet s) (newTerms s)
   unfolding leanSheet newTerms
   lean-length =
-      length-append (take (typeField s) s) (typePart s ++ termPart s)
+      length-append (take (typeField s) s) (typeFieldBytes s ++ termFieldBytes s)
       ∙ omega (
         arith,
         head-length,
-        length-append (typePart s) (termPart s),
+        length-append (typeFieldBytes s) (termFieldBytes s),
         type-length,
         termField-is,
         gather-length (keptTerm s) (termBytes s) 8 (λ t. refl) (terms s),

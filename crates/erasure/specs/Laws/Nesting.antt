@@ -17,7 +17,7 @@ use Rattle.program.specs.Laws.Readable.{WellFormed}
 use Rattle.program.specs.Laws.Nesting.{one-parent, pick, parent-is, nested-more}
 use Rattle.program.specs.Laws.Trees.{root-lower}
 use Rattle.erasure.specs.Kept.{keptBelow}
-use Rattle.erasure.specs.Lean.{idle, keptTerm, inner, newTerms, newTerm, leanSheet}
+use Rattle.erasure.specs.Lean.{isErased, keptTerm, inner, newTerms, newTerm, leanSheet}
 use Rattle.erasure.specs.Laws.Kept.{old-of}
 use Rattle.erasure.specs.Laws.Bytes.{terms-are}
 use Rattle.erasure.specs.Laws.Terms.{idle-named, idle-kept, inner-of, term-kept, term-idle, term-in, root-kept, new-root}
@@ -41,7 +41,7 @@ parent-has s x (suc n) h = go (eqb (timesIn s x n) 0) refl (parent-has s x n)
 
 module _ (s : List ℕ) (w : WellFormed s) where
   -- a check or enable has one child
-  idle-only : (x t : ℕ) → idle s t ≡ true → 0 < timesIn s x t → first s t ≡ x
+  idle-only : (x t : ℕ) → isErased s t ≡ true → 0 < timesIn s x t → first s t ≡ x
   idle-only x t e h = go (ℕ-discrete (first s t) x)
     where
       none : (K : Kind) → kindOf (kindByte s t) ≡ K → isChild (format K .second) ≡ false → isChild (format K .third) ≡ false → (first s t ≡ x → ⊥)
@@ -96,7 +96,7 @@ module _ (s : List ℕ) (w : WellFormed s) where
       go (yes q) rest =
           ap (λ (b : Bool). orElse b (λ _. nestedIn (leanSheet s) k (parent (leanSheet s) (newTerm s x) (terms (leanSheet s)))))
           (eq-eqb (newTerm s x) (root (leanSheet s)) (ap (newTerm s) q ∙ new-root s w))
-      go (no q) rest = by (idle s p) refl
+      go (no q) rest = by (isErased s p) refl
         where
           p : ℕ
           p = parent s x (terms s)
@@ -107,7 +107,7 @@ module _ (s : List ℕ) (w : WellFormed s) where
           deep : nestedIn (leanSheet s) k (newTerm s p) ≡ true
           deep = rest (has .below) (ap (λ (b : Bool). orElse b (λ _. nestedIn s k p)) (sym (ne-eqb x (root s) q)) ∙ h)
 
-          by : (b : Bool) → idle s p ≡ b → nestedIn (leanSheet s) (suc k) (newTerm s x) ≡ true
+          by : (b : Bool) → isErased s p ≡ b → nestedIn (leanSheet s) (suc k) (newTerm s x) ≡ true
           by true e =
               let n : newTerm s p ≡ newTerm s x = term-idle s w p (has .below) e ∙ ap (newTerm s) (idle-only x p e (has .has-child)) in
               nested-more (leanSheet s) k (newTerm s x) (subst (λ (y : ℕ). nestedIn (leanSheet s) k y ≡ true) n deep)

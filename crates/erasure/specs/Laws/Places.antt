@@ -12,6 +12,7 @@ use native.Mathlib.Decide.{decLt, ℕ-discrete}
 use native.Mathlib.Omega.{arith}
 use lib.Dec.{ltb, eqb}
 use borrow.Author.Tests.{eqb-true, eq-eqb, ne-eqb, lt-ltb, le-ltb}
+use Rattle.program.specs.Bytes.{bit}
 use Rattle.privileges.specs.Booleans.{and-both, bool-ext}
 use Rattle.program.specs.Layout.{terms, root, kindByte, first, second, third}
 use Rattle.program.specs.Formats.{Part, unused, flag, anyNumber, privilege, principal, channel, functionType, child, bodyChild, isChild, Kind, Check, Enable, kindOf, format}
@@ -19,16 +20,13 @@ use Rattle.program.specs.Decoding.{formatAt, childCount, timesIn, timesBelow, i
 use Rattle.program.specs.Laws.Readable.{WellFormed}
 use Rattle.program.specs.Laws.Trees.{below, placed}
 use Rattle.erasure.specs.Kept.{keptBelow}
-use Rattle.erasure.specs.Lean.{idle, keptTerm, inner, newTerms, newTerm, newPart, leanSheet}
+use Rattle.erasure.specs.Lean.{isErased, keptTerm, inner, newTerms, newTerm, newPart, leanSheet}
 use Rattle.erasure.specs.Laws.Kept.{kept-none, kept-yes, kept-no, kept-one, old-of}
 use Rattle.erasure.specs.Laws.Bytes.{terms-are, term-kind, term-first, term-second, term-third}
 use Rattle.erasure.specs.Laws.Terms.{idle-named, kept-idle, idle-kept, idle-gone, sign-kept, inner-of, inner-kept, inner-idle, term-kept, root-kept, new-root, same-format}
 
 -- ---- sums over the terms that x replaces
 module _ (s : List ℕ) (x : ℕ) where
-  abbrev pub countIf : Bool → ℕ
-  countIf b = cond b 1 0
-
   abbrev pub replaces : (y : ℕ) → Bool
   replaces y = eqb (inner s y) x
 
@@ -62,35 +60,35 @@ module _ (s : List ℕ) (x : ℕ) where
       go false e = omega arith
 
   -- of one term
-  chosen-past : (v n : ℕ) → n ≤ v → chosen (λ y. countIf (eqb v y)) n ≡ 0
+  chosen-past : (v n : ℕ) → n ≤ v → chosen (λ y. bit (eqb v y)) n ≡ 0
   chosen-past v n h =
-      chosen-ext (λ y. countIf (eqb v y)) (λ y. 0) n (λ y l e. ap countIf (ne-eqb v y (λ q. omega (arith, q)))) ∙ chosen-zero n
+      chosen-ext (λ y. bit (eqb v y)) (λ y. 0) n (λ y l e. ap bit (ne-eqb v y (λ q. omega (arith, q)))) ∙ chosen-zero n
 
-  chosen-single : (v n : ℕ) → v < n → chosen (λ y. countIf (eqb v y)) n ≡ countIf (replaces v)
+  chosen-single : (v n : ℕ) → v < n → chosen (λ y. bit (eqb v y)) n ≡ bit (replaces v)
   chosen-single v zero h = absurd (omega arith)
   chosen-single v (suc n) h = go (ℕ-discrete v n) (chosen-single v n)
     where
-      go : Dec (v ≡ n) → (v < n → chosen (λ y. countIf (eqb v y)) n ≡ countIf (replaces v))
-          → chosen (λ y. countIf (eqb v y)) n + cond (replaces n) (countIf (eqb v n)) 0 ≡ countIf (replaces v)
+      go : Dec (v ≡ n) → (v < n → chosen (λ y. bit (eqb v y)) n ≡ bit (replaces v))
+          → chosen (λ y. bit (eqb v y)) n + cond (replaces n) (bit (eqb v n)) 0 ≡ bit (replaces v)
       go (yes e) rest =
-          let z : 0 + countIf (replaces n) ≡ countIf (replaces n) = omega arith in
-          (λ i. chosen-past v n (omega arith) i + cond (replaces n) (countIf (eq-eqb v n e i)) 0) ∙ z ∙ ap (λ (y : ℕ). countIf (replaces y)) (sym e)
+          let z : 0 + bit (replaces n) ≡ bit (replaces n) = omega arith in
+          (λ i. chosen-past v n (omega arith) i + cond (replaces n) (bit (eq-eqb v n e i)) 0) ∙ z ∙ ap (λ (y : ℕ). bit (replaces y)) (sym e)
       go (no e) rest =
-          (λ i. rest (omega arith) i + cond (replaces n) (countIf (ne-eqb v n e i)) 0) ∙ last (replaces n)
+          (λ i. rest (omega arith) i + cond (replaces n) (bit (ne-eqb v n e i)) 0) ∙ last (replaces n)
         where
-          last : (b : Bool) → countIf (replaces v) + cond b 0 0 ≡ countIf (replaces v)
+          last : (b : Bool) → bit (replaces v) + cond b 0 0 ≡ bit (replaces v)
           last true = omega arith
           last false = omega arith
 
   -- ---- the children that x replaces
   -- a part that holds a child which x replaces
   abbrev pub stands : Part → (value : ℕ) → ℕ
-  stands p v = countIf (isChild p && replaces v)
+  stands p v = bit (isChild p && replaces v)
 
   abbrev pub standsIn : (t : ℕ) → ℕ
   standsIn t = stands (formatAt s t .first) (first s t) + stands (formatAt s t .second) (second s t) + stands (formatAt s t .third) (third s t)
 
-  chosen-part : (b : Bool) (v n : ℕ) → (b ≡ true → v < n) → chosen (λ y. countIf (b && eqb v y)) n ≡ countIf (b && replaces v)
+  chosen-part : (b : Bool) (v n : ℕ) → (b ≡ true → v < n) → chosen (λ y. bit (b && eqb v y)) n ≡ bit (b && replaces v)
   chosen-part true v n h = chosen-single v n (h refl)
   chosen-part false v n h = chosen-zero n
 
@@ -109,25 +107,25 @@ module _ (s : List ℕ) (x : ℕ) where
   -- among the children of kept terms, and of checks and enables
   abbrev keptStands : (count : ℕ) → ℕ
   keptStands zero = 0
-  keptStands (suc t) = cond (idle s t) 0 (standsIn t) + keptStands t
+  keptStands (suc t) = cond (isErased s t) 0 (standsIn t) + keptStands t
 
   abbrev idleStands : (count : ℕ) → ℕ
   idleStands zero = 0
-  idleStands (suc t) = idleStands t + cond (idle s t) (countIf (replaces t)) 0
+  idleStands (suc t) = idleStands t + cond (isErased s t) (bit (replaces t)) 0
 
   -- a check or enable has one child, which is replaced by the same term
-  idle-stands : WellFormed s → (t : ℕ) → t < terms s → idle s t ≡ true → standsIn t ≡ countIf (replaces t)
+  idle-stands : WellFormed s → (t : ℕ) → t < terms s → isErased s t ≡ true → standsIn t ≡ bit (replaces t)
   idle-stands w t l e =
       let same : (K : Kind) → kindOf (kindByte s t) ≡ K → isChild (format K .first) ≡ true → isChild (format K .second) ≡ false
-      → isChild (format K .third) ≡ false → standsIn t ≡ countIf (replaces t) =
-      λ K q a b c. (λ i. countIf (ap (λ (k : Kind). isChild (format k .first)) q i && replaces (first s t))
-      + countIf (ap (λ (k : Kind). isChild (format k .second)) q i && replaces (second s t))
-      + countIf (ap (λ (k : Kind). isChild (format k .third)) q i && replaces (third s t)))
-      ∙ (λ i. countIf (a i && replaces (first s t)) + countIf (b i && replaces (second s t)) + countIf (c i && replaces (third s t)))
-      ∙ only (replaces (first s t)) ∙ ap (λ (y : ℕ). countIf (eqb y x)) (sym (inner-idle s w t l e)) in
+      → isChild (format K .third) ≡ false → standsIn t ≡ bit (replaces t) =
+      λ K q a b c. (λ i. bit (ap (λ (k : Kind). isChild (format k .first)) q i && replaces (first s t))
+      + bit (ap (λ (k : Kind). isChild (format k .second)) q i && replaces (second s t))
+      + bit (ap (λ (k : Kind). isChild (format k .third)) q i && replaces (third s t)))
+      ∙ (λ i. bit (a i && replaces (first s t)) + bit (b i && replaces (second s t)) + bit (c i && replaces (third s t)))
+      ∙ only (replaces (first s t)) ∙ ap (λ (y : ℕ). bit (eqb y x)) (sym (inner-idle s w t l e)) in
       ⊎-elim (λ q. same Check q refl refl refl) (λ q. same Enable q refl refl refl) (idle-named s t e)
     where
-      only : (b : Bool) → countIf b + 0 + 0 ≡ countIf b
+      only : (b : Bool) → bit b + 0 + 0 ≡ bit b
       only b = omega arith
 
   balance : WellFormed s → (n : ℕ) → n ≤ terms s → chosen (λ y. timesBelow s y n) (terms s) ≡ keptStands n + idleStands n
@@ -135,34 +133,34 @@ module _ (s : List ℕ) (x : ℕ) where
   balance w (suc t) h =
       let l : t < terms s = omega arith in
       chosen-add (λ y. timesIn s y t) (λ y. timesBelow s y t) (terms s)
-      ∙ (λ i. chosen-in w t (terms s) l (omega arith) i + balance w t (omega arith) i) ∙ go (idle s t) refl
+      ∙ (λ i. chosen-in w t (terms s) l (omega arith) i + balance w t (omega arith) i) ∙ go (isErased s t) refl
     where
-      go : (b : Bool) → idle s t ≡ b → standsIn t + (keptStands t + idleStands t)
-          ≡ cond b 0 (standsIn t) + keptStands t + (idleStands t + cond b (countIf (replaces t)) 0)
+      go : (b : Bool) → isErased s t ≡ b → standsIn t + (keptStands t + idleStands t)
+          ≡ cond b 0 (standsIn t) + keptStands t + (idleStands t + cond b (bit (replaces t)) 0)
       go true e = omega (arith, idle-stands w t (omega arith) e)
       go false e = omega arith
 
   -- ---- the terms that x replaces: itself, and checks and enables
-  past-more : (y : ℕ) → (y ≡ x → ⊥) → countIf (ltb x (suc y)) ≡ countIf (ltb x y)
+  past-more : (y : ℕ) → (y ≡ x → ⊥) → bit (ltb x (suc y)) ≡ bit (ltb x y)
   past-more y q = elim (decLt x y) [
-    | yes l ↦ ap countIf (lt-ltb x (suc y) (omega arith) ∙ sym (lt-ltb x y l))
-    | no l ↦ ap countIf (le-ltb x (suc y) (omega (arith, q)) ∙ sym (le-ltb x y (omega arith)))
+    | yes l ↦ ap bit (lt-ltb x (suc y) (omega arith) ∙ sym (lt-ltb x y l))
+    | no l ↦ ap bit (le-ltb x (suc y) (omega (arith, q)) ∙ sym (le-ltb x y (omega arith)))
   ]
 
-  total : keptTerm s x ≡ true → WellFormed s → (n : ℕ) → n ≤ terms s → chosen (λ y. 1) n ≡ idleStands n + countIf (ltb x n)
-  total k w zero h = omega (arith, ap countIf (le-ltb x 0 (omega arith)))
-  total k w (suc y) h = go (idle s y) refl (ℕ-discrete y x) (total k w y (omega arith))
+  total : keptTerm s x ≡ true → WellFormed s → (n : ℕ) → n ≤ terms s → chosen (λ y. 1) n ≡ idleStands n + bit (ltb x n)
+  total k w zero h = omega (arith, ap bit (le-ltb x 0 (omega arith)))
+  total k w (suc y) h = go (isErased s y) refl (ℕ-discrete y x) (total k w y (omega arith))
     where
-      go : (b : Bool) → idle s y ≡ b → Dec (y ≡ x) → chosen (λ y. 1) y ≡ idleStands y + countIf (ltb x y)
-          → chosen (λ y. 1) y + countIf (replaces y) ≡ idleStands y + cond b (countIf (replaces y)) 0 + countIf (ltb x (suc y))
-      go true e (yes q) rest = absurd (true≢false (sym e ∙ ap (idle s) q ∙ kept-idle s x k))
+      go : (b : Bool) → isErased s y ≡ b → Dec (y ≡ x) → chosen (λ y. 1) y ≡ idleStands y + bit (ltb x y)
+          → chosen (λ y. 1) y + bit (replaces y) ≡ idleStands y + cond b (bit (replaces y)) 0 + bit (ltb x (suc y))
+      go true e (yes q) rest = absurd (true≢false (sym e ∙ ap (isErased s) q ∙ kept-idle s x k))
       go true e (no q) rest = omega (arith, rest, past-more y q)
       go false e (yes q) rest =
           let m : inner s y ≡ x = inner-kept s w y (idle-kept s y e) ∙ q in
-          omega (arith, rest, ap countIf (eq-eqb (inner s y) x m), ap countIf (lt-ltb x (suc y) (omega arith)), ap countIf (le-ltb x y (omega arith)))
+          omega (arith, rest, ap bit (eq-eqb (inner s y) x m), ap bit (lt-ltb x (suc y) (omega arith)), ap bit (le-ltb x y (omega arith)))
       go false e (no q) rest =
           let m : (inner s y ≡ x → ⊥) = λ r. q (sym (inner-kept s w y (idle-kept s y e)) ∙ r) in
-          omega (arith, rest, past-more y q, ap countIf (ne-eqb (inner s y) x m))
+          omega (arith, rest, past-more y q, ap bit (ne-eqb (inner s y) x m))
 
   -- ---- so one child of a kept term is left to be replaced by x, and none by the root
   times : WellFormed s → (y : ℕ) → y < terms s → timesBelow s y (terms s) ≡ cond (eqb y (root s)) 0 1
@@ -186,7 +184,7 @@ module _ (s : List ℕ) (x : ℕ) where
           chosen-ext (λ y. timesBelow s y (terms s)) (λ y. 1) (terms s)
           (λ y h e. times w y h ∙ ap (λ (b : Bool). cond b 0 1)
           (ne-eqb y (root s) (λ r. q (sym e ∙ ap (inner s) r ∙ inner-kept s w (root s) (root-kept s w))))) in
-          let one-is : keptStands (terms s) ≡ 1 = omega (arith, even, each, total k w (terms s) (omega arith), ap countIf (lt-ltb x (terms s) l)) in
+          let one-is : keptStands (terms s) ≡ 1 = omega (arith, even, each, total k w (terms s) (omega arith), ap bit (lt-ltb x (terms s) l)) in
           one-is ∙ ap (λ (b : Bool). cond b 0 1) (sym (ne-eqb x (root s) q))
 
 -- a child of t is one that its own inner term replaces
@@ -239,9 +237,9 @@ module _ (s : List ℕ) (w : WellFormed s) where
   new-times-below : (x n : ℕ) → keptTerm s x ≡ true → n ≤ terms s
       → timesBelow (leanSheet s) (keptBelow (keptTerm s) x) (keptBelow (keptTerm s) n) ≡ keptStands s x n
   new-times-below x zero k h = ap (timesBelow (leanSheet s) (keptBelow (keptTerm s) x)) (kept-none (keptTerm s))
-  new-times-below x (suc t) k h = go (idle s t) refl (new-times-below x t k (omega arith))
+  new-times-below x (suc t) k h = go (isErased s t) refl (new-times-below x t k (omega arith))
     where
-      go : (b : Bool) → idle s t ≡ b → timesBelow (leanSheet s) (keptBelow (keptTerm s) x) (keptBelow (keptTerm s) t) ≡ keptStands s x t
+      go : (b : Bool) → isErased s t ≡ b → timesBelow (leanSheet s) (keptBelow (keptTerm s) x) (keptBelow (keptTerm s) t) ≡ keptStands s x t
           → timesBelow (leanSheet s) (keptBelow (keptTerm s) x) (keptBelow (keptTerm s) (suc t)) ≡ cond b 0 (standsIn s x t) + keptStands s x t
       go true e rest =
           let z : keptStands s x t ≡ 0 + keptStands s x t = omega arith in

@@ -19,7 +19,7 @@ use Rattle.program.specs.Laws.Readable.{WellFormed, well-formed}
 use Rattle.program.specs.Laws.Trees.{Below, below, parts, tree-node, root-lower}
 use Rattle.program.specs.Laws.Guards.{without-guards}
 use Rattle.erasure.specs.Kept.{keptBelow}
-use Rattle.erasure.specs.Lean.{newType, idle, keptTerm, newTerm, newPart, leanSheet, untested}
+use Rattle.erasure.specs.Lean.{newType, isErased, keptTerm, newTerm, newPart, leanSheet, untested}
 use Rattle.erasure.specs.Laws.Erases.{Erases, e-boolean, e-number, e-variable, e-function, e-letrec, e-call, e-if, e-check, e-enable, e-sign, e-binary, e-post}
 use Rattle.erasure.specs.Laws.Bytes.{same-version, same-principals, terms-are, term-kind, term-small, term-first, term-second, term-third}
 use Rattle.erasure.specs.Laws.Types.{types-renamed}
@@ -74,10 +74,10 @@ module _ (s : List ℕ) (r : Readable s) (version-1 : version s ≡ 1) (no-test 
   kind-is : (t : ℕ) → t < terms s → (K : Kind) → kindOf (kindByte s t) ≡ K → kindByte s t ≡ numberOfKind K
   kind-is t l K e = sym (kind-number (kindByte s t) (parts s w t l .kind-ok)) ∙ ap numberOfKind e
 
-  not-idle : (t n : ℕ) → idle s t ≡ false → kindByte s t ≡ n → (leb 7 n && leb n 8) ≡ true → ⊥
+  not-idle : (t n : ℕ) → isErased s t ≡ false → kindByte s t ≡ n → (leb 7 n && leb n 8) ≡ true → ⊥
   not-idle t n e q h = true≢false (sym h ∙ ap (λ (k : ℕ). leb 7 k && leb k 8) (sym q) ∙ e)
 
-  kept-erases : (t : ℕ) → t < terms s → idle s t ≡ false
+  kept-erases : (t : ℕ) → t < terms s → isErased s t ≡ false
       → ((y : ℕ) → y < t → Erases (newType s) (newTerm s) (tree s y) (tree (leanSheet s) (newTerm s y)))
       → Erases (newType s) (newTerm s) (tree s t) (tree (leanSheet s) (newTerm s t))
   kept-erases t l e under =
@@ -96,7 +96,7 @@ module _ (s : List ℕ) (r : Readable s) (version-1 : version s ≡ 1) (no-test 
       (λ q. not-idle t 7 e (kind-is t l Check q) refl) (λ q. not-idle t 8 e (kind-is t l Enable q) refl)
       (λ q. untested-at s (terms s) t no-test l (kind-is t l Test q)) (small s t) (first s t) (second s t) (third s t) (below s w t l))
 
-  idle-erases : (t : ℕ) → t < terms s → idle s t ≡ true → Erases (newType s) (newTerm s) (tree s (first s t)) (tree (leanSheet s) (newTerm s (first s t)))
+  idle-erases : (t : ℕ) → t < terms s → isErased s t ≡ true → Erases (newType s) (newTerm s) (tree s (first s t)) (tree (leanSheet s) (newTerm s (first s t)))
       → Erases (newType s) (newTerm s) (tree s t) (tree (leanSheet s) (newTerm s t))
   idle-erases t l e under =
       let at : (K : Kind) → kindOf (kindByte s t) ≡ K → tree s t ≡ node (guardOf s) K t (small s t) (first s t) (second s t) (third s t) (tree s) =
@@ -107,9 +107,9 @@ module _ (s : List ℕ) (r : Readable s) (version-1 : version s ≡ 1) (no-test 
 
   tree-erases : (d t : ℕ) → t < d → t < terms s → Erases (newType s) (newTerm s) (tree s t) (tree (leanSheet s) (newTerm s t))
   tree-erases zero t h l = absurd (omega arith)
-  tree-erases (suc d) t h l = go (idle s t) refl (λ y m. tree-erases d y (omega arith) (omega arith))
+  tree-erases (suc d) t h l = go (isErased s t) refl (λ y m. tree-erases d y (omega arith) (omega arith))
     where
-      go : (b : Bool) → idle s t ≡ b → ((y : ℕ) → y < t → Erases (newType s) (newTerm s) (tree s y) (tree (leanSheet s) (newTerm s y)))
+      go : (b : Bool) → isErased s t ≡ b → ((y : ℕ) → y < t → Erases (newType s) (newTerm s) (tree s y) (tree (leanSheet s) (newTerm s y)))
           → Erases (newType s) (newTerm s) (tree s t) (tree (leanSheet s) (newTerm s t))
       go true e under = idle-erases t l e (under (first s t) (idle-child s w t l e))
       go false e under = kept-erases t l e under

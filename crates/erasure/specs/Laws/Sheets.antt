@@ -25,7 +25,7 @@ use Rattle.semantics.specs.Runs.{Runner, eager, lazy, Request, Buffers, sizes, 
 use Rattle.semantics.specs.Theorems.{Starts, starts-exactly, course-clear, run-course, starts-screened}
 use Rattle.soundness.specs.Claims.{GrantsSet, Comparable}
 use Rattle.soundness.specs.Laws.Runs.{posts-listed, removed}
-use Rattle.erasure.specs.Claims.{renumberedOutcome, LikeRun}
+use Rattle.erasure.specs.Claims.{renumberedOutcome, RenumberedRun}
 use Rattle.erasure.specs.Laws.Erases.{Erases}
 use Rattle.erasure.specs.Laws.Typing.{Renames, derived}
 use Rattle.semantics.specs.Laws.Related.{v-bool, v-num, v-closure, r-ends, r-stops}
@@ -124,7 +124,7 @@ module _ (s s′ : List ℕ) (ρ ν : ℕ → ℕ) (L : Leaner s s′ ρ ν) whe
         }
 
     answer-like : {f g : Result} → ErasesResult ρ ν f g
-        → LikeRun ν
+        → RenumberedRun ν
         (record { answer = answerOf (root s) x (sizes b) (started f); buffers = buffersAfter (x .runner) b (started f) })
         (record { answer = answerOf (root s′) y (sizes d) (started g); buffers = buffersAfter (y .runner) d (started g) })
     answer-like {f} {g} h = record {
@@ -142,10 +142,11 @@ module _ (s s′ : List ℕ) (ρ ν : ℕ → ℕ) (L : Leaner s s′ ρ ν) whe
         lefts (r-ends v) = refl
         lefts r-stops = refl
 
-    pub lean-runs : (n τ N : ℕ) → verdict s ≡ accepted n τ N → GrantsSet s (x .start) N → Starts s x b → Starts s′ y d → LikeRun ν (run s x b) (run s′ y d)
+    pub lean-runs : (n τ N : ℕ) → verdict s ≡ accepted n τ N → GrantsSet s (x .start) N → Starts s x b → Starts s′ y d
+        → RenumberedRun ν (run s x b) (run s′ y d)
     lean-runs n τ N e g sx sy =
         let rx = run-course s x b _ (course-clear s x b (starts-screened s x b sx)) in
         let ry = run-course s′ y d _ (course-clear s′ y d (starts-screened s′ y d sy)) in
-        subst₂ (LikeRun ν) (sym rx) (sym ry)
+        subst₂ (RenumberedRun ν) (sym rx) (sym ry)
         (answer-like (subst (λ (z : Result). ErasesResult ρ ν z (evaluation (y .runner) s′ y (sizes d))) (sym (as-skipped n τ N e g))
         (skipped-like (x .runner) (y .runner))))

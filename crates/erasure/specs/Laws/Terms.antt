@@ -17,31 +17,31 @@ use Rattle.program.specs.Decoding.{partOk, formatAt, termOk, isSign}
 use Rattle.program.specs.Laws.Readable.{WellFormed}
 use Rattle.program.specs.Laws.Trees.{parts, below, placed, root-lower}
 use Rattle.erasure.specs.Kept.{keptBelow}
-use Rattle.erasure.specs.Lean.{idle, keptTerm, innerIn, inner, newTerms, newTerm, newPart, leanSheet}
+use Rattle.erasure.specs.Lean.{isErased, keptTerm, innerIn, inner, newTerms, newTerm, newPart, leanSheet}
 use Rattle.erasure.specs.Laws.Kept.{kept-yes, kept-strict, kept-most, old-of}
 use Rattle.erasure.specs.Laws.Bytes.{same-version, same-principals, terms-are, term-kind, term-small, term-first, term-second, term-third}
 use Rattle.erasure.specs.Laws.Types.{fun-low, fun-in, new-function}
 
 -- ---- checks and enables
-pub idle-kind : (s : List ℕ) (t : ℕ) → idle s t ≡ true → (kindByte s t ≡ 7) ⊎ (kindByte s t ≡ 8)
+pub idle-kind : (s : List ℕ) (t : ℕ) → isErased s t ≡ true → (kindByte s t ≡ 7) ⊎ (kindByte s t ≡ 8)
 idle-kind s t h =
     let a : 7 ≤ kindByte s t = leb-true 7 (kindByte s t) (and-left (leb 7 (kindByte s t)) (leb (kindByte s t) 8) h) in
     let b : kindByte s t ≤ 8 = leb-true (kindByte s t) 8 (and-right (leb 7 (kindByte s t)) (leb (kindByte s t) 8) h) in
     elim (decLt (kindByte s t) 8) [ yes l ↦ inl (omega arith) | no l ↦ inr (omega arith) ]
 
 -- the same by the name of the kind
-pub idle-named : (s : List ℕ) (t : ℕ) → idle s t ≡ true → (kindOf (kindByte s t) ≡ Check) ⊎ (kindOf (kindByte s t) ≡ Enable)
+pub idle-named : (s : List ℕ) (t : ℕ) → isErased s t ≡ true → (kindOf (kindByte s t) ≡ Check) ⊎ (kindOf (kindByte s t) ≡ Enable)
 idle-named s t h = ⊎-elim (λ e. inl (ap kindOf e)) (λ e. inr (ap kindOf e)) (idle-kind s t h)
 
-pub kept-idle : (s : List ℕ) (t : ℕ) → keptTerm s t ≡ true → idle s t ≡ false
+pub kept-idle : (s : List ℕ) (t : ℕ) → keptTerm s t ≡ true → isErased s t ≡ false
 unfolding keptTerm
-kept-idle s t k = not-true (idle s t) k
+kept-idle s t k = not-true (isErased s t) k
 
-pub idle-kept : (s : List ℕ) (t : ℕ) → idle s t ≡ false → keptTerm s t ≡ true
+pub idle-kept : (s : List ℕ) (t : ℕ) → isErased s t ≡ false → keptTerm s t ≡ true
 unfolding keptTerm
 idle-kept s t e = ap not e
 
-pub idle-gone : (s : List ℕ) (t : ℕ) → idle s t ≡ true → keptTerm s t ≡ false
+pub idle-gone : (s : List ℕ) (t : ℕ) → isErased s t ≡ true → keptTerm s t ≡ false
 unfolding keptTerm
 idle-gone s t e = ap not e
 
@@ -51,7 +51,7 @@ unfolding keptTerm
 sign-kept s t h = ap (λ (k : ℕ). not (leb 7 k && leb k 8)) (eqb-true (kindByte s t) 9 h)
 
 module _ (s : List ℕ) (w : WellFormed s) where
-  pub idle-child : (t : ℕ) → t < terms s → idle s t ≡ true → first s t < t
+  pub idle-child : (t : ℕ) → t < terms s → isErased s t ≡ true → first s t < t
   idle-child t l h =
       ⊎-elim (λ e. below s w t l .first-below (ap (λ (K : Kind). isChild (format K .first)) e))
       (λ e. below s w t l .first-below (ap (λ (K : Kind). isChild (format K .first)) e)) (idle-named s t h)
@@ -63,14 +63,14 @@ module _ (s : List ℕ) (w : WellFormed s) where
 
   inner-in : (k t : ℕ) → t < terms s → t ≤ k → Inner t (innerIn s k t)
   unfolding innerIn
-  inner-in zero t l h = record { low = omega arith; kept = go (idle s t) refl }
+  inner-in zero t l h = record { low = omega arith; kept = go (isErased s t) refl }
     where
-      go : (b : Bool) → idle s t ≡ b → keptTerm s t ≡ true
+      go : (b : Bool) → isErased s t ≡ b → keptTerm s t ≡ true
       go true e = absurd (omega (arith, idle-child t l e))
       go false e = idle-kept s t e
-  inner-in (suc k) t l h = go (idle s t) refl (inner-in k (first s t))
+  inner-in (suc k) t l h = go (isErased s t) refl (inner-in k (first s t))
     where
-      go : (b : Bool) → idle s t ≡ b → (first s t < terms s → first s t ≤ k → Inner (first s t) (innerIn s k (first s t)))
+      go : (b : Bool) → isErased s t ≡ b → (first s t < terms s → first s t ≤ k → Inner (first s t) (innerIn s k (first s t)))
           → Inner t (cond b (innerIn s k (first s t)) t)
       go true e rest =
           let c = idle-child t l e in
@@ -82,19 +82,19 @@ module _ (s : List ℕ) (w : WellFormed s) where
   inner-steps : (j k t : ℕ) → t < terms s → t ≤ j → t ≤ k → innerIn s j t ≡ innerIn s k t
   unfolding innerIn
   inner-steps zero zero t l h g = refl
-  inner-steps zero (suc k) t l h g = go (idle s t) refl
+  inner-steps zero (suc k) t l h g = go (isErased s t) refl
     where
-      go : (b : Bool) → idle s t ≡ b → t ≡ cond b (innerIn s k (first s t)) t
+      go : (b : Bool) → isErased s t ≡ b → t ≡ cond b (innerIn s k (first s t)) t
       go true e = absurd (omega (arith, idle-child t l e))
       go false e = refl
-  inner-steps (suc j) zero t l h g = go (idle s t) refl
+  inner-steps (suc j) zero t l h g = go (isErased s t) refl
     where
-      go : (b : Bool) → idle s t ≡ b → cond b (innerIn s j (first s t)) t ≡ t
+      go : (b : Bool) → isErased s t ≡ b → cond b (innerIn s j (first s t)) t ≡ t
       go true e = absurd (omega (arith, idle-child t l e))
       go false e = refl
-  inner-steps (suc j) (suc k) t l h g = go (idle s t) refl (inner-steps j k (first s t))
+  inner-steps (suc j) (suc k) t l h g = go (isErased s t) refl (inner-steps j k (first s t))
     where
-      go : (b : Bool) → idle s t ≡ b → (first s t < terms s → first s t ≤ j → first s t ≤ k → innerIn s j (first s t) ≡ innerIn s k (first s t))
+      go : (b : Bool) → isErased s t ≡ b → (first s t < terms s → first s t ≤ j → first s t ≤ k → innerIn s j (first s t) ≡ innerIn s k (first s t))
           → cond b (innerIn s j (first s t)) t ≡ cond b (innerIn s k (first s t)) t
       go true e rest = let c = idle-child t l e in rest (omega arith) (omega arith) (omega arith)
       go false e rest = refl
@@ -111,7 +111,7 @@ module _ (s : List ℕ) (w : WellFormed s) where
       go zero = refl
       go (suc j) = ap (λ (b : Bool). cond b (innerIn s j (first s t)) t) (kept-idle s t k)
 
-  pub inner-idle : (t : ℕ) → t < terms s → idle s t ≡ true → inner s t ≡ inner s (first s t)
+  pub inner-idle : (t : ℕ) → t < terms s → isErased s t ≡ true → inner s t ≡ inner s (first s t)
   unfolding inner innerIn
   inner-idle t l e = go t (omega arith)
     where
@@ -126,7 +126,7 @@ module _ (s : List ℕ) (w : WellFormed s) where
   unfolding newTerm
   term-kept t k = ap (keptBelow (keptTerm s)) (inner-kept t k)
 
-  pub term-idle : (t : ℕ) → t < terms s → idle s t ≡ true → newTerm s t ≡ newTerm s (first s t)
+  pub term-idle : (t : ℕ) → t < terms s → isErased s t ≡ true → newTerm s t ≡ newTerm s (first s t)
   unfolding newTerm
   term-idle t l e = ap (keptBelow (keptTerm s)) (inner-idle t l e)
 

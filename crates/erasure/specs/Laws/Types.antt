@@ -22,7 +22,7 @@ use Rattle.program.specs.Laws.Screening.{lowest-none, lowest-some}
 use Rattle.program.specs.Laws.Readable.{WellFormed}
 use Rattle.program.specs.Laws.Types.{function-type}
 use Rattle.erasure.specs.Kept.{keptBelow}
-use Rattle.erasure.specs.Lean.{alike, orSelf, firstAlike, heads, head, keptType, newTypes, newType, bytes16, typeBytes, leanSheet}
+use Rattle.erasure.specs.Lean.{alike, orSelf, firstAlike, representatives, representative, keptType, newTypes, newType, bytes16, typeBytes, leanSheet}
 use Rattle.erasure.specs.Laws.Kept.{kept-none, kept-yes, kept-mono, kept-strict, kept-one, kept-most, Old, old-of}
 use Rattle.erasure.specs.Laws.Bytes.{written16, types-are, type-kind, type-zero, type-arg, type-res, type-latent}
 use Rattle.erasure.specs.Laws.Typing.{Renames}
@@ -64,29 +64,31 @@ same-word s i j m h l =
     λ k. same-byte s i j 10 m h (omega arith) k * 256
     + (ap (byte s) (sym (e i)) ∙ same-byte s i j 10 (m + 1) h (omega arith) ∙ ap (byte s) (e j)) k
 
--- ---- the table of heads
-pub heads-length : (s : List ℕ) (n : ℕ) → length (heads s n) ≡ n
-unfolding heads
+-- ---- the table of representatives
+pub heads-length : (s : List ℕ) (n : ℕ) → length (representatives s n) ≡ n
+unfolding representatives
 heads-length s zero = refl
-heads-length s (suc n) = length-append (heads s n) (firstAlike s (heads s n) n ∷ []) ∙ omega (arith, heads-length s n)
+heads-length s (suc n) = length-append (representatives s n) (firstAlike s (representatives s n) n ∷ []) ∙ omega (arith, heads-length s n)
 
-pub heads-at : (s : List ℕ) (n t : ℕ) → t < n → getD (heads s n) t 0 ≡ firstAlike s (heads s t) t
-unfolding heads
+pub heads-at : (s : List ℕ) (n t : ℕ) → t < n → getD (representatives s n) t 0 ≡ firstAlike s (representatives s t) t
+unfolding representatives
 heads-at s zero t h = absurd (omega arith)
 heads-at s (suc n) t h = go (decLt t n) (heads-at s n t)
   where
-    go : Dec (t < n) → (t < n → getD (heads s n) t 0 ≡ firstAlike s (heads s t) t) → getD (heads s n ++ firstAlike s (heads s n) n ∷ []) t 0
-        ≡ firstAlike s (heads s t) t
-    go (yes l) rest = List·getD-append (heads s n) (firstAlike s (heads s n) n ∷ []) 0 t (omega (arith, heads-length s n)) ∙ rest l
+    go : Dec (t < n) → (t < n → getD (representatives s n) t 0 ≡ firstAlike s (representatives s t) t)
+        → getD (representatives s n ++ firstAlike s (representatives s n) n ∷ []) t 0
+        ≡ firstAlike s (representatives s t) t
+    go (yes l) rest = List·getD-append (representatives s n) (firstAlike s (representatives s n) n ∷ []) 0 t (omega (arith, heads-length s n)) ∙ rest l
     go (no l) rest =
         let e : n ≡ t = omega arith in
-        getD-at (heads s n) (firstAlike s (heads s n) n) [] 0 t (heads-length s n ∙ e) ∙ ap (λ (x : ℕ). firstAlike s (heads s x) x) e
+        getD-at (representatives s n) (firstAlike s (representatives s n) n) [] 0 t (heads-length s n ∙ e)
+        ∙ ap (λ (x : ℕ). firstAlike s (representatives s x) x) e
 
 -- the records of two types become equal
 pub record BecomeEqual (s : List ℕ) (t u : ℕ) : Type 0 where
   pub kinds : byte s (typeAt s u) ≡ byte s (typeAt s t)
-  pub args : head s (typesOf s .arg u) ≡ head s (typesOf s .arg t)
-  pub results : head s (typesOf s .res u) ≡ head s (typesOf s .res t)
+  pub args : representative s (typesOf s .arg u) ≡ representative s (typesOf s .arg t)
+  pub results : representative s (typesOf s .res u) ≡ representative s (typesOf s .res t)
 
 same-refl : (s : List ℕ) (t : ℕ) → BecomeEqual s t t
 same-refl s t = record { kinds = refl; args = refl; results = refl }
@@ -133,30 +135,30 @@ module _ (s : List ℕ) (w : WellFormed s) where
           let f = function-type s w u (is-function u (omega arith) l) in
           record { arg = omega (arith, f .arg-below); res = omega (arith, f .res-below) }
 
-  -- ---- heads: the first whose record becomes equal
-  pub head-is : (t : ℕ) → t < types s → head s t ≡ firstAlike s (heads s t) t
-  unfolding head
+  -- ---- representatives: the first whose record becomes equal
+  pub head-is : (t : ℕ) → t < types s → representative s t ≡ firstAlike s (representatives s t) t
+  unfolding representative
   head-is t l = heads-at s (types s) t l
 
-  pub heads-head : (t x : ℕ) → t < types s → x < t → getD (heads s t) x 0 ≡ head s x
-  unfolding head
+  pub heads-head : (t x : ℕ) → t < types s → x < t → getD (representatives s t) x 0 ≡ representative s x
+  unfolding representative
   heads-head t x l h = heads-at s t x h ∙ sym (heads-at s (types s) x (omega arith))
 
-  alike-same : (t u : ℕ) → t < types s → u < t → alike s (heads s t) t u ≡ true → BecomeEqual s t u
+  alike-same : (t u : ℕ) → t < types s → u < t → alike s (representatives s t) t u ≡ true → BecomeEqual s t u
   alike-same t u l h e =
       let a = lower u t (omega arith) (omega arith) (omega arith) in
       let b = lower t t l (omega arith) (omega arith) in
       record {
         kinds = eqb-true (byte s (typeAt s u)) (byte s (typeAt s t)) (search (e, and-left, and-right));
         args = sym (heads-head t (typesOf s .arg u) l (a .arg))
-            ∙ eqb-true (getD (heads s t) (typesOf s .arg u) 0) (getD (heads s t) (typesOf s .arg t) 0) (search (e, and-left, and-right))
+            ∙ eqb-true (getD (representatives s t) (typesOf s .arg u) 0) (getD (representatives s t) (typesOf s .arg t) 0) (search (e, and-left, and-right))
             ∙ heads-head t (typesOf s .arg t) l (b .arg);
         results = sym (heads-head t (typesOf s .res u) l (a .res))
-            ∙ eqb-true (getD (heads s t) (typesOf s .res u) 0) (getD (heads s t) (typesOf s .res t) 0) (search (e, and-left, and-right))
+            ∙ eqb-true (getD (representatives s t) (typesOf s .res u) 0) (getD (representatives s t) (typesOf s .res t) 0) (search (e, and-left, and-right))
             ∙ heads-head t (typesOf s .res t) l (b .res);
       }
 
-  same-alike : (t u : ℕ) → t < types s → u < t → BecomeEqual s t u → alike s (heads s t) t u ≡ true
+  same-alike : (t u : ℕ) → t < types s → u < t → BecomeEqual s t u → alike s (representatives s t) t u ≡ true
   same-alike t u l h e =
       let a = lower u t (omega arith) (omega arith) (omega arith) in
       let b = lower t t l (omega arith) (omega arith) in
@@ -165,77 +167,77 @@ module _ (s : List ℕ) (w : WellFormed s) where
       (eq-eqb _ _ (heads-head t (typesOf s .res u) l (a .res) ∙ e .results ∙ sym (heads-head t (typesOf s .res t) l (b .res))))
 
   pub record Head (t : ℕ) : Type 0 where
-    pub low : head s t ≤ t
-    pub same : BecomeEqual s t (head s t)
-    pub least : (u : ℕ) → BecomeEqual s t u → head s t ≤ u
+    pub low : representative s t ≤ t
+    pub same : BecomeEqual s t (representative s t)
+    pub least : (u : ℕ) → BecomeEqual s t u → representative s t ≤ u
 
   pub head-of : (t : ℕ) → t < types s → Head t
-  head-of t l = go (lowest (λ u. not (alike s (heads s t) t u)) 0 t) refl
+  head-of t l = go (lowest (λ u. not (alike s (representatives s t) t u)) 0 t) refl
     where
-      is : (o : Option ℕ) → lowest (λ u. not (alike s (heads s t) t u)) 0 t ≡ o → head s t ≡ orSelf t o
+      is : (o : Option ℕ) → lowest (λ u. not (alike s (representatives s t) t u)) 0 t ≡ o → representative s t ≡ orSelf t o
       is o e = head-is t l ∙ ap (orSelf t) e
 
       -- none below x becomes equal
-      none-below : (x : ℕ) → x ≤ t → ((u : ℕ) → u < x → not (alike s (heads s t) t u) ≡ true) → (u : ℕ) → BecomeEqual s t u → x ≤ u
+      none-below : (x : ℕ) → x ≤ t → ((u : ℕ) → u < x → not (alike s (representatives s t) t u) ≡ true) → (u : ℕ) → BecomeEqual s t u → x ≤ u
       none-below x g h u q = elim (decLt u x) [
         | yes m ↦ absurd (true≢false (sym (same-alike t u l (omega arith) q) ∙ not-true _ (h u m)))
         | no m ↦ omega arith
       ]
 
-      at : (x : ℕ) → head s t ≡ x → x ≤ t → BecomeEqual s t x → ((u : ℕ) → u < x → not (alike s (heads s t) t u) ≡ true) → Head t
+      at : (x : ℕ) → representative s t ≡ x → x ≤ t → BecomeEqual s t x → ((u : ℕ) → u < x → not (alike s (representatives s t) t u) ≡ true) → Head t
       at x e g q h = record {
         low = omega arith;
         same = subst (BecomeEqual s t) (sym e) q;
         least = λ u r. omega (arith, none-below x g h u r);
       }
 
-      go : (o : Option ℕ) → lowest (λ u. not (alike s (heads s t) t u)) 0 t ≡ o → Head t
+      go : (o : Option ℕ) → lowest (λ u. not (alike s (representatives s t) t u)) 0 t ≡ o → Head t
       go none e = at t (is none e) (omega arith) (same-refl s t)
-          (λ u h. lowest-none (λ u. not (alike s (heads s t) t u)) 0 t e u (omega arith) (omega arith))
+          (λ u h. lowest-none (λ u. not (alike s (representatives s t) t u)) 0 t e u (omega arith) (omega arith))
       go (some x) e =
-          let r = lowest-some (λ u. not (alike s (heads s t) t u)) 0 t x e in
+          let r = lowest-some (λ u. not (alike s (representatives s t) t u)) 0 t x e in
           at x (is (some x) e) (omega (arith, r .inside))
           (alike-same t x l (omega (arith, r .inside)) (not-false _ (r .fails))) (λ u h. r .least u (omega arith) h)
 
-  -- types whose records become equal have the same head, which is kept
-  pub heads-same : (t u : ℕ) → t < types s → u < types s → BecomeEqual s t u → head s t ≡ head s u
+  -- types whose records become equal have the same representative, which is kept
+  pub heads-same : (t u : ℕ) → t < types s → u < types s → BecomeEqual s t u → representative s t ≡ representative s u
   heads-same t u l m q =
       let a = head-of t l in
       let b = head-of u m in
-      omega (arith, a .least (head s u) (same-trans q (b .same)), b .least (head s t) (same-trans (same-sym q) (a .same)))
+      omega (arith, a .least (representative s u) (same-trans q (b .same)), b .least (representative s t) (same-trans (same-sym q) (a .same)))
 
-  pub head-kept : (t : ℕ) → t < types s → keptType s (head s t) ≡ true
+  pub head-kept : (t : ℕ) → t < types s → keptType s (representative s t) ≡ true
   unfolding keptType
   head-kept t l =
       let a = head-of t l in
-      eq-eqb (head s (head s t)) (head s t) (heads-same (head s t) t (omega (arith, a .low)) l (same-sym (a .same)))
+      eq-eqb (representative s (representative s t)) (representative s t) (heads-same (representative s t) t (omega (arith, a .low)) l (same-sym (a .same)))
 
-  pub kept-head : (t : ℕ) → keptType s t ≡ true → head s t ≡ t
+  pub kept-head : (t : ℕ) → keptType s t ≡ true → representative s t ≡ t
   unfolding keptType
-  kept-head t k = eqb-true (head s t) t k
+  kept-head t k = eqb-true (representative s t) t k
 
   -- ---- the new numbers
-  -- a kind is that of the head, so that functions are merged into functions
+  -- a kind is that of the representative, so that functions are merged into functions
   kind-function : (t : ℕ) → 2 ≤ t → t < types s → byte s (typeAt s t) ≡ 2
   kind-function t h l = function-type s w t (is-function t h l) .kind-is
 
-  head-low : (t : ℕ) → t < 2 → head s t ≡ t
+  head-low : (t : ℕ) → t < 2 → representative s t ≡ t
   head-low t h =
       let a = head-of t (omega (arith, w .types-least)) in
-      let b = base (head s t) (omega (arith, a .low)) in
+      let b = base (representative s t) (omega (arith, a .low)) in
       sym (b .kind) ∙ a .same .kinds ∙ base t h .kind
 
-  head-high : (t : ℕ) → 2 ≤ t → t < types s → 2 ≤ head s t
+  head-high : (t : ℕ) → 2 ≤ t → t < types s → 2 ≤ representative s t
   head-high t h l =
       let a = head-of t l in
-      elim (decLt (head s t) 2) [
-        | yes m ↦ let b = base (head s t) m in omega (arith, b .kind, a .same .kinds, kind-function t h l)
+      elim (decLt (representative s t) 2) [
+        | yes m ↦ let b = base (representative s t) m in omega (arith, b .kind, a .same .kinds, kind-function t h l)
         | no m ↦ omega arith
       ]
 
   low-kept : (t : ℕ) → t < 2 → keptType s t ≡ true
   unfolding keptType
-  low-kept t h = eq-eqb (head s t) t (head-low t h)
+  low-kept t h = eq-eqb (representative s t) t (head-low t h)
 
   kept-low : (t : ℕ) → t ≤ 2 → keptBelow (keptType s) t ≡ t
   kept-low zero h = kept-none (keptType s)
@@ -247,35 +249,35 @@ module _ (s : List ℕ) (w : WellFormed s) where
 
   pub number-high : (t : ℕ) → 2 ≤ t → t < types s → 2 ≤ newType s t
   unfolding newType
-  number-high t h l = omega (arith, kept-mono (keptType s) 2 (head s t) (head-high t h l), kept-low 2 (omega arith))
+  number-high t h l = omega (arith, kept-mono (keptType s) 2 (representative s t) (head-high t h l), kept-low 2 (omega arith))
 
   pub number-in : (t : ℕ) → t < types s → newType s t < newTypes s
   unfolding newType newTypes
-  number-in t l = kept-strict (keptType s) (head s t) (types s) (head-kept t l) (omega (arith, head-of t l .low))
+  number-in t l = kept-strict (keptType s) (representative s t) (types s) (head-kept t l) (omega (arith, head-of t l .low))
 
   pub number-kept : (t : ℕ) → keptType s t ≡ true → newType s t ≡ keptBelow (keptType s) t
   unfolding newType
   number-kept t k = ap (keptBelow (keptType s)) (kept-head t k)
 
-  -- one that is not has the number of its head
-  pub number-merged : (t : ℕ) → t < types s → newType s t ≡ newType s (head s t)
+  -- one that is not has the number of its representative
+  pub number-merged : (t : ℕ) → t < types s → newType s t ≡ newType s (representative s t)
   unfolding newType
-  number-merged t l = ap (keptBelow (keptType s)) (sym (kept-head (head s t) (head-kept t l)))
+  number-merged t l = ap (keptBelow (keptType s)) (sym (kept-head (representative s t) (head-kept t l)))
 
   -- a type that is kept has a higher number than all below it
   pub number-below : (u t : ℕ) → u < t → t < types s → keptType s t ≡ true → newType s u < keptBelow (keptType s) t
   unfolding newType
   number-below u t h l k =
       let m : u < types s = omega arith in
-      kept-strict (keptType s) (head s u) t (head-kept u m) (omega (arith, head-of u m .low))
+      kept-strict (keptType s) (representative s u) t (head-kept u m) (omega (arith, head-of u m .low))
 
-  -- the same number, the same head
-  pub number-head : (t u : ℕ) → t < types s → u < types s → newType s t ≡ newType s u → head s t ≡ head s u
+  -- the same number, the same representative
+  pub number-head : (t u : ℕ) → t < types s → u < types s → newType s t ≡ newType s u → representative s t ≡ representative s u
   unfolding newType
-  number-head t u l m e = kept-one (keptType s) (head s t) (head s u) (head-kept t l) (head-kept u m) e
+  number-head t u l m e = kept-one (keptType s) (representative s t) (representative s u) (head-kept t l) (head-kept u m) e
 
   -- ---- the renumbering, as the rules see it
-  head-in : (t : ℕ) → t < types s → head s t < types s
+  head-in : (t : ℕ) → t < types s → representative s t < types s
   head-in t l = omega (arith, head-of t l .low)
 
   pub fun-low : (t : ℕ) → typesOf s .isFun t ≡ true → 2 ≤ t
@@ -292,20 +294,20 @@ module _ (s : List ℕ) (w : WellFormed s) where
   pub new-arg : (t : ℕ) → t < types s → typesOf (leanSheet s) .arg (newType s t) ≡ newType s (typesOf s .arg t)
   unfolding newType
   new-arg t l =
-      type-arg s w (head s t) (head-kept t l) (head-in t l) ∙ ap (keptBelow (keptType s)) (head-of t l .same .args)
+      type-arg s w (representative s t) (head-kept t l) (head-in t l) ∙ ap (keptBelow (keptType s)) (head-of t l .same .args)
 
   pub new-res : (t : ℕ) → t < types s → typesOf (leanSheet s) .res (newType s t) ≡ newType s (typesOf s .res t)
   unfolding newType
   new-res t l =
-      type-res s w (head s t) (head-kept t l) (head-in t l) ∙ ap (keptBelow (keptType s)) (head-of t l .same .results)
+      type-res s w (representative s t) (head-kept t l) (head-in t l) ∙ ap (keptBelow (keptType s)) (head-of t l .same .results)
 
   pub new-latent : (t : ℕ) → t < types s → typesOf (leanSheet s) .latent (newType s t) ≡ 0
   unfolding newType
-  new-latent t l = type-latent s w (head s t) (head-kept t l) (head-in t l)
+  new-latent t l = type-latent s w (representative s t) (head-kept t l) (head-in t l)
 
   -- records that become equal are merged
   merge : (t u : ℕ) → t < types s → u < types s → byte s (typeAt s t) ≡ byte s (typeAt s u) → newType s (typesOf s .arg t) ≡ newType s (typesOf s .arg u)
-      → newType s (typesOf s .res t) ≡ newType s (typesOf s .res u) → head s t ≡ head s u
+      → newType s (typesOf s .res t) ≡ newType s (typesOf s .res u) → representative s t ≡ representative s u
   merge t u l m ek ea er =
       let a = lower t (types s) l (omega arith) (omega arith) in
       let b = lower u (types s) m (omega arith) (omega arith) in
@@ -432,13 +434,13 @@ module _ (s : List ℕ) (w : WellFormed s) where
       word : (i : ℕ) → typeBytes s t ≡ typeBytes s u → word16 (typeBytes s t) i ≡ word16 (typeBytes s u) i
       word i e = ap (λ (b : List ℕ). word16 b i) e
 
-      forth : typeBytes s t ≡ typeBytes s u → head s t ≡ head s u
+      forth : typeBytes s t ≡ typeBytes s u → representative s t ≡ representative s u
       forth e =
           merge t u l m (ap (λ (b : List ℕ). byte b 0) e)
           (sym (written16 (newType s (typesOf s .arg t))) ∙ word 2 e ∙ written16 (newType s (typesOf s .arg u)))
           (sym (written16 (newType s (typesOf s .res t))) ∙ word 4 e ∙ written16 (newType s (typesOf s .res u)))
 
-      back : head s t ≡ head s u → typeBytes s t ≡ typeBytes s u
+      back : representative s t ≡ representative s u → typeBytes s t ≡ typeBytes s u
       back e =
           let q = same-trans (head-of t l .same) (subst (λ (x : ℕ). BecomeEqual s x u) (sym e) (same-sym (head-of u m .same))) in
           λ i. sym (q .kinds) i ∷ 0 ∷ bytes16 (keptBelow (keptType s) (sym (q .args) i)) ++ bytes16 (keptBelow (keptType s) (sym (q .results) i))
@@ -449,17 +451,17 @@ module _ (s : List ℕ) (w : WellFormed s) where
   unfolding newType keptType
   kept-exactly t l = (forth, back)
     where
-      forth : eqb (head s t) t ≡ true → (u : ℕ) → u < t → typeBytes s u ≡ typeBytes s t → ⊥
+      forth : eqb (representative s t) t ≡ true → (u : ℕ) → u < t → typeBytes s u ≡ typeBytes s t → ⊥
       forth k u h e =
           let m : u < types s = omega arith in
-          let q : head s u ≡ head s t = number-head u t m l (merged-exactly u t m l .0 e) in
-          omega (arith, q, eqb-true (head s t) t k, head-of u m .low)
+          let q : representative s u ≡ representative s t = number-head u t m l (merged-exactly u t m l .0 e) in
+          omega (arith, q, eqb-true (representative s t) t k, head-of u m .low)
 
-      back : ((u : ℕ) → u < t → typeBytes s u ≡ typeBytes s t → ⊥) → eqb (head s t) t ≡ true
+      back : ((u : ℕ) → u < t → typeBytes s u ≡ typeBytes s t → ⊥) → eqb (representative s t) t ≡ true
       back differ =
           let a = head-of t l in
-          elim (decLt (head s t) t) [
-            | yes h ↦ absurd (differ (head s t) h (merged-exactly (head s t) t (head-in t l) l .1
-                (ap (keptBelow (keptType s)) (kept-head (head s t) (head-kept t l)))))
-            | no h ↦ eq-eqb (head s t) t (omega (arith, a .low))
+          elim (decLt (representative s t) t) [
+            | yes h ↦ absurd (differ (representative s t) h (merged-exactly (representative s t) t (head-in t l) l .1
+                (ap (keptBelow (keptType s)) (kept-head (representative s t) (head-kept t l)))))
+            | no h ↦ eq-eqb (representative s t) t (omega (arith, a .low))
           ]

@@ -10,7 +10,7 @@ use Rattle.privileges.specs.Laws.{⊆-none, ⊆-refl, union-⊆}
 use Rattle.program.specs.Layout.{Types}
 use Rattle.program.specs.Terms.{Op, sum, difference, less, Term}
 use Rattle.typing.specs.Subtyping.{Subtype, sub-same, sub-fun, Wider, wider-second, wider-first}
-use Rattle.typing.specs.Rules.{bound, resultType, current, Derives, d-boolean, d-number, d-variable, d-function, d-letrec, d-call, d-if, d-check, d-enable, d-sign, d-binary, d-post, d-widen}
+use Rattle.typing.specs.Rules.{lookupType, resultType, current, Derives, d-boolean, d-number, d-variable, d-function, d-letrec, d-call, d-if, d-check, d-enable, d-sign, d-binary, d-post, d-widen}
 use Rattle.erasure.specs.Laws.Erases.{Erases, e-boolean, e-number, e-variable, e-function, e-letrec, e-call, e-if, e-check, e-enable, e-sign, e-binary, e-post}
 
 -- The types T′ are those of T, renumbered by ρ: parts go along, latent sets are empty, and those that become equal are one.
@@ -23,7 +23,7 @@ pub record Renames (T T′ : Types) (ρ : ℕ → ℕ) : Type 0 where
   pub latent-empty : (t : ℕ) → T .isFun t ≡ true → T′ .latent (ρ t) ≡ 0
   pub merged : (t u : ℕ) → T .isFun t ≡ true → T .isFun u ≡ true → ρ (T .arg t) ≡ ρ (T .arg u) → ρ (T .res t) ≡ ρ (T .res u) → ρ t ≡ ρ u
 
-bound-map : (ρ : ℕ → ℕ) (Γ : List ℕ) (i τ : ℕ) → bound Γ i ≡ some τ → bound (map ρ Γ) i ≡ some (ρ τ)
+bound-map : (ρ : ℕ → ℕ) (Γ : List ℕ) (i τ : ℕ) → lookupType Γ i ≡ some τ → lookupType (map ρ Γ) i ≡ some (ρ τ)
 bound-map ρ [] i τ e = cc
 bound-map ρ (σ ∷ Γ) zero τ e = let q : σ ≡ τ = cc in ap (λ (x : ℕ). some (ρ x)) q
 bound-map ρ (σ ∷ Γ) (suc i) τ e = bound-map ρ Γ i τ e

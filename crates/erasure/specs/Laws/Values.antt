@@ -14,7 +14,7 @@ use Rattle.program.specs.Decoding.{partOk, formatAt}
 use Rattle.program.specs.Laws.Readable.{WellFormed}
 use Rattle.program.specs.Laws.Trees.{parts}
 use Rattle.erasure.specs.Kept.{gather}
-use Rattle.erasure.specs.Lean.{keptType, newTypes, newType, keptTerm, newTerms, newTerm, bytes16, typeBytes, newPart, termBytes, typePart, termPart, leanSheet}
+use Rattle.erasure.specs.Lean.{keptType, newTypes, newType, keptTerm, newTerms, newTerm, bytes16, typeBytes, newPart, termBytes, typeFieldBytes, termFieldBytes, leanSheet}
 use Rattle.erasure.specs.Laws.Types.{lower, fun-in, number-in, new-types-most}
 use Rattle.erasure.specs.Laws.Terms.{term-in, new-terms-most}
 
@@ -103,7 +103,7 @@ module _ (s : List ℕ) (w : WellFormed s) where
     lean-bytes =
         let types-fit : 10 * newTypes s < 65536 = omega (arith, new-types-most s w, w .types-most) in
         let terms-fit : 8 * newTerms s < 65536 = omega (arith, new-terms-most s w, w .terms-most) in
-        bytes-append (take (typeField s) s) (typePart s ++ termPart s) (bytes-take (typeField s) s b)
-        (bytes-append (typePart s) (termPart s)
+        bytes-append (take (typeField s) s) (typeFieldBytes s ++ termFieldBytes s) (bytes-take (typeField s) s b)
+        (bytes-append (typeFieldBytes s) (termFieldBytes s)
         (bytes-cons (omega arith) (bytes-number (10 * newTypes s) _ types-fit (bytes-gather (keptType s) (typeBytes s) (types s) type-bytes)))
         (bytes-cons (omega arith) (bytes-number (8 * newTerms s) _ terms-fit (bytes-gather (keptTerm s) (termBytes s) (terms s) term-bytes))))

@@ -40,7 +40,7 @@ use Rattle.evaluator.proofs.+apply+eval+eval_enable+eval_first+eval_sec
 use Rattle.evaluator.proofs.eval_tail.Reads as eval-tail
 use Rattle.evaluator.proofs.eval_tail.Kinds as eval-tail-kinds
 use Rattle.evaluator.proofs.+apply+eval+eval_enable+eval_first+eval_second+eval_tail.Lts-eval_tail as eval-tail-lts
-use Rattle.machine.proofs.enter.enter.Reads as enter-reads
+use Rattle.machine.proofs.tail.tail_step.Reads as tail-step-reads
 use Rattle.machine.proofs.steps.append.Reads as append-reads
 use Rattle.machine.proofs.steps.choose.Reads as choose-reads
 use Rattle.machine.proofs.steps.operate.Reads as operate-reads
@@ -749,19 +749,19 @@ eval-second-returns-3 t c =
     })
 
 abbrev eval-tail-claims : ℕ → eval-tail-lts.Claims
-eval-tail-claims t = (enter-reads.Asked, enter-reads.Learnt, is-stop-reads.Asked, is-stop-reads.Learnt, eval-below t, eval.Post)
+eval-tail-claims t = (tail-step-reads.Asked, tail-step-reads.Learnt, is-stop-reads.Asked, is-stop-reads.Learnt, eval-below t, eval.Post)
 
-eval-tail-slice-aggregate-enter : (t : ℕ) → eval-tail-lts.Need-slice-aggregate-enter (eval-tail-claims t) (eval-tail-at t) eval-tail.Post
-eval-tail-slice-aggregate-enter t c = search needs
+eval-tail-slice-aggregate-tail-step : (t : ℕ) → eval-tail-lts.Need-slice-aggregate-tail-step (eval-tail-claims t) (eval-tail-at t) eval-tail.Post
+eval-tail-slice-aggregate-tail-step t c = search needs
 
-eval-tail-slice-aggregate-enter-2 : (t : ℕ) → eval-tail-lts.Need-slice-aggregate-enter-2 (eval-tail-claims t) (eval-tail-at t) eval-tail.Post
-eval-tail-slice-aggregate-enter-2 t c = search needs
+eval-tail-slice-aggregate-tail-step-2 : (t : ℕ) → eval-tail-lts.Need-slice-aggregate-tail-step-2 (eval-tail-claims t) (eval-tail-at t) eval-tail.Post
+eval-tail-slice-aggregate-tail-step-2 t c = search needs
 
-eval-tail-slice-aggregate-enter-3 : (t : ℕ) → eval-tail-lts.Need-slice-aggregate-enter-3 (eval-tail-claims t) (eval-tail-at t) eval-tail.Post
-eval-tail-slice-aggregate-enter-3 t c = search needs
+eval-tail-slice-aggregate-tail-step-3 : (t : ℕ) → eval-tail-lts.Need-slice-aggregate-tail-step-3 (eval-tail-claims t) (eval-tail-at t) eval-tail.Post
+eval-tail-slice-aggregate-tail-step-3 t c = search needs
 
-eval-tail-enter-requires : (t : ℕ) → eval-tail-lts.Need-enter-requires (eval-tail-claims t) (eval-tail-at t) eval-tail.Post
-eval-tail-enter-requires t c κs =
+eval-tail-tail-step-requires : (t : ℕ) → eval-tail-lts.Need-tail-step-requires (eval-tail-claims t) (eval-tail-at t) eval-tail.Post
+eval-tail-tail-step-requires t c κs =
     let start = c .before .before .before .before in
     record { kind = start .pre .1 .tail; privilege = lower (start .pre .1 .node) .privilege }
 
@@ -770,25 +770,25 @@ eval-tail-is-stop-requires t c κs = search needs
 
 eval-tail-returns : (t : ℕ) → eval-tail-lts.Need-returns (eval-tail-claims t) (eval-tail-at t) eval-tail.Post
 eval-tail-returns t c =
-    let at-enter = c .before .before in
-    let start = at-enter .before .before .before .before .before in
+    let at-tail-step = c .before .before in
+    let start = at-tail-step .before .before .before .before .before in
     record {
-      done = sym (tail-stops (start .pre .1) _ _ _ (at-enter .enter .ensures) _ (sym (c .before .is-stop .ensures) ∙ c .if1 .taken));
+      done = sym (tail-stops (start .pre .1) _ _ _ (at-tail-step .tail-step .ensures) _ (sym (c .before .is-stop .ensures) ∙ c .if1 .taken));
       calls = omega
-          (arith, at-enter .enter .ensures .calls);
+          (arith, at-tail-step .tail-step .ensures .calls);
       names = refl;
     }
 
 eval-tail-eval-requires : (t : ℕ) → eval-tail-lts.Need-eval-requires (eval-tail-claims t) (eval-tail-at t) eval-tail.Post
 eval-tail-eval-requires t c κs =
-    let at-enter = c .before .before .before .before .before .before .before in
-    let start = at-enter .before .before .before .before .before in (
+    let at-tail-step = c .before .before .before .before .before .before .before in
+    let start = at-tail-step .before .before .before .before .before in (
       omega (
         arith,
         start .pre .0,
-        at-enter .enter .ensures .calls,
+        at-tail-step .tail-step .ensures .calls,
         next-below (start .pre .1) 0 (start .args .env) (start .args .access)
-            (at-enter .enter .ensures),
+            (at-tail-step .tail-step .ensures),
       ),
       start .pre .1 .node .ready,
     )
@@ -797,10 +797,10 @@ eval-tail-returns-2 : (t : ℕ) → eval-tail-lts.Need-returns-2 (eval-tail-clai
 eval-tail-returns-2 t c =
     let at-if1 = c .before .before .before .before .before .before in
     let at-is-stop = at-if1 .before in
-    let at-enter = at-is-stop .before in
-    let start = at-enter .before .before .before .before .before in
-    goes-on (tail-goes (start .pre .1) _ _ _ (at-enter .enter .ensures) _ (sym (at-is-stop .is-stop .ensures) ∙ at-if1 .if1 .left))
-    (omega (arith, at-enter .enter .ensures .calls)) refl (c .eval .ensures)
+    let at-tail-step = at-is-stop .before in
+    let start = at-tail-step .before .before .before .before .before in
+    goes-on (tail-goes (start .pre .1) _ _ _ (at-tail-step .tail-step .ensures) _ (sym (at-is-stop .is-stop .ensures) ∙ at-if1 .if1 .left))
+    (omega (arith, at-tail-step .tail-step .ensures .calls)) refl (c .eval .ensures)
 
 pub +apply+eval+eval-enable+eval-first+eval-second+eval-tail-spec : {M : Type 1} → statement M
 +apply+eval+eval-enable+eval-first+eval-second+eval-tail-spec =
@@ -910,10 +910,10 @@ pub +apply+eval+eval-enable+eval-first+eval-second+eval-tail-spec : {M : Type 1}
     λ t. eval-tail-lts.spec (eval-tail-claims t)
     (eval-tail-at t)
     eval-tail.Post
-    (eval-tail-slice-aggregate-enter t)
-    (eval-tail-slice-aggregate-enter-2 t)
-    (eval-tail-slice-aggregate-enter-3 t)
-    (eval-tail-enter-requires t)
+    (eval-tail-slice-aggregate-tail-step t)
+    (eval-tail-slice-aggregate-tail-step-2 t)
+    (eval-tail-slice-aggregate-tail-step-3 t)
+    (eval-tail-tail-step-requires t)
     (eval-tail-is-stop-requires t)
     (eval-tail-returns t)
     (eval-tail-eval-requires t)

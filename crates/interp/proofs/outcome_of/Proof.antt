@@ -1,8 +1,8 @@
 -- A stop, a boolean, a number and a function each give the outcome of the definition; a function is stop 18 at the root.
 use mathlib.Core.Path.{ap, _∙_}
 use borrow.Author.Needs.{needs}
-use Rattle.stores.specs.declared.state.Value.{Value}
-use Rattle.stores.specs.declared.state.Out.the-variants.{Val}
+use Rattle.stores.specs.declared.values.Value.{Value}
+use Rattle.stores.specs.declared.values.Out.the-variants.{Val}
 use Rattle.interp.proofs.RunLaws.{outcome-same}
 use Rattle.interp.proofs.outcome_of.Statement.{statement}
 use Rattle.interp.proofs.outcome_of.Tie as tie

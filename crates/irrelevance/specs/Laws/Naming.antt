@@ -12,7 +12,7 @@ use Rattle.program.specs.Screening.{Screening, clear, found, none-end, none-nex
 use Rattle.program.specs.Decoding.{decodingConditions, decoding}
 use Rattle.program.specs.Laws.Screening.{clear-none, none-clear, none-append, append-none, none-cons, unless-none, none-unless, lowest-none, lowest-some, lowest-at}
 use Rattle.semantics.specs.Names.{names}
-use Rattle.irrelevance.specs.Naming.{refused, firstNaming, namingOf, namingConditions, naming}
+use Rattle.irrelevance.specs.Naming.{refused, lowestNaming, namingOf, namingConditions, naming}
 use Rattle.irrelevance.specs.Claims.{Unnamed, LowestNaming, Answerable}
 
 -- ---- the constructors apart
@@ -31,19 +31,19 @@ module _ (s : List ℕ) (p : ℕ) where
   abbrev other : ℕ → Bool
   other t = not (names s p t)
 
-  pub none-unnamed : firstNaming s p ≡ none → Unnamed s p
+  pub none-unnamed : lowestNaming s p ≡ none → Unnamed s p
   none-unnamed e = record { by-none = λ t l. not-true (names s p t) (lowest-none other 0 (terms s) e t (omega arith) (omega arith)) }
 
-  pub unnamed-none : Unnamed s p → firstNaming s p ≡ none
-  unnamed-none u = go (firstNaming s p) refl
+  pub unnamed-none : Unnamed s p → lowestNaming s p ≡ none
+  unnamed-none u = go (lowestNaming s p) refl
     where
-      go : (o : Option ℕ) → firstNaming s p ≡ o → o ≡ none
+      go : (o : Option ℕ) → lowestNaming s p ≡ o → o ≡ none
       go none e = refl
       go (some t) e =
           let l = lowest-some other 0 (terms s) t e in
           absurd (true≢false (sym (not-false (names s p t) (l .fails)) ∙ u .by-none t (omega (arith, l .inside))))
 
-  pub some-lowest : (t : ℕ) → firstNaming s p ≡ some t → LowestNaming s p t
+  pub some-lowest : (t : ℕ) → lowestNaming s p ≡ some t → LowestNaming s p t
   some-lowest t e =
       let l = lowest-some other 0 (terms s) t e in
       record {
@@ -52,7 +52,7 @@ module _ (s : List ℕ) (p : ℕ) where
         none-lower = λ u h. not-true (names s p u) (l .least u (omega arith) h);
       }
 
-  pub lowest-first : (t : ℕ) → LowestNaming s p t → firstNaming s p ≡ some t
+  pub lowest-first : (t : ℕ) → LowestNaming s p t → lowestNaming s p ≡ some t
   lowest-first t l = lowest-at other 0 (terms s) t
       (record { from = omega arith; inside = omega (arith, l .inside); fails = ap not (l .names-it); least = λ u g h. ap not (l .none-lower u h) })
 
@@ -69,27 +69,27 @@ module _ (s : List ℕ) (p : ℕ) where
       none-clear (append-none (clear-none (decodingConditions s) (a .readable)) (none-next (none-unless 30 (le-leb p maxPrivilege (a .privilege))) none-end))
 
   -- ---- the answer
-  pub answerable-naming : Answerable s p → naming s p ≡ namingOf (firstNaming s p)
+  pub answerable-naming : Answerable s p → naming s p ≡ namingOf (lowestNaming s p)
   unfolding naming
-  answerable-naming a = λ i. unlessFound refused (answerable-clear a i) (λ _. namingOf (firstNaming s p))
+  answerable-naming a = λ i. unlessFound refused (answerable-clear a i) (λ _. namingOf (lowestNaming s p))
 
-  pub naming-answerable : (o : Option ℕ) → naming s p ≡ namingOf o → Answerable s p × (firstNaming s p ≡ o)
+  pub naming-answerable : (o : Option ℕ) → naming s p ≡ namingOf o → Answerable s p × (lowestNaming s p ≡ o)
   unfolding naming
   naming-answerable o e = go (screen (namingConditions s p)) refl e
     where
-      go : (z : Screening) → screen (namingConditions s p) ≡ z → unlessFound refused z (λ _. namingOf (firstNaming s p)) ≡ namingOf o
-          → Answerable s p × (firstNaming s p ≡ o)
-      go clear h e = (clear-answerable h, naming-injective (firstNaming s p) o e)
+      go : (z : Screening) → screen (namingConditions s p) ≡ z → unlessFound refused z (λ _. namingOf (lowestNaming s p)) ≡ namingOf o
+          → Answerable s p × (lowestNaming s p ≡ o)
+      go clear h e = (clear-answerable h, naming-injective (lowestNaming s p) o e)
       go (found c q) h e = refused≢naming o e
 
   pub found-refused : (c q : ℕ) → screen (namingConditions s p) ≡ found c q → naming s p ≡ refused c q
   unfolding naming
-  found-refused c q e = λ i. unlessFound refused (e i) (λ _. namingOf (firstNaming s p))
+  found-refused c q e = λ i. unlessFound refused (e i) (λ _. namingOf (lowestNaming s p))
 
   pub refused-found : (c q : ℕ) → naming s p ≡ refused c q → screen (namingConditions s p) ≡ found c q
   unfolding naming
   refused-found c q e = go (screen (namingConditions s p)) e
     where
-      go : (z : Screening) → unlessFound refused z (λ _. namingOf (firstNaming s p)) ≡ refused c q → z ≡ found c q
-      go clear e = refused≢naming (firstNaming s p) (sym e)
+      go : (z : Screening) → unlessFound refused z (λ _. namingOf (lowestNaming s p)) ≡ refused c q → z ≡ found c q
+      go clear e = refused≢naming (lowestNaming s p) (sym e)
       go (found d r) e = let a : d ≡ c = cc in let b : r ≡ q = cc in λ i. found (a i) (b i)

@@ -8,14 +8,15 @@ use Rattle.lines.proofs.ServeLaws.{nobody-served, has-one, outside-serv
 use Rattle.lines.proofs.serve.Statement.{statement}
 use Rattle.lines.proofs.serve.Tie as tie
 
-next-line-requires : tie.Need-next-line-requires
-next-line-requires c κs = search needs
+line-in-turn-requires : tie.Need-line-in-turn-requires
+line-in-turn-requires c κs = search needs
 
 returns : tie.Need-returns
 returns c =
-    let at-next-line = c .before in
-    let start = at-next-line .before .before .before .before in
-    nobody-served (start .args .t1) (at-next-line .next-line .result) (at-next-line .next-line .ensures) (start .args .store .now) (start .args .cells .now)
+    let at-line-in-turn = c .before in
+    let start = at-line-in-turn .before .before .before .before in
+    nobody-served (start .args .t1) (at-line-in-turn .line-in-turn .result) (at-line-in-turn .line-in-turn .ensures) (start .args .store .now)
+    (start .args .cells .now)
     (start .args .posts .now) (c .if1 .taken)
 
 mul-queue : tie.Need-mul-queue
@@ -26,16 +27,17 @@ element-copy-out-queue c = search needs
 
 dequeue-requires : tie.Need-dequeue-requires
 dequeue-requires c κs =
-    let at-next-line = c .before .before in
-    let start = at-next-line .before .before .before .before in
-    has-one (start .args .t1) (at-next-line .next-line .result) (at-next-line .next-line .ensures) (start .args .store .now) (start .args .cells .now)
+    let at-line-in-turn = c .before .before in
+    let start = at-line-in-turn .before .before .before .before in
+    has-one (start .args .t1) (at-line-in-turn .line-in-turn .result) (at-line-in-turn .line-in-turn .ensures) (start .args .store .now)
+    (start .args .cells .now)
     (start .args .posts .now) (c .before .if1 .left)
 
 inside-requires : tie.Need-inside-requires
 inside-requires c κs = search needs
 
-turned-requires : tie.Need-turned-requires
-turned-requires c κs = search needs
+after-turn-requires : tie.Need-after-turn-requires
+after-turn-requires c κs = search needs
 
 cast-t26 : tie.Need-cast-t26
 cast-t26 c = search needs
@@ -45,23 +47,25 @@ returns-2 c =
     let at-inside = c .before .before in
     let at-dequeue = at-inside .before .before .before in
     let at-if1 = at-dequeue .before .before in
-    let at-next-line = at-if1 .before in
-    let start = at-next-line .before .before .before .before in
-    outside-served (start .args .t1) (at-next-line .next-line .result) (at-next-line .next-line .ensures) (start .args .store .now) (start .args .cells .now)
+    let at-line-in-turn = at-if1 .before in
+    let start = at-line-in-turn .before .before .before .before in
+    outside-served (start .args .t1) (at-line-in-turn .line-in-turn .result) (at-line-in-turn .line-in-turn .ensures) (start .args .store .now)
+    (start .args .cells .now)
     (start .args .posts .now) (at-if1 .if1 .left) (at-dequeue .dequeue .result) (at-dequeue .dequeue .ensures) (at-inside .inside .result)
-    (at-inside .inside .ensures) (not-true _ (c .before .if2 .taken)) (c .turned .ensures)
+    (at-inside .inside .ensures) (not-true _ (c .before .if2 .taken)) (c .after-turn .ensures)
 
 run-job-requires : tie.Need-run-job-requires
 run-job-requires c κs = sym (c .before .before .before .inside .ensures) ∙ not-false _ (c .before .before .if2 .left)
 
-passed-requires : tie.Need-passed-requires
-passed-requires c κs =
+advance-requires : tie.Need-advance-requires
+advance-requires c κs =
     let at-run-job = c .before .before .before .before in
     let at-dequeue = at-run-job .before .before .before .before .before .before .before in
     let at-if1 = at-dequeue .before .before in
-    let at-next-line = at-if1 .before in
-    let start = at-next-line .before .before .before .before in
-    may-move (start .args .t1) (at-next-line .next-line .result) (at-next-line .next-line .ensures) (start .args .store .now) (start .args .cells .now)
+    let at-line-in-turn = at-if1 .before in
+    let start = at-line-in-turn .before .before .before .before in
+    may-move (start .args .t1) (at-line-in-turn .line-in-turn .result) (at-line-in-turn .line-in-turn .ensures) (start .args .store .now)
+    (start .args .cells .now)
     (start .args .posts .now) (at-if1 .if1 .left) (at-dequeue .dequeue .result) (at-dequeue .dequeue .ensures) (at-run-job .run-job .result)
     (at-run-job .run-job .ensures) (start .good .0 .1 .1 .1 .1 .0 .1) (start .good .1 .1 .1 .0 .0)
 
@@ -81,27 +85,28 @@ returns-3 c =
     let at-inside = at-if2 .before in
     let at-dequeue = at-inside .before .before .before in
     let at-if1 = at-dequeue .before .before in
-    let at-next-line = at-if1 .before in
-    let start = at-next-line .before .before .before .before in
-    run-served (start .args .t1) (at-next-line .next-line .result) (at-next-line .next-line .ensures) (start .args .store .now) (start .args .cells .now)
+    let at-line-in-turn = at-if1 .before in
+    let start = at-line-in-turn .before .before .before .before in
+    run-served (start .args .t1) (at-line-in-turn .line-in-turn .result) (at-line-in-turn .line-in-turn .ensures) (start .args .store .now)
+    (start .args .cells .now)
     (start .args .posts .now) (at-if1 .if1 .left) (at-dequeue .dequeue .result) (at-dequeue .dequeue .ensures) (at-inside .inside .result)
-    (at-inside .inside .ensures) (not-false _ (at-if2 .if2 .left)) (at-run-job .run-job .result) (at-run-job .run-job .ensures) (c .passed .ensures)
+    (at-inside .inside .ensures) (not-false _ (at-if2 .if2 .left)) (at-run-job .run-job .result) (at-run-job .run-job .ensures) (c .advance .ensures)
 
 pub serve-spec : {M : Type 1} → statement M
 serve-spec =
     tie.close
     (tie.spec
-    next-line-requires
+    line-in-turn-requires
     returns
     mul-queue
     element-copy-out-queue
     dequeue-requires
     inside-requires
-    turned-requires
+    after-turn-requires
     cast-t26
     returns-2
     run-job-requires
-    passed-requires
+    advance-requires
     cast-t32
     same-length
     same-length-2

@@ -9,18 +9,18 @@ returns c =
     let start = c .before .before in
     too-high (start .args .s .now) (start .args .privilege) (c .if1 .taken)
 
-cast-first-naming : tie.Need-cast-first-naming
-cast-first-naming c = search needs
+cast-lowest-naming : tie.Need-cast-lowest-naming
+cast-lowest-naming c = search needs
 
-first-naming-requires : tie.Need-first-naming-requires
-first-naming-requires c κs = search needs
+lowest-naming-requires : tie.Need-lowest-naming-requires
+lowest-naming-requires c κs = search needs
 
 returns-2 : tie.Need-returns-2
 returns-2 c =
     let start = c .before .before .before in
-    not-above (start .args .s .now) (start .args .privilege) (c .before .if1 .left) (c .first-naming .ensures)
+    not-above (start .args .s .now) (start .args .privilege) (c .before .if1 .left) (c .lowest-naming .ensures)
 
 pub names-readable-spec : {M : Type 1} → statement M
 names-readable-spec =
     tie.close
-    (tie.spec returns cast-first-naming first-naming-requires returns-2)
+    (tie.spec returns cast-lowest-naming lowest-naming-requires returns-2)

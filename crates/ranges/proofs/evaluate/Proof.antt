@@ -1,5 +1,5 @@
 -- The words of the terms are decoded and have the pairs laid in: they are as the evaluator asks (laid-table) and as the refinement asks (interval-table).
--- The run holds the start stack's grants and, above the root, the set of principal 0, as the meaning does (ranges-after).
+-- The run holds the start stack's grants and, above the root, the set of principal 0, as the meaning does (intervals-after).
 use native.Mathlib.Omega.{arith}
 use borrow.Author.Needs.{needs}
 use mathlib.Core.List.{[], _∷_}
@@ -42,8 +42,8 @@ slice-aggregate-evaluate-words c = search needs
 slice-aggregate-evaluate-words-2 : tie.Need-slice-aggregate-evaluate-words-2
 slice-aggregate-evaluate-words-2 c = search needs
 
-interval-mode-requires : tie.Need-interval-mode-requires
-interval-mode-requires c κs = search needs
+mode-over-intervals-requires : tie.Need-mode-over-intervals-requires
+mode-over-intervals-requires c κs = search needs
 
 evaluate-words-requires : tie.Need-evaluate-words-requires
 evaluate-words-requires c κs =
@@ -64,8 +64,8 @@ same-length-2 c = search needs
 returns : tie.Need-returns
 returns c =
     let at-evaluate-words = c .before .before .before .before .before .before .before .before in
-    let at-interval-mode = at-evaluate-words .before in
-    let at-start-access = at-interval-mode .before .before .before .before .before .before in
+    let at-mode-over-intervals = at-evaluate-words .before in
+    let at-start-access = at-mode-over-intervals .before .before .before .before .before .before in
     let at-lay-pairs = at-start-access .before in
     let at-decode-terms = at-lay-pairs .before .before in
     let start = at-decode-terms .before .before .before .before .before .before .before .before in
@@ -73,7 +73,8 @@ returns c =
     (start .args .posts .now) (start .args .calls) (start .args .depth) (start .pre .cleared) (start .pre .pairs-ok) (0 ∷ []) [] (c .outcome-of .result)
     (interval-table (start .pre .cleared .well-formed) (start .pre .cleared .counts) (at-decode-terms .decode-terms .ensures)
     (at-lay-pairs .lay-pairs .ensures))
-    (at-start-access .start-access .ensures) (at-interval-mode .interval-mode .ensures) (at-evaluate-words .evaluate-words .ensures) (c .outcome-of .ensures)
+    (at-start-access .start-access .ensures) (at-mode-over-intervals .mode-over-intervals .ensures) (at-evaluate-words .evaluate-words .ensures)
+    (c .outcome-of .ensures)
 
 pub evaluate-spec : {M : Type 1} → statement M
 evaluate-spec =
@@ -85,7 +86,7 @@ evaluate-spec =
     start-access-requires
     slice-aggregate-evaluate-words
     slice-aggregate-evaluate-words-2
-    interval-mode-requires
+    mode-over-intervals-requires
     evaluate-words-requires
     outcome-of-requires
     same-length

@@ -3,8 +3,8 @@ use borrow.Author.Needs.{needs}
 use mathlib.Core.Path.{ap, _∙_}
 use Rattle.semantics.specs.Runs.{ended, ground-bool, ground-num}
 use Rattle.intervals.specs.Intervals.{interval}
-use Rattle.stores.specs.declared.state.Value.{Value}
-use Rattle.stores.specs.declared.state.Out.the-variants.{Val}
+use Rattle.stores.specs.declared.values.Value.{Value}
+use Rattle.stores.specs.declared.values.Out.the-variants.{Val}
 use Rattle.refinement.specs.Claims.{decidedBy}
 use Rattle.ranges.proofs.IntervalLaws.{outcome-by}
 use Rattle.ranges.proofs.outcome_of.Statement.{statement}

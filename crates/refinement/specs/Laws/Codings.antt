@@ -5,7 +5,7 @@ use Prim.Native.Nat.{ℕ, _<_}
 use Rattle.program.specs.Terms.{Op, sum, difference, less}
 use Rattle.semantics.specs.Domains.{Domain}
 use Rattle.semantics.specs.Runs.{ground-bool, ground-num, OutcomeOf, ended, stopped}
-use Rattle.stores.specs.declared.state.Stop.{Stop}
+use Rattle.stores.specs.declared.values.Stop.{Stop}
 use Rattle.stores.specs.Words.{booleanWord, sortOf, payloadOf}
 use Rattle.access.specs.Access.{intervalMode}
 use Rattle.stores.specs.Stops.{stopCause, stopPlace}

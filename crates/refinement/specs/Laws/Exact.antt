@@ -15,9 +15,9 @@ use Rattle.program.specs.Laws.Records.{term-is}
 use Rattle.program.specs.declared.records.Counts.{Counts}
 use Rattle.semantics.specs.Domains.{saturates, postEntry, single, standard}
 use Rattle.semantics.specs.Runs.{ground-bool, ended}
-use Rattle.stores.specs.declared.state.Stop.{Stop}
-use Rattle.stores.specs.declared.state.Stop.the-variants.{Check, Stuck, OpenCalls, Calls, Cells, Posts, Undecided}
-use Rattle.stores.specs.declared.state.Out.the-variants.{Stop as Stopped}
+use Rattle.stores.specs.declared.values.Stop.{Stop}
+use Rattle.stores.specs.declared.values.Stop.the-variants.{Check, Stuck, OpenCalls, Calls, Cells, Posts, Undecided}
+use Rattle.stores.specs.declared.values.Out.the-variants.{Stop as Stopped}
 use Rattle.stores.specs.Words.{booleanWord, numberWord, intervalWord, payloadOf, envOf, outBy, outOf}
 use Rattle.access.specs.Access.{intervalMode}
 use Rattle.stores.specs.Stops.{stopCause, stopPlace}

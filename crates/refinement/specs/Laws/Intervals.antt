@@ -14,8 +14,8 @@ use Rattle.program.specs.declared.records.Counts.{Counts}
 use Rattle.semantics.specs.Runs.{ended, ground-bool, stopped}
 use Rattle.intervals.specs.Intervals.{Interval, sumOf, differenceOf, lessOf, intervalEntry, intervals}
 use Rattle.intervals.specs.Pairs.{pairOf, overIntervals}
-use Rattle.stores.specs.declared.state.Stop.{Stop}
-use Rattle.stores.specs.declared.state.Stop.the-variants.{Check, Stuck, OpenCalls, Calls, Cells, Posts, Undecided}
+use Rattle.stores.specs.declared.values.Stop.{Stop}
+use Rattle.stores.specs.declared.values.Stop.the-variants.{Check, Stuck, OpenCalls, Calls, Cells, Posts, Undecided}
 use Rattle.stores.specs.Words.{booleanWord, intervalWord, undecidedWord, payloadOf, envOf, outBy}
 use Rattle.access.specs.Access.{intervalMode}
 use Rattle.stores.specs.Stops.{stopCause, stopPlace}

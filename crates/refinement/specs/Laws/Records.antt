@@ -5,14 +5,14 @@ use Prim.Native.Nat.{ℕ, _+_, _*_, _/_, _<_, _≤_}
 use native.Mathlib.Omega.{arith}
 use lib.ListN.{length, take, drop, length-append, length-take}
 use lib.Seq.{length-front, length-take-le, take-all, take-append-seam, take-append-le, drop-append-add, drop-drop}
+use Rattle.program.specs.Bytes.{overwrite}
 use Rattle.traces.specs.Traces.{Event, eventBytes, traceBytes, recorded}
 use Rattle.traces.specs.Laws.Records.{bytes-length, bytes-append}
 use Rattle.semantics.specs.Recording.{withEntries}
-use Rattle.machine.specs.Steps.{overwrite}
 
 -- an entry behind those of a list
 entry-behind : (l : List ℕ) (ds : List Event) (e : Event) (i : ℕ) → i ≡ length (traceBytes ds)
-    → overwrite i (eventBytes e) (withEntries ds l) ≡ withEntries (ds ++ e ∷ []) l
+    → overwrite (withEntries ds l) i (eventBytes e) ≡ withEntries (ds ++ e ∷ []) l
 unfolding traceBytes
 entry-behind l ds e i q =
     let T : List ℕ = traceBytes ds in
@@ -43,11 +43,11 @@ module _ (l : List ℕ) where
     entry-more h = omega (arith, length-take (length l / 4) (ds ++ e ∷ []), length-take (length l / 4) ds, length-append ds (e ∷ []))
 
     pub entry-made : length ds < length l / 4
-        → overwrite (4 * length (recorded (length l) ds)) (eventBytes e) (recordAfter ds) ≡ recordAfter (ds ++ e ∷ [])
+        → overwrite (recordAfter ds) (4 * length (recorded (length l) ds)) (eventBytes e) ≡ recordAfter (ds ++ e ∷ [])
     entry-made h =
         let whole : kept ds ≡ ds = take-all (length l / 4) ds (omega arith) in
         let more : kept (ds ++ e ∷ []) ≡ ds ++ e ∷ [] = take-all (length l / 4) (ds ++ e ∷ []) (omega (arith, length-append ds (e ∷ []))) in
-        (λ i. overwrite (4 * length (whole i)) (eventBytes e) (withEntries (whole i) l))
+        (λ i. overwrite (withEntries (whole i) l) (4 * length (whole i)) (eventBytes e))
         ∙ entry-behind l ds e (4 * length ds) (sym (bytes-length ds)) ∙ λ i. withEntries (sym more i) l
 
     -- "a full record takes no more"

@@ -15,8 +15,8 @@ use Rattle.traces.specs.Traces.{recorded}
 use Rattle.semantics.specs.Domains.{Domain, Interpretation}
 use Rattle.semantics.specs.Values.{ValueOf, bool, num, closure, EnvOf, empty, bind, Log, Budget, budget, ResultOf, ends, stops}
 use Rattle.semantics.specs.Meaning.{_then_}
-use Rattle.stores.specs.declared.state.Stop.{Stop}
-use Rattle.stores.specs.declared.state.Stop.the-variants.{Check, Stuck, OpenCalls, Calls, Cells, Posts, Undecided}
+use Rattle.stores.specs.declared.values.Stop.{Stop}
+use Rattle.stores.specs.declared.values.Stop.the-variants.{Check, Stuck, OpenCalls, Calls, Cells, Posts, Undecided}
 use Rattle.stores.specs.Words.{intervalWord, functionWord, stopWord, sortOf, payloadOf, envOf, isStop}
 use Rattle.termtable.specs.Table.{wordKind, wordSmall, wordFirst, wordSecond, wordThird, wordAuthority, wordGuard}
 use Rattle.stores.specs.Cells.{behindOf, cellWord}

@@ -27,7 +27,7 @@ use Rattle.access.specs.Access.{packed, enforced, lazyMode}
 use Rattle.machine.specs.Steps.{entriesMade, wrapped}
 use Rattle.machine.specs.Store.{Store, Done, doneOf, evalAt}
 use Rattle.stores.specs.Stops.{stopCause, stopPlace}
-use Rattle.refinement.specs.Claims.{countsOf, wrappedCounts, sizesOf, laidOut, startOf, RefinedBy}
+use Rattle.refinement.specs.Claims.{runCounts, wrappedCounts, sizesOf, laidOut, startOf, RefinedBy}
 use Rattle.refinement.specs.Laws.Codings.{Coding, Decoding}
 use Rattle.refinement.specs.Laws.Relation.{Fixed, ValueIn, postsWritten, length-written, Balances, balance, Later, stop-word, Rep, rep-bool, rep-num, rep-fun, rep-rec, env-none, Meets, valued, halted}
 use Rattle.refinement.specs.Laws.Steps.{Models}
@@ -75,7 +75,7 @@ module _ (I : Interpretation) {mode : ℕ} (K : Coding (I .domain) mode) {decode
   run = fixedOf I K s table (b .posts) t
 
   record CourseAgrees (st : Store) (u : Budget) : Type 0 where
-    counts-agree : countsOf (q .calls) (st .counters) ≡ wrappedCounts (counts q (sizes b) u)
+    counts-agree : runCounts (q .calls) (st .counters) ≡ wrappedCounts (counts q (sizes b) u)
     posts-agree : st .posts ≡ inOrder u ++ drop (length (inOrder u)) (b .posts)
     sizes-agree : sizesOf st ≡ sizes b
     entries-agree : entriesMade (st .counters) ≡ length (recorded (length t) (decidedIn u))
@@ -86,7 +86,7 @@ module _ (I : Interpretation) {mode : ℕ} (K : Coding (I .domain) mode) {decode
       let ps = log .posts in
       let p : m ≡ length (b .cells) / 8 - d = omega (arith, h .cells, l .old .long) in
       record {
-        counts-agree = (λ i. countsOf (q .calls) (h .counters i))
+        counts-agree = (λ i. runCounts (q .calls) (h .counters i))
             ∙ (λ i. record { calls = q .calls - c; cells = p i; posts = length ps; saturated = wrapped (log .saturated) });
         posts-agree = h .list ∙ written-is (b .posts) ps (omega (arith, h .room)) ∙ ap (λ (n : ℕ). reverse ps ++ drop n (b .posts)) (sym (length-reverse ps));
         sizes-agree = λ i. record { cells = l .old .long i; posts = (ap length (h .list) ∙ length-written (b .posts) ps) i; frames = l .frames .long i };

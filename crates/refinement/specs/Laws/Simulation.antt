@@ -13,20 +13,20 @@ use Rattle.program.specs.Terms.{Op, sum, difference, less, Term}
 use Rattle.program.specs.Laws.Nesting.{height}
 use Rattle.semantics.specs.Values.{bool, num, closure, lookup, Budget, ends}
 use Rattle.semantics.specs.Meaning.{Control, traced, Evaluation, Application, variableValue, tooDeep, evalWith, apply, eval}
-use Rattle.stores.specs.declared.state.Stop.the-variants.{Stuck, OpenCalls}
+use Rattle.stores.specs.declared.values.Stop.the-variants.{Stuck, OpenCalls}
 use Rattle.stores.specs.Words.{booleanWord, intervalWord, functionWord, stopWord, payloadOf}
 use Rattle.termtable.specs.Table.{wordKind, wordSmall, wordFirst, wordSecond, wordAuthority}
 use Rattle.stores.specs.Cells.{lookOf}
 use Rattle.machine.specs.Steps.{cellsMade}
-use Rattle.machine.specs.Store.{Store, Done, doneOf, Runs, Applier, Action, binary, actionOf, leafOf, binaryS, byAction, begin, step, below, applyAt, evalAt}
+use Rattle.machine.specs.Store.{Store, Done, doneOf, StoreEvaluation, StoreApplication, Action, binary, actionOf, immediateWord, binaryS, byAction, begin, step, evalBelow, applyAt, evalAt}
 use Rattle.refinement.specs.Laws.Codings.{kindNumber}
 use Rattle.refinement.specs.Laws.Relation.{Fixed, ValueIn, Balances, sortFor, function-word, wordAt, kindIn, smallIn, firstIn, secondIn, Represents, on-boolean, on-number, on-variable, on-function, on-letrec, on-call, on-if, on-check, on-enable, on-sign, on-test, on-binary, on-post, Body, rep-bool, rep-num, rep-fun, rep-rec, RepAt, EnvAt, rep-word, env-low, Meets}
 use Rattle.refinement.specs.Laws.Steps.{look-finds, few-cells, Models, Sim, SimApply, meets-end, meets-stop, meets-found, sim-less, sim-same, sim-call, sim-binary, sim-if, sim-post, sim-test, sim-check, sim-sign, sim-enable, sim-letrec, begin-meets}
 
-leaf-is : (cells : List ℕ) (t x env k : ℕ) → wordKind x ≡ k → leafOf cells t x env
+leaf-is : (cells : List ℕ) (t x env k : ℕ) → wordKind x ≡ k → immediateWord cells t x env
     ≡ cond (eqb k 0) (booleanWord (ltb 0 (wordSmall x)))
     (cond (eqb k 1) (intervalWord (wordFirst x) (wordSecond x)) (cond (eqb k 2) (lookOf cells t env (wordFirst x)) (functionWord (wordSecond x) env)))
-unfolding leafOf
+unfolding immediateWord
 leaf-is cells t x env k e = λ i. cond (eqb (e i) 0) (booleanWord (ltb 0 (wordSmall x)))
     (cond (eqb (e i) 1) (intervalWord (wordFirst x) (wordSecond x)) (cond (eqb (e i) 2) (lookOf cells t env (wordFirst x)) (functionWord (wordSecond x) env)))
 
@@ -40,39 +40,39 @@ binary-action less = refl
 abbrev applied : (t : ℕ) → Store → (x : Done) (sort : ℕ) → Done
 applied t st x k = cond (eqb k 2) x (doneOf (stopWord 18 t) st)
 
-module _ (terms : List ℕ) (f : Applier) where
+module _ (terms : List ℕ) (f : StoreApplication) where
   -- a term's run, whatever bound it is under
-  below-step : (n t : ℕ) → t < n → (env access : ℕ) (st : Store) → below terms f n t env access st ≡ step terms (below terms f t) f t env access st
-  unfolding below
+  below-step : (n t : ℕ) → t < n → (env access : ℕ) (st : Store) → evalBelow terms f n t env access st ≡ step terms (evalBelow terms f t) f t env access st
+  unfolding evalBelow
   below-step zero t h env access st = absurd (omega arith)
   below-step (suc n) t h env access st = elim (ℕ-discrete t n) [
-    | yes e ↦ (λ i. cond (eq-eqb t n e i) (step terms (below terms f n) f t env access st) (below terms f n t env access st))
-        ∙ (λ i. step terms (below terms f (sym e i)) f t env access st)
-    | no g ↦ (λ i. cond (ne-eqb t n g i) (step terms (below terms f n) f t env access st) (below terms f n t env access st))
+    | yes e ↦ (λ i. cond (eq-eqb t n e i) (step terms (evalBelow terms f n) f t env access st) (evalBelow terms f n t env access st))
+        ∙ (λ i. step terms (evalBelow terms f (sym e i)) f t env access st)
+    | no g ↦ (λ i. cond (ne-eqb t n g i) (step terms (evalBelow terms f n) f t env access st) (evalBelow terms f n t env access st))
         ∙ below-step n t (omega arith) env access st
   ]
 
   step-is : (t : ℕ) (x : Action) → actionOf (wordKind (getD terms t 0)) ≡ x → (env access : ℕ) (st : Store)
-      → step terms (below terms f t) f t env access st ≡ byAction x (below terms f t) f t (getD terms t 0) env access st
+      → step terms (evalBelow terms f t) f t env access st ≡ byAction x (evalBelow terms f t) f t (getD terms t 0) env access st
   unfolding step
-  step-is t x e env access st = λ i. byAction (e i) (below terms f t) f t (getD terms t 0) env access st
+  step-is t x e env access st = λ i. byAction (e i) (evalBelow terms f t) f t (getD terms t 0) env access st
 
 module _ (z : Fixed) (X : Control) (enforce : Bool) (R : X .State → (access depth : ℕ) → List ℕ → Type 0) (ctl : Models z X enforce R) where
-  abbrev Does : ℕ → Runs → Evaluation (z .interpretation) X → Type 0
+  abbrev Does : ℕ → StoreEvaluation → Evaluation (z .interpretation) X → Type 0
   Does h p P = Sim z X R h p P
 
-  abbrev under : Applier → (n t : ℕ) → Runs
-  under f n t = below (z .terms) f n t
+  abbrev under : StoreApplication → (n t : ℕ) → StoreEvaluation
+  under f n t = evalBelow (z .terms) f n t
 
-  at-step : (h : ℕ) (f : Applier) (P : Evaluation (z .interpretation) X) (n t k : ℕ) (x : Action) → t < n → kindIn z t ≡ k → actionOf k ≡ x
+  at-step : (h : ℕ) (f : StoreApplication) (P : Evaluation (z .interpretation) X) (n t k : ℕ) (x : Action) → t < n → kindIn z t ≡ k → actionOf k ≡ x
       → Does h (byAction x (under f t) f t (wordAt z t)) P → Does h (under f n t) P
   at-step h f P n t k x l e g s =
       sim-same z X enforce R ctl h (byAction x (under f t) f t (wordAt z t)) (under f n t) P
       (λ env access st. below-step (z .terms) f n t l env access st ∙ step-is (z .terms) f t x (ap actionOf e ∙ g) env access st) s
 
   -- terms with no run below them
-  abbrev leaf : (t x : ℕ) → Runs
-  leaf t x env access st = doneOf (leafOf (st .cells) t x env) st
+  abbrev leaf : (t x : ℕ) → StoreEvaluation
+  leaf t x env access st = doneOf (immediateWord (st .cells) t x env) st
 
   leaf-boolean : (h t x : ℕ) (b : Bool) → wordKind x ≡ 0 → ltb 0 (wordSmall x) ≡ b
       → Does h (leaf t x) (λ a E o. ends (bool (z .interpretation .domain .truth b)) o)
@@ -104,9 +104,9 @@ module _ (z : Fixed) (X : Control) (enforce : Bool) (R : X .State → (access de
         (meets-end z (rep-fun (f .word) (subst (λ i. Body z i b) (sym (f .body-is)) g) (subst (λ i. EnvAt z st i E) (sym (f .env-is)) v)) y);
   }
 
-  module _ (g : ℕ) (f : Applier) (F : Application (z .interpretation) X) (hf : (h : ℕ) → SimApply z X R (g + h) f F) where
+  module _ (g : ℕ) (f : StoreApplication) (F : Application (z .interpretation) X) (hf : (h : ℕ) → SimApply z X R (g + h) f F) where
     -- with room for a term's own height, and g for the calls in it
-    lift : (h k : ℕ) {p : Runs} {P : Evaluation (z .interpretation) X} → h ≤ k → Does (g + h) p P → Does (g + k) p P
+    lift : (h k : ℕ) {p : StoreEvaluation} {P : Evaluation (z .interpretation) X} → h ≤ k → Does (g + h) p P → Does (g + k) p P
     lift h k {p} {P} l s = sim-less z X enforce R ctl (g + h) (g + k) p P (omega arith) s
 
     pub sim : {t : ℕ} {x : Term} → Represents z t x → (n : ℕ) → t < n → t < 65536 → height x ≤ maxNesting
@@ -166,7 +166,7 @@ module _ (z : Fixed) (X : Control) (enforce : Bool) (R : X .State → (access de
         (sim-post z X enforce R ctl (g + h) t (wordAt z t) i _ _ (lift (height a) h (omega arith) (sim ha t p (omega arith) (omega arith))))
 
   -- ---- calls
-  abbrev bodies : (depth : ℕ) → ℕ → Runs
+  abbrev bodies : (depth : ℕ) → ℕ → StoreEvaluation
   bodies k = under (applyAt (z .terms) k) 65536
 
   module _ (t : ℕ) (i : t < 65536) (u d : ℕ) (st : Store) (o : Budget) (y : Balances z st o) where

@@ -10,6 +10,7 @@ use lib.Dec.{ltb, eqb}
 use lib.ListN.{length, set, length-take}
 use lib.Seq.{getD-set-other}
 use borrow.Author.Tests.{ne-eqb, lt-ltb, le-ltb}
+use Rattle.program.specs.Bytes.{overwrite}
 use Rattle.program.specs.Limits.{noGuard, maxFrames}
 use Rattle.program.specs.Layout.{guardIn}
 use Rattle.program.specs.Terms.{Op, sum, difference, less, Term}
@@ -17,14 +18,14 @@ use Rattle.traces.specs.Traces.{Event, eventBytes, recorded}
 use Rattle.semantics.specs.Values.{num, closure, bind, lookup, entered, Log, logPost, logSaturated, logDecision, Budget, budget, ends, stops}
 use Rattle.semantics.specs.Meaning.{Control, Evaluation, Application, _then_, choose, variableValue, decided, branch, operate, countSaturated, compute, appendPost, note, postValue, takeCell, beginCall, passes, guardPasses, eventIf}
 use Rattle.semantics.specs.Recording.{withEntries}
-use Rattle.stores.specs.declared.state.Stop.{Stop}
-use Rattle.stores.specs.declared.state.Stop.the-variants.{Check, Stuck, Calls, Cells, Posts, Undecided}
+use Rattle.stores.specs.declared.values.Stop.{Stop}
+use Rattle.stores.specs.declared.values.Stop.the-variants.{Check, Stuck, Calls, Cells, Posts, Undecided}
 use Rattle.stores.specs.Words.{functionWord, stopWord, sortOf, payloadOf, envOf}
 use Rattle.stores.specs.Cells.{behindOf, walkOf, cellWord, lookOf, cellSet}
 use Rattle.access.specs.Access.{enforced, grantedOf, allowedOf, signAccess, signFrames, enableAccess, enableFrames, enabledNow, restoreFrames}
 use Rattle.termtable.specs.Table.{wordSmall, wordGuard}
-use Rattle.machine.specs.Steps.{callsLeft, cellsMade, postsMade, modeOf, saturatedMade, entriesMade, numbersResult, operateOf, operateSaturates, wrapped, countersSaturated, operateCounters, decisionOf, overwrite, noteCounters, noteBytes, guardPassed, numberDecides, causeOf, listedAs, postCause, postWord, postCounters, postList}
-use Rattle.machine.specs.Store.{Store, Done, storeOf, doneOf, withFrames, withEntry, andThen, Runs, Applier, hasRoom, ownCell, cellBound, callBound, letrecS, callS, branchS, ifS, checkS, testS, signS, restored, enableS, operateDone, binaryS, postDone, postS, begin}
+use Rattle.machine.specs.Steps.{callsLeft, cellsMade, postsMade, modeOf, saturatedMade, entriesMade, numbersResult, operateOf, operateSaturates, wrapped, countersSaturated, operateCounters, decidedEvent, noteCounters, noteBytes, guardPassed, numberDecides, causeOf, listedAs, postCause, postWord, postCounters, postList}
+use Rattle.machine.specs.Store.{Store, Done, storeOf, doneOf, withFrames, withEntry, andThen, StoreEvaluation, StoreApplication, hasRoom, ownCell, cellBound, callBound, letrecS, callS, branchS, ifS, checkS, testS, signS, restored, enableS, operateDone, binaryS, postDone, postS, begin}
 use Rattle.stores.specs.Stops.{stopCause, stopPlace}
 use Rattle.refinement.specs.Laws.Records.{recordAfter, length-record, entry-more, entry-made, full}
 use Rattle.refinement.specs.Laws.Cells.{agree-cell, cell-holds, cell-behind, length-cell}
@@ -298,8 +299,8 @@ module _ (z : Fixed) where
             most = h .most;
             room = h .room;
             list = h .list;
-            noted-is = (λ i. cond (room i) (overwrite (4 * entriesMade (st .counters)) (eventBytes e) (st .noted)) (st .noted))
-                ∙ (λ i. overwrite (4 * entries-are h i) (eventBytes e) (h .noted-is i)) ∙ entry-made t ds e l ∙ (λ i. recordAfter t (behind i));
+            noted-is = (λ i. cond (room i) (overwrite (st .noted) (4 * entriesMade (st .counters)) (eventBytes e)) (st .noted))
+                ∙ (λ i. overwrite (h .noted-is i) (4 * entries-are h i) (eventBytes e)) ∙ entry-made t ds e l ∙ (λ i. recordAfter t (behind i));
           }
       go (no g) =
           let no-room : ltb (entriesMade (st .counters)) (length (st .noted) / 4) ≡ false =
@@ -313,7 +314,7 @@ module _ (z : Fixed) where
             most = h .most;
             room = h .room;
             list = h .list;
-            noted-is = (λ i. cond (no-room i) (overwrite (4 * entriesMade (st .counters)) (eventBytes e) (st .noted)) (st .noted)) ∙ h .noted-is
+            noted-is = (λ i. cond (no-room i) (overwrite (st .noted) (4 * entriesMade (st .counters)) (eventBytes e)) (st .noted)) ∙ h .noted-is
                 ∙ (λ i. withEntries (same i) t);
           }
 
@@ -327,10 +328,10 @@ module _ (z : Fixed) where
   unfolding noteCounters noteBytes
   notes false t p access grants {st} e h = record { balances = h; later = λ depth. later-refl depth st }
   notes true t p access grants {st} e (balance {c = c} {d = d} {r = r} {log = log} h) =
-      let event = decisionOf t p (grants p) in
+      let event = decidedEvent t p (grants p) in
       let same : cellsMade (noteCounters true (st .counters) (st .noted)) ≡ cellsMade (st .counters) = made-is (note-tally event h) ∙ sym (made-is h) in
       record {
-        balances = subst (λ b. Balances z (withNote (decisionOf t p b) st) (budget c d r (logDecision event log))) (sym e) (balance (note-tally event h));
+        balances = subst (λ b. Balances z (withNote (decidedEvent t p b) st) (budget c d r (logDecision event log))) (sym e) (balance (note-tally event h));
         later = λ depth. record { more = omega (arith, same); old = record { long = refl; same = λ j g. refl }; frames = kept-refl depth (st .frames) };
       }
 
@@ -449,11 +450,11 @@ pub record Models (z : Fixed) (X : Control) (enforce : Bool) (R : X .State → (
 
 module _ (z : Fixed) (X : Control) (R : X .State → (access depth : ℕ) → List ℕ → Type 0) where
   -- a run that does as the meaning's, where h more frames have room
-  pub record Sim (h : ℕ) (p : Runs) (P : Evaluation (z .interpretation) X) : Type 0 where
+  pub record Sim (h : ℕ) (p : StoreEvaluation) (P : Evaluation (z .interpretation) X) : Type 0 where
     pub go : (env : ℕ) (E : EnvIn z) (access d : ℕ) (a : X .State) (st : Store) (o : Budget) → d + h ≤ maxFrames → R a access d (st .frames)
         → EnvAt z st env E → Balances z st o → Meets z d st (p env access st) (P a E o)
 
-  pub record SimApply (h : ℕ) (f : Applier) (F : Application (z .interpretation) X) : Type 0 where
+  pub record SimApply (h : ℕ) (f : StoreApplication) (F : Application (z .interpretation) X) : Type 0 where
     pub go : (t : ℕ) → t < 65536 → (v : ℕ) (x : ValueIn z) (w : ℕ) (y : ValueIn z) (access d : ℕ) (a : X .State) (st : Store) (o : Budget)
         → d + h ≤ maxFrames → R a access d (st .frames) → RepAt z st v x → RepAt z st w y → Balances z st o → Meets z d st (f t v w access st) (F t x y a o)
 
@@ -462,20 +463,20 @@ allows true b g c p q = (λ i. cond (p i) g true) ∙ q
 allows false b g c p q = λ i. cond (p i) g true
 
 module _ (z : Fixed) (X : Control) (enforce : Bool) (R : X .State → (access depth : ℕ) → List ℕ → Type 0) (ctl : Models z X enforce R) where
-  abbrev Does : ℕ → Runs → Evaluation (z .interpretation) X → Type 0
+  abbrev Does : ℕ → StoreEvaluation → Evaluation (z .interpretation) X → Type 0
   Does h p P = Sim z X R h p P
 
-  pub sim-less : (h g : ℕ) (p : Runs) (P : Evaluation (z .interpretation) X) → h ≤ g → Does h p P → Does g p P
+  pub sim-less : (h g : ℕ) (p : StoreEvaluation) (P : Evaluation (z .interpretation) X) → h ≤ g → Does h p P → Does g p P
   sim-less h g p P l s = record { go = λ env E access d a st o w. s .go env E access d a st o (omega arith) }
 
-  pub sim-same : (h : ℕ) (p q : Runs) (P : Evaluation (z .interpretation) X) → ((env access : ℕ) (st : Store) → q env access st ≡ p env access st)
+  pub sim-same : (h : ℕ) (p q : StoreEvaluation) (P : Evaluation (z .interpretation) X) → ((env access : ℕ) (st : Store) → q env access st ≡ p env access st)
       → Does h p P → Does h q P
   sim-same h p q P e s = record {
     go = λ env E access d a st o w r v t. subst (λ y. Meets z d st y (P a E o)) (sym (e env access st)) (s .go env E access d a st o w r v t);
   }
 
   -- one run, then another on what it left
-  sim-both : (h : ℕ) (p q : Runs) (P Q : Evaluation (z .interpretation) X) (k : (v w access : ℕ) → Store → Done)
+  sim-both : (h : ℕ) (p q : StoreEvaluation) (P Q : Evaluation (z .interpretation) X) (k : (v w access : ℕ) → Store → Done)
       (K : (x y : ValueIn z) → X .State → Budget → ResultIn z) → Does h p P → Does h q Q
       → ((v : ℕ) (x : ValueIn z) (w : ℕ) (y : ValueIn z) (access d : ℕ) (a : X .State) (st : Store) (o : Budget) → d + h ≤ maxFrames → R a access d (st .frames)
       → RepAt z st v x → RepAt z st w y → Balances z st o → Meets z d st (k v w access st) (K x y a o))
@@ -490,12 +491,13 @@ module _ (z : Fixed) (X : Control) (enforce : Bool) (R : X .State → (access de
       meets-then z _ _ (hq .go env E access d a st₁ o₁ w r₁ (env-later z (l₁ .more) (l₁ .old) e) t₁)
       (λ u x₂ st₂ o₂ ru t₂ l₂. hk v x u x₂ access d a st₂ o₂ w (ctl .keeps a access d _ _ r₁ (l₂ .frames)) (rep-later z (l₂ .more) (l₂ .old) rv) ru t₂))
 
-  pub sim-call : (h t : ℕ) → t < 65536 → (p q : Runs) (P Q : Evaluation (z .interpretation) X) (f : Applier) (F : Application (z .interpretation) X)
+  pub sim-call : (h t : ℕ) → t < 65536 → (p q : StoreEvaluation) (P Q : Evaluation (z .interpretation) X)
+      → (f : StoreApplication) (F : Application (z .interpretation) X)
       → Does h p P → Does h q Q → SimApply z X R h f F → Does h (callS p q f t) (λ a E o. P a E o then λ v o₁. Q a E o₁ then λ w o₂. F t v w a o₂)
   unfolding callS
   sim-call h t i p q P Q f F hp hq hf = record { go = sim-both h p q P Q (f t) (λ x y a o. F t x y a o) hp hq (hf .go t i) }
 
-  pub sim-binary : (h t : ℕ) → t < 65536 → (op : Op) (p q : Runs) (P Q : Evaluation (z .interpretation) X) → Does h p P → Does h q Q
+  pub sim-binary : (h t : ℕ) → t < 65536 → (op : Op) (p q : StoreEvaluation) (P Q : Evaluation (z .interpretation) X) → Does h p P → Does h q Q
       → Does h (binaryS p q (kindNumber op) t) (λ a E o. P a E o then λ v o₁. Q a E o₁ then λ w o₂. compute t op v w o₂)
   unfolding binaryS
   sim-binary h t i op p q P Q hp hq = record {
@@ -503,7 +505,7 @@ module _ (z : Fixed) (X : Control) (enforce : Bool) (R : X .State → (access de
         (λ v x w y access d a st o l r rv rw′ b. meets-compute z t i b op rv rw′);
   }
 
-  pub sim-if : (h t : ℕ) → t < 65536 → (p q u : Runs) (P Q U : Evaluation (z .interpretation) X) → Does h p P → Does h q Q → Does h u U
+  pub sim-if : (h t : ℕ) → t < 65536 → (p q u : StoreEvaluation) (P Q U : Evaluation (z .interpretation) X) → Does h p P → Does h q Q → Does h u U
       → Does h (ifS p q u t) (λ a E o. P a E o then λ v o₁. branch t v (λ o₂. Q a E o₂) (λ o₂. U a E o₂) o₁)
   unfolding ifS
   sim-if h t i p q u P Q U hp hq hu = record {
@@ -520,14 +522,14 @@ module _ (z : Fixed) (X : Control) (enforce : Bool) (R : X .State → (access de
   granted-is {a} {access} {d} {st} p r l y = (λ i. grantedOf (mode-is z y i) access (st .frames) p) ∙ ctl .grants a access d (st .frames) p r l
 
   -- a run from where a decision is noted
-  noted-go : (h : ℕ) (q : Runs) (Q : Evaluation (z .interpretation) X) → Does h q Q
+  noted-go : (h : ℕ) (q : StoreEvaluation) (Q : Evaluation (z .interpretation) X) → Does h q Q
       → {env access d : ℕ} {E : EnvIn z} {a : X .State} {st st₁ : Store} {o : Budget}
       → d + h ≤ maxFrames → R a access d (st .frames) → EnvAt z st env E → Notes z st st₁ o → Meets z d st (q env access st₁) (Q a E o)
   noted-go h q Q hq {env} {access} {d} {E} {a} {st} {st₁} {o} w r e k =
       let l = k .later d in
       meets-later z l (hq .go env E access d a st₁ o w (ctl .keeps a access d _ _ r (l .frames)) (env-later z (l .more) (l .old) e) (k .balances))
 
-  pub sim-test : (h p t : ℕ) (q u : Runs) (Q U : Evaluation (z .interpretation) X) → Does h q Q → Does h u U
+  pub sim-test : (h p t : ℕ) (q u : StoreEvaluation) (Q U : Evaluation (z .interpretation) X) → Does h q Q → Does h u U
       → Does h (testS q u p t) (λ a E o. choose (X .grants a p) (λ o₁. Q a E o₁) (λ o₁. U a E o₁) (note (eventIf true t (X .grants a) (some p)) o))
   unfolding testS
   sim-test h p t q u Q U hq hu = record {
@@ -552,7 +554,7 @@ module _ (z : Fixed) (X : Control) (enforce : Bool) (R : X .State → (access de
       subst (λ b. Notes z st (withEntry b t p access st) (note (eventIf enforce t (X .grants a) (some p)) o))
       (sym ((λ j. enforced (mode-is z y j)) ∙ ctl .enforces)) (notes z enforce t p access (X .grants a) (granted-is p r l y) y)
 
-  pub sim-check : (h p t : ℕ) → t < 65536 → (q : Runs) (Q : Evaluation (z .interpretation) X) → Does h q Q
+  pub sim-check : (h p t : ℕ) → t < 65536 → (q : StoreEvaluation) (Q : Evaluation (z .interpretation) X) → Does h q Q
       → Does h (checkS q p t)
       (λ a E o. choose (passes enforce (X .grants a p)) (λ o₁. Q a E o₁) (λ o₁. stops 17 t o₁) (note (eventIf enforce t (X .grants a) (some p)) o))
   unfolding checkS
@@ -588,7 +590,7 @@ module _ (z : Fixed) (X : Control) (enforce : Bool) (R : X .State → (access de
           (notes z false t (wordGuard x) access (X .grants a) (granted-is (wordGuard x) r l y) y)
       go false = check-notes t (wordGuard x) r l y
 
-  pub sim-post : (h t x : ℕ) → t < 65536 → (p : Runs) (P : Evaluation (z .interpretation) X) → Does h p P
+  pub sim-post : (h t x : ℕ) → t < 65536 → (p : StoreEvaluation) (P : Evaluation (z .interpretation) X) → Does h p P
       → Does h (postS p t x) (λ a E o. P a E o then λ v o₁. postValue t (wordSmall x) (guardPasses enforce (X .grants a) (guardIn (wordGuard x)))
       (eventIf enforce t (X .grants a) (guardIn (wordGuard x))) v o₁)
   unfolding postS
@@ -610,7 +612,8 @@ module _ (z : Fixed) (X : Control) (enforce : Bool) (R : X .State → (access de
       halted {st = withFrames (g (s .frames)) s} x i (balances-frames z (g (s .frames)) t)
       record { more = l .more; old = record { long = l .old .long; same = l .old .same }; frames = k (s .frames) (l .frames) }
 
-  pub sim-sign : (h n authorised : ℕ) (q : Runs) (Q : Evaluation (z .interpretation) X) → authorised ≡ z .authorised n → authorised < 4294967296 → Does h q Q
+  pub sim-sign : (h n authorised : ℕ) (q : StoreEvaluation) (Q : Evaluation (z .interpretation) X) → authorised ≡ z .authorised n → authorised < 4294967296
+      → Does h q Q
       → Does (suc h) (signS q authorised) (λ a E o. Q (X .signs n a) E o)
   unfolding signS
   sim-sign h n authorised q Q e i hq = record {
@@ -623,7 +626,7 @@ module _ (z : Fixed) (X : Control) (enforce : Bool) (R : X .State → (access de
         (ctl .signed a access d (st .frames) n authorised r e i (omega arith)) v (balances-frames z (signFrames (z .mode) access (st .frames) authorised) y)));
   }
 
-  pub sim-enable : (h p : ℕ) (q : Runs) (Q : Evaluation (z .interpretation) X) → Does h q Q → Does h (enableS q p) (λ a E o. Q (X .enables p a) E o)
+  pub sim-enable : (h p : ℕ) (q : StoreEvaluation) (Q : Evaluation (z .interpretation) X) → Does h q Q → Does h (enableS q p) (λ a E o. Q (X .enables p a) E o)
   unfolding enableS
   sim-enable h p q Q hq = record {
     go = λ env E access d a st o w r v y.
@@ -636,7 +639,7 @@ module _ (z : Fixed) (X : Control) (enforce : Bool) (R : X .State → (access de
   }
 
   -- ---- a run that goes on with a new cell
-  on-cell : (h : ℕ) (p : Runs) (P : Evaluation (z .interpretation) X) → Does h p P
+  on-cell : (h : ℕ) (p : StoreEvaluation) (P : Evaluation (z .interpretation) X) → Does h p P
       → (E : EnvIn z) (access d : ℕ) (a : X .State) (st : Store) (n : List ℕ) (w e : ℕ) {c c′ m k r : ℕ} {log : Log}
       → d + h ≤ maxFrames → R a access d (st .frames) → Balance z st c m (suc k) r log → n ≡ countersOf z c′ (m + 1) log
       → RepEnv z (cellSet (st .cells) (cellsMade (st .counters)) w e) (cellsMade (st .counters) + 1) (cellsMade (st .counters) + 1) E
@@ -649,7 +652,7 @@ module _ (z : Fixed) (X : Control) (enforce : Bool) (R : X .State → (access de
       (balance (cell-tally z st n w e k y)))
 
   -- a recursive function
-  module _ (h t b ty : ℕ) (i : t < 65536) (body : Term) (q : Runs) (Q : Evaluation (z .interpretation) X) (inside : b < 65536) (k : Body z b body)
+  module _ (h t b ty : ℕ) (i : t < 65536) (body : Term) (q : StoreEvaluation) (Q : Evaluation (z .interpretation) X) (inside : b < 65536) (k : Body z b body)
       (hq : Does h q Q) (env : ℕ) (E : EnvIn z) (access d : ℕ) (a : X .State) (st : Store) (w : d + h ≤ maxFrames)
       (r : R a access d (st .frames)) (v : EnvAt z st env E) where
     letrec-is : (room : Bool) (own : ℕ) → hasRoom st ≡ room → ownCell st ≡ own
@@ -670,12 +673,13 @@ module _ (z : Fixed) (X : Control) (enforce : Bool) (R : X .State → (access de
         (fresh-again z (st .cells) (cellsMade (st .counters)) env E (fits-is z y) v f b ty body
         (function-word b own inside (omega (arith, few-cells z (balance y)))) k))
 
-  pub sim-letrec : (h t b ty : ℕ) → t < 65536 → (body : Term) (q : Runs) (Q : Evaluation (z .interpretation) X) → b < 65536 → Body z b body → Does h q Q
+  pub sim-letrec : (h t b ty : ℕ) → t < 65536 → (body : Term) (q : StoreEvaluation) (Q : Evaluation (z .interpretation) X) → b < 65536 → Body z b body
+      → Does h q Q
       → Does h (letrecS q b t) (λ a E o. takeCell t (λ o₁. Q a (bind (closure true ty body E) E) o₁) o)
   sim-letrec h t b ty i body q Q l k hq = record { go = λ env E access d a st o w r v y. letrec-meets h t b ty i body q Q l k hq env E access d a st w r v y }
 
   -- a body begins
-  module _ (ev : ℕ → Runs) (t f w access : ℕ) (st : Store) where
+  module _ (ev : ℕ → StoreEvaluation) (t f w access : ℕ) (st : Store) where
     begin-is : (p q : Bool) (own : ℕ) → eqb (callsLeft (st .counters)) 0 ≡ p → hasRoom st ≡ q → ownCell st ≡ own
         → begin ev t f w access st
         ≡ cond p (doneOf (stopWord 20 t) st) (cond q (ev (payloadOf f) own access (callBound w (envOf f) st)) (doneOf (stopWord 21 t) st))

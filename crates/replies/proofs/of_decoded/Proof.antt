@@ -10,8 +10,8 @@ use Rattle.replies.proofs.of_decoded.Tie as tie
 enum-known-d : tie.Need-enum-known-d
 enum-known-d c = search needs
 
-of-reader-requires : tie.Need-of-reader-requires
-of-reader-requires c κs = search needs
+of-decoding-requires : tie.Need-of-decoding-requires
+of-decoding-requires c κs = search needs
 
 refused-requires : tie.Need-refused-requires
 refused-requires c κs = search needs
@@ -29,7 +29,7 @@ cast-t8 : tie.Need-cast-t8
 cast-t8 c = search needs
 
 returns : tie.Need-returns
-returns c = by ofDecoded (c .before .before .before .d .given .1) (refused-as _ _ (c .refused .ensures) (c .before .of-reader .ensures))
+returns c = by ofDecoded (c .before .before .before .d .given .1) (refused-as _ _ (c .refused .ensures) (c .before .of-decoding .ensures))
 
 returns-2 : tie.Need-returns-2
 returns-2 c =
@@ -41,7 +41,7 @@ of-decoded-spec =
     tie.close
     (tie.spec
     enum-known-d
-    of-reader-requires
+    of-decoding-requires
     refused-requires
     enum-known-d-2
     cast-t6

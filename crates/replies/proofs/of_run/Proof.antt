@@ -3,7 +3,7 @@
 use mathlib.Core.Path.{subst}
 use Rattle.interp.specs.Answers.{runModel}
 use Rattle.interp.specs.declared.answer.Run.{Run}
-use Rattle.replies.specs.Internal.{Small}
+use Rattle.replies.specs.Internal.{RunReplyFits}
 use Rattle.replies.specs.Replies.{runReply}
 use Rattle.replies.specs.Laws.{by, refused-as}
 use borrow.Author.Needs.{needs}
@@ -23,7 +23,7 @@ enum-known-x-2 : tie.Need-enum-known-x-2
 enum-known-x-2 c = search needs
 
 of-outcome-requires : tie.Need-of-outcome-requires
-of-outcome-requires c κs = subst Small (c .before .x2 .given .1) (c .before .before .before .pre)
+of-outcome-requires c κs = subst RunReplyFits (c .before .x2 .given .1) (c .before .before .before .pre)
 
 returns : tie.Need-returns
 returns c = by (λ (r : Run). runReply (runModel r)) (c .before .before .before .x .given .1)

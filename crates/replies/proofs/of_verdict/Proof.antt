@@ -12,8 +12,8 @@ use Rattle.replies.proofs.of_verdict.Tie as tie
 enum-known-v : tie.Need-enum-known-v
 enum-known-v c = search needs
 
-of-reader-requires : tie.Need-of-reader-requires
-of-reader-requires c κs = search needs
+of-decoding-requires : tie.Need-of-decoding-requires
+of-decoding-requires c κs = search needs
 
 refused-requires : tie.Need-refused-requires
 refused-requires c κs = search needs
@@ -38,7 +38,7 @@ cast-t11 c = search needs
 
 returns : tie.Need-returns
 returns c = by (λ (v : Verdict). verdictReply (verdictModel v)) (c .before .before .before .v .given .1)
-    (refused-as _ _ (c .refused .ensures) (c .before .of-reader .ensures))
+    (refused-as _ _ (c .refused .ensures) (c .before .of-decoding .ensures))
 
 returns-2 : tie.Need-returns-2
 returns-2 c = by (λ (v : Verdict). verdictReply (verdictModel v)) (c .before .before .before .v2 .given .1)
@@ -52,7 +52,7 @@ of-verdict-spec =
     tie.close
     (tie.spec
     enum-known-v
-    of-reader-requires
+    of-decoding-requires
     refused-requires
     enum-known-v-2
     of-fault-requires

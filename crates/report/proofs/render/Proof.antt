@@ -14,8 +14,8 @@ typecheck-requires c κs = search needs
 enum-known-v : tie.Need-enum-known-v
 enum-known-v c = search needs
 
-of-reader-requires : tie.Need-of-reader-requires
-of-reader-requires c κs = search needs
+of-decoding-requires : tie.Need-of-decoding-requires
+of-decoding-requires c κs = search needs
 
 refusal-requires : tie.Need-refusal-requires
 refusal-requires c κs = search needs
@@ -40,7 +40,7 @@ returns c =
     let at-typecheck = c .before .before .before .before .before in
     let start = at-typecheck .before .before .before .before in
     rejected-reported (start .args .sheet .now) _ (sym (ap verdictModel (c .before .before .before .v .given .1)) ∙ at-typecheck .typecheck .ensures)
-    (c .before .of-reader .ensures) (c .refusal .ensures)
+    (c .before .of-decoding .ensures) (c .refusal .ensures)
 
 returns-2 : tie.Need-returns-2
 returns-2 c =
@@ -70,7 +70,7 @@ render-spec =
     (tie.spec
     typecheck-requires
     enum-known-v
-    of-reader-requires
+    of-decoding-requires
     refusal-requires
     enum-known-v-2
     of-fault-requires

@@ -11,7 +11,7 @@ use Rattle.program.specs.Terms.{Term, boolean, number, variable, function, letr
 use Rattle.program.specs.Laws.Readable.{WellFormed}
 use Rattle.program.specs.Laws.Trees.{Signed, signed, Standard, program-standard}
 use Rattle.program.specs.Laws.Nesting.{height, program-height}
-use Rattle.rules.specs.Inference.{room, roomAt}
+use Rattle.rules.specs.Inference.{bindingDepth, bindingDepthAt}
 
 -- a sign has one to spare
 abbrev spare : Term → ℕ
@@ -37,41 +37,41 @@ both {a} {b} {m} {n} p q =
     let h : max a b ≤ max m n = max-le (omega (arith, le-max-left m n)) (omega (arith, le-max-right m n)) in omega arith
 
 module _ (T : Types) where
-  spare-height : (c : Term) → Standard T c → spare c + room c < height c
+  spare-height : (c : Term) → Standard T c → spare c + bindingDepth c < height c
   spare-height (boolean at b) s = omega arith
   spare-height (number at n) s = omega arith
   spare-height (variable at i) s = omega arith
   spare-height (function at ty body) s = omega (arith, spare-height body (s .2))
   spare-height (letrec at ty body rest) s =
-      let p : 2 + room body ≤ height body = omega (arith, spare-height body (s .2), spare-signed (s .1)) in
-      let q : 1 + room rest ≤ height rest = omega (arith, spare-height rest (s .3)) in
+      let p : 2 + bindingDepth body ≤ height body = omega (arith, spare-height body (s .2), spare-signed (s .1)) in
+      let q : 1 + bindingDepth rest ≤ height rest = omega (arith, spare-height rest (s .3)) in
       omega (arith, both p q)
   spare-height (call at f a) s =
-      let p : room f ≤ height f = omega (arith, spare-height f (s .0)) in
-      let q : room a ≤ height a = omega (arith, spare-height a (s .1)) in
+      let p : bindingDepth f ≤ height f = omega (arith, spare-height f (s .0)) in
+      let q : bindingDepth a ≤ height a = omega (arith, spare-height a (s .1)) in
       omega (arith, both p q)
   spare-height (if at c y o) s =
-      let p : room c ≤ height c = omega (arith, spare-height c (s .0)) in
-      let q : room y ≤ height y = omega (arith, spare-height y (s .1)) in
-      let r : room o ≤ height o = omega (arith, spare-height o (s .2)) in
-      let m : max (room y) (room o) ≤ max (height y) (height o) = omega (arith, both q r) in
+      let p : bindingDepth c ≤ height c = omega (arith, spare-height c (s .0)) in
+      let q : bindingDepth y ≤ height y = omega (arith, spare-height y (s .1)) in
+      let r : bindingDepth o ≤ height o = omega (arith, spare-height o (s .2)) in
+      let m : max (bindingDepth y) (bindingDepth o) ≤ max (height y) (height o) = omega (arith, both q r) in
       omega (arith, both p m)
   spare-height (check at p c) s = omega (arith, spare-height c s)
   spare-height (enable at p c) s = omega (arith, spare-height c s)
   spare-height (sign at n c) s = omega (arith, spare-height c s)
   spare-height (test at p y o) s =
-      let p : room y ≤ height y = omega (arith, spare-height y (s .0)) in
-      let q : room o ≤ height o = omega (arith, spare-height o (s .1)) in
+      let p : bindingDepth y ≤ height y = omega (arith, spare-height y (s .0)) in
+      let q : bindingDepth o ≤ height o = omega (arith, spare-height o (s .1)) in
       omega (arith, both p q)
   spare-height (binary at op a b) s =
-      let p : room a ≤ height a = omega (arith, spare-height a (s .0)) in
-      let q : room b ≤ height b = omega (arith, spare-height b (s .1)) in
+      let p : bindingDepth a ≤ height a = omega (arith, spare-height a (s .0)) in
+      let q : bindingDepth b ≤ height b = omega (arith, spare-height b (s .1)) in
       omega (arith, both p q)
   spare-height (post at ch g c) s = omega (arith, spare-height c s)
 
-  pub room-height : (c : Term) → Standard T c → room c < height c
+  pub room-height : (c : Term) → Standard T c → bindingDepth c < height c
   room-height c s = omega (arith, spare-height c s)
 
-pub root-room : (s : List ℕ) → WellFormed s → roomAt s (root s) < maxNesting
-unfolding roomAt
+pub root-room : (s : List ℕ) → WellFormed s → bindingDepthAt s (root s) < maxNesting
+unfolding bindingDepthAt
 root-room s w = omega (arith, room-height (typesOf s) (program s) (program-standard s w), program-height s w)

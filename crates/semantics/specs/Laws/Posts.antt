@@ -20,7 +20,7 @@ use Rattle.semantics.specs.Meaning.{Control, Mode, _then_, choose, varia
 use Rattle.semantics.specs.Access.{privs, lazyControl, rights, eagerControl}
 use Rattle.semantics.specs.Runs.{Runner, eager, lazy, Request, Sizes, stack, initial, evaluationIn, left, inOrder}
 use Rattle.semantics.specs.Recording.{decidedIn}
-use Rattle.semantics.specs.Claims.{Each, OnChannel, Queries, by-check, by-test, by-guard, Decision}
+use Rattle.semantics.specs.Claims.{Each, OnChannel, NamesAt, by-check, by-test, by-guard, Decision}
 
 pub each-all : {A : Type 0} {E : A → Type 0} (F : A → Type 0) → ((x : A) → E x → F x) → (xs : List A) → Each E xs → Each F xs
 each-all F f [] h = tt
@@ -211,7 +211,7 @@ module _ (s : List ℕ) (bytes : Bytes s) (w : WellFormed s) where
     on-channel : format k .small ≡ channel → x < channels s
 
   module _ (f : ℕ → Term) (t : ℕ) (l : t < terms s) (under : (y : ℕ) → y < t → KeepsIn (f y)) where
-    decision : {p : ℕ} → Queries s t p → Decision s t p
+    decision : {p : ℕ} → NamesAt s t p → Decision s t p
     decision h = record { a-term = l; queries = h }
 
     node-keeps : (k : Kind) (x b c : ℕ) → NodeRecord t k x → Below (format k) t (first s t) b c → KeepsIn (node (guardOf s) k t x (first s t) b c f)

@@ -13,7 +13,7 @@ use Rattle.program.specs.Layout.{Types}
 use Rattle.program.specs.Terms.{Op, sum, difference, less, Term, function, sign}
 use Rattle.program.specs.Laws.Trees.{Signed, signed, Standard}
 use Rattle.typing.specs.Subtyping.{Subtype, sub-same, Wider}
-use Rattle.typing.specs.Rules.{bound, removeAuthorised, postNeeds, resultType, current, Derives, d-boolean, d-number, d-variable, d-function, d-letrec, d-call, d-if, d-test, d-check, d-enable, d-sign, d-binary, d-post, d-widen}
+use Rattle.typing.specs.Rules.{lookupType, removeAuthorised, postNeeds, resultType, current, Derives, d-boolean, d-number, d-variable, d-function, d-letrec, d-call, d-if, d-test, d-check, d-enable, d-sign, d-binary, d-post, d-widen}
 use Rattle.typing.specs.Laws.Variants.{guard-needed}
 use Rattle.typing.specs.Laws.Subtyping.{sub-trans, sub-base, sub-isFun, sub-arg, sub-res, sub-latent, wider-bounds}
 use Rattle.semantics.specs.Domains.{standard}
@@ -68,27 +68,27 @@ module _ (T : Types) (A : ℕ → ℕ) (base : Base T) where
   inner true ty Γ = T .arg ty ∷ ty ∷ Γ
   inner false ty Γ = T .arg ty ∷ Γ
 
-  pub record Closed (recursive : Bool) (ty : ℕ) (body : Term) (Holds : List ℕ → Type 0) (τ : ℕ) : Type 0 where
+  pub record Closed (recursive : Bool) (ty : ℕ) (body : Term) (EnvTyped : List ℕ → Type 0) (τ : ℕ) : Type 0 where
     pub Γ : List ℕ
     pub N : ℕ
     pub function : T .isFun ty ≡ true
-    pub holds : Holds Γ
+    pub holds : EnvTyped Γ
     pub derives : (n : ℕ) → Derives current T A (inner recursive ty Γ) n body (T .res ty) N
     pub within : N ⊆ T .latent ty
     pub standard : Standard T body
     pub below : Subtype T ty τ
 
   abbrev mutual
-    pub HasType : Value → ℕ → Type 0
-    HasType (bool b) τ = τ ≡ 0
-    HasType (num n) τ = τ ≡ 1
-    HasType (closure r ty body env) τ = Closed r ty body (λ Γ. Holds env Γ) τ
+    pub ValueTyped : Value → ℕ → Type 0
+    ValueTyped (bool b) τ = τ ≡ 0
+    ValueTyped (num n) τ = τ ≡ 1
+    ValueTyped (closure r ty body env) τ = Closed r ty body (λ Γ. EnvTyped env Γ) τ
 
-    pub Holds : Env → List ℕ → Type 0
-    Holds empty [] = Unit {0}
-    Holds empty (τ ∷ Γ) = ⊥
-    Holds (bind v e) [] = ⊥
-    Holds (bind v e) (τ ∷ Γ) = HasType v τ × Holds e Γ
+    pub EnvTyped : Env → List ℕ → Type 0
+    EnvTyped empty [] = Unit {0}
+    EnvTyped empty (τ ∷ Γ) = ⊥
+    EnvTyped (bind v e) [] = ⊥
+    EnvTyped (bind v e) (τ ∷ Γ) = ValueTyped v τ × EnvTyped e Γ
 
   not-bool : {A : Type 0} → T .isFun 0 ≡ true → A
   not-bool h = absurd (true≢false (sym h ∙ base .bool-base))
@@ -96,7 +96,7 @@ module _ (T : Types) (A : ℕ → ℕ) (base : Base T) where
   not-num : {A : Type 0} → T .isFun 1 ≡ true → A
   not-num h = absurd (true≢false (sym h ∙ base .num-base))
 
-  widen : (v : Value) {τ σ : ℕ} → HasType v τ → Subtype T τ σ → HasType v σ
+  widen : (v : Value) {τ σ : ℕ} → ValueTyped v τ → Subtype T τ σ → ValueTyped v σ
   widen (bool b) h f = sub-base T f (ap (T .isFun) h ∙ base .bool-base) ∙ h
   widen (num n) h f = sub-base T f (ap (T .isFun) h ∙ base .num-base) ∙ h
   widen (closure r ty body env) h f = record {
@@ -110,32 +110,32 @@ module _ (T : Types) (A : ℕ → ℕ) (base : Base T) where
     below = sub-trans T (h .below) f;
   }
 
-  num-only : (P : Value → Type 0) → ((n : ℕ) → P (num n)) → (v : Value) → HasType v 1 → P v
+  num-only : (P : Value → Type 0) → ((n : ℕ) → P (num n)) → (v : Value) → ValueTyped v 1 → P v
   num-only P k (bool b) h = absurd (omega arith)
   num-only P k (num n) h = k n
   num-only P k (closure r ty body env) h = not-num (sub-isFun T (h .below) (h .function))
 
-  bool-only : (P : Value → Type 0) → ((b : Bool) → P (bool b)) → (v : Value) → HasType v 0 → P v
+  bool-only : (P : Value → Type 0) → ((b : Bool) → P (bool b)) → (v : Value) → ValueTyped v 0 → P v
   bool-only P k (bool b) h = k b
   bool-only P k (num n) h = absurd (omega arith)
   bool-only P k (closure r ty body env) h = not-bool (sub-isFun T (h .below) (h .function))
 
   closure-only : (P : Value → Type 0) (φ : ℕ) → T .isFun φ ≡ true
-      → ((r : Bool) (ty : ℕ) (body : Term) (env : Env) → HasType (closure r ty body env) φ → P (closure r ty body env)) → (v : Value) → HasType v φ → P v
+      → ((r : Bool) (ty : ℕ) (body : Term) (env : Env) → ValueTyped (closure r ty body env) φ → P (closure r ty body env)) → (v : Value) → ValueTyped v φ → P v
   closure-only P φ hf k (bool b) h = not-bool (ap (T .isFun) (sym h) ∙ hf)
   closure-only P φ hf k (num n) h = not-num (ap (T .isFun) (sym h) ∙ hf)
   closure-only P φ hf k (closure r ty body env) h = k r ty body env h
 
   -- ---- two results that are the same and safe
   abbrev pub Safe : ℕ → Result → Type 0
-  Safe τ (ends v u) = HasType v τ
+  Safe τ (ends v u) = ValueTyped v τ
   Safe τ (stops c at u) = Limit c
 
   pub record SafelyAlike (τ : ℕ) (x y : Result) : Type 0 where
     pub same : x ≡ y
     pub safe : Safe τ x
 
-  alike-end : (v : Value) (τ : ℕ) (u : Budget) → HasType v τ → SafelyAlike τ (ends v u) (ends v u)
+  alike-end : (v : Value) (τ : ℕ) (u : Budget) → ValueTyped v τ → SafelyAlike τ (ends v u) (ends v u)
   alike-end v τ u h = record { same = refl; safe = h }
 
   alike-stop : (c at τ : ℕ) (u : Budget) → Limit c → SafelyAlike τ (stops c at u) (stops c at u)
@@ -146,7 +146,7 @@ module _ (T : Types) (A : ℕ → ℕ) (base : Base T) where
   alike-widen (stops c at u) y f g = record { same = g .same; safe = g .safe }
 
   alike-then : {τ σ : ℕ} (x y : Result) (k l : Value → Budget → Result) → SafelyAlike τ x y
-      → ((v : Value) (u : Budget) → HasType v τ → SafelyAlike σ (k v u) (l v u))
+      → ((v : Value) (u : Budget) → ValueTyped v τ → SafelyAlike σ (k v u) (l v u))
       → SafelyAlike σ (x then k) (y then l)
   alike-then {τ} {σ} x y k l g h = subst (λ z. SafelyAlike σ (x then k) (z then l)) (g .same) (go x (g .safe))
     where
@@ -176,27 +176,27 @@ module _ (T : Types) (A : ℕ → ℕ) (base : Base T) where
   alike-append at ch x (budget c d (suc r) log) = alike-end (num x) 1 _ refl
 
   -- of a number, where the guard passes in both
-  alike-post : (at ch : ℕ) {a b : Bool} → a ≡ true → b ≡ true → (v : Value) → HasType v 1 → (u : Budget)
+  alike-post : (at ch : ℕ) {a b : Bool} → a ≡ true → b ≡ true → (v : Value) → ValueTyped v 1 → (u : Budget)
       → SafelyAlike 1 (postValue at ch a none v u) (postValue at ch b none v u)
   alike-post at ch {a} {b} ea eb v h u =
       num-only (λ v. SafelyAlike 1 (postValue at ch a none v u) (postValue at ch b none v u))
       (λ x. subst (λ z. SafelyAlike 1 (postValue at ch z none (num x) u) (postValue at ch b none (num x) u)) (sym ea)
       (subst (λ z. SafelyAlike 1 (appendPost at ch x u) (postValue at ch z none (num x) u)) (sym eb) (alike-append at ch x u))) v h
 
-  alike-found : (e : Env) (Γ : List ℕ) (i τ at : ℕ) (u : Budget) → Holds e Γ → bound Γ i ≡ some τ
+  alike-found : (e : Env) (Γ : List ℕ) (i τ at : ℕ) (u : Budget) → EnvTyped e Γ → lookupType Γ i ≡ some τ
       → SafelyAlike τ (variableValue at (lookup e i) u) (variableValue at (lookup e i) u)
   alike-found empty [] i τ at u h g = none≢some g
   alike-found empty (t ∷ Γ) i τ at u h g = absurd h
   alike-found (bind v e) [] i τ at u h g = absurd h
-  alike-found (bind v e) (t ∷ Γ) zero τ at u h g = record { same = refl; safe = subst (HasType v) (Option·some-injective t τ g) (h .0) }
+  alike-found (bind v e) (t ∷ Γ) zero τ at u h g = record { same = refl; safe = subst (ValueTyped v) (Option·some-injective t τ g) (h .0) }
   alike-found (bind v e) (t ∷ Γ) (suc i) τ at u h g = alike-found e Γ i τ at u (h .1) g
 
-  operate-type : (op : Op) (x y : ℕ) → HasType (operate op x y) (resultType op)
+  operate-type : (op : Op) (x y : ℕ) → ValueTyped (operate op x y) (resultType op)
   operate-type sum x y = refl
   operate-type difference x y = refl
   operate-type less x y = refl
 
-  alike-compute : (at : ℕ) (op : Op) (v w : Value) → HasType v 1 → HasType w 1 → (u : Budget)
+  alike-compute : (at : ℕ) (op : Op) (v w : Value) → ValueTyped v 1 → ValueTyped w 1 → (u : Budget)
       → SafelyAlike (resultType op) (compute at op v w u) (compute at op v w u)
   alike-compute at op v w hv hw u =
       num-only (λ v. SafelyAlike (resultType op) (compute at op v w u) (compute at op v w u))
@@ -205,11 +205,11 @@ module _ (T : Types) (A : ℕ → ℕ) (base : Base T) where
 
   -- ---- evaluations: one with checks in force, one with checks passed over
   abbrev AlikeApplication : Application standard (eagerControl A) → Application standard (eagerControl A) → Type 0
-  AlikeApplication f g = (at φ : ℕ) (v w : Value) → T .isFun φ ≡ true → HasType v φ → HasType w (T .arg φ)
+  AlikeApplication f g = (at φ : ℕ) (v w : Value) → T .isFun φ ≡ true → ValueTyped v φ → ValueTyped w (T .arg φ)
       → (n P : ℕ) → T .latent φ ⊆ P → (u : Budget) → SafelyAlike (T .res φ) (f at v w (rights n P) u) (g at v w (rights n P) u)
 
   abbrev pub AlikeEvaluation : (Γ : List ℕ) (n τ N : ℕ) → Evaluation standard (eagerControl A) → Evaluation standard (eagerControl A) → Type 0
-  AlikeEvaluation Γ n τ N f g = (e : Env) → Holds e Γ → (P : ℕ) → N ⊆ P → (u : Budget) → SafelyAlike τ (f (rights n P) e u) (g (rights n P) e u)
+  AlikeEvaluation Γ n τ N f g = (e : Env) → EnvTyped e Γ → (P : ℕ) → N ⊆ P → (u : Budget) → SafelyAlike τ (f (rights n P) e u) (g (rights n P) e u)
 
   module _ (f g : Application standard (eagerControl A)) (alike-app : AlikeApplication f g) where
     abbrev checked : Term → Evaluation standard (eagerControl A)
@@ -267,10 +267,10 @@ module _ (T : Types) (A : ℕ → ℕ) (base : Base T) where
         (λ v u₁ hv. alike-post at ch (guard-granted p N P hP) (guard-skipped p P) v hv u₁)
     eval-alike (d-widen d s) w e he P hP u = eval-alike d w e he P (⊆-trans s hP) u
 
-  enter-holds : (r : Bool) (ty : ℕ) (body : Term) (env : Env) (φ : ℕ) (h : HasType (closure r ty body env) φ) (w : Value) → HasType w (T .arg ty)
-      → Holds (entered r ty body env w) (inner r ty (h .Γ))
+  enter-holds : (r : Bool) (ty : ℕ) (body : Term) (env : Env) (φ : ℕ) (h : ValueTyped (closure r ty body env) φ) (w : Value) → ValueTyped w (T .arg ty)
+      → EnvTyped (entered r ty body env w) (inner r ty (h .Γ))
   enter-holds true ty body env φ h w hw =
-      let again : HasType (closure true ty body env) ty = record {
+      let again : ValueTyped (closure true ty body env) ty = record {
         Γ = h .Γ;
         N = h .N;
         function = h .function;

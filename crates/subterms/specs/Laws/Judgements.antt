@@ -13,7 +13,7 @@ use Rattle.program.specs.Terms.{Term, boolean, number, variable, function, letr
 use Rattle.typing.specs.Places.{Placed, placed, numberOf, childrenIn, Among, among-first, among-later}
 use Rattle.typing.specs.Laws.Places.{EachOf, each-among}
 use Rattle.typing.specs.Subtyping.{subtype, wider}
-use Rattle.typing.specs.Rules.{bound}
+use Rattle.typing.specs.Rules.{lookupType}
 use Rattle.typing.specs.Checking.{Judgement, typed, fault, _next_, require, variableType, joined, bodyFits, infer}
 use Rattle.typing.specs.Faults.{Within, here, in-function, in-letrec-body, in-letrec-rest, in-call-function, in-call-argument, in-if-condition, in-if-yes, in-if-no, in-check, in-enable, in-sign, in-test-yes, in-test-no, in-left, in-right, in-post}
 use Rattle.subterms.specs.Laws.Subterms.{ChildOf, children-of}
@@ -58,7 +58,7 @@ module _ (T : Types) (A : ℕ → ℕ) where
   unfolding infer
   judged Γ n (boolean at b) = well tt
   judged Γ n (number at k) = well tt
-  judged Γ n (variable at i) = variable-judged (bound Γ i) tt
+  judged Γ n (variable at i) = variable-judged (lookupType Γ i) tt
   judged Γ n (function at ty body) = next-judged (placed (T .arg ty ∷ Γ) n body) _ among-first λ τ N h.
       body-judged ty τ N (h, tt) (well (h, tt))
   judged Γ n (letrec at ty body rest) = next-judged (placed (T .arg ty ∷ ty ∷ Γ) n body) _ among-first λ τ N h.

@@ -10,7 +10,7 @@ use lib.Dec.{eqb, ltb}
 use borrow.Author.Tests.{ltb-true, ltb-false, lt-ltb, le-ltb, eqb-true, eqb-false, eq-eqb, ne-eqb}
 use Rattle.program.specs.Layout.{Types}
 use Rattle.typing.specs.Places.{Placed, Among, among-first, among-later}
-use Rattle.subterms.specs.Smallest.{FaultyTerm, before, smaller, refusedAt, smallestOf}
+use Rattle.subterms.specs.Smallest.{FaultyTerm, before, smaller, faultyAt, smallestOf}
 
 -- x comes before y, and x comes no later than y
 pub data Before (x y : FaultyTerm) : Type 0 where
@@ -128,7 +128,7 @@ passed x y h = ap (λ (b : Bool). some (cond b y x)) (true-before {x = y} {y = x
 pub record SmallestOf (T : Types) (A : ℕ → ℕ) (l : List Placed) (x : FaultyTerm) : Type 0 where
   pub at : Placed
   pub listed : Among at l
-  pub is : refusedAt T A at ≡ some x
+  pub is : faultyAt T A at ≡ some x
 
 pub record Least (T : Types) (A : ℕ → ℕ) (l : List Placed) (y : FaultyTerm) : Type 0 where
   pub least : FaultyTerm
@@ -139,31 +139,31 @@ module _ (T : Types) (A : ℕ → ℕ) where
   pub smallest-append : (l m : List Placed) → smallestOf T A (l ++ m) ≡ smaller (smallestOf T A l) (smallestOf T A m)
   unfolding smallestOf
   smallest-append [] m = refl
-  smallest-append (x ∷ l) m = ap (smaller (refusedAt T A x)) (smallest-append l m) ∙ sym (smaller-assoc (refusedAt T A x) (smallestOf T A l) (smallestOf T A m))
+  smallest-append (x ∷ l) m = ap (smaller (faultyAt T A x)) (smallest-append l m) ∙ sym (smaller-assoc (faultyAt T A x) (smallestOf T A l) (smallestOf T A m))
 
   pub smallest-found : (l : List Placed) (x : FaultyTerm) → smallestOf T A l ≡ some x → SmallestOf T A l x
   unfolding smallestOf
   smallest-found [] x e = absurd (Option·none-ne-some x e)
-  smallest-found (p ∷ l) x e = go (λ f. smallest-found l x f) (refusedAt T A p) (smallestOf T A l) refl refl e
+  smallest-found (p ∷ l) x e = go (λ f. smallest-found l x f) (faultyAt T A p) (smallestOf T A l) refl refl e
     where
       later : SmallestOf T A l x → SmallestOf T A (p ∷ l) x
       later h = record { at = h .at; listed = among-later (h .listed); is = h .is }
 
-      self : refusedAt T A p ≡ some x → SmallestOf T A (p ∷ l) x
+      self : faultyAt T A p ≡ some x → SmallestOf T A (p ∷ l) x
       self f = record { at = p; listed = among-first; is = f }
 
-      chosen : (smallestOf T A l ≡ some x → SmallestOf T A l x) → (b : Bool) (y z : FaultyTerm) → refusedAt T A p ≡ some y → smallestOf T A l ≡ some z
+      chosen : (smallestOf T A l ≡ some x → SmallestOf T A l x) → (b : Bool) (y z : FaultyTerm) → faultyAt T A p ≡ some y → smallestOf T A l ≡ some z
           → some (cond b z y) ≡ some x → SmallestOf T A (p ∷ l) x
       chosen r true y z f g h = later (r (g ∙ h))
       chosen r false y z f g h = self (f ∙ h)
 
-      go : (smallestOf T A l ≡ some x → SmallestOf T A l x) → (a b : Option FaultyTerm) → refusedAt T A p ≡ a → smallestOf T A l ≡ b → smaller a b ≡ some x
+      go : (smallestOf T A l ≡ some x → SmallestOf T A l x) → (a b : Option FaultyTerm) → faultyAt T A p ≡ a → smallestOf T A l ≡ b → smaller a b ≡ some x
           → SmallestOf T A (p ∷ l) x
       go r none b f g h = later (r (g ∙ h))
       go r (some y) none f g h = self (f ∙ h)
       go r (some y) (some z) f g h = chosen r (before z y) y z f g h
 
-  pub smallest-least : (l : List Placed) {p : Placed} → Among p l → (y : FaultyTerm) → refusedAt T A p ≡ some y → Least T A l y
+  pub smallest-least : (l : List Placed) {p : Placed} → Among p l → (y : FaultyTerm) → faultyAt T A p ≡ some y → Least T A l y
   unfolding smallestOf
   smallest-least (p ∷ l) among-first y e = go (smallestOf T A l) refl
     where
@@ -171,8 +171,8 @@ module _ (T : Types) (A : ℕ → ℕ) where
       go none g = record { least = y; is = rw (e, g) refl; no-later = no-later-self }
       go (some z) g = record { least = cond (before z y) z y; is = rw (e, g) refl; no-later = smaller-left y z }
   smallest-least (q ∷ l) (among-later m) y e =
-      let h = smallest-least l m y e in go (h .least) (h .is) (h .no-later) (refusedAt T A q) refl
+      let h = smallest-least l m y e in go (h .least) (h .is) (h .no-later) (faultyAt T A q) refl
     where
-      go : (z : FaultyTerm) → smallestOf T A l ≡ some z → NoLater z y → (a : Option FaultyTerm) → refusedAt T A q ≡ a → Least T A (q ∷ l) y
+      go : (z : FaultyTerm) → smallestOf T A l ≡ some z → NoLater z y → (a : Option FaultyTerm) → faultyAt T A q ≡ a → Least T A (q ∷ l) y
       go z g k none f = record { least = z; is = rw (f, g) refl; no-later = k }
       go z g k (some x) f = record { least = cond (before z x) z x; is = rw (f, g) refl; no-later = no-later-trans (smaller-right x z) k }

@@ -12,7 +12,7 @@ use Rattle.typing.specs.Places.{Placed, placed, numberOf, childrenIn, children}
 use Rattle.typing.specs.Laws.Places.{EachOf, each-among, tree-number}
 use Rattle.typing.specs.Checking.{Judgement, typed, fault, infer}
 use Rattle.typing.specs.Faults.{Within, here}
-use Rattle.subterms.specs.Smallest.{subterms, FaultyTerm, refusedAs, refusedAt, smallestOf}
+use Rattle.subterms.specs.Smallest.{subterms, FaultyTerm, faultyAs, faultyAt, smallestOf}
 use Rattle.subterms.specs.Claims.{judgementAt, HasType, HasFault, has-fault, Stands, Faulty, SmallestPiece}
 use Rattle.subterms.specs.Laws.Order.{NoLater, no-more, as-many, smallest-found, smallest-least}
 use Rattle.subterms.specs.Laws.Subterms.{within-listed, listed-within, within-size, within-trans, within-every, ChildOf, children-of}
@@ -27,7 +27,7 @@ record RefusedTerm (c : Term) (j : Judgement) (x : FaultyTerm) : Type 0 where
   number-is : numberOf c ≡ x .term
   count-is : size c ≡ x .count
 
-refused-term : (c : Term) (j : Judgement) (x : FaultyTerm) → refusedAs c j ≡ some x → RefusedTerm c j x
+refused-term : (c : Term) (j : Judgement) (x : FaultyTerm) → faultyAs (numberOf c) (size c) j ≡ some x → RefusedTerm c j x
 refused-term c (typed τ N) x e = absurd (Option·none-ne-some x e)
 refused-term c (fault cause at) x e = record {
   fault-is = λ i. fault (ap (λ (y : FaultyTerm). y .cause) same i) (ap (λ (y : FaultyTerm). y .place) same i);
@@ -48,11 +48,11 @@ no-later-term (as-many e h) f = h
 
 -- the smallest of the terms in a term has no more terms in it
 pub listed-count : (T : Types) (A : ℕ → ℕ) (Γ : List ℕ) (n : ℕ) (c : Term) {x : FaultyTerm} → smallestOf T A (subterms T Γ n c) ≡ some x → x .count ≤ size c
-unfolding refusedAt
+unfolding faultyAt
 listed-count T A Γ n c {x} e =
     let h = smallest-found T A (subterms T Γ n c) x e in
     let p = listed-within T Γ n c (h .listed) in
-    let r = refused-term (p .part) (infer T A (p .bindings) (p .principal) (p .part)) x (sym (ap (refusedAt T A) (p .is)) ∙ h .is) in
+    let r = refused-term (p .part) (infer T A (p .bindings) (p .principal) (p .part)) x (sym (ap (faultyAt T A) (p .is)) ∙ h .is) in
     omega (arith, r .count-is, within-size T (p .within))
 
 -- ---- a term that stands in the program is the tree of its own number
@@ -79,10 +79,10 @@ module _ (s : List ℕ) where
   -- a refused term of the sheet comes no earlier than the smallest one
   later : {x : FaultyTerm} → smallestOf T A all ≡ some x → (Γ : List ℕ) (n : ℕ) (c : Term) → Within T Γ n c [] 0 (program s) → {cause at : ℕ}
       → infer T A Γ n c ≡ fault cause at → NoLater x (record { term = numberOf c; count = size c; cause = cause; place = at })
-  unfolding refusedAt
+  unfolding faultyAt
   later {x} e Γ n c w {cause} {at} f =
       let y : FaultyTerm = record { term = numberOf c; count = size c; cause = cause; place = at } in
-      let h = smallest-least T A all (within-listed T w) y (ap (refusedAs c) f) in
+      let h = smallest-least T A all (within-listed T w) y (ap (faultyAs (numberOf c) (size c)) f) in
       subst (λ (z : FaultyTerm). NoLater z y) (some-same (h .is) e) (h .no-later)
 
   module _ {x : FaultyTerm} (e : smallestOf T A all ≡ some x) where
@@ -107,11 +107,11 @@ module _ (s : List ℕ) where
     low Γ n u w (has-fault f) q = omega (arith, no-later-term (later e Γ n (tree s u) w f) q, tree-number s u)
 
     pub smallest-piece : WellFormed s → SmallestPiece s (x .term) (x .count) (x .cause) × (x .place ≡ x .term)
-    unfolding refusedAt children
+    unfolding faultyAt children
     smallest-piece v =
         let h = smallest-found T A all x e in
         let p = listed-within T [] 0 (program s) (h .listed) in
-        let r = refused-term (p .part) (infer T A (p .bindings) (p .principal) (p .part)) x (sym (ap (refusedAt T A) (p .is)) ∙ h .is) in
+        let r = refused-term (p .part) (infer T A (p .bindings) (p .principal) (p .part)) x (sym (ap (faultyAt T A) (p .is)) ∙ h .is) in
         let o = own-fault (p .bindings) (p .principal) (p .part) (p .within) (r .count-is) refl
         (subst (FaultOrigin T A (numberOf (p .part)) (childrenIn T (p .bindings) (p .principal) (p .part))) (r .fault-is)
         (judged T A (p .bindings) (p .principal) (p .part))) in
@@ -140,7 +140,7 @@ module _ (s : List ℕ) where
 
   -- where the root is refused there is a smallest one
   pub some-refused : HasFault T A (placed [] 0 (program s)) → (x : FaultyTerm) × (smallestOf T A all ≡ some x)
-  unfolding refusedAt
+  unfolding faultyAt
   some-refused (has-fault f) =
-      let h = smallest-least T A all (within-listed T here) _ (ap (refusedAs (program s)) f) in
+      let h = smallest-least T A all (within-listed T here) _ (ap (faultyAs (numberOf (program s)) (size (program s))) f) in
       (h .least, h .is)

@@ -11,19 +11,19 @@ use lib.ListN.{length, take, drop}
 use lib.Seq.{drop-cons}
 use borrow.Author.Tests.{leb-true, le-leb}
 use Rattle.privileges.specs.Booleans.{and-left, and-right, and-both}
-use Rattle.program.specs.Bytes.{byte, Bytes}
-use Rattle.traces.specs.Traces.{Event, decisionByte, eventBytes, traceBytes, eventOf, eventAt, wellFormedRecord, trace}
+use Rattle.program.specs.Bytes.{byte, Bytes, bit}
+use Rattle.traces.specs.Traces.{Event, eventBytes, traceBytes, eventOf, eventAt, wellFormedRecord, trace}
 use Rattle.traces.specs.Claims.{WellFormedRecord, Storable, storable-none, storable-more}
 
 -- ---- a record's events are those whose bytes it has
-event-back : (e : Event) → eventOf (e .term / 256) (e .term % 256) (e .privilege) (decisionByte (e .decided)) ≡ e
+event-back : (e : Event) → eventOf (e .term / 256) (e .term % 256) (e .privilege) (bit (e .decided)) ≡ e
 event-back e = λ i. record { term = div-add-mod' (e .term) 256 i; privilege = e .privilege; decided = decision (e .decided) i }
   where
-    decision : (b : Bool) → eqb (decisionByte b) 1 ≡ b
+    decision : (b : Bool) → eqb (bit b) 1 ≡ b
     decision true = refl
     decision false = refl
 
-decision-low : (b : Bool) → leb (decisionByte b) 1 ≡ true
+decision-low : (b : Bool) → leb (bit b) 1 ≡ true
 decision-low true = refl
 decision-low false = refl
 
@@ -56,7 +56,7 @@ bytes-take (suc k) [] = let n : 4 * suc k ≡ suc (4 * k + 3) = omega arith in a
 bytes-take (suc k) (e ∷ t) =
     let n : 4 * suc k ≡ suc (suc (suc (suc (4 * k)))) = omega arith in
     ap (λ (x : ℕ). take x (traceBytes (e ∷ t))) n
-    ∙ ap (λ (x : List ℕ). e .term / 256 ∷ e .term % 256 ∷ e .privilege ∷ decisionByte (e .decided) ∷ x) (bytes-take k t)
+    ∙ ap (λ (x : List ℕ). e .term / 256 ∷ e .term % 256 ∷ e .privilege ∷ bit (e .decided) ∷ x) (bytes-take k t)
 
 -- the entries of storable events hold bytes
 pub bytes-below : {t : List Event} → Storable t → Bytes (traceBytes t)
@@ -64,7 +64,7 @@ unfolding traceBytes
 bytes-below storable-none = record { below = λ i. omega arith }
 bytes-below (storable-more {e} {t} h p s) = record { below = λ i. go (bytes-below s) i }
   where
-    decision : (b : Bool) → decisionByte b < 256
+    decision : (b : Bool) → bit b < 256
     decision true = omega arith
     decision false = omega arith
 
@@ -92,7 +92,7 @@ trace-back (h ∷ l ∷ p ∷ d ∷ s) b w =
     low : (h * 256 + l) % 256 ≡ l
     low = omega (arith, b .below 1)
 
-    decision : (d : ℕ) → d ≤ 1 → decisionByte (eqb d 1) ≡ d
+    decision : (d : ℕ) → d ≤ 1 → bit (eqb d 1) ≡ d
     decision zero h = refl
     decision (suc zero) h = refl
     decision (suc (suc d)) h = absurd (omega arith)

@@ -15,7 +15,7 @@ use Rattle.program.specs.Terms.{Term, boolean, number, variable, function, letr
 use Rattle.program.specs.Laws.Types.{PartsLower}
 use Rattle.program.specs.Laws.Trees.{Standard}
 use Rattle.typing.specs.Subtyping.{Wider, wider}
-use Rattle.typing.specs.Rules.{bound, removeAuthorised, postNeeds, Same, Variant, afterW1, current, Derives, d-boolean, d-number, d-variable, d-function, d-letrec, d-call, d-if, d-test, d-check, d-enable, d-sign, d-binary, d-post, d-widen}
+use Rattle.typing.specs.Rules.{lookupType, removeAuthorised, postNeeds, Same, Variant, afterW1, current, Derives, d-boolean, d-number, d-variable, d-function, d-letrec, d-call, d-if, d-test, d-check, d-enable, d-sign, d-binary, d-post, d-widen}
 use Rattle.typing.specs.Checking.{Judgement, typed, fault, _next_, require, variableType, joined, bodyFits, infer}
 use Rattle.typing.specs.Laws.Subtyping.{subtype-sound, subtype-complete, wider-sound, wider-complete}
 use Rattle.typing.specs.Laws.Variants.{same-wider}
@@ -65,7 +65,7 @@ module _ {T : Types} {A : ℕ → ℕ} {Γ : List ℕ} {n : ℕ} {c : Term} wher
       go (derived d) = d
 
 module _ (T : Types) (A : ℕ → ℕ) where
-  variable-sound : (Γ : List ℕ) (n at i : ℕ) (o : Option ℕ) → bound Γ i ≡ o → SoundJudgement T A Γ n (variable at i) (variableType at o)
+  variable-sound : (Γ : List ℕ) (n at i : ℕ) (o : Option ℕ) → lookupType Γ i ≡ o → SoundJudgement T A Γ n (variable at i) (variableType at o)
   variable-sound Γ n at i none e = faulty
   variable-sound Γ n at i (some τ) e = derived (d-variable e)
 
@@ -78,7 +78,7 @@ module _ (T : Types) (A : ℕ → ℕ) where
   unfolding infer
   infer-sound L Γ n (boolean at b) w = derived d-boolean
   infer-sound L Γ n (number at k) w = derived d-number
-  infer-sound L Γ n (variable at i) w = variable-sound Γ n at i (bound Γ i) refl
+  infer-sound L Γ n (variable at i) w = variable-sound Γ n at i (lookupType Γ i) refl
   infer-sound L Γ n (function at ty body) w = next-sound _ (infer-sound L (T .arg ty ∷ Γ) n body (w .2)) λ τ N d.
       body-sound at ty λ e l. derived (d-function (w .0) (retype e d) l)
   infer-sound L Γ n (letrec at ty body rest) w = next-sound _ (infer-sound L (T .arg ty ∷ ty ∷ Γ) n body (w .2)) λ τ N d.

@@ -21,9 +21,9 @@ use Rattle.program.specs.Decoding.{holds, field, tableConditions, decodingCondi
 use Rattle.program.specs.Laws.Screening.{found-first}
 use Rattle.program.specs.Laws.Types.{PartsLower}
 use Rattle.typing.specs.Subtyping.{Subtype, subtype, wider}
-use Rattle.typing.specs.Rules.{bound}
+use Rattle.typing.specs.Rules.{lookupType}
 use Rattle.typing.specs.Checking.{Judgement, typed, fault, _next_, require, variableType, joined, bodyFits, infer}
-use Rattle.typing.specs.Faults.{Within, here, in-function, in-letrec-body, in-letrec-rest, in-call-function, in-call-argument, in-if-condition, in-if-yes, in-if-no, in-check, in-enable, in-sign, in-test-yes, in-test-no, in-left, in-right, in-post, Mismatch, not-a-function, unfit-argument, unfit-if, unfit-test, OtherTypeFault, other-result, other-letrec-result, not-a-boolean, left-not-a-number, right-not-a-number, posted-not-a-number, OtherFault, past-bindings, sign-needs, body-needs, letrec-body-needs, SomePart, MismatchedPart, OtherTypeFaultyPart, OtherFaultyPart}
+use Rattle.typing.specs.Faults.{Within, here, in-function, in-letrec-body, in-letrec-rest, in-call-function, in-call-argument, in-if-condition, in-if-yes, in-if-no, in-check, in-enable, in-sign, in-test-yes, in-test-no, in-left, in-right, in-post, Mismatch, not-a-function, unfit-argument, unfit-if, unfit-test, OtherTypeFault, other-result, other-letrec-result, not-a-boolean, left-not-a-number, right-not-a-number, posted-not-a-number, OtherFault, past-bindings, sign-needs, body-needs, letrec-body-needs, SomeSubterm, MismatchedSubterm, OtherTypeFaultySubterm, OtherFaultySubterm}
 use Rattle.typing.specs.Laws.Subtyping.{refuted, fails}
 
 -- ---- only where a term is so
@@ -37,13 +37,13 @@ data FaultAt (T : Types) (A : ℕ → ℕ) (Γ : List ℕ) (n : ℕ) : (cause at
 -- a judgement of a term: typed, or what is told of a part of it
 data FaultExplained (T : Types) (A : ℕ → ℕ) (Γ : List ℕ) (n : ℕ) (c : Term) : Judgement → Type 0 where
   well : {τ N : ℕ} → FaultExplained T A Γ n c (typed τ N)
-  faulted : {cause at : ℕ} → SomePart T (λ Δ m d. FaultAt T A Δ m cause at d) Γ n c → FaultExplained T A Γ n c (fault cause at)
+  faulted : {cause at : ℕ} → SomeSubterm T (λ Δ m d. FaultAt T A Δ m cause at d) Γ n c → FaultExplained T A Γ n c (fault cause at)
 
 module _ {T : Types} {Is : List ℕ → ℕ → Term → Type 0} {Γ : List ℕ} {n : ℕ} {c : Term} where
   -- what is within a child is within the term, and what follows from what it was is so there
   above : {Was : List ℕ → ℕ → Term → Type 0} {Γ′ : List ℕ} {n′ : ℕ} {c′ : Term}
       → ((Δ : List ℕ) (m : ℕ) (d : Term) → Within T Δ m d Γ′ n′ c′ → Within T Δ m d Γ n c)
-      → ((Δ : List ℕ) (m : ℕ) (d : Term) → Was Δ m d → Is Δ m d) → SomePart T Was Γ′ n′ c′ → SomePart T Is Γ n c
+      → ((Δ : List ℕ) (m : ℕ) (d : Term) → Was Δ m d → Is Δ m d) → SomeSubterm T Was Γ′ n′ c′ → SomeSubterm T Is Γ n c
   above up so f = record {
     bindings = f .bindings;
     principal = f .principal;
@@ -52,7 +52,7 @@ module _ {T : Types} {Is : List ℕ → ℕ → Term → Type 0} {Γ : List ℕ}
     is = so (f .bindings) (f .principal) (f .part) (f .is);
   }
 
-  self : Is Γ n c → SomePart T Is Γ n c
+  self : Is Γ n c → SomeSubterm T Is Γ n c
   self h = record { bindings = Γ; principal = n; part = c; within = here; is = h }
 
 module _ {T : Types} {A : ℕ → ℕ} {Γ : List ℕ} {n : ℕ} {c : Term} where
@@ -112,12 +112,12 @@ module _ {T : Types} {A : ℕ → ℕ} {Γ : List ℕ} {n : ℕ} {c : Term} wher
   variable-explained at (some τ) h = well
 
 -- a variable has no type exactly if it is past the bindings
-bound-past : (Γ : List ℕ) (i : ℕ) → bound Γ i ≡ none → length Γ ≤ i
+bound-past : (Γ : List ℕ) (i : ℕ) → lookupType Γ i ≡ none → length Γ ≤ i
 bound-past [] i e = omega arith
 bound-past (τ ∷ Γ) zero e = absurd (Option·none-ne-some τ (sym e))
 bound-past (τ ∷ Γ) (suc i) e = omega (arith, bound-past Γ i e)
 
-past-bound : (Γ : List ℕ) (i : ℕ) → length Γ ≤ i → bound Γ i ≡ none
+past-bound : (Γ : List ℕ) (i : ℕ) → length Γ ≤ i → lookupType Γ i ≡ none
 past-bound [] i l = refl
 past-bound (τ ∷ Γ) zero l = absurd (omega arith)
 past-bound (τ ∷ Γ) (suc i) l = past-bound Γ i (omega arith)
@@ -140,7 +140,7 @@ module _ (T : Types) (A : ℕ → ℕ) where
     unfolding infer
     explained Γ n (boolean at b) = well
     explained Γ n (number at k) = well
-    explained Γ n (variable at i) = variable-explained at (bound Γ i) λ e. past-bindings (bound-past Γ i e)
+    explained Γ n (variable at i) = variable-explained at (lookupType Γ i) λ e. past-bindings (bound-past Γ i e)
     explained Γ n (function at ty body) = next-explained _ (explained (T .arg ty ∷ Γ) n body) (λ _ _ _ w. in-function w) λ τ N e.
         body-explained at ty τ N (λ h. other-result e h) (λ g h. body-needs (e ∙ ap (λ (x : ℕ). typed x N) g) h) well
     explained Γ n (letrec at ty body rest) = next-explained _ (explained (T .arg ty ∷ ty ∷ Γ) n body) (λ _ _ _ w. in-letrec-body w) λ τ N e.
@@ -170,14 +170,14 @@ module _ (T : Types) (A : ℕ → ℕ) where
 
     module _ (Γ : List ℕ) (n : ℕ) (c : Term) (cause at : ℕ) (e : infer T A Γ n c ≡ fault cause at) where
       -- a fault is told of a part, and what follows from what is told of it there is so
-      part-faulted : {Is : List ℕ → ℕ → Term → Type 0} → ((Δ : List ℕ) (m : ℕ) (d : Term) → FaultAt T A Δ m cause at d → Is Δ m d) → SomePart T Is Γ n c
+      part-faulted : {Is : List ℕ → ℕ → Term → Type 0} → ((Δ : List ℕ) (m : ℕ) (d : Term) → FaultAt T A Δ m cause at d → Is Δ m d) → SomeSubterm T Is Γ n c
       part-faulted so = go so (subst (FaultExplained T A Γ n c) e (explained Γ n c))
         where
           go : {cause at : ℕ} {Is : List ℕ → ℕ → Term → Type 0} → ((Δ : List ℕ) (m : ℕ) (d : Term) → FaultAt T A Δ m cause at d → Is Δ m d)
-              → FaultExplained T A Γ n c (fault cause at) → SomePart T Is Γ n c
+              → FaultExplained T A Γ n c (fault cause at) → SomeSubterm T Is Γ n c
           go so (faulted f) = above (λ _ _ _ w. w) so f
 
-      pub infer-faulty : 24 ≤ cause → MismatchedPart T A Γ n c cause at
+      pub infer-faulty : 24 ≤ cause → MismatchedSubterm T A Γ n c cause at
       infer-faulty l = part-faulted λ _ _ _ t. go t l
         where
           go : {Δ : List ℕ} {m cause at : ℕ} {d : Term} → FaultAt T A Δ m cause at d → 24 ≤ cause → Mismatch T A Δ m cause at d
@@ -185,7 +185,7 @@ module _ (T : Types) (A : ℕ → ℕ) where
           go (ten t) l = absurd (omega arith)
           go (beyond b) l = absurd (omega (arith, beyond-cause b .0))
 
-      pub infer-ten : cause ≡ 10 → OtherTypeFaultyPart T A Γ n c at
+      pub infer-ten : cause ≡ 10 → OtherTypeFaultySubterm T A Γ n c at
       infer-ten q = part-faulted λ _ _ _ t. go t q
         where
           go : {Δ : List ℕ} {m cause at : ℕ} {d : Term} → FaultAt T A Δ m cause at d → cause ≡ 10 → OtherTypeFault T A Δ m at d
@@ -193,7 +193,7 @@ module _ (T : Types) (A : ℕ → ℕ) where
           go (ten t) q = t
           go (beyond b) q = absurd (beyond-cause b .1 q)
 
-      pub infer-beyond : cause < 24 → (cause ≡ 10 → ⊥) → OtherFaultyPart T A Γ n c cause at
+      pub infer-beyond : cause < 24 → (cause ≡ 10 → ⊥) → OtherFaultySubterm T A Γ n c cause at
       infer-beyond l not-ten = part-faulted λ _ _ _ t. go t l not-ten
         where
           go : {Δ : List ℕ} {m cause at : ℕ} {d : Term} → FaultAt T A Δ m cause at d → cause < 24 → (cause ≡ 10 → ⊥) → OtherFault T A Δ m cause at d

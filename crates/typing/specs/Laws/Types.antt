@@ -12,12 +12,12 @@ use Rattle.program.specs.Terms.{Op, sum, difference, less, Term}
 use Rattle.program.specs.Laws.Readable.{WellFormed}
 use Rattle.program.specs.Laws.Types.{function-type}
 use Rattle.typing.specs.Subtyping.{Wider, wider-second, wider-first}
-use Rattle.typing.specs.Rules.{bound, resultType, current, Derives, d-boolean, d-number, d-variable, d-function, d-letrec, d-call, d-if, d-test, d-check, d-enable, d-sign, d-binary, d-post, d-widen}
+use Rattle.typing.specs.Rules.{lookupType, resultType, current, Derives, d-boolean, d-number, d-variable, d-function, d-letrec, d-call, d-if, d-test, d-check, d-enable, d-sign, d-binary, d-post, d-widen}
 use Rattle.typing.specs.Verdicts.{SheetDerives}
 
 module _ (s : List ℕ) (w : WellFormed s) where
   abbrev AllInside : List ℕ → Type 0
-  AllInside Γ = (i τ : ℕ) → bound Γ i ≡ some τ → τ < types s
+  AllInside Γ = (i τ : ℕ) → lookupType Γ i ≡ some τ → τ < types s
 
   more-inside : (σ : ℕ) (Γ : List ℕ) → σ < types s → AllInside Γ → AllInside (σ ∷ Γ)
   more-inside σ Γ l h zero τ e = subst (λ x. x < types s) (Option·some-injective σ τ e) l

@@ -6,8 +6,8 @@ use borrow.Author.Needs.{needs}
 use Rattle.vectors.proofs.over_intervals.Statement.{statement}
 use Rattle.vectors.proofs.over_intervals.Tie as tie
 
-max-pairs-requires : tie.Need-max-pairs-requires
-max-pairs-requires c κs = search needs
+pair-buffer-requires : tie.Need-pair-buffer-requires
+pair-buffer-requires c κs = search needs
 
 least-requires : tie.Need-least-requires
 least-requires c κs = search needs
@@ -18,10 +18,10 @@ array-borrow-prefix-pairs c = search needs
 slice-aggregate-rangings : tie.Need-slice-aggregate-rangings
 slice-aggregate-rangings c =
     let at-least = c .before in
-    let at-max-pairs = at-least .before in
-    let all = at-max-pairs .max-pairs .result in
+    let at-pair-buffer = at-least .before in
+    let all = at-pair-buffer .pair-buffer .result in
     let used = at-least .least .result in
-    part used all (omega (arith, at-least .least .ensures, at-max-pairs .max-pairs .ensures))
+    part used all (omega (arith, at-least .least .ensures, at-pair-buffer .pair-buffer .ensures))
 
 rangings-requires : tie.Need-rangings-requires
 rangings-requires c κs = search needs
@@ -39,7 +39,7 @@ pub over-intervals-spec : {M : Type 1} → statement M
 over-intervals-spec =
     tie.close
     (tie.spec
-    max-pairs-requires
+    pair-buffer-requires
     least-requires
     array-borrow-prefix-pairs
     slice-aggregate-rangings

@@ -4,6 +4,7 @@ use mathlib.Core.Path.{_∙_, ap}
 use mathlib.Core.List.{List}
 use Prim.Native.Nat.{ℕ, _+_, _%_}
 use lib.ListN.{set}
+use Rattle.program.specs.Bytes.{withWord16}
 use Rattle.blocks.proofs.update.stored_pair.Statement.{statement}
 use Rattle.blocks.proofs.update.stored_pair.Tie as tie
 
@@ -23,6 +24,7 @@ stored-requires-2 : tie.Need-stored-requires-2
 stored-requires-2 c κs = search needs
 
 returns : tie.Need-returns
+unfolding withWord16
 returns c =
     let start = c .before .before in
     c .stored2 .ensures ∙ ap (λ (l : List ℕ). set l (start .args .at + 1) (start .args .n % 256)) (c .before .stored .ensures)

@@ -59,7 +59,7 @@ use Rattle.rules.proofs.steps.function_of.Reads as function-of-reads
 use Rattle.rules.proofs.steps.leaf.Reads as leaf-reads
 use Rattle.rules.proofs.steps.letrec_of.Reads as letrec-of-reads
 use Rattle.rules.proofs.steps.posted.Reads as posted-reads
-use Rattle.rules.proofs.steps.result_of.Reads as result-of-reads
+use Rattle.rules.proofs.steps.binary_result.Reads as binary-result-reads
 use Rattle.rules.proofs.steps.signed.Reads as signed-reads
 use Rattle.rules.proofs.steps.tested.Reads as tested-reads
 use Rattle.checker.proofs.infer.+infer+infer_binary+infer_call+infer_check+infer_enable+infer_function+infer_if+infer_letrec+infer_post+infer_sign+infer_test.{
@@ -390,7 +390,7 @@ infer-returns-11 : (t : ℕ) → infer-lts.Need-returns-11 (infer-claims t) (inf
 infer-returns-11 t c = c .infer-post .ensures
 
 abbrev infer-binary-claims : ℕ → infer-binary-lts.Claims
-infer-binary-claims t = (infer-below t, infer.Post, result-of-reads.Asked, result-of-reads.Learnt, computed-reads.Asked, computed-reads.Learnt)
+infer-binary-claims t = (infer-below t, infer.Post, binary-result-reads.Asked, binary-result-reads.Learnt, computed-reads.Asked, computed-reads.Learnt)
 
 infer-binary-infer-requires : (t : ℕ) → infer-binary-lts.Need-infer-requires (infer-binary-claims t) (infer-binary-at t) infer-binary.Post
 infer-binary-infer-requires t c κs =
@@ -421,8 +421,8 @@ infer-binary-infer-requires-2 t c κs =
     let h = binary-second (start .pre .1 .at) (start .pre .1 .kind-least) (start .pre .1 .kind-most) in
     (omega (arith, start .pre .0, h .lower), record { ready = h .ready; known = at-infer .infer .ensures .known })
 
-infer-binary-result-of-requires : (t : ℕ) → infer-binary-lts.Need-result-of-requires (infer-binary-claims t) (infer-binary-at t) infer-binary.Post
-infer-binary-result-of-requires t c κs = search needs
+infer-binary-binary-result-requires : (t : ℕ) → infer-binary-lts.Need-binary-result-requires (infer-binary-claims t) (infer-binary-at t) infer-binary.Post
+infer-binary-binary-result-requires t c κs = search needs
 
 infer-binary-computed-requires : (t : ℕ) → infer-binary-lts.Need-computed-requires (infer-binary-claims t) (infer-binary-at t) infer-binary.Post
 infer-binary-computed-requires t c κs = search needs
@@ -435,7 +435,7 @@ infer-binary-returns-2 t c =
     let start = at-infer .before .before .before in
     record {
       is = binary-is (start .pre .1 .at) _ (start .pre .1 .kind-least) (start .pre .1 .kind-most) (at-j .j .given .1) (at-infer .infer .ensures .is)
-          (at-infer2 .infer2 .ensures .is) (c .before .result-of .ensures) (c .computed .ensures);
+          (at-infer2 .infer2 .ensures .is) (c .before .binary-result .ensures) (c .computed .ensures);
       known = at-infer2 .infer2 .ensures .known;
     }
 
@@ -884,7 +884,7 @@ pub +infer+infer-binary+infer-call+infer-check+infer-enable+infer-function+infer
     (infer-binary-enum-told t)
     (infer-binary-returns t)
     (infer-binary-infer-requires-2 t)
-    (infer-binary-result-of-requires t)
+    (infer-binary-binary-result-requires t)
     (infer-binary-computed-requires t)
     (infer-binary-returns-2 t))
     (λ t. infer-call-lts.spec (infer-call-claims t)

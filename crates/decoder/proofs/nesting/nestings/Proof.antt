@@ -89,7 +89,8 @@ loop-again-2 c =
       below = omega arith;
       room = simp length-set (at-loop .loop .inv .room);
       nested = nested-more (start .args .parents .now) (at-loop .loop .deep) (start .args .n)
-          (at-loop .loop .t) (maxNesting + 1) (at-loop .loop .inv .nested) (start .pre .rising) (omega (arith, at-loop .loop .inv .room, start .pre .high))
+          (at-loop .loop .t) (maxNesting + 1) (at-loop .loop .inv .nested) (start .pre .rising)
+          (omega (arith, at-loop .loop .inv .room, start .pre .high))
           (c .before .before .loop-test .taken) (at-loop .loop .inv .below) (λ k h. held _ k (c .if1 .left) h) (omega arith);
     }
 

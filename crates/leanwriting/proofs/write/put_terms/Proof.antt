@@ -39,8 +39,8 @@ add-next c =
     let start = c .before .before .before .before .before in
     omega (arith, c .before .loop-test .taken, c .before .before .loop .inv .all-are, start .pre .ready .types-ready .sheet .well-formed .terms-most)
 
-is-idle-requires : tie.Need-is-idle-requires Inv-loop μ-loop
-is-idle-requires c κs = search needs
+is-erased-requires : tie.Need-is-erased-requires Inv-loop μ-loop
+is-erased-requires c κs = search needs
 
 term-bytes-requires : tie.Need-term-bytes-requires Inv-loop μ-loop
 term-bytes-requires c κs =
@@ -69,7 +69,7 @@ add-put c =
     let inside = within (at-loop-test .loop-test .taken) (at-loop .loop .inv .all-are) in omega (
       arith,
       gathered-room (term-gathering (start .args .s .now) (start .args .buffer .now) (start .args .at) (start .pre .room)) (at-loop .loop .inv .gathered) inside
-          (kept-here (start .pre .ready .types-ready .sheet) inside (at-term .term .ensures) (c .before .before .before .is-idle .ensures)
+          (kept-here (start .pre .ready .types-ready .sheet) inside (at-term .term .ensures) (c .before .before .before .is-erased .ensures)
           (not-true _ (c .before .before .if1 .taken))),
       gathered-length
           (term-gathering (start .args .s .now) (start .args .buffer .now) (start .args .at) (start .pre .room)) (at-loop .loop .inv .gathered)
@@ -82,8 +82,8 @@ slice-aggregate-put c = sym (ap length (c .before .before .term-bytes .ensures))
 
 put-requires : tie.Need-put-requires Inv-loop μ-loop
 put-requires c κs =
-    let at-is-idle = c .before .before .before .before in
-    let at-term = at-is-idle .before in
+    let at-is-erased = c .before .before .before .before in
+    let at-term = at-is-erased .before in
     let at-loop-test = at-term .before in
     let at-loop = at-loop-test .before in
     let start = at-loop .before .before .before in
@@ -91,7 +91,7 @@ put-requires c κs =
     record {
       room = gathered-room (term-gathering (start .args .s .now) (start .args .buffer .now) (start .args .at) (start .pre .room))
           (at-loop .loop .inv .gathered) inside
-          (kept-here (start .pre .ready .types-ready .sheet) inside (at-term .term .ensures) (at-is-idle .is-idle .ensures)
+          (kept-here (start .pre .ready .types-ready .sheet) inside (at-term .term .ensures) (at-is-erased .is-erased .ensures)
           (not-true _ (c .before .before .before .if1 .taken)));
       enough = omega (arith, ap length (c .before .before .term-bytes .ensures));
     }
@@ -117,8 +117,8 @@ loop-again : tie.Need-loop-again Inv-loop μ-loop
 loop-again c =
     let at-term-bytes = c .before .before .before .before .before in
     let at-if1 = at-term-bytes .before in
-    let at-is-idle = at-if1 .before in
-    let at-term = at-is-idle .before in
+    let at-is-erased = at-if1 .before in
+    let at-term = at-is-erased .before in
     let at-loop-test = at-term .before in
     let at-loop = at-loop-test .before in
     let start = at-loop .before .before .before in
@@ -128,7 +128,8 @@ loop-again c =
       all-are = at-loop .loop .inv .all-are;
       gathered = gathered-yes
           (term-gathering (start .args .s .now) (start .args .buffer .now) (start .args .at) (start .pre .room)) (at-loop .loop .inv .gathered) inside
-          (kept-here (start .pre .ready .types-ready .sheet) inside (at-term .term .ensures) (at-is-idle .is-idle .ensures) (not-true _ (at-if1 .if1 .taken)))
+          (kept-here (start .pre .ready .types-ready .sheet) inside (at-term .term .ensures) (at-is-erased .is-erased .ensures)
+          (not-true _ (at-if1 .if1 .taken)))
           (c .before .before .put .ensures) (at-term-bytes .term-bytes .ensures);
     }
 
@@ -146,7 +147,7 @@ loop-again-2 c =
       all-are = at-loop .loop .inv .all-are;
       gathered = gathered-no
           (term-gathering (start .args .s .now) (start .args .buffer .now) (start .args .at) (start .pre .room)) (at-loop .loop .inv .gathered)
-          (gone-here (start .pre .ready .types-ready .sheet) inside (c .before .before .term .ensures) (c .before .is-idle .ensures)
+          (gone-here (start .pre .ready .types-ready .sheet) inside (c .before .before .term .ensures) (c .before .is-erased .ensures)
           (not-false _ (c .if1 .left)));
     }
 
@@ -173,7 +174,7 @@ put-terms-spec =
     loop-holds
     term-requires
     add-next
-    is-idle-requires
+    is-erased-requires
     term-bytes-requires
     mul-put
     add-put

@@ -4,8 +4,8 @@ use Rattle.machine.proofs.StepLaws.{listed-interval, listed-plain}
 use Rattle.machine.proofs.steps.listed.Statement.{statement}
 use Rattle.machine.proofs.steps.listed.Tie as tie
 
-intervals-requires : tie.Need-intervals-requires
-intervals-requires c κs = search needs
+interval-mode-requires : tie.Need-interval-mode-requires
+interval-mode-requires c κs = search needs
 
 payload-requires : tie.Need-payload-requires
 payload-requires c κs = search needs
@@ -19,7 +19,7 @@ entry-requires c κs = search needs
 returns : tie.Need-returns
 returns c =
     let at-if1 = c .before .before .before in
-    listed-interval _ _ _ (at-if1 .before .intervals .ensures) (c .entry .ensures) (at-if1 .if1 .taken) (c .before .before .payload .ensures)
+    listed-interval _ _ _ (at-if1 .before .interval-mode .ensures) (c .entry .ensures) (at-if1 .if1 .taken) (c .before .before .payload .ensures)
     (c .before .env .ensures)
 
 small-of-requires : tie.Need-small-of-requires
@@ -37,14 +37,14 @@ entry-requires-2 c κs = search needs
 returns-2 : tie.Need-returns-2
 returns-2 c =
     let at-if1 = c .before .before .before in
-    listed-plain _ _ _ (at-if1 .before .intervals .ensures) (c .entry2 .ensures) (at-if1 .if1 .left) (c .before .before .small-of .ensures)
+    listed-plain _ _ _ (at-if1 .before .interval-mode .ensures) (c .entry2 .ensures) (at-if1 .if1 .left) (c .before .before .small-of .ensures)
     (c .before .payload2 .ensures)
 
 pub listed-spec : {M : Type 1} → statement M
 listed-spec =
     tie.close
     (tie.spec
-    intervals-requires
+    interval-mode-requires
     payload-requires
     env-requires
     entry-requires

@@ -27,24 +27,24 @@ returns-2 c =
     operate-right _ _ _ _ _ (sym (at-sort .sort .ensures) ∙ c .before .before .before .if1 .left)
     (λ e. c .before .if2 .taken (c .before .before .sort2 .ensures ∙ e)) (c .stop2 .ensures)
 
-element-copy-out-intervals : tie.Need-element-copy-out-intervals
-element-copy-out-intervals c = search needs
+element-copy-out-interval-mode : tie.Need-element-copy-out-interval-mode
+element-copy-out-interval-mode c = search needs
 
-intervals-requires : tie.Need-intervals-requires
-intervals-requires c κs = search needs
+interval-mode-requires : tie.Need-interval-mode-requires
+interval-mode-requires c κs = search needs
 
 operate-intervals-requires : tie.Need-operate-intervals-requires
 operate-intervals-requires c κs = search needs
 
 returns-3 : tie.Need-returns-3
 returns-3 c =
-    let at-intervals = c .before .before in
-    let at-if2 = at-intervals .before .before in
+    let at-interval-mode = c .before .before in
+    let at-if2 = at-interval-mode .before .before in
     let at-sort2 = at-if2 .before in
     let at-if1 = at-sort2 .before in
     let at-sort = at-if1 .before in
     operate-intervals _ _ _ _ _ (sym (at-sort .sort .ensures) ∙ at-if1 .if1 .left) (sym (at-sort2 .sort2 .ensures) ∙ at-if2 .if2 .left)
-    (at-intervals .intervals .ensures) (c .before .if3 .taken) (c .operate-intervals .ensures)
+    (at-interval-mode .interval-mode .ensures) (c .before .if3 .taken) (c .operate-intervals .ensures)
 
 payload-requires : tie.Need-payload-requires
 payload-requires c κs = search needs
@@ -65,13 +65,13 @@ returns-4 : tie.Need-returns-4
 returns-4 c =
     let at-payload = c .before .before .before .before in
     let at-if3 = at-payload .before in
-    let at-intervals = at-if3 .before in
-    let at-if2 = at-intervals .before .before in
+    let at-interval-mode = at-if3 .before in
+    let at-if2 = at-interval-mode .before .before in
     let at-sort2 = at-if2 .before in
     let at-if1 = at-sort2 .before in
     let at-sort = at-if1 .before in
     sum-fits _ _ _ _ _ (sym (at-sort .sort .ensures) ∙ at-if1 .if1 .left) (sym (at-sort2 .sort2 .ensures) ∙ at-if2 .if2 .left)
-    (at-intervals .intervals .ensures) (at-if3 .if3 .left) (at-payload .payload .ensures)
+    (at-interval-mode .interval-mode .ensures) (at-if3 .if3 .left) (at-payload .payload .ensures)
     (c .before .before .before .payload2 .ensures) (c .before .before .if4 .taken) (omega (arith, c .before .if5 .taken))
     (omega (arith, at-payload .payload .ensures)) (c .number .ensures)
 
@@ -83,13 +83,13 @@ returns-5 c =
     let at-payload2 = c .before .before .before .before in
     let at-payload = at-payload2 .before in
     let at-if3 = at-payload .before in
-    let at-intervals = at-if3 .before in
-    let at-if2 = at-intervals .before .before in
+    let at-interval-mode = at-if3 .before in
+    let at-if2 = at-interval-mode .before .before in
     let at-sort2 = at-if2 .before in
     let at-if1 = at-sort2 .before in
     let at-sort = at-if1 .before in
     sum-over _ _ _ _ _ (sym (at-sort .sort .ensures) ∙ at-if1 .if1 .left) (sym (at-sort2 .sort2 .ensures) ∙ at-if2 .if2 .left)
-    (at-intervals .intervals .ensures) (at-if3 .if3 .left) (at-payload .payload .ensures)
+    (at-interval-mode .interval-mode .ensures) (at-if3 .if3 .left) (at-payload .payload .ensures)
     (at-payload2 .payload2 .ensures) (c .before .before .before .if4 .taken) (c .before .before .if5 .left) (omega (arith, at-payload .payload .ensures))
     (c .saturate .ensures .answer-is) (c .saturate .ensures .store-is)
 
@@ -101,13 +101,13 @@ returns-6 c =
     let at-payload2 = c .before .before .before .before in
     let at-payload = at-payload2 .before in
     let at-if3 = at-payload .before in
-    let at-intervals = at-if3 .before in
-    let at-if2 = at-intervals .before .before in
+    let at-interval-mode = at-if3 .before in
+    let at-if2 = at-interval-mode .before .before in
     let at-sort2 = at-if2 .before in
     let at-if1 = at-sort2 .before in
     let at-sort = at-if1 .before in
     difference-fits _ _ _ _ _ (sym (at-sort .sort .ensures) ∙ at-if1 .if1 .left) (sym (at-sort2 .sort2 .ensures) ∙ at-if2 .if2 .left)
-    (at-intervals .intervals .ensures) (at-if3 .if3 .left) (at-payload .payload .ensures) (at-payload2 .payload2 .ensures)
+    (at-interval-mode .interval-mode .ensures) (at-if3 .if3 .left) (at-payload .payload .ensures) (at-payload2 .payload2 .ensures)
     (c .before .before .before .if4 .left) (c .before .before .if6 .taken)
     (c .before .if7 .taken) (c .number2 .ensures)
 
@@ -120,13 +120,13 @@ returns-7 c =
     let at-payload2 = at-if4 .before in
     let at-payload = at-payload2 .before in
     let at-if3 = at-payload .before in
-    let at-intervals = at-if3 .before in
-    let at-if2 = at-intervals .before .before in
+    let at-interval-mode = at-if3 .before in
+    let at-if2 = at-interval-mode .before .before in
     let at-sort2 = at-if2 .before in
     let at-if1 = at-sort2 .before in
     let at-sort = at-if1 .before in
     difference-under _ _ _ _ _ (sym (at-sort .sort .ensures) ∙ at-if1 .if1 .left) (sym (at-sort2 .sort2 .ensures) ∙ at-if2 .if2 .left)
-    (at-intervals .intervals .ensures) (at-if3 .if3 .left) (at-payload .payload .ensures) (at-payload2 .payload2 .ensures)
+    (at-interval-mode .interval-mode .ensures) (at-if3 .if3 .left) (at-payload .payload .ensures) (at-payload2 .payload2 .ensures)
     (at-if4 .if4 .left) (c .before .before .before .if6 .taken) (c .before .before .if7 .left)
     (c .saturate2 .ensures .answer-is) (c .saturate2 .ensures .store-is)
 
@@ -137,13 +137,13 @@ returns-8 : tie.Need-returns-8
 returns-8 c =
     let at-payload = c .before .before .before .before in
     let at-if3 = at-payload .before in
-    let at-intervals = at-if3 .before in
-    let at-if2 = at-intervals .before .before in
+    let at-interval-mode = at-if3 .before in
+    let at-if2 = at-interval-mode .before .before in
     let at-sort2 = at-if2 .before in
     let at-if1 = at-sort2 .before in
     let at-sort = at-if1 .before in
     less-is _ _ _ _ _ (sym (at-sort .sort .ensures) ∙ at-if1 .if1 .left) (sym (at-sort2 .sort2 .ensures) ∙ at-if2 .if2 .left)
-    (at-intervals .intervals .ensures) (at-if3 .if3 .left) (at-payload .payload .ensures)
+    (at-interval-mode .interval-mode .ensures) (at-if3 .if3 .left) (at-payload .payload .ensures)
     (c .before .before .before .payload2 .ensures) (c .before .before .if4 .left) (c .before .if6 .left) (c .boolean .ensures)
 
 pub operate-spec : {M : Type 1} → statement M
@@ -156,8 +156,8 @@ operate-spec =
     sort-requires-2
     stop-requires-2
     returns-2
-    element-copy-out-intervals
-    intervals-requires
+    element-copy-out-interval-mode
+    interval-mode-requires
     operate-intervals-requires
     returns-3
     payload-requires

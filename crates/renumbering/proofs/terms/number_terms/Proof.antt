@@ -51,8 +51,8 @@ add-t c =
     let start = c .before .before .before .before .before in
     omega (arith, start .pre .counts .terms-are, start .pre .well-formed .terms-most)
 
-is-idle-requires : tie.Need-is-idle-requires Inv-loop μ-loop
-is-idle-requires c κs = search needs
+is-erased-requires : tie.Need-is-erased-requires Inv-loop μ-loop
+is-erased-requires c κs = search needs
 
 mul-numbers : tie.Need-mul-numbers Inv-loop μ-loop
 mul-numbers c =
@@ -66,7 +66,7 @@ array-read-numbers c =
     let start = at-loop .before .before in
     let l : at-loop .loop .t < terms (start .args .s .now) = within (at-loop-test .loop-test .taken) (at-loop .loop .inv .all-are) in omega (
       arith,
-      inner-below (start .pre) l (c .before .before .before .term .ensures) (c .before .is-idle .ensures) (c .if1 .taken),
+      inner-below (start .pre) l (c .before .before .before .term .ensures) (c .before .is-erased .ensures) (c .if1 .taken),
       start .pre .well-formed .terms-most,
     )
 
@@ -87,8 +87,8 @@ loop-less c =
 
 loop-again : tie.Need-loop-again Inv-loop μ-loop
 loop-again c =
-    let at-is-idle = c .before in
-    let at-term = at-is-idle .before .before in
+    let at-is-erased = c .before in
+    let at-term = at-is-erased .before .before in
     let at-loop-test = at-term .before in
     let at-loop = at-loop-test .before in
     let start = at-loop .before .before in
@@ -98,10 +98,10 @@ loop-again c =
       all-are = at-loop .loop .inv .all-are;
       room = simp length-set (at-loop .loop .inv .room);
       count-is = count-no (keptTerm (start .args .s .now)) (at-loop .loop .t) (at-loop .loop .inv .count-is)
-          (gone-here (start .pre) l (at-term .term .ensures) (at-is-idle .is-idle .ensures) (c .if1 .taken));
+          (gone-here (start .pre) l (at-term .term .ensures) (at-is-erased .is-erased .ensures) (c .if1 .taken));
       table = table-more (newTerm (start .args .s .now))
           (at-loop .loop .numbers) (at-loop .loop .t) _ (omega (arith, start .pre .well-formed .terms-most))
-          (inner-number (start .pre) l (at-term .term .ensures) (at-is-idle .is-idle .ensures) (c .if1 .taken) (at-loop .loop .inv .table))
+          (inner-number (start .pre) l (at-term .term .ensures) (at-is-erased .is-erased .ensures) (c .if1 .taken) (at-loop .loop .inv .table))
           (at-loop .loop .inv .table);
     }
 
@@ -134,8 +134,8 @@ loop-less-2 c =
 
 loop-again-2 : tie.Need-loop-again-2 Inv-loop μ-loop
 loop-again-2 c =
-    let at-is-idle = c .before in
-    let at-term = at-is-idle .before .before in
+    let at-is-erased = c .before in
+    let at-term = at-is-erased .before .before in
     let at-loop-test = at-term .before in
     let at-loop = at-loop-test .before in
     let start = at-loop .before .before in
@@ -145,10 +145,10 @@ loop-again-2 c =
       all-are = at-loop .loop .inv .all-are;
       room = simp length-set (at-loop .loop .inv .room);
       count-is = count-yes (keptTerm (start .args .s .now)) (at-loop .loop .t) (at-loop .loop .inv .count-is)
-          (kept-here (start .pre) l (at-term .term .ensures) (at-is-idle .is-idle .ensures) (c .if1 .left));
+          (kept-here (start .pre) l (at-term .term .ensures) (at-is-erased .is-erased .ensures) (c .if1 .left));
       table = table-more (newTerm (start .args .s .now))
           (at-loop .loop .numbers) (at-loop .loop .t) (at-loop .loop .count) (omega (arith, start .pre .well-formed .terms-most))
-          (own-number (start .pre) l (at-term .term .ensures) (at-is-idle .is-idle .ensures) (c .if1 .left) (at-loop .loop .inv .count-is))
+          (own-number (start .pre) l (at-term .term .ensures) (at-is-erased .is-erased .ensures) (c .if1 .left) (at-loop .loop .inv .count-is))
           (at-loop .loop .inv .table);
     }
 
@@ -175,7 +175,7 @@ number-terms-spec =
     term-requires
     cast-inner
     add-t
-    is-idle-requires
+    is-erased-requires
     mul-numbers
     array-read-numbers
     mul-numbers-2

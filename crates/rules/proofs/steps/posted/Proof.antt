@@ -15,16 +15,16 @@ returns : tie.Need-returns
 unfolding postStep
 returns c = stop _ (c .before .before .args .j) (c .before .match .keys2)
 
-guarded-requires : tie.Need-guarded-requires
-guarded-requires c κs = search needs
+post-needs-requires : tie.Need-post-needs-requires
+post-needs-requires c κs = search needs
 
 returns-2 : tie.Need-returns-2
 returns-2 c =
     let at-j = c .before .before .before in
-    post-number (at-j .j .given .1) _ _ (c .before .if1 .taken) (c .guarded .ensures)
+    post-number (at-j .j .given .1) _ _ (c .before .if1 .taken) (c .post-needs .ensures)
 
 returns-3 : tie.Need-returns-3
 returns-3 c = post-other (c .before .before .j .given .1) _ _ (c .if1 .left)
 
 pub posted-spec : {M : Type 1} → statement M
-posted-spec = tie.close (tie.spec enum-known-j enum-told returns guarded-requires returns-2 returns-3)
+posted-spec = tie.close (tie.spec enum-known-j enum-told returns post-needs-requires returns-2 returns-3)

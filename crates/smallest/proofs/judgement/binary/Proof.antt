@@ -13,16 +13,16 @@ enum-told c = search needs
 returns : tie.Need-returns
 returns c = search needs
 
-result-of-requires : tie.Need-result-of-requires
-result-of-requires c κs = search needs
+binary-result-requires : tie.Need-binary-result-requires
+binary-result-requires c κs = search needs
 
 computed-requires : tie.Need-computed-requires
 computed-requires c κs = search needs
 
 returns-2 : tie.Need-returns-2
-returns-2 c = goes _ (c .before .before .before .i .given .1) (result-is _ _ _ _ _ (c .computed .ensures) (c .before .result-of .ensures))
+returns-2 c = goes _ (c .before .before .before .i .given .1) (result-is _ _ _ _ _ (c .computed .ensures) (c .before .binary-result .ensures))
 
 pub binary-spec : {M : Type 1} → statement M
 binary-spec =
     tie.close
-    (tie.spec enum-known-i enum-told returns result-of-requires computed-requires returns-2)
+    (tie.spec enum-known-i enum-told returns binary-result-requires computed-requires returns-2)

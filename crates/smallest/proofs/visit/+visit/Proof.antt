@@ -12,7 +12,7 @@ use Rattle.smallest.proofs.visit.visit.Reads as visit
 use Rattle.smallest.proofs.visit.visit.Kinds as visit-kinds
 use Rattle.smallest.proofs.visit.+visit.Lts-visit as visit-lts
 use Rattle.smallest.proofs.judgement.judgement.Reads as judgement-reads
-use Rattle.smallest.proofs.visit.conclude.Reads as conclude-reads
+use Rattle.smallest.proofs.visit.combine.Reads as combine-reads
 use Rattle.places.proofs.first_child.Reads as first-child-reads
 use Rattle.places.proofs.second_child.Reads as second-child-reads
 use Rattle.places.proofs.third_child.Reads as third-child-reads
@@ -40,8 +40,8 @@ visit-claims t = (
   third-child-reads.Learnt,
   judgement-reads.Asked,
   judgement-reads.Learnt,
-  conclude-reads.Asked,
-  conclude-reads.Learnt,
+  combine-reads.Asked,
+  combine-reads.Learnt,
 )
 
 visit-returns : (t : ℕ) → visit-lts.Need-returns (visit-claims t) (visit-at t) visit.Post
@@ -103,8 +103,8 @@ visit-judgement-requires t c κs =
     judgeable (start .pre .1 .ready (not-false _ (at-if1 .if1 .left))) (first .first-child .ensures) (second .second-child .ensures)
     (third .third-child .ensures) (visited1 .visit .ensures) (visited2 .visit2 .ensures) (visited3 .visit3 .ensures)
 
-visit-conclude-requires : (t : ℕ) → visit-lts.Need-conclude-requires (visit-claims t) (visit-at t) visit.Post
-visit-conclude-requires t c κs =
+visit-combine-requires : (t : ℕ) → visit-lts.Need-combine-requires (visit-claims t) (visit-at t) visit.Post
+visit-combine-requires t c κs =
     let visited3 = c .before .before in
     let third = visited3 .before .before in
     let visited2 = third .before in
@@ -130,7 +130,7 @@ visit-returns-2 t c =
     let present = not-false _ (at-if1 .if1 .left) in
     there (start .args .s .now) (start .args .y) present
     (found-there (start .pre .1 .ready present) (first .first-child .ensures) (second .second-child .ensures) (third .third-child .ensures)
-    (visited1 .visit .ensures) (visited2 .visit2 .ensures) (visited3 .visit3 .ensures) (judged .judgement .ensures) (c .conclude .ensures))
+    (visited1 .visit .ensures) (visited2 .visit2 .ensures) (visited3 .visit3 .ensures) (judged .judgement .ensures) (c .combine .ensures))
 
 pub +visit-spec : {M : Type 1} → statement M
 +visit-spec = close μ-visit λ t. visit-lts.spec (visit-claims t)
@@ -144,5 +144,5 @@ pub +visit-spec : {M : Type 1} → statement M
     (visit-third-child-requires t)
     (visit-visit-requires-3 t)
     (visit-judgement-requires t)
-    (visit-conclude-requires t)
+    (visit-combine-requires t)
     (visit-returns-2 t)
