@@ -128,7 +128,7 @@ def turn_code(text, rows, fields, keep, aliases):
         if before.endswith("."):
             head = re.search(rf"({NAME})\.$", before)
             head = head[1] if head else ""
-            if head in ("tie", "goal", "g"):
+            if head in ("tie", "goal"):
                 return word
             if word not in fields and not (head[:1].isupper() or head in aliases):
                 return word

@@ -218,16 +218,16 @@ module _ (t x access w : ℕ) (n l f noted : List ℕ) {s : ℕ} (e : s ≡ sort
 
     cause_is : c ≡ post_cause x access w n l f
     unfolding post_cause
-    cause_is = q ∙ (λ i. cause_of (sym is_number i) (g.answer-is i) (ltb (posts_made n) (length l)))
+    cause_is = q ∙ (λ i. cause_of (sym is_number i) (g.answer_is i) (ltb (posts_made n) (length l)))
 
     pub post_stopped : {r : ℕ} → (c ≡ 0 → ⊥) → r ≡ stop_word c t → PostAppended t x access w n l f noted r n' l f' noted'
     unfolding post_word post_counters post_list
     post_stopped h r = record {
       word_is = rw (← cause_is) (r ∙ sym (simp (ne_eqb c 0 h)));
-      counters_are = rw (← cause_is, is_number) (g.counters-are ∙ sym (simp (ne_eqb c 0 h)));
+      counters_are = rw (← cause_is, is_number) (g.counters_are ∙ sym (simp (ne_eqb c 0 h)));
       posts_are = rw (← cause_is) (simp (ne_eqb c 0 h));
-      frames_are = g.frames-are;
-      noted_are = rw is_number g.noted-are;
+      frames_are = g.frames_are;
+      noted_are = rw is_number g.noted_are;
     }
 
     pub post_done_lem : {y : ℕ} → c ≡ 0 → y ≡ listed_as (mode_of n') x w
@@ -237,15 +237,15 @@ module _ (t x access w : ℕ) (n l f noted : List ℕ) {s : ℕ} (e : s ≡ sort
       word_is = rw (← cause_is) (simp (eq-eqb c 0 h));
       counters_are = rw (← cause_is, is_number) (counted ∙ sym (simp (eq-eqb c 0 h)));
       posts_are = rw (← cause_is) (simp (eq-eqb c 0 h, y ∙ ap (λ (m : ℕ). listed_as m x w) (kept 3 (λ e. omega (arith, e)))));
-      frames_are = g.frames-are;
-      noted_are = rw is_number g.noted-are;
+      frames_are = g.frames_are;
+      noted_are = rw is_number g.noted_are;
     }
       where
         after : List ℕ
         after = note_counters (number_decides (mode_of n) x) n noted
 
         kept : (j : ℕ) → (j ≡ 5 → ⊥) → get_or n' j 0 ≡ get_or n j 0
-        kept j e = ap (λ (m : List ℕ). get_or m j 0) g.counters-are ∙ note_others (number_decides (mode_of n) x) n noted j e
+        kept j e = ap (λ (m : List ℕ). get_or m j 0) g.counters_are ∙ note_others (number_decides (mode_of n) x) n noted j e
 
         counted : set n' 2 (posts_made n + 1) ≡ set after 2 (posts_made after + 1)
-        counted = λ i. set (g.counters-are i) 2 (sym (note_others (number_decides (mode_of n) x) n noted 2 (λ e. omega (arith, e))) i + 1)
+        counted = λ i. set (g.counters_are i) 2 (sym (note_others (number_decides (mode_of n) x) n noted 2 (λ e. omega (arith, e))) i + 1)

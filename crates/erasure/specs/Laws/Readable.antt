@@ -111,7 +111,7 @@ module _ (s : List ℕ) (r : Readable s) (version_1 : version s ≡ 1) where
       let g = without_guards (lean_sheet s) lean_version in
       append_none (subst None (sym g.no_field) none_end)
       (none_next (none_unless 2 (eq-eqb (sheet_end (lean_sheet s)) (length (lean_sheet s))
-      (g.terms-last ∙ ap (term_at (lean_sheet s)) (terms_are s w) ∙ sym (lean_length s w)))) none_end)
+      (g.terms_last ∙ ap (term_at (lean_sheet s)) (terms_are s w) ∙ sym (lean_length s w)))) none_end)
 
   lean_fields : None (field_conditions (lean_sheet s))
   lean_fields =

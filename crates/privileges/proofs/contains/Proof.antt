@@ -4,7 +4,7 @@ use Rattle.privileges.proofs.Masks.{contains_is}
 use Rattle.privileges.proofs.contains.Statement.{statement}
 use Rattle.privileges.proofs.contains.Tie as tie
 
-shr-result : tie.Need-overflow-shr-result
+shr-result : tie.Need-overflow_shr-result
 shr-result c = search rules
 
 returns : tie.Need-returns

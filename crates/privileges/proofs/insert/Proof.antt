@@ -4,7 +4,7 @@ use Rattle.privileges.proofs.Masks.{insert_is}
 use Rattle.privileges.proofs.insert.Statement.{statement}
 use Rattle.privileges.proofs.insert.Tie as tie
 
-shl-result : tie.Need-overflow-shl-result
+shl-result : tie.Need-overflow_shl-result
 shl-result c = search rules
 
 returns : tie.Need-returns

@@ -4,7 +4,7 @@ use Rattle.privileges.proofs.Masks.{remove_is}
 use Rattle.privileges.proofs.remove.Statement.{statement}
 use Rattle.privileges.proofs.remove.Tie as tie
 
-shl-result : tie.Need-overflow-shl-result
+shl-result : tie.Need-overflow_shl-result
 shl-result c = search rules
 
 returns : tie.Need-returns

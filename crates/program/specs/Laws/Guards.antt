@@ -128,4 +128,4 @@ program_in_range s w =
 
 pub program_unguarded : (s : List ℕ) → WellFormed s → version s ≡ 1 → Unguarded (program s)
 program_unguarded s w one =
-    program_posts s w Plain (λ x l. let g = without_guards s one in (omega (arith, l, g.one-channel), g.none-guarded x))
+    program_posts s w Plain (λ x l. let g = without_guards s one in (omega (arith, l, g.one_channel), g.none_guarded x))

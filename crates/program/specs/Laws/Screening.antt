@@ -30,7 +30,7 @@ found_first (x ∷ xs) c p e = go (x.found tt) refl e (found_first xs c p)
     go none h f rest = first_later h (rest f)
     go (some q) h f rest = first_here (let g : x.cause ≡ c = cc in g) (h ∙ (let g : some q ≡ some p = cc in g))
 
-pub first_found : {cs : List Condition} {c p : ℕ} → First c p cs → screen cs ≡ found c p
+pub first_found : {c p : ℕ} {cs : List Condition} → First c p cs → screen cs ≡ found c p
 unfolding screen refuse_at
 first_found {p = p} (first_here {c} {cs} e f) = (λ i. refuse_at c.cause (f i) (λ _. screen cs)) ∙ ap (λ (x : ℕ). found x p) e
 first_found (first_later {c} {cs} f r) = (λ i. refuse_at c.cause (f i) (λ _. screen cs)) ∙ first_found r

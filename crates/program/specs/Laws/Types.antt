@@ -87,7 +87,7 @@ module _ (s : List ℕ) (b : Bytes s) (t u : ℕ) where
       (and_both (at 3 (i + 2 + 1) (j + 2 + 1) (omega arith) (omega arith) a.1)
       (and_both (at 2 (i + 2) (j + 2) (omega arith) (omega arith) a.0)
       (and_both (at 1 (i + 1) (j + 1) (omega arith) (omega arith) (f.zero_is ∙ sym g.zero_is))
-      (and_both (at 0 i j (omega arith) (omega arith) (f.kind_is ∙ sym g.kind-is)) refl)))))))))
+      (and_both (at 0 i j (omega arith) (omega arith) (f.kind_is ∙ sym g.kind_is)) refl)))))))))
     where
       at : (n x y : ℕ) → x ≡ type_at_lem s t + n → y ≡ type_at_lem s u + n → byte s x ≡ byte s y → eqb (byte s (type_at_lem s t + n)) (byte s (type_at_lem s u + n)) ≡ true
       at n x y p q e = eq-eqb (byte s (type_at_lem s t + n)) (byte s (type_at_lem s u + n)) (ap (byte s) (sym p) ∙ e ∙ ap (byte s) q)
