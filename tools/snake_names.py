@@ -15,7 +15,7 @@ import re
 NAME = r'[^\s(){}.;,@"«»]+'
 TOKEN = re.compile(NAME)
 WORDS = r"(?:(?:pub|unfoldable|abbrev|mutual) +)*"
-NOT = r"(?!(?:record|data|use|mod|infix\w*|syntax|unfolding|let|in|ruleset|rw|mutual)\b)"
+NOT = r"(?!(?:record|data|use|mod|infix\w*|syntax|unfolding|let|in|ruleset|rw|mutual)(?![^\s]))"
 DECLARED = re.compile(rf"^( *){WORDS}{NOT}({NAME})((?: *\{{[^{{}}]*\}})*) +:(?: (\S+)|$)")
 LIBRARY = re.compile(r"use +(?:Rattle\.(?:std|core|std_\w+|io|libc|os)|borrow|denote|native|mathlib|contract|lib|prog|mir|ghost|base|abs|store)\b[^\s{]*(?:\.?\{([^}]*)\})?")
 OWN_ALIAS = re.compile(r"use +(Rattle\.[^\s{;]+) as ([^\s;]+)")
@@ -189,7 +189,8 @@ def comments_of_rust(text, rows):
 
 def main():
     # Rattle makes a module specs.contracts of its own in each crate.
-    move("evaluator", "Contracts", "Promises")
+    if os.path.exists("crates/evaluator/specs/Contracts.antt"):
+        move("evaluator", "Contracts", "Promises")
     where, fields = declarations()
     rows = spellings(where)
     for path in list(files(".antt")) + list(files(".rt")):

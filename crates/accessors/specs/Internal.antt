@@ -27,11 +27,11 @@ pub record Laid (s : List ℕ) (c : Counts) : Type 0 where
 -- the record of term t is in its table, and all of it in the sheet
 pub record TermInside (s : List ℕ) (c : Counts) (t : ℕ) : Type 0 where
   pub in_table : t < c.terms
-  pub in-sheet : 14 + 4 * c.principals + 10 * c.types + 8 * t + 8 ≤ length s
+  pub in_sheet : 14 + 4 * c.principals + 10 * c.types + 8 * t + 8 ≤ length s
 
 -- so is each term of a sheet with its own counts in which the table of terms ends
 pub term_inside : (s : List ℕ) → term_at s (terms s) ≤ length s → (c : Counts) → CountsOf s c → (t : ℕ) → t < terms s → TermInside s c t
 term_inside s i c k t h = record {
   in_table = omega (arith, k.terms_are);
-  in-sheet = omega (arith, i, k.principals_are, k.types_are);
+  in_sheet = omega (arith, i, k.principals_are, k.types_are);
 }

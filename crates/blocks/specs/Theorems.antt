@@ -96,8 +96,8 @@ run_keeps block t (suc (suc (suc (suc (suc (suc k)))))) h l = absurd (omega arit
 pub record Share (m n : ℕ) : Type 0 where
   pub bit : ℕ
   pub below : bit < 8
-  pub in-first : has bit m ≡ true
-  pub in-second : has bit n ≡ true
+  pub in_first : has bit m ≡ true
+  pub in_second : has bit n ≡ true
 
 module _ (m n : ℕ) where
   met_share : SomeBit 8 (meet m n) → Share m n
@@ -106,8 +106,8 @@ module _ (m n : ℕ) where
       record {
         bit = w.0;
         below = w.1;
-        in-first = and_left (has w.0 m) (has w.0 n) both;
-        in-second = and_right (has w.0 m) (has w.0 n) both;
+        in_first = and_left (has w.0 m) (has w.0 n) both;
+        in_second = and_right (has w.0 m) (has w.0 n) both;
       }
 
   share_met : m < 256 → (meet m n ≡ 0 → ⊥) → Share m n
@@ -120,7 +120,7 @@ module _ (m n : ℕ) where
 
   share_not_zero : Share m n → meet m n ≡ 0 → ⊥
   share_not_zero w e =
-      true≢false (sym (has_meet w.bit m n ∙ and_both w.in-first w.in-second) ∙ ap (has w.bit) e ∙ has_none w.bit)
+      true≢false (sym (has_meet w.bit m n ∙ and_both w.in_first w.in_second) ∙ ap (has w.bit) e ∙ has_none w.bit)
 
 pub raised_exactly : (block : List ℕ) → byte block 1 < 256 → (raised block ≡ true) ↔ Share (byte block 1) (byte block 3)
 raised_exactly block h = (

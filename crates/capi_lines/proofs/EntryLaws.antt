@@ -9,7 +9,7 @@ use Rattle.interp.specs.Answers.{buffers_of, outcome_model, counts_model}
 use Rattle.interp.specs.declared.answer.Run.TheVariants.{Refused, Ran}
 use Rattle.replies.specs.Replies.{unfit, written_nine, returned_reply}
 use Rattle.replies.specs.Internal.{reply_model, Put}
-use Rattle.replies.specs.Laws.{fit, in_place, run_eight, in-nine}
+use Rattle.replies.specs.Laws.{fit, in_place, run_eight, in_nine}
 use Rattle.replies.specs.declared.Reply.{Reply}
 use Rattle.queues.specs.Queues.{Job, Lines as LinesOf, add_of}
 use Rattle.lines.specs.Serving as serving
@@ -75,7 +75,7 @@ module _ (state answer store : List ℕ) (size : length state ≡ state_numbers)
       fits = fit state_numbers 9 state answer size room
 
       whole : returned_reply status (set after 8 r.line) ≡ written_nine (serve_reply (serve_model r.answer)) r.line answer
-      whole = in-nine answer room (serve_reply (serve_model r.answer)) (reply_eight (serve_model r.answer)) r.line g put
+      whole = in_nine answer room (serve_reply (serve_model r.answer)) (reply_eight (serve_model r.answer)) r.line g put
 
 -- the counts of a job's run are those of a run
 module _ (s : LinesOf) (store : List ℕ) (b : Buffers) where

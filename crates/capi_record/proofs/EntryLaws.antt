@@ -8,7 +8,7 @@ use lib.ListN.{length}
 use borrow.Author.Tests.{lt-ltb, le-ltb}
 use Rattle.semantics.specs.Runs.{Request, Buffers}
 use Rattle.semantics.specs.Recording.{Recorded, recording}
-use Rattle.semantics.specs.RecordTheorems.{record-holds, decisions_few}
+use Rattle.semantics.specs.RecordTheorems.{record_holds, decisions_few}
 use Rattle.interp.specs.Answers.{run_model, buffers_of, after_recording}
 use Rattle.interp.specs.declared.answer.RecordedRun.{RecordedRun}
 use Rattle.replies.specs.Replies.{run_reply, written_nine, returned_reply}
@@ -25,7 +25,7 @@ module _ (s : List ℕ) (q : Request) (b : Buffers) (t : List ℕ) where
   module _ (r : RecordedRun) {cells posts frames noted : List ℕ} (e : after_recording r cells posts frames noted ≡ recording s q b t) where
     -- a run decides at most 4,195,328 = (4,096 + 1) * 1,024 times: of each term once outside of calls and once in each call
     few : r.entries < 4294967296
-    few = omega (arith, ap (λ (x : Recorded). x.entries) e, (record-holds s q b t).as_many, decisions_few s q b)
+    few = omega (arith, ap (λ (x : Recorded). x.entries) e, (record_holds s q b t).as_many, decisions_few s q b)
 
     pub reply_fits : RecordReplyFits r
     unfolding recording

@@ -305,8 +305,8 @@ body_child k h = go (eqb k 3) refl h
     go true e h = ap second_child (eqb-true k 3 e)
     go false e h = ap second_child (eqb-true k 4 h)
 
-pub record-inside : (s : List ℕ) (c : Counts) (t : ℕ) → TableTerm s c t → TermInside s c t
-record-inside s c t K =
+pub record_inside : (s : List ℕ) (c : Counts) (t : ℕ) → TableTerm s c t → TermInside s c t
+record_inside s c t K =
     let L = K.tables.laid in
     term_inside s (fields_ok s L.None-found).terms_in c L.counts_are t K.inside
 

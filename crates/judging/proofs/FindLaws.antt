@@ -23,12 +23,12 @@ use Rattle.judging.specs.Internal.{FoundAs}
 
 -- ---- a term and its children by their position
 module _ (T : Types) (t : ℕ) where
-  abbrev in-child : Option Placed → Option Placed
-  in-child o = with_number t (subterms_in T o)
+  abbrev in_child : Option Placed → Option Placed
+  in_child o = with_number t (subterms_in T o)
 
   abbrev below : (Γ : List ℕ) (n : ℕ) → Term → Option Placed
-  below Γ n c = first_of (in-child (children_of T (placed Γ n c)).first)
-      (first_of (in-child (children_of T (placed Γ n c)).second) (in-child (children_of T (placed Γ n c)).third))
+  below Γ n c = first_of (in_child (children_of T (placed Γ n c)).first)
+      (first_of (in_child (children_of T (placed Γ n c)).second) (in_child (children_of T (placed Γ n c)).third))
 
   own_or : (x : Placed) (at : ℕ) {o p : Option Placed} → o ≡ p → cond (eqb at t) (some x) o ≡ cond (eqb at t) (some x) p
   own_or x at e = ap (cond (eqb at t) (some x)) e
@@ -115,10 +115,10 @@ module _ (s : List ℕ) (t : ℕ) (y : Child) (e : y.present ≡ true) where
     below_is = number_is false (ne_eqb y.place.term t other)
 
     abbrev third : Option Placed
-    third = in-child (types_of s) t (children_at s y.place).third
+    third = in_child (types_of s) t (children_at s y.place).third
 
     abbrev second_or_third : Option Placed
-    second_or_third = first_of (in-child (types_of s) t (children_at s y.place).second) third
+    second_or_third = first_of (in_child (types_of s) t (children_at s y.place).second) third
 
     module _ {c : Counts} {z₁ i : Child} (r₁ : Reached s c y.place.term z₁ (children_at s y.place).first) (f₁ : FoundAs s c t (child_at s z₁) i) where
       pub found_first : i.present ≡ true → FoundAs s c t (child_at s y) i

@@ -153,11 +153,11 @@ module _ (b A B C D E : List ℕ) (room : length (A ++ (B ++ C ++ (D ++ E))) ≤
   sizes =
       length-append A (B ++ C ++ (D ++ E)) ∙ omega (arith, length-append (B ++ C) (D ++ E), length-append B C, length-append D E)
 
-  pub in-turn : {b₁ b₂ b₃ b₄ b₅ : List ℕ} (p q r t : ℕ) → b₁ ≡ overwrite b 0 A → b₂ ≡ overwrite b₁ p B → b₃ ≡ overwrite b₂ q C → b₄ ≡ overwrite b₃ r D
+  pub in_turn : {b₁ b₂ b₃ b₄ b₅ : List ℕ} (p q r t : ℕ) → b₁ ≡ overwrite b 0 A → b₂ ≡ overwrite b₁ p B → b₃ ≡ overwrite b₂ q C → b₄ ≡ overwrite b₃ r D
       → b₅ ≡ overwrite b₄ t E
       → p ≡ length A → q ≡ p + length B → r ≡ q + length C → t ≡ r + length D
       → b₅ ≡ A ++ (B ++ C ++ (D ++ E)) ++ drop (length (A ++ (B ++ C ++ (D ++ E)))) b
-  in-turn p q r t e₁ e₂ e₃ e₄ e₅ h₁ h₂ h₃ h₄ =
+  in_turn p q r t e₁ e₂ e₃ e₄ e₅ h₁ h₂ h₃ h₄ =
       let l₂ = length-append A B in
       let l₃ = length-append (A ++ B) C in
       let l₄ = length-append (A ++ B ++ C) D in
@@ -223,7 +223,7 @@ module _ {s : List ℕ} {c : Counts} {y : TypeNumbers} {m : TermNumbers} (R : Sh
         → b₅ ≡ lean_sheet s ++ drop (length (lean_sheet s)) b
     unfolding lean_sheet
     sheet_put {b₁} {b₂} {b₃} {b₄} {b₅} e₁ e₂ e₃ e₄ e₅ =
-        in-turn b (take (type_field s) s) (3 ∷ bytes16 (10 * new_types s)) (gather (kept_type s) (type_bytes_lem s) (types s)) (4 ∷ bytes16 (8 * new_terms s))
+        in_turn b (take (type_field s) s) (3 ∷ bytes16 (10 * new_types s)) (gather (kept_type s) (type_bytes_lem s) (types s)) (4 ∷ bytes16 (8 * new_terms s))
         (gather (kept_term s) (term_bytes s) (terms s)) room
         (8 + 4 * c.principals) (8 + 4 * c.principals + 3) (8 + 4 * c.principals + 3 + 10 * y.count) (8 + 4 * c.principals + 3 + 10 * y.count + 3)
         (e₁ ∙ ap (paste b 0 s) at_types ∙ paste_over b 0 s (type_field s) (omega (arith, R.sheet.well_formed.terms_inside)))

@@ -23,7 +23,7 @@ use Rattle.places.specs.Internal.{AtRoot, child_at}
 use Rattle.places.proofs.PlaceLaws.{root_place_ready, root_child}
 use Rattle.subterms.specs.Smallest.{subterms, FaultyTerm, smallest_of, Piece, unreadable, piece_from, piece_of, record_length, record_of}
 use Rattle.subterms.specs.Laws.Subterms.{subterms_in}
-use Rattle.subterms.specs.Theorems.{record-inside, offset_most, length_most}
+use Rattle.subterms.specs.Theorems.{record_inside, offset_most, length_most}
 use Rattle.subterms.specs.declared.answer.Piece.TheVariants.{Smallest, NoPiece, Unreadable}
 use Rattle.smallest.specs.Internal.{candidate_model, Visitable, VisitedAs}
 use Rattle.smallest.specs.declared.candidates.Candidate.{Candidate}
@@ -86,7 +86,7 @@ module _ (s : List ℕ) {r : Located} (h : LocatedAs s (piece_of s) r) where
   ends_near = omega (arith, h.at_is, h.len_is, offset_most s, length_most s)
 
   pub ends_inside : r.at + r.len ≤ length s
-  ends_inside = omega (arith, h.at_is, h.len_is, record-inside s)
+  ends_inside = omega (arith, h.at_is, h.len_is, record_inside s)
 
   pub record_is : {x : List ℕ} → x ≡ take (r.at + r.len - r.at) (drop r.at s) → x ≡ record_of s (piece_of s)
   record_is q =

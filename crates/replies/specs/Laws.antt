@@ -108,9 +108,9 @@ module _ (answer : List ℕ) (room : 9 ≤ length answer) (R : replies.Reply) (e
   nine =
       ap (λ (r : List ℕ). set (R.numbers ++ r) 8 n) (drop-cons answer 8 0 (omega arith)) ∙ set_at R.numbers (get_or answer 8 0) (drop 9 answer) n 8 eight
 
-  pub in-nine : {x : Reply} → reply_model x ≡ R → {status : ℕ} {after : List ℕ} → Put x answer status after
+  pub in_nine : {x : Reply} → reply_model x ≡ R → {status : ℕ} {after : List ℕ} → Put x answer status after
       → returned_reply status (set after 8 n) ≡ written_nine R n answer
-  in-nine e {status = status} {after = after} put =
+  in_nine e {status = status} {after = after} put =
       let first : returned_reply status after ≡ written R answer = in_place answer (omega arith) e put in
       (λ i. returned_reply (first i).status (set (first i).numbers 8 n)) ∙ ap (returned_reply R.status) nine
 

@@ -90,9 +90,9 @@ module _ (s : List ℕ) (q : Request) (b : Buffers) (t : List ℕ) where
     pub rest_untouched : drop (4 * r.entries) r.noted ≡ drop (4 * r.entries) t
     pub same_length : length r.noted ≡ length t
 
-  pub record-holds : Record (recording s q b t)
+  pub record_holds : Record (recording s q b t)
   unfolding recording
-  record-holds =
+  record_holds =
       let bytes = trace_bytes kept in
       let long : length bytes ≡ 4 * length kept = bytes_length kept in
       let many : length kept ≡ min (length t / 4) (length (decisions s q (sizes b))) = length-take (length t / 4) (decisions s q (sizes b)) in

@@ -11,7 +11,7 @@ use Rattle.semantics.specs.Runs.{Request, Buffers, sizes, evaluation_in, started
 use Rattle.semantics.specs.Recording.{decisions_made, decisions, recording}
 use Rattle.semantics.specs.Laws.Starting.{clear_well}
 use Rattle.semantics.specs.Theorems.{starts_screened}
-use Rattle.semantics.specs.RecordTheorems.{traced_clear, record-holds}
+use Rattle.semantics.specs.RecordTheorems.{traced_clear, record_holds}
 use Rattle.soundness.specs.Claims.{LikeRuns, entries_in, SameRecord, Begins}
 use Rattle.soundness.specs.Laws.Runs.{same_evaluation}
 
@@ -36,17 +36,17 @@ module _ (s : List ℕ) (x y : Request) (b d : Buffers) (l : LikeRuns s x y b d)
 
   module _ (t r : List ℕ) where
     first_entries : entries_in (recording s x b t) ≡ trace_bytes (recorded (length t) all)
-    first_entries = (record-holds s x b t).first_bytes
+    first_entries = (record_holds s x b t).first_bytes
 
     second_entries : entries_in (recording s y d r) ≡ trace_bytes (recorded (length r) all)
-    second_entries = (record-holds s y d r).first_bytes ∙ λ i. trace_bytes (recorded (length r) (sym decisions_agree i))
+    second_entries = (record_holds s y d r).first_bytes ∙ λ i. trace_bytes (recorded (length r) (sym decisions_agree i))
 
     first_number : (recording s x b t).entries ≡ length (recorded (length t) all)
-    first_number = (record-holds s x b t).as_many ∙ sym (length-take (length t / 4) all)
+    first_number = (record_holds s x b t).as_many ∙ sym (length-take (length t / 4) all)
 
     second_number : (recording s y d r).entries ≡ length (recorded (length r) all)
     second_number =
-        (record-holds s y d r).as_many ∙ (λ i. min (length r / 4) (length (sym decisions_agree i))) ∙ sym (length-take (length r / 4) all)
+        (record_holds s y d r).as_many ∙ (λ i. min (length r / 4) (length (sym decisions_agree i))) ∙ sym (length-take (length r / 4) all)
 
     -- So their records are equal, if they have room for equally many entries
     pub records_agree : length t / 4 ≡ length r / 4 → SameRecord (recording s x b t) (recording s y d r)
@@ -59,7 +59,7 @@ module _ (s : List ℕ) (x y : Request) (b d : Buffers) (l : LikeRuns s x y b d)
     pub shorter_begins : length t ≤ length r → Begins (recording s x b t) (recording s y d r)
     shorter_begins h =
         let n = (recording s x b t).entries in
-        let few : n ≤ length r / 4 = omega (arith, (record-holds s x b t).as_many) in
+        let few : n ≤ length r / 4 = omega (arith, (record_holds s x b t).as_many) in
         let same : take n (recorded (length r) all) ≡ recorded (length t) all =
         take-take n (length r / 4) all few ∙ (λ i. take (first_number i) all) ∙ taken_again (length t / 4) all in
         record {

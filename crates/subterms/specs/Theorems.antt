@@ -176,8 +176,8 @@ module _ (s : List ℕ) where
       back h (given_unreadable e) = absurd (let z : clear ≡ found _ _ = sym h.readable ∙ e in let y : ◌≡◌ {A = ℕ} 0 1 = cc in omega arith)
 
   -- The record of the piece lies in the sheet.
-  pub record-inside : record_offset s (piece_of s) + record_length (piece_of s) ≤ length s
-  record-inside = go given
+  pub record_inside : record_offset s (piece_of s) + record_length (piece_of s) ≤ length s
+  record_inside = go given
     where
       go : {a : Piece} → PieceGiven s a → record_offset s a + record_length a ≤ length s
       go (given_smallest h p r) = omega (arith, h.inside, (well_formed s (root_faulty s r).0).terms_inside)

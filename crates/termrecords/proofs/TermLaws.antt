@@ -75,8 +75,8 @@ module _ (s : List ℕ) (c : Counts) (k : CountsOf s c) (t : ℕ) where
   part_in_lem child x = refl
   part_in_lem body_child x = refl
 
-  record-ok : record_ok c t (kind_byte s t) (small s t) (first s t) (second s t) (third s t) ≡ term_ok s t
-  record-ok = λ i.
+  record_ok_lem : record_ok c t (kind_byte s t) (small s t) (first s t) (second s t) (third s t) ≡ term_ok s t
+  record_ok_lem = λ i.
       leb (kind_byte s t) 14 && part_in_lem (format_at s t).small (small s t) i && part_in_lem (format_at s t).first (first s t) i
       && part_in_lem (format_at s t).second (second s t) i && part_in_lem (format_at s t).third (third s t) i
 
@@ -85,7 +85,7 @@ pub shape_is : (s : List ℕ) (c : Counts) (t : ℕ) → Laid s c → t < terms 
 unfolding shape_of shape_at
 shape_is s c t L h e g =
     g ∙ ap (shape_of c t) (e ∙ term_laid s (fields_ok s L.None-found).terms_in c L.counts_are t h)
-    ∙ ap (λ (b : Bool). shape_if b (kind_shape (kind_of (kind_byte s t)) (first s t) (second s t) (third s t))) (record-ok s c L.counts_are t)
+    ∙ ap (λ (b : Bool). shape_if b (kind_shape (kind_of (kind_byte s t)) (first s t) (second s t) (third s t))) (record_ok_lem s c L.counts_are t)
 
 -- ---- a wrong shape is a wrong record
 children_right : (k : Kind) (a b d : ℕ) → is_wrong (kind_shape k a b d) ≡ false

@@ -11,22 +11,22 @@ use Rattle.typing.specs.Checking.{typed, infer}
 -- and a sign's part has the principal of the sign.
 pub data Within (T : Types) (Δ : List ℕ) (m : ℕ) (d : Term) : (Γ : List ℕ) (n : ℕ) (c : Term) → Type 0 where
   here : Within T Δ m d Δ m d
-  in-function : {Γ : List ℕ} {n at ty : ℕ} {body : Term} → Within T Δ m d (T.arg ty ∷ Γ) n body → Within T Δ m d Γ n (function at ty body)
-  in-letrec-body : {Γ : List ℕ} {n at ty : ℕ} {body rest : Term} → Within T Δ m d (T.arg ty ∷ ty ∷ Γ) n body → Within T Δ m d Γ n (letrec at ty body rest)
-  in-letrec-rest : {Γ : List ℕ} {n at ty : ℕ} {body rest : Term} → Within T Δ m d (ty ∷ Γ) n rest → Within T Δ m d Γ n (letrec at ty body rest)
-  in-call-function : {Γ : List ℕ} {n at : ℕ} {f a : Term} → Within T Δ m d Γ n f → Within T Δ m d Γ n (call at f a)
-  in-call-argument : {Γ : List ℕ} {n at : ℕ} {f a : Term} → Within T Δ m d Γ n a → Within T Δ m d Γ n (call at f a)
-  in-if-condition : {Γ : List ℕ} {n at : ℕ} {c y o : Term} → Within T Δ m d Γ n c → Within T Δ m d Γ n (if at c y o)
-  in-if-yes : {Γ : List ℕ} {n at : ℕ} {c y o : Term} → Within T Δ m d Γ n y → Within T Δ m d Γ n (if at c y o)
-  in-if-no : {Γ : List ℕ} {n at : ℕ} {c y o : Term} → Within T Δ m d Γ n o → Within T Δ m d Γ n (if at c y o)
-  in-check : {Γ : List ℕ} {n at p : ℕ} {c : Term} → Within T Δ m d Γ n c → Within T Δ m d Γ n (check at p c)
-  in-enable : {Γ : List ℕ} {n at p : ℕ} {c : Term} → Within T Δ m d Γ n c → Within T Δ m d Γ n (enable at p c)
-  in-sign : {Γ : List ℕ} {n at k : ℕ} {c : Term} → Within T Δ m d Γ k c → Within T Δ m d Γ n (sign at k c)
-  in-test-yes : {Γ : List ℕ} {n at p : ℕ} {y o : Term} → Within T Δ m d Γ n y → Within T Δ m d Γ n (test at p y o)
-  in-test-no : {Γ : List ℕ} {n at p : ℕ} {y o : Term} → Within T Δ m d Γ n o → Within T Δ m d Γ n (test at p y o)
+  in_function : {Γ : List ℕ} {n at ty : ℕ} {body : Term} → Within T Δ m d (T.arg ty ∷ Γ) n body → Within T Δ m d Γ n (function at ty body)
+  in_letrec_body : {Γ : List ℕ} {n at ty : ℕ} {body rest : Term} → Within T Δ m d (T.arg ty ∷ ty ∷ Γ) n body → Within T Δ m d Γ n (letrec at ty body rest)
+  in_letrec_rest : {Γ : List ℕ} {n at ty : ℕ} {body rest : Term} → Within T Δ m d (ty ∷ Γ) n rest → Within T Δ m d Γ n (letrec at ty body rest)
+  in_call_function : {Γ : List ℕ} {n at : ℕ} {f a : Term} → Within T Δ m d Γ n f → Within T Δ m d Γ n (call at f a)
+  in_call_argument : {Γ : List ℕ} {n at : ℕ} {f a : Term} → Within T Δ m d Γ n a → Within T Δ m d Γ n (call at f a)
+  in_if_condition : {Γ : List ℕ} {n at : ℕ} {c y o : Term} → Within T Δ m d Γ n c → Within T Δ m d Γ n (if at c y o)
+  in_if_yes : {Γ : List ℕ} {n at : ℕ} {c y o : Term} → Within T Δ m d Γ n y → Within T Δ m d Γ n (if at c y o)
+  in_if_no : {Γ : List ℕ} {n at : ℕ} {c y o : Term} → Within T Δ m d Γ n o → Within T Δ m d Γ n (if at c y o)
+  in_check : {Γ : List ℕ} {n at p : ℕ} {c : Term} → Within T Δ m d Γ n c → Within T Δ m d Γ n (check at p c)
+  in_enable : {Γ : List ℕ} {n at p : ℕ} {c : Term} → Within T Δ m d Γ n c → Within T Δ m d Γ n (enable at p c)
+  in_sign : {Γ : List ℕ} {n at k : ℕ} {c : Term} → Within T Δ m d Γ k c → Within T Δ m d Γ n (sign at k c)
+  in_test_yes : {Γ : List ℕ} {n at p : ℕ} {y o : Term} → Within T Δ m d Γ n y → Within T Δ m d Γ n (test at p y o)
+  in_test_no : {Γ : List ℕ} {n at p : ℕ} {y o : Term} → Within T Δ m d Γ n o → Within T Δ m d Γ n (test at p y o)
   in_left : {Γ : List ℕ} {n at : ℕ} {op : Op} {a b : Term} → Within T Δ m d Γ n a → Within T Δ m d Γ n (binary at op a b)
   in_right : {Γ : List ℕ} {n at : ℕ} {op : Op} {a b : Term} → Within T Δ m d Γ n b → Within T Δ m d Γ n (binary at op a b)
-  in-post : {Γ : List ℕ} {n at ch : ℕ} {g : Option ℕ} {c : Term} → Within T Δ m d Γ n c → Within T Δ m d Γ n (post at ch g c)
+  in_post : {Γ : List ℕ} {n at ch : ℕ} {g : Option ℕ} {c : Term} → Within T Δ m d Γ n c → Within T Δ m d Γ n (post at ch g c)
 
 -- 02, W5: "A call whose function part isn't a function, an argument that doesn't fit, and branches of which neither fits the other". The term's number
 -- is `at`, and its children have types. "Fits" is 01's sentence, the relation, and not the algorithm's test.

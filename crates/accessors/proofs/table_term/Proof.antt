@@ -59,7 +59,7 @@ be16-requires-3 c κs = search rules
 returns : tie.Need-returns
 returns c =
     let start = c.before.before.before.before.before.before.before.before in
-    a_term _ start.args.c _ start.requires.in_table start.requires.in-sheet c.before.before.be16.ensures c.before.be162.ensures
+    a_term _ start.args.c _ start.requires.in_table start.requires.in_sheet c.before.before.be16.ensures c.before.be162.ensures
     c.be163.ensures
 
 pub table_term_spec : {M : Type 1} → statement M

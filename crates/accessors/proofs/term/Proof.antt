@@ -42,7 +42,7 @@ returns c =
     (λ w. cut_term _ start.args.c _ w.0.left (ltb-true _ _ w.1.taken)) c.if1.branch
 
 table-term-requires : tie.Need-table-term-requires
-table-term-requires c κs = record { in_table = c.before.if1.false; in-sheet = ltb-false _ _ c.if2.false }
+table-term-requires c κs = record { in_table = c.before.if1.false; in_sheet = ltb-false _ _ c.if2.false }
 
 returns-2 : tie.Need-returns-2
 returns-2 c = c.table-term.ensures

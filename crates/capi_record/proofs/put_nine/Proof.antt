@@ -3,7 +3,7 @@ use native.Mathlib.Omega.{arith}
 use borrow.Author.Rules.{rules}
 use Rattle.interp.specs.Answers.{run_model}
 use Rattle.replies.specs.Replies.{run_reply}
-use Rattle.replies.specs.Laws.{run_eight, in-nine}
+use Rattle.replies.specs.Laws.{run_eight, in_nine}
 use Rattle.capi_record.proofs.put_nine.Statement.{statement}
 use Rattle.capi_record.proofs.put_nine.Tie as tie
 
@@ -28,7 +28,7 @@ returns : tie.Need-returns
 returns c =
     let at-of-run = c.before.before.before.before.before in
     let start = at-of-run.before.before in
-    in-nine start.args.answer.now start.requires.room (run_reply (run_model start.args.r.run)) (run_eight (run_model start.args.r.run))
+    in_nine start.args.answer.now start.requires.room (run_reply (run_model start.args.r.run)) (run_eight (run_model start.args.r.run))
     start.args.r.entries at-of-run.of-run.ensures c.before.before.before.put.ensures
 
 pub put_nine_spec : {M : Type 1} → statement M

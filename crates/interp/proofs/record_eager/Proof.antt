@@ -45,8 +45,8 @@ same-length-3 c = search rules
 returns-2 : tie.Need-returns-2
 returns-2 c = search rules
 
-pub record-eager-spec : {M : Type 1} → statement M
-record-eager-spec =
+pub record_eager_spec : {M : Type 1} → statement M
+record_eager_spec =
     tie.close
     (tie.spec
     admit-requires

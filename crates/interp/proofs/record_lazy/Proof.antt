@@ -53,8 +53,8 @@ same-length-4 c = search rules
 returns-2 : tie.Need-returns-2
 returns-2 c = search rules
 
-pub record-lazy-spec : {M : Type 1} → statement M
-record-lazy-spec =
+pub record_lazy_spec : {M : Type 1} → statement M
+record_lazy_spec =
     tie.close
     (tie.spec
     admit-requires

@@ -109,14 +109,14 @@ module _ (ρ : ℕ → ℕ) (s : List ℕ) where
   apart_kept i a = apart_below ρ s (terms s) i a
 
   -- a part of a record that is no number
-  in-record : (t u j : ℕ) → j < 8 → (j ≡ 2 → ⊥) → (j ≡ 3 → ⊥) → (term_at s t + j ≡ term_at s u + 2 → ⊥) × (term_at s t + j ≡ term_at s u + 2 + 1 → ⊥)
-  in-record t u j h a b = (
+  in_record : (t u j : ℕ) → j < 8 → (j ≡ 2 → ⊥) → (j ≡ 3 → ⊥) → (term_at s t + j ≡ term_at s u + 2 → ⊥) × (term_at s t + j ≡ term_at s u + 2 + 1 → ⊥)
+  in_record t u j h a b = (
     λ e. record_apart (term_field s + 3) t u j 2 h (omega arith) a e,
     λ e. record_apart (term_field s + 3) t u j 3 h (omega arith) b (omega (arith, e)),
   )
 
   part_kept : (t j : ℕ) → j < 8 → (j ≡ 2 → ⊥) → (j ≡ 3 → ⊥) → byte (with_numbers ρ s) (term_at s t + j) ≡ byte s (term_at s t + j)
-  part_kept t j h a b = apart_kept (term_at s t + j) (λ u l e. in-record t u j h a b)
+  part_kept t j h a b = apart_kept (term_at s t + j) (λ u l e. in_record t u j h a b)
 
   -- the number of a term that is none stays too
   other_kept : (t j : ℕ) → j < 8 → is_number s t ≡ false → byte (with_numbers ρ s) (term_at s t + j) ≡ byte s (term_at s t + j)

@@ -24,7 +24,7 @@ part-result-end c = ends_inside c.before.before.before.args.sheet.now c.before.l
 returns : tie.Need-returns
 returns c = record_is c.before.before.before.before.args.sheet.now c.before.before.locate.ensures refl
 
-pub record-of-spec : {M : Type 1} → statement M
-record-of-spec =
+pub record_of_spec : {M : Type 1} → statement M
+record_of_spec =
     tie.close
     (tie.spec locate-requires add-end sub-result part-result-start part-result-end returns)

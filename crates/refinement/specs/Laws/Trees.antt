@@ -127,8 +127,8 @@ module _ (I : Interpretation) {mode : ℕ} (K : Coding I.domain mode) (s : List 
             (subst (λ n. StandsBy k (word_small x) (word_first x) (word_second x) n) (hold.third_is plain ∙ (λ i. (laid i).third))
             (node_stands hold no_number k (kind_same ∙ sym (kind_number (kind_byte s t) (parts s w t l).kind_ok))))
 
-    record-stands : t < terms s → StandsBy (kind_of (kind_byte s t)) (small s t) (first s t) (second s t) (third s t)
-    record-stands l = go (ℕ_discrete (kind_byte s t) 1)
+    record_stands : t < terms s → StandsBy (kind_of (kind_byte s t)) (small s t) (first s t) (second s t) (third s t)
+    record_stands l = go (ℕ_discrete (kind_byte s t) 1)
       where
         go : Dec (kind_byte s t ≡ 1) → StandsBy (kind_of (kind_byte s t)) (small s t) (first s t) (second s t) (third s t)
         go (yes e) =
@@ -139,7 +139,7 @@ module _ (I : Interpretation) {mode : ℕ} (K : Coding I.domain mode) (s : List 
   tree_stands : (k t : ℕ) → t < terms s → t < k → Represents run t (tree_to s k t)
   tree_stands zero t l h = absurd (omega arith)
   tree_stands (suc k) t l h =
-      record-stands t (λ y. tree_to s k y) (λ y g. tree_stands k y (omega arith) (omega arith)) l (below s w t l)
+      record_stands t (λ y. tree_to s k y) (λ y g. tree_stands k y (omega arith) (omega arith)) l (below s w t l)
       (parts s w t l).small_ok
 
   pub program_stands : Represents run (root s) (program s)

@@ -13,7 +13,7 @@ use Rattle.typing.specs.Laws.Places.{EachOf, each_among}
 use Rattle.typing.specs.Subtyping.{subtype, wider}
 use Rattle.typing.specs.Rules.{lookup_type}
 use Rattle.typing.specs.Checking.{Judgement, typed, fault, ◌next◌, require, variable_type, joined, body_fits, infer}
-use Rattle.typing.specs.Faults.{Within, here, in-function, in-letrec-body, in-letrec-rest, in-call-function, in-call-argument, in-if-condition, in-if-yes, in-if-no, in-check, in-enable, in-sign, in-test-yes, in-test-no, in_left, in_right, in-post}
+use Rattle.typing.specs.Faults.{Within, here, in_function, in_letrec_body, in_letrec_rest, in_call_function, in_call_argument, in_if_condition, in_if_yes, in_if_no, in_check, in_enable, in_sign, in_test_yes, in_test_no, in_left, in_right, in_post}
 use Rattle.subterms.specs.Laws.Subterms.{ChildOf, children_of_lem}
 use Rattle.subterms.specs.Claims.{by_rules, judgement_at, HasType, has_type, HasFault, has_fault}
 
@@ -88,22 +88,22 @@ module _ (T : Types) (A : ℕ → ℕ) where
 
   pub within_fault : {Δ Γ : List ℕ} {m n : ℕ} {d c : Term} → Within T Δ m d Γ n c → HasFault T A (placed Δ m d) → HasFault T A (placed Γ n c)
   within_fault here f = f
-  within_fault (in-function w) f = fault_up _ _ _ among_first (within_fault w f)
-  within_fault (in-letrec-body w) f = fault_up _ _ _ among_first (within_fault w f)
-  within_fault (in-letrec-rest w) f = fault_up _ _ _ (among_later among_first) (within_fault w f)
-  within_fault (in-call-function w) f = fault_up _ _ _ among_first (within_fault w f)
-  within_fault (in-call-argument w) f = fault_up _ _ _ (among_later among_first) (within_fault w f)
-  within_fault (in-if-condition w) f = fault_up _ _ _ among_first (within_fault w f)
-  within_fault (in-if-yes w) f = fault_up _ _ _ (among_later among_first) (within_fault w f)
-  within_fault (in-if-no w) f = fault_up _ _ _ (among_later (among_later among_first)) (within_fault w f)
-  within_fault (in-check w) f = fault_up _ _ _ among_first (within_fault w f)
-  within_fault (in-enable w) f = fault_up _ _ _ among_first (within_fault w f)
-  within_fault (in-sign w) f = fault_up _ _ _ among_first (within_fault w f)
-  within_fault (in-test-yes w) f = fault_up _ _ _ among_first (within_fault w f)
-  within_fault (in-test-no w) f = fault_up _ _ _ (among_later among_first) (within_fault w f)
+  within_fault (in_function w) f = fault_up _ _ _ among_first (within_fault w f)
+  within_fault (in_letrec_body w) f = fault_up _ _ _ among_first (within_fault w f)
+  within_fault (in_letrec_rest w) f = fault_up _ _ _ (among_later among_first) (within_fault w f)
+  within_fault (in_call_function w) f = fault_up _ _ _ among_first (within_fault w f)
+  within_fault (in_call_argument w) f = fault_up _ _ _ (among_later among_first) (within_fault w f)
+  within_fault (in_if_condition w) f = fault_up _ _ _ among_first (within_fault w f)
+  within_fault (in_if_yes w) f = fault_up _ _ _ (among_later among_first) (within_fault w f)
+  within_fault (in_if_no w) f = fault_up _ _ _ (among_later (among_later among_first)) (within_fault w f)
+  within_fault (in_check w) f = fault_up _ _ _ among_first (within_fault w f)
+  within_fault (in_enable w) f = fault_up _ _ _ among_first (within_fault w f)
+  within_fault (in_sign w) f = fault_up _ _ _ among_first (within_fault w f)
+  within_fault (in_test_yes w) f = fault_up _ _ _ among_first (within_fault w f)
+  within_fault (in_test_no w) f = fault_up _ _ _ (among_later among_first) (within_fault w f)
   within_fault (in_left w) f = fault_up _ _ _ among_first (within_fault w f)
   within_fault (in_right w) f = fault_up _ _ _ (among_later among_first) (within_fault w f)
-  within_fault (in-post w) f = fault_up _ _ _ among_first (within_fault w f)
+  within_fault (in_post w) f = fault_up _ _ _ among_first (within_fault w f)
 
   -- ---- a fault has one of the rules' numbers
   ruled_below : (k : ℕ) (Γ : List ℕ) (n : ℕ) (c : Term) → size c < k → {cause at : ℕ} → infer T A Γ n c ≡ fault cause at → by_rules cause ≡ true

@@ -14,7 +14,7 @@ use Rattle.program.specs.Laws.Readable.{WellFormed}
 use Rattle.program.specs.Laws.Trees.{tree_every, Standard}
 use Rattle.typing.specs.Places.{Placed, placed, number_of, placed_number, Among, among_first, among_later}
 use Rattle.typing.specs.Laws.Places.{tree_number}
-use Rattle.typing.specs.Faults.{Within, here, in-function, in-letrec-body, in-letrec-rest, in-call-function, in-call-argument, in-if-condition, in-if-yes, in-if-no, in-check, in-enable, in-sign, in-test-yes, in-test-no, in_left, in_right, in-post}
+use Rattle.typing.specs.Faults.{Within, here, in_function, in_letrec_body, in_letrec_rest, in_call_function, in_call_argument, in_if_condition, in_if_yes, in_if_no, in_check, in_enable, in_sign, in_test_yes, in_test_no, in_left, in_right, in_post}
 use Rattle.subterms.specs.Smallest.{subterms}
 use Rattle.subterms.specs.Judging.{with_number}
 use Rattle.subterms.specs.Claims.{Stands}
@@ -131,19 +131,19 @@ module _ (s : List ℕ) (w : WellFormed s) where
 module _ (T : Types) where
   pub within_standard : {Δ Γ : List ℕ} {m n : ℕ} {d c : Term} → Within T Δ m d Γ n c → Standard T c → Standard T d
   within_standard here h = h
-  within_standard (in-function w) h = within_standard w h.2
-  within_standard (in-letrec-body w) h = within_standard w h.2
-  within_standard (in-letrec-rest w) h = within_standard w h.3
-  within_standard (in-call-function w) h = within_standard w h.0
-  within_standard (in-call-argument w) h = within_standard w h.1
-  within_standard (in-if-condition w) h = within_standard w h.0
-  within_standard (in-if-yes w) h = within_standard w h.1
-  within_standard (in-if-no w) h = within_standard w h.2
-  within_standard (in-check w) h = within_standard w h
-  within_standard (in-enable w) h = within_standard w h
-  within_standard (in-sign w) h = within_standard w h
-  within_standard (in-test-yes w) h = within_standard w h.0
-  within_standard (in-test-no w) h = within_standard w h.1
+  within_standard (in_function w) h = within_standard w h.2
+  within_standard (in_letrec_body w) h = within_standard w h.2
+  within_standard (in_letrec_rest w) h = within_standard w h.3
+  within_standard (in_call_function w) h = within_standard w h.0
+  within_standard (in_call_argument w) h = within_standard w h.1
+  within_standard (in_if_condition w) h = within_standard w h.0
+  within_standard (in_if_yes w) h = within_standard w h.1
+  within_standard (in_if_no w) h = within_standard w h.2
+  within_standard (in_check w) h = within_standard w h
+  within_standard (in_enable w) h = within_standard w h
+  within_standard (in_sign w) h = within_standard w h
+  within_standard (in_test_yes w) h = within_standard w h.0
+  within_standard (in_test_no w) h = within_standard w h.1
   within_standard (in_left w) h = within_standard w h.0
   within_standard (in_right w) h = within_standard w h.1
-  within_standard (in-post w) h = within_standard w h
+  within_standard (in_post w) h = within_standard w h

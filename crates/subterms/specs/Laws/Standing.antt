@@ -14,7 +14,7 @@ use Rattle.program.specs.Laws.Nesting.{one_parent, parent_is, times_least}
 use Rattle.program.specs.Laws.Sizes.{not_below}
 use Rattle.typing.specs.Places.{Placed, placed, number_of, placed_number, children_in, Among, among_first, among_later}
 use Rattle.typing.specs.Laws.Places.{each_among, tree_number}
-use Rattle.typing.specs.Faults.{Within, here, in-function, in-letrec-body, in-letrec-rest, in-call-function, in-call-argument, in-if-condition, in-if-yes, in-if-no, in-check, in-enable, in-sign, in-test-yes, in-test-no, in_left, in_right, in-post}
+use Rattle.typing.specs.Faults.{Within, here, in_function, in_letrec_body, in_letrec_rest, in_call_function, in_call_argument, in_if_condition, in_if_yes, in_if_no, in_check, in_enable, in_sign, in_test_yes, in_test_no, in_left, in_right, in_post}
 use Rattle.subterms.specs.Claims.{Stands}
 use Rattle.subterms.specs.Laws.Subterms.{within_trans, ChildOf, children_of_lem}
 use Rattle.subterms.specs.Laws.Pieces.{numbered}
@@ -105,22 +105,22 @@ module _ (T : Types) where
 
   parent_of : {Δ Γ : List ℕ} {m n : ℕ} {d c : Term} → Within T Δ m d Γ n c → FoundAmong (placed Δ m d) Γ n c
   parent_of here = inl refl
-  parent_of (in-function w) = step _ _ _ among_first (λ _ _ _ v. in-function v) (parent_of w)
-  parent_of (in-letrec-body w) = step _ _ _ among_first (λ _ _ _ v. in-letrec-body v) (parent_of w)
-  parent_of (in-letrec-rest w) = step _ _ _ (among_later among_first) (λ _ _ _ v. in-letrec-rest v) (parent_of w)
-  parent_of (in-call-function w) = step _ _ _ among_first (λ _ _ _ v. in-call-function v) (parent_of w)
-  parent_of (in-call-argument w) = step _ _ _ (among_later among_first) (λ _ _ _ v. in-call-argument v) (parent_of w)
-  parent_of (in-if-condition w) = step _ _ _ among_first (λ _ _ _ v. in-if-condition v) (parent_of w)
-  parent_of (in-if-yes w) = step _ _ _ (among_later among_first) (λ _ _ _ v. in-if-yes v) (parent_of w)
-  parent_of (in-if-no w) = step _ _ _ (among_later (among_later among_first)) (λ _ _ _ v. in-if-no v) (parent_of w)
-  parent_of (in-check w) = step _ _ _ among_first (λ _ _ _ v. in-check v) (parent_of w)
-  parent_of (in-enable w) = step _ _ _ among_first (λ _ _ _ v. in-enable v) (parent_of w)
-  parent_of (in-sign w) = step _ _ _ among_first (λ _ _ _ v. in-sign v) (parent_of w)
-  parent_of (in-test-yes w) = step _ _ _ among_first (λ _ _ _ v. in-test-yes v) (parent_of w)
-  parent_of (in-test-no w) = step _ _ _ (among_later among_first) (λ _ _ _ v. in-test-no v) (parent_of w)
+  parent_of (in_function w) = step _ _ _ among_first (λ _ _ _ v. in_function v) (parent_of w)
+  parent_of (in_letrec_body w) = step _ _ _ among_first (λ _ _ _ v. in_letrec_body v) (parent_of w)
+  parent_of (in_letrec_rest w) = step _ _ _ (among_later among_first) (λ _ _ _ v. in_letrec_rest v) (parent_of w)
+  parent_of (in_call_function w) = step _ _ _ among_first (λ _ _ _ v. in_call_function v) (parent_of w)
+  parent_of (in_call_argument w) = step _ _ _ (among_later among_first) (λ _ _ _ v. in_call_argument v) (parent_of w)
+  parent_of (in_if_condition w) = step _ _ _ among_first (λ _ _ _ v. in_if_condition v) (parent_of w)
+  parent_of (in_if_yes w) = step _ _ _ (among_later among_first) (λ _ _ _ v. in_if_yes v) (parent_of w)
+  parent_of (in_if_no w) = step _ _ _ (among_later (among_later among_first)) (λ _ _ _ v. in_if_no v) (parent_of w)
+  parent_of (in_check w) = step _ _ _ among_first (λ _ _ _ v. in_check v) (parent_of w)
+  parent_of (in_enable w) = step _ _ _ among_first (λ _ _ _ v. in_enable v) (parent_of w)
+  parent_of (in_sign w) = step _ _ _ among_first (λ _ _ _ v. in_sign v) (parent_of w)
+  parent_of (in_test_yes w) = step _ _ _ among_first (λ _ _ _ v. in_test_yes v) (parent_of w)
+  parent_of (in_test_no w) = step _ _ _ (among_later among_first) (λ _ _ _ v. in_test_no v) (parent_of w)
   parent_of (in_left w) = step _ _ _ among_first (λ _ _ _ v. in_left v) (parent_of w)
   parent_of (in_right w) = step _ _ _ (among_later among_first) (λ _ _ _ v. in_right v) (parent_of w)
-  parent_of (in-post w) = step _ _ _ among_first (λ _ _ _ v. in-post v) (parent_of w)
+  parent_of (in_post w) = step _ _ _ among_first (λ _ _ _ v. in_post v) (parent_of w)
 
 -- ---- a term that stands as a child does so in some term
 parent_in : (s : List ℕ) (u n : ℕ) → 0 < times_below s u n → (t : ℕ) × (t < n) × (0 < times_in s u t)

@@ -20,7 +20,7 @@ use Rattle.program.specs.Laws.Types.{PartsLower}
 use Rattle.typing.specs.Subtyping.{Subtype, subtype, wider}
 use Rattle.typing.specs.Rules.{lookup_type}
 use Rattle.typing.specs.Checking.{Judgement, typed, fault, ◌next◌, require, variable_type, joined, body_fits, infer}
-use Rattle.typing.specs.Faults.{Within, here, in-function, in-letrec-body, in-letrec-rest, in-call-function, in-call-argument, in-if-condition, in-if-yes, in-if-no, in-check, in-enable, in-sign, in-test-yes, in-test-no, in_left, in_right, in-post, Mismatch, not_a_function, unfit_argument, unfit_if, unfit_test, OtherTypeFault, other_result, other_letrec_result, not_a_boolean, left_not_a_number, right_not_a_number, posted_not_a_number, OtherFault, past_bindings, sign_needs, body_needs, letrec_body_needs, SomeSubterm, MismatchedSubterm, OtherTypeFaultySubterm, OtherFaultySubterm}
+use Rattle.typing.specs.Faults.{Within, here, in_function, in_letrec_body, in_letrec_rest, in_call_function, in_call_argument, in_if_condition, in_if_yes, in_if_no, in_check, in_enable, in_sign, in_test_yes, in_test_no, in_left, in_right, in_post, Mismatch, not_a_function, unfit_argument, unfit_if, unfit_test, OtherTypeFault, other_result, other_letrec_result, not_a_boolean, left_not_a_number, right_not_a_number, posted_not_a_number, OtherFault, past_bindings, sign_needs, body_needs, letrec_body_needs, SomeSubterm, MismatchedSubterm, OtherTypeFaultySubterm, OtherFaultySubterm}
 use Rattle.typing.specs.Laws.Subtyping.{refuted, fails}
 
 -- ---- only where a term is so
@@ -138,31 +138,31 @@ module _ (T : Types) (A : ℕ → ℕ) where
     explained Γ n (boolean at b) = well
     explained Γ n (number at k) = well
     explained Γ n (variable at i) = variable_explained at (lookup_type Γ i) λ e. past_bindings (bound_past Γ i e)
-    explained Γ n (function at ty body) = next_explained _ (explained (T.arg ty ∷ Γ) n body) (λ _ _ _ w. in-function w) λ τ N e.
+    explained Γ n (function at ty body) = next_explained _ (explained (T.arg ty ∷ Γ) n body) (λ _ _ _ w. in_function w) λ τ N e.
         body_explained at ty τ N (λ h. other_result e h) (λ g h. body_needs (e ∙ ap (λ (x : ℕ). typed x N) g) h) well
-    explained Γ n (letrec at ty body rest) = next_explained _ (explained (T.arg ty ∷ ty ∷ Γ) n body) (λ _ _ _ w. in-letrec-body w) λ τ N e.
-        next_explained _ (explained (ty ∷ Γ) n rest) (λ _ _ _ w. in-letrec-rest w) λ ρ M e'.
+    explained Γ n (letrec at ty body rest) = next_explained _ (explained (T.arg ty ∷ ty ∷ Γ) n body) (λ _ _ _ w. in_letrec_body w) λ τ N e.
+        next_explained _ (explained (ty ∷ Γ) n rest) (λ _ _ _ w. in_letrec_rest w) λ ρ M e'.
         body_explained at ty τ N (λ h. other_letrec_result e e' h) (λ g h. letrec_body_needs (e ∙ ap (λ (x : ℕ). typed x N) g) e' h) well
-    explained Γ n (call at f a) = next_explained _ (explained Γ n f) (λ _ _ _ w. in-call-function w) λ φ N e.
-        next_explained _ (explained Γ n a) (λ _ _ _ w. in-call-argument w) λ α M e'.
+    explained Γ n (call at f a) = next_explained _ (explained Γ n f) (λ _ _ _ w. in_call_function w) λ φ N e.
+        next_explained _ (explained Γ n a) (λ _ _ _ w. in_call_argument w) λ α M e'.
         require_explained (T.is_fun φ) 24 at (λ h. wrong (not_a_function e e' h)) λ h.
         require_explained (subtype T α (T.arg φ)) 25 at (λ h'. wrong (unfit_argument e e' h (fails T L α (T.arg φ) h'))) λ _. well
-    explained Γ n (if at c y o) = next_explained _ (explained Γ n c) (λ _ _ _ w. in-if-condition w) λ σ N e.
-        next_explained _ (explained Γ n y) (λ _ _ _ w. in-if-yes w) λ τ M e'.
-        next_explained _ (explained Γ n o) (λ _ _ _ w. in-if-no w) λ ρ K e''.
+    explained Γ n (if at c y o) = next_explained _ (explained Γ n c) (λ _ _ _ w. in_if_condition w) λ σ N e.
+        next_explained _ (explained Γ n y) (λ _ _ _ w. in_if_yes w) λ τ M e'.
+        next_explained _ (explained Γ n o) (λ _ _ _ w. in_if_no w) λ ρ K e''.
         ten_explained σ 0 at (λ h. not_a_boolean e e' e'' h) λ h. branches_explained L at τ ρ _ λ p q.
         unfit_if (e ∙ ap (λ (x : ℕ). typed x N) h) e' e'' p q
-    explained Γ n (check at p c) = next_explained _ (explained Γ n c) (λ _ _ _ w. in-check w) λ τ N e. well
-    explained Γ n (enable at p c) = next_explained _ (explained Γ n c) (λ _ _ _ w. in-enable w) λ τ N e. well
-    explained Γ n (sign at m c) = next_explained _ (explained Γ m c) (λ _ _ _ w. in-sign w) λ τ N e.
+    explained Γ n (check at p c) = next_explained _ (explained Γ n c) (λ _ _ _ w. in_check w) λ τ N e. well
+    explained Γ n (enable at p c) = next_explained _ (explained Γ n c) (λ _ _ _ w. in_enable w) λ τ N e. well
+    explained Γ n (sign at m c) = next_explained _ (explained Γ m c) (λ _ _ _ w. in_sign w) λ τ N e.
         needs_explained N (A m) 11 at (λ h. sign_needs e h) well
-    explained Γ n (test at p y o) = next_explained _ (explained Γ n y) (λ _ _ _ w. in-test-yes w) λ τ N e.
-        next_explained _ (explained Γ n o) (λ _ _ _ w. in-test-no w) λ ρ M e'.
+    explained Γ n (test at p y o) = next_explained _ (explained Γ n y) (λ _ _ _ w. in_test_yes w) λ τ N e.
+        next_explained _ (explained Γ n o) (λ _ _ _ w. in_test_no w) λ ρ M e'.
         branches_explained L at τ ρ _ λ q r. unfit_test e e' q r
     explained Γ n (binary at op a b) = next_explained _ (explained Γ n a) (λ _ _ _ w. in_left w) λ τ N e.
         next_explained _ (explained Γ n b) (λ _ _ _ w. in_right w) λ ρ M e'.
         operands_explained τ ρ at (λ h. left_not_a_number e e' h) (λ h. right_not_a_number e e' h) well
-    explained Γ n (post at ch g c) = next_explained _ (explained Γ n c) (λ _ _ _ w. in-post w) λ τ N e.
+    explained Γ n (post at ch g c) = next_explained _ (explained Γ n c) (λ _ _ _ w. in_post w) λ τ N e.
         ten_explained τ 1 at (λ h. posted_not_a_number e h) λ _. well
 
     module _ (Γ : List ℕ) (n : ℕ) (c : Term) (cause at : ℕ) (e : infer T A Γ n c ≡ fault cause at) where

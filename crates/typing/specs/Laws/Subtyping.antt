@@ -88,31 +88,31 @@ module _ (T : Types) where
   eqb_sub : (a b : ℕ) → eqb a b ≡ true → Subtype T a b
   eqb_sub a b h = subst (λ x. Subtype T a x) (eqb-true a b h) sub_same
 
-  in-sound : (k a b : ℕ) → subtype_in T k a b ≡ true → Subtype T a b
+  in_sound : (k a b : ℕ) → subtype_in T k a b ≡ true → Subtype T a b
   unfolding subtype_in
-  in-sound zero a b h = eqb_sub a b h
-  in-sound (suc k) a b h = ⊎_elim (eqb_sub a b)
+  in_sound zero a b h = eqb_sub a b h
+  in_sound (suc k) a b h = ⊎_elim (eqb_sub a b)
       (λ g. let p = five (T.is_fun a) (T.is_fun b) (subtype_in T k (T.arg b) (T.arg a)) (subset (T.latent a) (T.latent b))
       (subtype_in T k (T.res a) (T.res b)) g in
-      sub_fun p.0 p.1 (in-sound k (T.arg b) (T.arg a) p.2) (subset_⊆ (T.latent a) (T.latent b) p.3) (in-sound k (T.res a) (T.res b) p.4))
+      sub_fun p.0 p.1 (in_sound k (T.arg b) (T.arg a) p.2) (subset_⊆ (T.latent a) (T.latent b) p.3) (in_sound k (T.res a) (T.res b) p.4))
       (or_inv (eqb a b) _ h)
 
-  in-complete : PartsLower T → {a b : ℕ} → Subtype T a b → (k : ℕ) → a + b ≤ k → subtype_in T k a b ≡ true
+  in_complete : PartsLower T → {a b : ℕ} → Subtype T a b → (k : ℕ) → a + b ≤ k → subtype_in T k a b ≡ true
   unfolding subtype_in
-  in-complete L (sub_same {a}) zero l = eq-eqb a a refl
-  in-complete L (sub_same {a}) (suc k) l = or_first (eqb a a) _ (eq-eqb a a refl)
-  in-complete L (sub_fun {a} {b} ha hb x s y) zero l = absurd (omega (arith, L.arg_lower a ha))
-  in-complete L (sub_fun {a} {b} ha hb x s y) (suc k) l =
-      or_other (eqb a b) _ (all_five ha hb (in-complete L x k (omega (arith, L.arg_lower a ha, L.arg_lower b hb))) (⊆_subset s)
-      (in-complete L y k (omega (arith, L.res_lower a ha, L.res_lower b hb))))
+  in_complete L (sub_same {a}) zero l = eq-eqb a a refl
+  in_complete L (sub_same {a}) (suc k) l = or_first (eqb a a) _ (eq-eqb a a refl)
+  in_complete L (sub_fun {a} {b} ha hb x s y) zero l = absurd (omega (arith, L.arg_lower a ha))
+  in_complete L (sub_fun {a} {b} ha hb x s y) (suc k) l =
+      or_other (eqb a b) _ (all_five ha hb (in_complete L x k (omega (arith, L.arg_lower a ha, L.arg_lower b hb))) (⊆_subset s)
+      (in_complete L y k (omega (arith, L.res_lower a ha, L.res_lower b hb))))
 
   pub subtype_sound : (a b : ℕ) → subtype T a b ≡ true → Subtype T a b
   unfolding subtype
-  subtype_sound a b h = in-sound (a + b) a b h
+  subtype_sound a b h = in_sound (a + b) a b h
 
   pub subtype_complete : PartsLower T → {a b : ℕ} → Subtype T a b → subtype T a b ≡ true
   unfolding subtype
-  subtype_complete L {a} {b} f = in-complete L f (a + b) (le_refl (a + b))
+  subtype_complete L {a} {b} f = in_complete L f (a + b) (le_refl (a + b))
 
   pub refuted : {a b : ℕ} → (Subtype T a b → ⊥) → subtype T a b ≡ false
   refuted {a} {b} n = bool_ext (subtype T a b) false (λ e. absurd (n (subtype_sound a b e))) (λ e. absurd (false≢true e))

@@ -1,13 +1,13 @@
 -- Only kinds 3 and 4, functions and letrecs, have a body. It is the second part, a lower term since the record is right (body-in), and it is asked whether
 -- that is a sign; any other kind passes.
-use Rattle.decoder.proofs.PlaceLaws.{record-inside, body_in, body_is, no_body}
+use Rattle.decoder.proofs.PlaceLaws.{record_inside, body_in, body_is, no_body}
 use Rattle.decoder.proofs.places.body_signed.Statement.{statement}
 use Rattle.decoder.proofs.places.body_signed.Tie as tie
 
 table-term-requires : tie.Need-table-term-requires
 table-term-requires c κs =
     let start = c.before in
-    record-inside start.args.s.now start.args.c start.args.t start.requires
+    record_inside start.args.s.now start.args.c start.args.t start.requires
 
 is-sign-requires : tie.Need-is-sign-requires
 is-sign-requires c κs =
