@@ -1,5 +1,7 @@
 // A sheet's records and guards by their numbers. Each function but `table_term` tests that what it reads lies in the sheet; a record that does not is
 // all zeros, and a channel has no guard.
+#![tactic(auto)]
+
 ghost use Rattle.std.specs.Prelude.{◌≡◌, ◌+◌, ◌≤◌, length};
 ghost use Rattle.program.specs.Bytes.{word16, word32};
 ghost use Rattle.program.specs.Records.{term_record, type_record, authority_record, guard_record};

@@ -1,5 +1,7 @@
 // Theorems about the code, each over two actual runs of a sheet: demand 3, of which one run has checks in force and one passes over them; and that a
 // privilege which the sheet does not name plays no part.
+#![tactic(auto)]
+
 ghost use Rattle.std.specs.Prelude.{true, false, ◌≡◌, length};
 ghost use Rattle.typing.specs.Verdicts.{verdict};
 ghost use Rattle.typing.specs.Answers.{verdict_model};

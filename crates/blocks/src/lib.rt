@@ -1,4 +1,6 @@
 // A controller's register block by itself: 16 bytes by value, and what needs no run. specs/Block.antt has the paper's words.
+#![tactic(auto)]
+
 ghost use Rattle.std.specs.Prelude.{◌≡◌};
 ghost use Rattle.blocks.specs.Block.{new_block, raised, read_of, is_kept};
 ghost use Rattle.blocks.specs.Answers.{read_answer_model};

@@ -1,4 +1,6 @@
 // The entries for C: slices pass as pointer and length. include/sovzedal.h documents each argument.
+#![tactic(auto)]
+
 ghost use Rattle.std.specs.Prelude.{[], ◌≡◌};
 ghost use Rattle.semantics.specs.Runs.{eager as eagerRunner, lazy as lazyRunner, run};
 ghost use Rattle.semantics.specs.Recording.{recording};

@@ -1,4 +1,6 @@
 // The register block for C: a list of 16 bytes, and the two entries over it. include/sovzedal.h documents each argument.
+#![tactic(auto)]
+
 ghost use Rattle.std.specs.Prelude.{[], ◌≡◌};
 ghost use Rattle.interp.specs.Answers.{buffers_of};
 ghost use Rattle.replies.specs.Replies.{returned_reply};

@@ -1,4 +1,6 @@
 // The unit's record held against the office's, for C. include/sovzedal.h documents each argument.
+#![tactic(auto)]
+
 ghost use Rattle.std.specs.Prelude.{◌≡◌, ◌≤◌};
 ghost use Rattle.compare.specs.Answers.{comparison_model};
 ghost use Rattle.replies.specs.Replies.{returned_reply};

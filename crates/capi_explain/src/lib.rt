@@ -1,4 +1,6 @@
 // Why a sheet needs a privilege, for C: the chain goes into a lent list. include/sovzedal.h documents each argument.
+#![tactic(auto)]
+
 ghost use Rattle.std.specs.Prelude.{◌++◌, ◌≡◌, ◌≤◌, length, drop};
 ghost use Rattle.program.specs.Limits.{max_nesting};
 ghost use Rattle.replies.specs.Internal.{reply_model};

@@ -1,5 +1,7 @@
 // The lean sheet, for C: it goes into a lent buffer. include/sovzedal.h documents each argument, and specs/Theorems.antt says what a call tells of the sheet
 // that then stands there.
+#![tactic(auto)]
+
 ghost use Rattle.std.specs.Prelude.{◌≡◌};
 ghost use Rattle.replies.specs.Internal.{reply_model};
 ghost use Rattle.erasure.specs.Answers.{erased_model};

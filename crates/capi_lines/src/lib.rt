@@ -1,4 +1,6 @@
 // The four lines for C: their state as a list of numbers, and the two entries over it. include/sovzedal.h documents each argument.
+#![tactic(auto)]
+
 ghost use Rattle.std.specs.Prelude.{[], ◌≡◌};
 ghost use Rattle.interp.specs.Answers.{buffers_of};
 ghost use Rattle.queues.specs.Answers.{job_of};

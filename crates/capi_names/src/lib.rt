@@ -1,4 +1,6 @@
 // Whether a sheet names a privilege, for C. include/sovzedal.h documents each argument.
+#![tactic(auto)]
+
 ghost use Rattle.std.specs.Prelude.{◌≡◌};
 ghost use Rattle.replies.specs.Replies.{replied, returned_reply};
 ghost use Rattle.replies.specs.Internal.{reply_model};

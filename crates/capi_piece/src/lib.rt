@@ -1,4 +1,6 @@
 // The smallest faulty piece of a sheet, for C: the place of its record stands in the answer. include/sovzedal.h documents each argument.
+#![tactic(auto)]
+
 ghost use Rattle.std.specs.Prelude.{◌≡◌};
 ghost use Rattle.replies.specs.Replies.{replied, returned_reply};
 ghost use Rattle.replies.specs.Internal.{reply_model};

@@ -1,4 +1,6 @@
 // A run over ranges, for C. include/sovzedal.h documents each argument.
+#![tactic(auto)]
+
 ghost use Rattle.std.specs.Prelude.{[], ◌≡◌};
 ghost use Rattle.semantics.specs.Runs.{eager as eagerRunner};
 ghost use Rattle.intervals.specs.Runs.{interval_run};

@@ -1,4 +1,6 @@
 // Runs with a record, for C: the entries go into lent bytes, and their number follows the eight of a run. include/sovzedal.h documents each argument.
+#![tactic(auto)]
+
 ghost use Rattle.std.specs.Prelude.{[], ◌≡◌};
 ghost use Rattle.semantics.specs.Runs.{eager as eagerRunner, lazy as lazyRunner};
 ghost use Rattle.semantics.specs.Recording.{recording};

@@ -1,4 +1,6 @@
 // The type checker: 01's judge on the bytes of a sheet.
+#![tactic(auto)]
+
 pub mod infer;
 
 ghost use Rattle.std.specs.Prelude.{◌≡◌};

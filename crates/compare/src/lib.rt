@@ -1,5 +1,7 @@
 // The unit's record held against the office's: each of the unit's entries is placed at the first of the office's entries behind the one before that equals
 // it. specs/Answers.antt has the paper's number of each case.
+#![tactic(auto)]
+
 ghost use Rattle.std.specs.Prelude.{◌≡◌};
 ghost use Rattle.traces.specs.Traces.{event_at, well_formed_record};
 ghost use Rattle.traces.specs.Comparing.{same_event, comparison};

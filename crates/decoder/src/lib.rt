@@ -1,4 +1,6 @@
 // The decoder: what any bytes are as a sheet.
+#![tactic(auto)]
+
 ghost use Rattle.program.specs.Screening.{screen};
 ghost use Rattle.program.specs.Decoding.{table_conditions, decoding};
 ghost use Rattle.accessors.specs.Internal.{Laid};

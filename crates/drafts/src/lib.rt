@@ -1,3 +1,5 @@
 // The text of a sheet, put together piece by piece and line by line.
+#![tactic(auto)]
+
 pub mod draft;
 pub mod lines;

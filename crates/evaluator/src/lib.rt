@@ -2,6 +2,8 @@
 // speak of the store-level interpreter in machine/specs/Store.antt; the crate `refinement` takes that to the meaning. `counters` are the calls left, the
 // cells made, the posts made, the run's mode, the saturated results and the entries of the record, whose bytes are `noted`. The lent stores are handed on
 // as references to the slices, so that no call copies one. What few terms look at comes last among the parameters: the first six are in registers.
+#![tactic(auto)]
+
 ghost use Rattle.machine.specs.Store.{enable, eval_at, apply_at};
 ghost use Rattle.evaluator.specs.Promises.{TermTable, Node, Tail, FirstNode, PairNode, second_at, Evaluated};
 

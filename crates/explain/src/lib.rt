@@ -1,4 +1,6 @@
 // Why a sheet needs a privilege: the chain of terms from the root to the cause.
+#![tactic(auto)]
+
 ghost use Rattle.std.specs.Prelude.{◌≡◌, leb};
 ghost use Rattle.accessors.specs.Internal.{ReadableSheet};
 ghost use Rattle.chains.specs.Explaining.{explained_in, explanation};

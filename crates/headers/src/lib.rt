@@ -1,4 +1,6 @@
 // The fields of a sheet, four or in version 2 five: refusals 1 to 4.
+#![tactic(auto)]
+
 ghost use Rattle.std.specs.Prelude.{◌≡◌, ◌<◌};
 ghost use Rattle.program.specs.Decoding.{holds as holds_of};
 ghost use Rattle.headers.specs.Internal.{FieldAt, FieldIs, VersionIs, end_at, end_conditions, AfterTerms, EndIs, HeaderIs};

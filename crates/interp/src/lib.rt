@@ -1,4 +1,6 @@
 // The two runners on any bytes, start stack, limits and buffers, each with a record of what it decides or without one.
+#![tactic(auto)]
+
 ghost use Rattle.std.specs.Prelude.{true, [], ◌≡◌, eqb, length};
 ghost use Rattle.semantics.specs.Runs.{eager as eagerRunner, lazy as lazyRunner, run};
 ghost use Rattle.semantics.specs.Recording.{recording};

@@ -1,4 +1,6 @@
 // The judgement of one term of a sheet, in the bindings and under the principal that it has there.
+#![tactic(auto)]
+
 mod find;
 
 ghost use Rattle.std.specs.Prelude.{◌≡◌};

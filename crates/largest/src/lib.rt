@@ -1,4 +1,6 @@
 // A run for which buffers are asked for as the largest.
+#![tactic(auto)]
+
 ghost use Rattle.std.specs.Prelude.{[], ◌≡◌};
 ghost use Rattle.interp.specs.Answers.{buffers_of, after, empty_stack_request};
 ghost use Rattle.largest.specs.Largest.{largest_run};

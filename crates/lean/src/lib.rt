@@ -1,4 +1,6 @@
 // The lean sheet for the unit: an accepted sheet of version 1 without its checks, enables and latent sets, written into a lent buffer.
+#![tactic(auto)]
+
 ghost use Rattle.std.specs.Prelude.{◌≡◌, leb, length};
 ghost use Rattle.accessors.specs.Internal.{FormedSheet, ReadableSheet};
 ghost use Rattle.erasure.specs.Lean.{erasable as erasableOf, lean_sheet};

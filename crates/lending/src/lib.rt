@@ -1,5 +1,7 @@
 // The evaluator on lent slices. Each function here keeps one of the four in a local and lends that on, so that the evaluator gets references to
 // slices. A slice that is lent so is spent, and comes back as the result.
+#![tactic(auto)]
+
 ghost use Rattle.machine.specs.Store.{eval_at};
 ghost use Rattle.evaluator.specs.Promises.{TermTable, Evaluated};
 

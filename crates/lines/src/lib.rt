@@ -1,4 +1,6 @@
 // Four lines, one unit: the line whose turn it is has its oldest job run. specs/Serving.antt has the paper's words.
+#![tactic(auto)]
+
 ghost use Rattle.std.specs.Prelude.{true, [], ◌≡◌, ◌+◌, min as least};
 ghost use Rattle.interp.specs.Answers.{after, buffers_of, run_model};
 ghost use Rattle.queues.specs.Queues.{inside as insideOf, after_turn};

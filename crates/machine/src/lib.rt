@@ -1,4 +1,6 @@
 // The steps of a run that evaluate no other term, and the record of what they decide.
+#![tactic(auto)]
+
 pub mod notes;
 pub mod steps;
 pub mod tail;

@@ -1,4 +1,6 @@
 // Whether a sheet names a privilege in a check, a test or the guard of a post, and where first.
+#![tactic(auto)]
+
 ghost use Rattle.std.specs.Prelude.{[], ◌∷◌, ◌≡◌, leb};
 ghost use Rattle.program.specs.Limits.{max_privilege};
 ghost use Rattle.program.specs.Screening.{screen, unless_found, unless};

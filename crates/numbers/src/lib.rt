@@ -1,4 +1,6 @@
 // 01's number and place of each refusal and stop, for whoever tells them as numbers.
+#![tactic(auto)]
+
 ghost use Rattle.program.specs.Answers.{decoding_cause, decoding_place};
 ghost use Rattle.typing.specs.Answers.{fault_cause, fault_place};
 ghost use Rattle.stores.specs.Stops.{stop_cause, stop_place};

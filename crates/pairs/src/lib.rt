@@ -1,4 +1,6 @@
 // The pairs of the number terms, lowest and highest in turn: whether they are right for a sheet, and their place in the words of its terms.
+#![tactic(auto)]
+
 ghost use Rattle.std.specs.Prelude.{◌≡◌, ◌*◌, ◌≤◌, length};
 ghost use Rattle.program.specs.Layout.{terms as termCount};
 ghost use Rattle.intervals.specs.Pairs.{is_number, numbers_below, ordered as orderedPairs, pairs_ok};

@@ -1,4 +1,6 @@
 // The smallest faulty piece of a sheet: the smallest term that is refused where it stands, and the record of that term.
+#![tactic(auto)]
+
 ghost use Rattle.std.specs.Prelude.{◌≡◌};
 ghost use Rattle.accessors.specs.Internal.{FormedSheet};
 ghost use Rattle.subterms.specs.Smallest.{piece_of, record_of};

@@ -1,4 +1,6 @@
 // A term where it stands in a sheet, and its children where they stand.
+#![tactic(auto)]
+
 ghost use Rattle.std.specs.Prelude.{false, ◌≡◌, ◌≤◌};
 ghost use Rattle.places.specs.Internal.{present as presentOf, AtRoot, children_at, ReadyPlace, Reached};
 

@@ -1,5 +1,7 @@
 // Sets of privileges as u32 masks: bit k, worth 2^k, stands for privilege k, 0 to 31.
 // The other crates of the unit call these functions; a privilege above 31 cannot be passed to them.
+#![tactic(auto)]
+
 ghost use Rattle.std.specs.Prelude.{◌≡◌, ◌<◌};
 ghost use Rattle.privileges.specs.Sets.{privilege_count, has, meet as meet_of, union as unionOf, insert as insertOf, remove as removeOf, subset as subsetOf};
 

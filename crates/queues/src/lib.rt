@@ -1,4 +1,6 @@
 // Four lines, one unit: their queues of jobs, and whose turn it is. specs/Queues.antt has the paper's words.
+#![tactic(auto)]
+
 ghost use Rattle.std.specs.Prelude.{◌≡◌, ◌+◌, ◌<◌, leb};
 ghost use Rattle.queues.specs.Queues.{max_lines, new_lines, queue_at, add_of, after_turn};
 ghost use Rattle.queues.specs.Answers.{job_of, queue_model, lines_model, added_model};

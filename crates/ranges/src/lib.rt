@@ -1,4 +1,6 @@
 // An eager run whose number terms are known within limits, on any bytes, pairs, start stack, limits and buffers.
+#![tactic(auto)]
+
 ghost use Rattle.std.specs.Prelude.{true, [], ◌≡◌, length};
 ghost use Rattle.semantics.specs.Runs.{eager as eagerRunner};
 ghost use Rattle.intervals.specs.Runs.{interval_run};

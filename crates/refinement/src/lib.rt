@@ -1,1 +1,2 @@
 // Theorems only: the store-level interpreter of machine is the meaning.
+#![tactic(auto)]

@@ -1,4 +1,6 @@
 // A write to a controller's register block, which may run the loaded sheet. specs/Writes.antt has the paper's words.
+#![tactic(auto)]
+
 ghost use Rattle.std.specs.Prelude.{[], ◌≡◌, ◌+◌, ◌*◌, eqb};
 ghost use Rattle.interp.specs.Answers.{buffers_of};
 ghost use Rattle.registers.specs.Writes.{commanded, write_of};

@@ -1,3 +1,5 @@
 // Which types and terms of a sheet a lean one keeps, and the numbers that they have there.
+#![tactic(auto)]
+
 pub mod terms;
 pub mod types;

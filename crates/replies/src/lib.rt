@@ -1,4 +1,6 @@
 // The numbers of an answer. specs/Replies.antt says which of the eight is which.
+#![tactic(auto)]
+
 ghost use Rattle.std.specs.Prelude.{◌≡◌, ◌≤◌, length};
 ghost use Rattle.typing.specs.Answers.{verdict_model};
 ghost use Rattle.interp.specs.Answers.{run_model, outcome_model, counts_model};

@@ -1,4 +1,6 @@
 // The print of a sheet: it is judged and, if accepted, run, and both are told in lines of text.
+#![tactic(auto)]
+
 pub mod answer;
 
 ghost use Rattle.std.specs.Prelude.{[], ◌≡◌, ◌≤◌};

@@ -1,1 +1,2 @@
 // Theorems only: specs/ has what holds of a sheet, its verdict and its runs together.
+#![tactic(auto)]

@@ -1,4 +1,6 @@
 // The checking program: prints what is told of the sheet on standard input.
+#![tactic(auto)]
+
 use drafts::draft::DRAFT_BYTES;
 use libc::{STDERR_FILENO, STDIN_FILENO, STDOUT_FILENO};
 use program::limits::{MAX_CELLS, MAX_POSTS, MAX_SHEET};

@@ -1,4 +1,6 @@
 // The term records: refusal 6, and the children that a record names.
+#![tactic(auto)]
+
 ghost use Rattle.std.specs.Prelude.{◌≡◌};
 ghost use Rattle.program.specs.Layout.{terms};
 ghost use Rattle.program.specs.Screening.{lowest};

@@ -1,6 +1,8 @@
 // The term table of a readable sheet as an array of words, decoded once a run: kind, small, first, second and third of a record from the lowest byte
 // on; the last three begin at bits 16, 32 and 48. In the place of second and third, which they do not use, a sign has the set that its principal may use,
 // and a post the guard of its channel.
+#![tactic(auto)]
+
 ghost use Rattle.std.specs.Prelude.{◌≡◌, length, get_or};
 ghost use Rattle.program.specs.Limits.{max_terms};
 ghost use Rattle.termtable.specs.Table.{word_kind, word_small, word_first, word_second, word_third, word_authority, word_guard, WordOf, Decodable, TermWords};

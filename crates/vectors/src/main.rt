@@ -1,5 +1,6 @@
 // Runs the recorded sheets of its standard input through the functions that the entries for C hand on to, and prints every answer in numbers.
 // reference/record writes that input, and the expected output beside it from an implementation of its own.
+#![tactic(auto)]
 
 use replies::{ANSWER_NUMBERS, LONG_ANSWER};
 use vector_io::buffers::{

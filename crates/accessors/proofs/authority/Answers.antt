@@ -1,13 +1,11 @@
-use Rattle.std.proofs.Common.{rules, ◌≡◌, ◌+◌, ◌≤◌, length, ℕ, ◌-◌, ◌*◌, ◌<◌, ◌/◌, ◌%◌, Bool, true, false, nat_eq, nat_lt, List, [], ◌∷◌, ◌++◌, slice_index_or, slice_set, bit_and, bit_or, Fits, w8, w32, w64, Bor, MutBor}
-use Rattle.program.specs.Bytes.{word16, word32}
-use Rattle.program.specs.Records.{term_record, type_record, authority_record, guard_record}
-use Rattle.accessors.specs.Internal.{TermInside}
+-- One test decides whether the four bytes at 8 + 4 * n lie in the sheet: outside the set is empty (no-authority), inside it is what stands there
+-- (an-authority). Whether n is a principal is not asked. 8 are the first field's 5 bytes and the head of the second, 3.
+use Rattle.accessors.proofs.RecordLaws.{no_authority, an_authority}
+use Rattle.std.proofs.Common.{rules}
 use Rattle.accessors.proofs.authority.Goals as goal
 
--- src/lib.rt:88:9
 pub returns-then-s-at : goal.returns-then-s-at
-returns-then-s-at c = ?
+returns-then-s-at c = no_authority _ _ c.if-s-at.true
 
--- src/lib.rt:83:1
 pub returns : goal.returns
-returns c = ?
+returns c = an_authority _ _ c.if-s-at.false c.be32.ensures

@@ -1,9 +1,10 @@
-use Rattle.std.proofs.Common.{rules, ◌≡◌, ◌+◌, ◌≤◌, length, ℕ, ◌-◌, ◌*◌, ◌<◌, ◌/◌, ◌%◌, Bool, true, false, nat_eq, nat_lt, List, [], ◌∷◌, ◌++◌, slice_index_or, slice_set, bit_and, bit_or, Fits, w8, w32, w64, Bor, MutBor}
-use Rattle.program.specs.Bytes.{word16, word32}
-use Rattle.program.specs.Records.{term_record, type_record, authority_record, guard_record}
-use Rattle.accessors.specs.Internal.{TermInside}
+-- All of the record of term t lies in the sheet, since the caller says so, and has what stands there (a-term). It begins after the first field's 5 bytes,
+-- the heads of the next three, 3 each, the principals, the types and the terms before t.
+use Rattle.accessors.proofs.RecordLaws.{a_term}
+use Rattle.std.proofs.Common.{rules}
 use Rattle.accessors.proofs.table_term.Goals as goal
 
--- src/lib.rt:28:1
 pub returns : goal.returns
-returns c = ?
+returns c =
+    a_term _ c.args.c _ c.requires.in_table c.requires.in_sheet c.be16.ensures c.be16-2.ensures
+    c.be16-3.ensures
