@@ -17,14 +17,14 @@ use interp::{run_eager, run_lazy};
 use irrelevance::answer::Named;
 use typing::answer::Verdict;
 
-#[derive(Drop)]
+#[derive(Clone, Copy)]
 pub struct Compared {
     pub verdict: Verdict,
     pub enforced: Run,
     pub skipped: Run,
 }
 
-#[derive(Drop)]
+#[derive(Clone, Copy)]
 pub struct ComparedStarts {
     pub named: Named,
     pub first: Run,

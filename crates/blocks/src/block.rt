@@ -3,13 +3,13 @@ pub const BLOCK_BYTES: usize = 16;
 
 pub const MAX_ADDRESS: u32 = 15;
 
-#[derive(Drop)]
+#[derive(Clone, Copy)]
 pub struct Block {
     pub bytes: [u8; BLOCK_BYTES],
 }
 
 // The status bit by its worth, and the registers 2 and 6 to 11.
-#[derive(Drop)]
+#[derive(Clone, Copy)]
 pub struct RunRegisters {
     pub flag: u8,
     pub cause: u8,
@@ -18,13 +18,13 @@ pub struct RunRegisters {
     pub place: u16,
 }
 
-#[derive(Drop)]
+#[derive(Clone, Copy)]
 pub enum ReadAnswer {
     Byte(u8),
     Refused,
 }
 
-#[derive(Drop)]
+#[derive(Clone, Copy)]
 pub enum WriteAnswer {
     Done,
     Refused,

@@ -4,7 +4,7 @@ use program::limits::NESTING_PLACES;
 use typing::answer::Fault;
 
 // A chain with its length; that the privilege is not needed; the type checker's refusals; or 30, a privilege above 31.
-#[derive(Drop)]
+#[derive(Clone, Copy)]
 pub enum Explanation {
     Chain(usize),
     NotNeeded,
@@ -14,7 +14,7 @@ pub enum Explanation {
 }
 
 // The terms of the chain, from the root on, are the first of `terms`, and the others are zero.
-#[derive(Drop)]
+#[derive(Clone, Copy)]
 pub struct Explained {
     pub answer: Explanation,
     pub terms: [u16; NESTING_PLACES],

@@ -6,7 +6,7 @@ ghost use Rattle.drafts.specs.Internal.{Blank, DraftAppended, draft_bytes};
 // Bytes of a draft: they hold the longest text, of which a number takes at most 20.
 pub const DRAFT_BYTES: usize = 224;
 
-#[derive(Drop)]
+#[derive(Clone, Copy)]
 pub struct Draft {
     pub bytes: [u8; DRAFT_BYTES],
     pub len: usize,

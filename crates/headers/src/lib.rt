@@ -13,27 +13,27 @@ use program::limits::{
 use program::records::Counts;
 
 // A field's number of records, or its refusal.
-#[derive(Drop)]
+#[derive(Clone, Copy)]
 pub enum Field {
     Records(u16),
     Fault(Refusal),
 }
 
 // The number of channels that a version has, or the refusal of the first field or its version.
-#[derive(Drop)]
+#[derive(Clone, Copy)]
 pub enum Version {
     Channels(u8),
     Fault(Refusal),
 }
 
 // Whether the sheet ends where its version says.
-#[derive(Drop)]
+#[derive(Clone, Copy)]
 pub enum End {
     Whole,
     Fault(Refusal),
 }
 
-#[derive(Drop)]
+#[derive(Clone, Copy)]
 pub enum Header {
     Laid(Counts),
     Fault(Refusal),

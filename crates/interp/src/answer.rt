@@ -3,7 +3,7 @@ use program::records::Counts;
 use stores::values::Stop;
 
 // 1 to 8 and 31 are the reader's; 14 to 16 follow in this order.
-#[derive(Drop)]
+#[derive(Clone, Copy)]
 pub enum RunRefusal {
     Unreadable(program::answer::Refusal),
     Start,
@@ -12,26 +12,26 @@ pub enum RunRefusal {
 }
 
 // Whether a run may start, on a readable sheet with these counts.
-#[derive(Drop)]
+#[derive(Clone, Copy)]
 pub enum Admission {
     Admitted(Counts),
     Refused(RunRefusal),
 }
 
-#[derive(Drop)]
+#[derive(Clone, Copy)]
 pub enum Ground {
     Bool(bool),
     Num(u16),
 }
 
-#[derive(Drop)]
+#[derive(Clone, Copy)]
 pub enum Outcome {
     End(Ground),
     Stop(Stop),
 }
 
 // Calls, cells and posts made, and the sums and differences that were saturated.
-#[derive(Drop)]
+#[derive(Clone, Copy)]
 pub struct RunCounts {
     pub calls: usize,
     pub cells: usize,
@@ -39,21 +39,21 @@ pub struct RunCounts {
     pub saturated: usize,
 }
 
-#[derive(Drop)]
+#[derive(Clone, Copy)]
 pub enum Run {
     Refused(RunRefusal),
     Ran { outcome: Outcome, made: RunCounts },
 }
 
 // A run with a record: what it tells without one, and the number of entries.
-#[derive(Drop)]
+#[derive(Clone, Copy)]
 pub struct RecordedRun {
     pub run: Run,
     pub entries: usize,
 }
 
 // What evaluating a root gives, as a word, with what was made and the number of entries in the record.
-#[derive(Drop)]
+#[derive(Clone, Copy)]
 pub struct Tally {
     pub word: u64,
     pub made: RunCounts,

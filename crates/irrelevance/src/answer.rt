@@ -2,7 +2,7 @@
 use program::answer::Refusal;
 
 // The lowest term that names the privilege; that none does; the decoder's refusal; or 30, a privilege above 31.
-#[derive(Drop)]
+#[derive(Clone, Copy)]
 pub enum Named {
     At(u16),
     Nowhere,

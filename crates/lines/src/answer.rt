@@ -3,7 +3,7 @@ use interp::answer::Run;
 use queues::state::Lines;
 
 // No job; 28 when a job is served; or its run's answer.
-#[derive(Drop)]
+#[derive(Clone, Copy)]
 pub enum ServeAnswer {
     Idle,
     Outside,
@@ -11,7 +11,7 @@ pub enum ServeAnswer {
 }
 
 // The answer, the line that was served (0 if none was), and the queues afterwards.
-#[derive(Drop)]
+#[derive(Clone, Copy)]
 pub struct Served {
     pub answer: ServeAnswer,
     pub line: u32,

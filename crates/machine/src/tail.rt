@@ -10,7 +10,7 @@ use stores::words;
 use termtable::{authority_of, first_of, kind_of, second_of, small_of, third_of};
 
 // The child to evaluate, with its environment and access; or a stop, where 0 is none.
-#[derive(Drop)]
+#[derive(Clone, Copy)]
 pub struct TailStep {
     pub stop: u64,
     pub next: u16,

@@ -10,7 +10,7 @@ ghost use Rattle.numbers.specs.Codes.{CodeIs};
 use stores::values::Stop;
 use typing::answer::Fault;
 
-#[derive(Drop)]
+#[derive(Clone, Copy)]
 pub struct Code {
     pub cause: u8,
     pub place: u16,

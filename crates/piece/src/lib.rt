@@ -17,7 +17,7 @@ use subterms::answer::Piece;
 use subtyping::known::{KNOWN_WORDS, Known};
 
 // A piece, and where its record begins in the sheet and how many bytes it has; 0 and 0 if there is none.
-#[derive(Drop)]
+#[derive(Clone, Copy)]
 pub struct Located {
     pub piece: Piece,
     pub at: usize,

@@ -9,7 +9,7 @@ use program::records::Counts;
 use rules::bindings::{Bindings, none, push};
 
 // A term with the bindings and the principal that it has in the sheet.
-#[derive(Drop)]
+#[derive(Clone, Copy)]
 pub struct Place {
     pub term: u16,
     pub bindings: Bindings,
@@ -17,7 +17,7 @@ pub struct Place {
 }
 
 // A child at its place, or none, and then the place says nothing.
-#[derive(Drop)]
+#[derive(Clone, Copy)]
 pub struct Child {
     pub present: bool,
     pub place: Place,

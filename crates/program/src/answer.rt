@@ -2,7 +2,7 @@
 use crate::records::Counts;
 
 // A cause for each of the paper's numbers 1 to 8, in this order, and 31; the number held is that of the record or channel at fault.
-#[derive(Drop)]
+#[derive(Clone, Copy)]
 pub enum Refusal {
     CutShort,
     Tag,
@@ -15,7 +15,7 @@ pub enum Refusal {
     BadGuard(u16),
 }
 
-#[derive(Drop)]
+#[derive(Clone, Copy)]
 pub enum Decoded {
     Readable(Counts),
     Refused(Refusal),

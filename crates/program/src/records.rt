@@ -1,7 +1,7 @@
 // What a sheet's records hold. The crate `accessors` reads them.
 
 // How many principals, types, terms and channels a sheet has. They fix where each record and each guard lies.
-#[derive(Drop)]
+#[derive(Clone, Copy)]
 pub struct Counts {
     pub principals: u8,
     pub types: u16,
@@ -9,7 +9,7 @@ pub struct Counts {
     pub channels: u8,
 }
 
-#[derive(Drop)]
+#[derive(Clone, Copy)]
 pub struct TermRecord {
     pub kind: u8,
     pub small: u8,
@@ -18,7 +18,7 @@ pub struct TermRecord {
     pub third: u16,
 }
 
-#[derive(Drop)]
+#[derive(Clone, Copy)]
 pub struct TypeRecord {
     pub kind: u8,
     pub zero: u8,

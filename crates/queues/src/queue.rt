@@ -7,7 +7,7 @@ ghost use Rattle.queues.specs.Internal.{has_job, SizeIs};
 use crate::state::{Job, MAX_JOBS, Queue};
 
 // The oldest job, and the others.
-#[derive(Drop)]
+#[derive(Clone, Copy)]
 pub struct Taken {
     pub job: Job,
     pub rest: Queue,

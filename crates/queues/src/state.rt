@@ -4,7 +4,7 @@ pub const MAX_LINES: usize = 4;
 pub const MAX_JOBS: usize = 8;
 
 // A part of the store of sheets, and the calls allowance of its run.
-#[derive(Drop)]
+#[derive(Clone, Copy)]
 pub struct Job {
     pub offset: usize,
     pub length: usize,
@@ -12,14 +12,14 @@ pub struct Job {
 }
 
 // The first `count` jobs wait, the oldest first.
-#[derive(Drop)]
+#[derive(Clone, Copy)]
 pub struct Queue {
     pub jobs: [Job; MAX_JOBS],
     pub count: usize,
 }
 
 // The queues of lines 0 to 3, the line whose turn it is, and the place in the list of posts where the last job stopped.
-#[derive(Drop)]
+#[derive(Clone, Copy)]
 pub struct Lines {
     pub queues: [Queue; MAX_LINES],
     pub turn: usize,
@@ -27,7 +27,7 @@ pub struct Lines {
 }
 
 // 27 to 29 are the last three.
-#[derive(Drop)]
+#[derive(Clone, Copy)]
 pub enum Addition {
     Done,
     NoLine,
@@ -35,7 +35,7 @@ pub enum Addition {
     Full,
 }
 
-#[derive(Drop)]
+#[derive(Clone, Copy)]
 pub struct Added {
     pub answer: Addition,
     pub lines: Lines,

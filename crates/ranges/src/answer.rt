@@ -2,33 +2,33 @@
 use interp::answer::RunCounts;
 use stores::values::Stop;
 
-#[derive(Drop)]
+#[derive(Clone, Copy)]
 pub enum Truth {
     Yes,
     No,
     Undecided,
 }
 
-#[derive(Drop)]
+#[derive(Clone, Copy)]
 pub enum IntervalGround {
     Truth(Truth),
     Interval { lowest: u16, highest: u16 },
 }
 
-#[derive(Drop)]
+#[derive(Clone, Copy)]
 pub enum IntervalOutcome {
     End(IntervalGround),
     Stop(Stop),
 }
 
 // The refusals of a plain run, then 35.
-#[derive(Drop)]
+#[derive(Clone, Copy)]
 pub enum IntervalRefusal {
     Run(interp::answer::RunRefusal),
     Pairs,
 }
 
-#[derive(Drop)]
+#[derive(Clone, Copy)]
 pub enum IntervalRun {
     Refused(IntervalRefusal),
     Ran {

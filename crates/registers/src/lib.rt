@@ -15,7 +15,7 @@ use outcome::of_run;
 use program::limits::{MAX_CELLS, MAX_POSTS};
 
 // The answer of a write, and the block as it leaves it.
-#[derive(Drop)]
+#[derive(Clone, Copy)]
 pub struct Written {
     pub answer: WriteAnswer,
     pub block: Block,

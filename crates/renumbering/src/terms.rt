@@ -10,7 +10,7 @@ use program::limits::TERM_PLACES;
 use program::records::Counts;
 
 // Each term's new number, and how many terms are kept.
-#[derive(Drop)]
+#[derive(Clone, Copy)]
 pub struct TermNumbers {
     pub numbers: [u16; TERM_PLACES],
     pub count: u16,

@@ -9,7 +9,7 @@ use program::limits::TYPE_PLACES;
 use program::records::Counts;
 
 // Each type's new number, and how many types are kept.
-#[derive(Drop)]
+#[derive(Clone, Copy)]
 pub struct TypeNumbers {
     pub numbers: [u16; TYPE_PLACES],
     pub count: u16,

@@ -18,7 +18,7 @@ pub const ANSWER_NUMBERS: usize = 8;
 
 pub const LONG_ANSWER: usize = ANSWER_NUMBERS + 1;
 
-#[derive(Drop)]
+#[derive(Clone, Copy)]
 pub struct Reply {
     pub status: u32,
     pub numbers: [u32; ANSWER_NUMBERS],

@@ -10,7 +10,7 @@ use program::limits::NESTING_PLACES;
 use program::search::Found;
 
 // The nearest binding is the last of the first `len`.
-#[derive(Drop)]
+#[derive(Clone, Copy)]
 pub struct Bindings {
     pub types: [u16; NESTING_PLACES],
     pub len: usize,

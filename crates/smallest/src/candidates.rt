@@ -7,7 +7,7 @@ ghost use Rattle.smallest.specs.Internal.{candidate_model, or_own};
 use typing::answer::{Fault, Inferred};
 
 // A refused term, how many terms there are in it, and its fault; or none.
-#[derive(Drop)]
+#[derive(Clone, Copy)]
 pub enum Candidate {
     Nothing,
     Faulty { term: u16, count: u16, fault: Fault },

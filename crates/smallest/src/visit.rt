@@ -13,7 +13,7 @@ use typing::answer::Inferred;
 
 // What is found of a term: its judgement, how many terms there are in it, itself counted, and the smallest of them that is refused. Of a child that is
 // absent it is nothing.
-#[derive(Drop)]
+#[derive(Clone, Copy)]
 pub struct Visited {
     pub judged: Inferred,
     pub count: u16,

@@ -2,7 +2,7 @@
 
 // A function value is its body and the cell of the environment where it was made; 0 is the empty environment. The environment of a recursive
 // function is the cell that holds the function itself.
-#[derive(Drop)]
+#[derive(Clone, Copy)]
 pub enum Value {
     Bool(bool),
     Num(u16),
@@ -10,7 +10,7 @@ pub enum Value {
 }
 
 // The papers' stops 17 to 22 and 36, in this order, each with the term that stops. Only a run over intervals has 36.
-#[derive(Drop)]
+#[derive(Clone, Copy)]
 pub enum Stop {
     Check(u16),
     Stuck(u16),
@@ -21,7 +21,7 @@ pub enum Stop {
     Undecided(u16),
 }
 
-#[derive(Drop)]
+#[derive(Clone, Copy)]
 pub enum Out {
     Val(Value),
     Stop(Stop),

@@ -3,7 +3,7 @@ use program::answer::Refusal;
 use typing::answer::Fault;
 
 // The smallest term that is refused where it stands, how many terms stand in it, itself counted, and its fault; no piece; or the reader's refusal.
-#[derive(Drop)]
+#[derive(Clone, Copy)]
 pub enum Piece {
     Smallest { term: u16, count: u16, fault: Fault },
     NoPiece,
@@ -11,7 +11,7 @@ pub enum Piece {
 }
 
 // A term's type and least needs where it stands and the principal that it stands under; its first fault there; no such term; or the reader's refusal.
-#[derive(Drop)]
+#[derive(Clone, Copy)]
 pub enum Judged {
     Typed { principal: u8, ty: u16, needs: u32 },
     Faulty(Fault),

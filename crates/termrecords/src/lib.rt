@@ -15,7 +15,7 @@ use program::records::{Counts, TermRecord};
 use program::search::Found;
 
 // The children of a term by their numbers. The body of a function or letrec has to be a sign.
-#[derive(Drop)]
+#[derive(Clone, Copy)]
 pub enum Shape {
     Leaf,
     One(u16),

@@ -18,7 +18,7 @@ use program::search::Found;
 const GROUP: usize = 8;
 
 // How deep a type is nested, or that its record is at fault.
-#[derive(Drop)]
+#[derive(Clone, Copy)]
 pub enum Depth {
     Is(u8),
     Fault,

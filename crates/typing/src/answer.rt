@@ -2,7 +2,7 @@
 use program::answer::Refusal;
 
 // The fault of a term, with the term's number.
-#[derive(Drop)]
+#[derive(Clone, Copy)]
 pub enum Fault {
     Variable(u16),
     Type(u16),
@@ -15,14 +15,14 @@ pub enum Fault {
 }
 
 // The type and needs of a term, or the first fault in it.
-#[derive(Drop)]
+#[derive(Clone, Copy)]
 pub enum Inferred {
     Typed { ty: u16, needs: u32 },
     Faulty(Fault),
 }
 
 // The verdict on a sheet: accepted with its number of terms and its root's type and needs, or refused by the reader or by the rules.
-#[derive(Drop)]
+#[derive(Clone, Copy)]
 pub enum Verdict {
     Accepted { terms: u16, ty: u16, needs: u32 },
     Unreadable(Refusal),

@@ -4,7 +4,7 @@ ghost use Rattle.std.specs.Prelude.{◌≤◌};
 ghost use Rattle.vector_io.specs.Internal.{VectorFits};
 
 // One vector's header, with lengths that the buffers at hand have. The numbers of the pairs come last, and their count is as it was read.
-#[derive(Drop)]
+#[derive(Clone, Copy)]
 pub struct Vector {
     pub whole: bool,
     pub sheet: usize,
