@@ -34,7 +34,7 @@ found_none e h = sym h ∙ ap found_model e
 pub guard_ok_lem : (s : List ℕ) (c : Counts) → Laid s c → (channel : ℕ) → channel < max_channels → {g : ℕ} → g ≡ guard_record s c channel
     → is_guard g ≡ guard_ok s channel
 guard_ok_lem s c L channel h e =
-    ap is_guard (e ∙ guard_laid s (fields_ok s L.None-found).ends c L.counts_are channel h)
+    ap is_guard (e ∙ guard_laid s (fields_ok s L.none_found).ends c L.counts_are channel h)
 
 -- ---- the fields, and then the tables
 module _ (s : List ℕ) where
@@ -47,4 +47,4 @@ module _ (s : List ℕ) where
 
   pub tables_found : {c : Counts} → Laid s c → {r : Decoded} → DecodedAs s (screen (table_conditions s)) r → DecodedAs s (decoding s) r
   unfolding decoding
-  tables_found L h = record { answer_is = h.answer_is ∙ sym (none_screen L.None-found (table_conditions s)); counts_are = h.counts_are }
+  tables_found L h = record { answer_is = h.answer_is ∙ sym (none_screen L.none_found (table_conditions s)); counts_are = h.counts_are }

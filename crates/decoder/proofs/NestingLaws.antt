@@ -74,7 +74,7 @@ held d k g h = leb_iff d k (max_nesting + 1) (suc k) (λ f. omega arith) (λ f. 
 module _ (s l : List ℕ) (T : TermsOk s) (few : terms s ≤ max_terms) (P : PlacesOk s l) where
   one_parent : (x : ℕ) → suc x < terms s → times_below s x (terms s) ≡ 1
   one_parent x h =
-      let ok = lowest_none (placed_ok s) 0 (terms s) P.None-found x (omega arith) (omega arith) in
+      let ok = lowest_none (placed_ok s) 0 (terms s) P.none_found x (omega arith) (omega arith) in
       let c : eqb (times_below s x (terms s)) (cond (eqb x (root s)) 0 1) ≡ true = search (and_left, and_right) in
       eqb-true (times_below s x (terms s)) (cond (eqb x (root s)) 0 1) c ∙ ap (λ (b : Bool). cond b 0 1) (ne_eqb x (root s) (λ e. omega arith))
 

@@ -155,7 +155,7 @@ among_times Less y a b d = omega arith
 among_times Post y a b d = omega arith
 
 terms_ok : (s : List ℕ) → TermsOk s → (t : ℕ) → t < terms s → term_ok s t ≡ true
-terms_ok s T t h = lowest_none (term_ok s) 0 (terms s) T.None-found t (omega arith) (omega arith)
+terms_ok s T t h = lowest_none (term_ok s) 0 (terms s) T.none_found t (omega arith) (omega arith)
 
 -- the shape of a right record
 right_shape : (s : List ℕ) (t : ℕ) → term_ok s t ≡ true → shape_at s t ≡ kind_shape (kind_of (kind_byte s t)) (first s t) (second s t) (third s t)
@@ -308,11 +308,11 @@ body_child k h = go (eqb k 3) refl h
 pub record_inside : (s : List ℕ) (c : Counts) (t : ℕ) → TableTerm s c t → TermInside s c t
 record_inside s c t K =
     let L = K.tables.laid in
-    term_inside s (fields_ok s L.None-found).terms_in c L.counts_are t K.inside
+    term_inside s (fields_ok s L.none_found).terms_in c L.counts_are t K.inside
 
 module _ (s : List ℕ) (c : Counts) (t : ℕ) (K : TableTerm s c t) {r : TermRecord} (e : r ≡ term_record s c t) where
   read : r ≡ term_at_byte s (term_at s t)
-  read = let L = K.tables.laid in e ∙ term_laid s (fields_ok s L.None-found).terms_in c L.counts_are t K.inside
+  read = let L = K.tables.laid in e ∙ term_laid s (fields_ok s L.none_found).terms_in c L.counts_are t K.inside
 
   pub sign_is : eqb r.kind 9 ≡ is_sign s t
   sign_is = ap (λ (x : TermRecord). eqb x.kind 9) read
@@ -342,12 +342,12 @@ root_is t n h = elim (ℕ_discrete (t + 1) n) [
 
 module _ (s : List ℕ) (c : Counts) (L : Laid s c) (T : TermsOk s) (t : ℕ) (h : t < terms s) (l : List ℕ) (w : Links s l (terms s)) where
   few : terms s ≤ max_terms
-  few = (fields_ok s L.None-found).terms_high
+  few = (fields_ok s L.none_found).terms_high
 
   pub place_is : {n body sig : Bool} → n ≡ cond (eqb (t + 1) c.terms) (eqb (get_or l t 0) 0) (not (eqb (get_or l t 0) 0) && not (eqb (get_or l t 0) many_parents))
       → body ≡ signed_body s (format_at s t).second (second s t) → sig ≡ is_sign s t → (n && body && (not (eqb (t + 1) c.terms) || sig)) ≡ placed_ok s t
   place_is {n} {body} {sig} en eb es =
-      let some : 1 ≤ terms s = (fields_ok s L.None-found).terms_low in
+      let some : 1 ≤ terms s = (fields_ok s L.none_found).terms_low in
       let r : eqb (t + 1) c.terms ≡ eqb t (root s) = ap (eqb (t + 1)) L.counts_are.terms_are ∙ root_is t (terms s) some in
       let p : n ≡ eqb (times_below s t (terms s)) (cond (eqb t (root s)) 0 1) =
       en ∙ (λ i. cond (r i) (eqb (w.each t (omega (arith, few)) i) 0)

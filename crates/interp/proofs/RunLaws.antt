@@ -159,7 +159,7 @@ module _ (s start : List ℕ) (e : Bool) (cells posts noted : List ℕ) (calls d
   eager_after store {mode = mode} K a is v =
       let q = request_of eager e start calls depth in
       let w = K.well_formed in
-      ran_after s q cells posts [] store noted K.None-found (answers_at eager [] store K.counts (access_is w a K.all_Known) v)
+      ran_after s q cells posts [] store noted K.none_found (answers_at eager [] store K.counts (access_is w a K.all_known) v)
       (eager_refined s w c K.counts v.terms v.table q (buffers_of cells posts store) noted K.depth_most K.cells_most mode is.enforce_is
       is.interval_is a.authorised (privs (authority s) (stack start)) is.lazy_is a.authorised_small (access_authorised w a))
       refl
@@ -176,7 +176,7 @@ module _ (s start : List ℕ) (e : Bool) (cells posts noted : List ℕ) (calls d
       let two : length start ≡ length (stack start) * 2 = omega (arith, stack_length start K.whole.even, K.whole.even) in
       let long : length frames ≡ frame_numbers = eqb-true (length frames) frame_numbers K.frames_right in
       let laid : store ≡ laid_out (authority s) (stack start) ++ drop (length start) frames =
-      g ∙ ap (λ (x : List ℕ). x ++ drop (length start) frames) (same_laid s w (stack start) K.all_Known) in
+      g ∙ ap (λ (x : List ℕ). x ++ drop (length start) frames) (same_laid s w (stack start) K.all_known) in
       let kept : length store ≡ length frames =
       ap (λ (x : List ℕ). length x) g ∙ length-append (laid_out (authority_record s) (stack start)) _
       ∙ omega (arith, laid_length (authority_record s) start K.whole.even, length-drop (length start) frames, long, K.whole.few) in
@@ -185,7 +185,7 @@ module _ (s start : List ℕ) (e : Bool) (cells posts noted : List ℕ) (calls d
       is.interval_is is.lazy_is (stack start) (drop (length start) frames)
       (omega (arith, two, K.whole.few)) laid (kept ∙ long) in
       let at-end = answers_at lazy frames store K.counts (a ∙ two) v in
-      ran_after s q cells posts frames store noted K.None-found at-end refined
+      ran_after s q cells posts frames store noted K.none_found at-end refined
       (l ∙ ap zeros_like at-end.tallied.frames_are ∙ ap (λ (z : Sizes). replicate z.frames 0) refined.same_sizes ∙ ap (λ (n : ℕ). replicate n 0) kept)
 
   pub is_admitted : {a : Admission} (frames : Bool) → a ≡ Admitted c → Admits s start (length cells) (length posts) frames calls depth a

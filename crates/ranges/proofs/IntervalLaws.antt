@@ -76,7 +76,7 @@ module _ (s ps start : List ℕ) (e : Bool) (cells posts : List ℕ) (calls dept
       pairs_refused n =
           let b = buffers_of cells posts [] in
           sym (run_found s ps request b 35 0
-          (screen_clear (run_conditions s request (sizes b)) (unless 35 (pairs_ok s ps) ∷ []) K.None-found
+          (screen_clear (run_conditions s request (sizes b)) (unless 35 (pairs_ok s ps) ∷ []) K.none_found
           ∙ first_found (first_here refl (found_unless 35 n))))
 
       -- ---- a run that starts, with the pairs in the words of its terms
@@ -91,7 +91,7 @@ module _ (s ps start : List ℕ) (e : Bool) (cells posts : List ℕ) (calls dept
           let w = K.well_formed in
           let x = evaluation_over (over_intervals s ps) (plain e) eager s request (sizes b) in
           let clear_of : screen (interval_conditions s ps request (sizes b)) ≡ clear =
-          screen_clear (run_conditions s request (sizes b)) (unless 35 (pairs_ok s ps) ∷ []) K.None-found
+          screen_clear (run_conditions s request (sizes b)) (unless 35 (pairs_ok s ps) ∷ []) K.none_found
           ∙ none_clear (none_next (none_unless 35 ok) none_end) in
           let at-root = outcome-is ∙ ap (λ (n : ℕ). interval_outcome_of (n - 1) t.word) K.counts.terms_are in
           let refined =
@@ -99,5 +99,5 @@ module _ (s ps start : List ℕ) (e : Bool) (cells posts : List ℕ) (calls dept
           is.enforce_is is.interval_is a.authorised (privs (authority s) (stack start)) is.lazy_is a.authorised_small (access_authorised w a) in
           (λ i. record { answer = ran (at-root i) (counts_model t.made); buffers = buffers_of cells' posts' [] })
           ∙ tallied_after (root s) request cells posts [] store x interval_outcome_of (few_clear s ps request b clear_of).saturated_most
-          (tallied_at K.counts terms mode calls depth (buffers_of cells posts store) noted (access_is w a K.all_Known) v) refined refl
+          (tallied_at K.counts terms mode calls depth (buffers_of cells posts store) noted (access_is w a K.all_known) v) refined refl
           ∙ sym (run_clear s ps request b clear_of)

@@ -84,7 +84,7 @@ pub shape_is : (s : List ℕ) (c : Counts) (t : ℕ) → Laid s c → t < terms 
     → x ≡ shape_at s t
 unfolding shape_of shape_at
 shape_is s c t L h e g =
-    g ∙ ap (shape_of c t) (e ∙ term_laid s (fields_ok s L.None-found).terms_in c L.counts_are t h)
+    g ∙ ap (shape_of c t) (e ∙ term_laid s (fields_ok s L.none_found).terms_in c L.counts_are t h)
     ∙ ap (λ (b : Bool). shape_if b (kind_shape (kind_of (kind_byte s t)) (first s t) (second s t) (third s t))) (record_ok_lem s c L.counts_are t)
 
 -- ---- a wrong shape is a wrong record

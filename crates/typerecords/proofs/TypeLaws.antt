@@ -94,7 +94,7 @@ deeper s t a b m h p q e (suc k) =
 -- ---- where the table lies
 module _ (s : List ℕ) (c : Counts) (L : Laid s c) (t : ℕ) (l : t < types s) where
   fields : FieldsOk s
-  fields = fields_ok s L.None-found
+  fields = fields_ok s L.none_found
 
   pub table_at : TableAt s (11 + 4 * c.principals) t
   table_at = record {
