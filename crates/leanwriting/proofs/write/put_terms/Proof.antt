@@ -7,7 +7,7 @@ use borrow.Author.Tests.{not-true, not-false}
 use mathlib.Core.Path.{sym, ap}
 use Prim.Native.Nat.{◌-◌}
 use lib.ListN.{length}
-use Rattle.program.specs.Layout.{terms as termCount}
+use Rattle.program.specs.Layout.{terms as term_count}
 use Rattle.erasure.specs.Lean.{kept_term, term_bytes}
 use Rattle.renumbering.proofs.TermLaws.{kept_here, gone_here}
 use Rattle.renumbering.proofs.TableLaws.{within, up_to, through}
@@ -16,7 +16,7 @@ use Rattle.leanwriting.proofs.write.put_terms.Statement.{statement}
 use Rattle.leanwriting.proofs.write.put_terms.Tie as tie
 
 abbrev invariant-loop : tie.invariant-loop
-invariant-loop s c types terms buffer₀ at n count₀ next₀ buffer count next = WrittenBelow (kept_term s) (term_bytes s) (termCount s) buffer₀ at n next count buffer
+invariant-loop s c types terms buffer₀ at n count₀ next₀ buffer count next = WrittenBelow (kept_term s) (term_bytes s) (term_count s) buffer₀ at n next count buffer
 
 abbrev decreases-loop : tie.decreases-loop
 decreases-loop s c types terms buffer₀ at n count₀ next₀ buffer count next = n - next

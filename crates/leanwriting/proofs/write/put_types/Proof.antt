@@ -5,7 +5,7 @@ use native.Mathlib.Omega.{arith}
 use mathlib.Core.Path.{sym, ap}
 use Prim.Native.Nat.{◌-◌}
 use lib.ListN.{length}
-use Rattle.program.specs.Layout.{types as typeCount}
+use Rattle.program.specs.Layout.{types as type_count}
 use Rattle.erasure.specs.Lean.{kept_type, type_bytes_lem}
 use Rattle.renumbering.proofs.TypeLaws.{entry_first, entry_other}
 use Rattle.renumbering.proofs.TableLaws.{within, up_to, through}
@@ -14,7 +14,7 @@ use Rattle.leanwriting.proofs.write.put_types.Statement.{statement}
 use Rattle.leanwriting.proofs.write.put_types.Tie as tie
 
 abbrev invariant-loop : tie.invariant-loop
-invariant-loop s c types buffer₀ at n count₀ next₀ buffer count next = WrittenBelow (kept_type s) (type_bytes_lem s) (typeCount s) buffer₀ at n next count buffer
+invariant-loop s c types buffer₀ at n count₀ next₀ buffer count next = WrittenBelow (kept_type s) (type_bytes_lem s) (type_count s) buffer₀ at n next count buffer
 
 abbrev decreases-loop : tie.decreases-loop
 decreases-loop s c types buffer₀ at n count₀ next₀ buffer count next = n - next
