@@ -3,7 +3,6 @@
 use native.Mathlib.Omega.{arith}
 use Rattle.program.specs.Laws.Readable.{fields_ok}
 use Rattle.typerecords.proofs.TypeLaws.{table_at, base_good, base_bad, form_bad, seen_bad, arg_lower, res_lower, depth_over, depth_is}
-use Rattle.std.proofs.Common.{rules}
 use Rattle.typerecords.proofs.type_depth.Goals as goal
 
 pub returns-then-base_ok : goal.returns-then-base_ok
@@ -29,6 +28,18 @@ returns-then-not-is_fresh c =
     seen_bad c.args.s.now c.args.c c.requires.laid c.args.t c.requires.inside c.type_record-r.ensures
     c.if-t-lt2.false c.function_ok.ensures c.is_fresh.ensures c.if-not-is_fresh.true
 
+pub returns-then-d-ge-MAX_TYPE_DEPTH : goal.returns-then-d-ge-MAX_TYPE_DEPTH
+returns-then-d-ge-MAX_TYPE_DEPTH c =
+    depth_over c.args.s.now c.args.c c.requires.laid c.args.t c.requires.inside c.type_record-r.ensures
+    c.if-t-lt2.false c.function_ok.ensures c.is_fresh.ensures c.if-not-function_ok.false
+    c.if-not-is_fresh.false c.args.depths.now _ c.requires.depths c.larger-d.ensures c.if-d-ge-MAX_TYPE_DEPTH.true
+
+pub returns : goal.returns
+returns c =
+    depth_is c.args.s.now c.args.c c.requires.laid c.args.t c.requires.inside c.type_record-r.ensures
+    c.if-t-lt2.false c.function_ok.ensures c.is_fresh.ensures c.if-not-function_ok.false
+    c.if-not-is_fresh.false c.args.depths.now _ c.requires.depths c.larger-d.ensures c.if-d-ge-MAX_TYPE_DEPTH.false
+
 pub bounds-depths-arg : goal.bounds-depths-arg
 bounds-depths-arg c =
     omega (
@@ -50,15 +61,3 @@ bounds-depths-res c =
       c.requires.inside,
       (fields_ok c.args.s.now c.requires.laid.none_found).types_high,
     )
-
-pub returns-then-d-ge-MAX_TYPE_DEPTH : goal.returns-then-d-ge-MAX_TYPE_DEPTH
-returns-then-d-ge-MAX_TYPE_DEPTH c =
-    depth_over c.args.s.now c.args.c c.requires.laid c.args.t c.requires.inside c.type_record-r.ensures
-    c.if-t-lt2.false c.function_ok.ensures c.is_fresh.ensures c.if-not-function_ok.false
-    c.if-not-is_fresh.false c.args.depths.now _ c.requires.depths c.larger-d.ensures c.if-d-ge-MAX_TYPE_DEPTH.true
-
-pub returns : goal.returns
-returns c =
-    depth_is c.args.s.now c.args.c c.requires.laid c.args.t c.requires.inside c.type_record-r.ensures
-    c.if-t-lt2.false c.function_ok.ensures c.is_fresh.ensures c.if-not-function_ok.false
-    c.if-not-is_fresh.false c.args.depths.now _ c.requires.depths c.larger-d.ensures c.if-d-ge-MAX_TYPE_DEPTH.false
