@@ -1,5 +1,5 @@
 -- Since the places are right, every parent is higher than its child (rising_at), and the search in the list of nestings is the search for the lowest term
--- nested deeper than 32 (deep_at). A term found is refusal 8; with none found, that is what `guarded` requires, and its answer is the answer.
+-- nested deeper than 32 (deep_at). A term found is refusal 8; with none found, that is what `decode_guards` requires, and its answer is the answer.
 use mathlib.Core.Path.{◌∙◌}
 use native.Mathlib.Omega.{arith}
 use Rattle.program.specs.Laws.Readable.{fields_ok}
