@@ -1,21 +1,21 @@
 // Stores into a block, and the block after a run.
 ghost use Rattle.std.specs.Prelude.{◌≡◌, ◌<◌, set};
 ghost use Rattle.program.specs.Bytes.{with_word16};
-ghost use Rattle.blocks.specs.Block.{max_address, block_bytes, without as withoutOf, with_flag as withFlagOf, after_run};
+ghost use Rattle.blocks.specs.Block.{max_address, block_bytes, without as without_of, with_flag as with_flag_of, after_run};
 ghost use Rattle.blocks.specs.Internal.{registers_model};
 
 use crate::block::{Block, RunRegisters};
 
 // The bits of a byte that are not among these.
 pub fn without(status: u8, bits: u8) -> u8
-    ensures { result ≡ withoutOf status bits }
+    ensures { result ≡ without_of status bits }
 {
     status & !bits
 }
 
 // One of the bits 0 to 2 set, the other two cleared.
 fn with_flag(status: u8, flag: u8) -> u8
-    ensures { result ≡ withFlagOf status flag }
+    ensures { result ≡ with_flag_of status flag }
 {
     without(status, 7) | flag
 }

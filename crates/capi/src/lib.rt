@@ -2,7 +2,7 @@
 #![tactic(auto)]
 
 ghost use Rattle.std.specs.Prelude.{[], ◌≡◌};
-ghost use Rattle.semantics.specs.Runs.{eager as eagerRunner, lazy as lazyRunner, run};
+ghost use Rattle.semantics.specs.Runs.{eager as eager_runner, lazy as lazy_runner, run};
 ghost use Rattle.semantics.specs.Recording.{recording};
 ghost use Rattle.interp.specs.Answers.{request_of, buffers_of};
 ghost use Rattle.replies.specs.Replies.{decode_reply, typecheck_reply, replied, called, enforce_flag, returned_reply, returned_run};
@@ -51,7 +51,7 @@ pub extern "C" fn sovzedal_run_eager(
 ) -> u32
     ensures { returned_run result answer.new (buffers_of cells.new posts.new [])
         ≡ called answer.old (buffers_of cells.old posts.old [])
-        (run sheet.now (request_of eagerRunner (enforce_flag enforce) start.now calls depth)
+        (run sheet.now (request_of eager_runner (enforce_flag enforce) start.now calls depth)
         (buffers_of cells.old posts.old [])) }
 {
     capi_base::eager(sheet, start, calls, depth, enforce, cells, posts, answer)
@@ -72,7 +72,7 @@ pub extern "C" fn sovzedal_run_lazy(
 ) -> u32
     ensures { returned_run result answer.new (buffers_of cells.new posts.new frames.new)
         ≡ called answer.old (buffers_of cells.old posts.old frames.old)
-        (run sheet.now (request_of lazyRunner (enforce_flag enforce) start.now calls depth)
+        (run sheet.now (request_of lazy_runner (enforce_flag enforce) start.now calls depth)
         (buffers_of cells.old posts.old frames.old)) }
 {
     capi_base::lazy(
@@ -95,7 +95,7 @@ pub extern "C" fn sovzedal_run_ranges(
 ) -> u32
     ensures { returned_run result answer.new (buffers_of cells.new posts.new [])
         ≡ interval_call answer.old (buffers_of cells.old posts.old [])
-        (interval_run sheet.now pairs.now (request_of eagerRunner (enforce_flag enforce) start.now calls depth)
+        (interval_run sheet.now pairs.now (request_of eager_runner (enforce_flag enforce) start.now calls depth)
         (buffers_of cells.old posts.old [])) }
 {
     capi_ranges::ranges(
@@ -118,7 +118,7 @@ pub extern "C" fn sovzedal_record_eager(
 ) -> u32
     ensures { returned_record result answer.new (buffers_of cells.new posts.new []) noted.new
         ≡ record_call answer.old (buffers_of cells.old posts.old []) noted.old
-        (recording sheet.now (request_of eagerRunner (enforce_flag enforce) start.now calls depth)
+        (recording sheet.now (request_of eager_runner (enforce_flag enforce) start.now calls depth)
         (buffers_of cells.old posts.old []) noted.old) }
 {
     capi_record::eager(
@@ -142,7 +142,7 @@ pub extern "C" fn sovzedal_record_lazy(
 ) -> u32
     ensures { returned_record result answer.new (buffers_of cells.new posts.new frames.new) noted.new
         ≡ record_call answer.old (buffers_of cells.old posts.old frames.old) noted.old
-        (recording sheet.now (request_of lazyRunner (enforce_flag enforce) start.now calls depth)
+        (recording sheet.now (request_of lazy_runner (enforce_flag enforce) start.now calls depth)
         (buffers_of cells.old posts.old frames.old) noted.old) }
 {
     capi_record::lazy(

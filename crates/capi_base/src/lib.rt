@@ -2,7 +2,7 @@
 #![tactic(auto)]
 
 ghost use Rattle.std.specs.Prelude.{[], ◌≡◌};
-ghost use Rattle.semantics.specs.Runs.{eager as eagerRunner, lazy as lazyRunner, run};
+ghost use Rattle.semantics.specs.Runs.{eager as eager_runner, lazy as lazy_runner, run};
 ghost use Rattle.interp.specs.Answers.{request_of, buffers_of};
 ghost use Rattle.replies.specs.Replies.{decode_reply, typecheck_reply, replied, called, enforce_flag, returned_reply, returned_run};
 
@@ -41,7 +41,7 @@ pub fn eager(
 ) -> u32
     ensures { returned_run result answer.new (buffers_of cells.new posts.new [])
         ≡ called answer.old (buffers_of cells.old posts.old [])
-        (run sheet.now (request_of eagerRunner (enforce_flag enforce) start.now calls depth)
+        (run sheet.now (request_of eager_runner (enforce_flag enforce) start.now calls depth)
         (buffers_of cells.old posts.old [])) }
 {
     if answer.len() < ANSWER_NUMBERS {
@@ -65,7 +65,7 @@ pub fn lazy(
 ) -> u32
     ensures { returned_run result answer.new (buffers_of cells.new posts.new frames.new)
         ≡ called answer.old (buffers_of cells.old posts.old frames.old)
-        (run sheet.now (request_of lazyRunner (enforce_flag enforce) start.now calls depth)
+        (run sheet.now (request_of lazy_runner (enforce_flag enforce) start.now calls depth)
         (buffers_of cells.old posts.old frames.old)) }
 {
     if answer.len() < ANSWER_NUMBERS {

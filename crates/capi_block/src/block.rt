@@ -2,7 +2,7 @@
 ghost use Rattle.std.specs.Prelude.{◌≡◌, length};
 ghost use Rattle.blocks.specs.Block.{block_bytes};
 ghost use Rattle.blocks.specs.Answers.{read_answer_model, write_answer_model};
-ghost use Rattle.capi_block.specs.Blocks.{accessed as accessedOf, read_reply, write_reply};
+ghost use Rattle.capi_block.specs.Blocks.{accessed as accessed_of, read_reply, write_reply};
 ghost use Rattle.replies.specs.Internal.{reply_model};
 
 use blocks::block::{BLOCK_BYTES, Block, ReadAnswer, WriteAnswer};
@@ -34,7 +34,7 @@ pub fn save(b: Block, block: &mut [u8])
 }
 
 fn accessed(status: u32, cause: u32, raised: bool, byte: u8) -> Reply
-    ensures { reply_model result ≡ accessedOf status cause 0 raised byte }
+    ensures { reply_model result ≡ accessed_of status cause 0 raised byte }
 {
     Reply {
         status: status,

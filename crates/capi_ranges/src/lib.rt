@@ -2,7 +2,7 @@
 #![tactic(auto)]
 
 ghost use Rattle.std.specs.Prelude.{[], ◌≡◌};
-ghost use Rattle.semantics.specs.Runs.{eager as eagerRunner};
+ghost use Rattle.semantics.specs.Runs.{eager as eager_runner};
 ghost use Rattle.intervals.specs.Runs.{interval_run};
 ghost use Rattle.interp.specs.Answers.{counts_model, request_of, buffers_of};
 ghost use Rattle.numbers.specs.Codes.{CodeIs};
@@ -83,7 +83,7 @@ pub fn ranges(
 ) -> u32
     ensures { returned_run result answer.new (buffers_of cells.new posts.new [])
         ≡ interval_call answer.old (buffers_of cells.old posts.old [])
-        (interval_run sheet.now pairs.now (request_of eagerRunner (enforce_flag enforce) start.now calls depth)
+        (interval_run sheet.now pairs.now (request_of eager_runner (enforce_flag enforce) start.now calls depth)
         (buffers_of cells.old posts.old [])) }
 {
     if answer.len() < ANSWER_NUMBERS {

@@ -2,7 +2,7 @@
 #![tactic(auto)]
 
 ghost use Rattle.std.specs.Prelude.{[], ◌≡◌};
-ghost use Rattle.semantics.specs.Runs.{eager as eagerRunner, lazy as lazyRunner};
+ghost use Rattle.semantics.specs.Runs.{eager as eager_runner, lazy as lazy_runner};
 ghost use Rattle.semantics.specs.Recording.{recording};
 ghost use Rattle.interp.specs.Answers.{run_model, request_of, buffers_of};
 ghost use Rattle.replies.specs.Replies.{run_reply, written_nine, enforce_flag, returned_reply};
@@ -37,7 +37,7 @@ pub fn eager(
 ) -> u32
     ensures { returned_record result answer.new (buffers_of cells.new posts.new []) noted.new
         ≡ record_call answer.old (buffers_of cells.old posts.old []) noted.old
-        (recording sheet.now (request_of eagerRunner (enforce_flag enforce) start.now calls depth)
+        (recording sheet.now (request_of eager_runner (enforce_flag enforce) start.now calls depth)
         (buffers_of cells.old posts.old []) noted.old) }
 {
     if answer.len() < LONG_ANSWER {
@@ -71,7 +71,7 @@ pub fn lazy(
 ) -> u32
     ensures { returned_record result answer.new (buffers_of cells.new posts.new frames.new) noted.new
         ≡ record_call answer.old (buffers_of cells.old posts.old frames.old) noted.old
-        (recording sheet.now (request_of lazyRunner (enforce_flag enforce) start.now calls depth)
+        (recording sheet.now (request_of lazy_runner (enforce_flag enforce) start.now calls depth)
         (buffers_of cells.old posts.old frames.old) noted.old) }
 {
     if answer.len() < LONG_ANSWER {

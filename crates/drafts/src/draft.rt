@@ -1,6 +1,6 @@
 // A text as it grows, by value.
 ghost use Rattle.std.specs.Prelude.{[], ◌∷◌, ◌≡◌, ◌+◌, ◌<◌, ◌≤◌, length};
-ghost use Rattle.text.specs.Text.{digit as digitOf, decimal as decimalOf, hexadecimal as hexadecimalOf};
+ghost use Rattle.text.specs.Text.{digit as digit_of, decimal as decimal_of, hexadecimal as hexadecimal_of};
 ghost use Rattle.drafts.specs.Internal.{Blank, DraftAppended, draft_bytes};
 
 // Bytes of a draft: they hold the longest text, of which a number takes at most 20.
@@ -49,7 +49,7 @@ pub fn word(d: Draft, s: &[u8]) -> Draft
 // A digit's character; letters are capital.
 fn digit(n: u8) -> u8
     requires { n < 16 }
-    ensures { result ≡ digitOf n }
+    ensures { result ≡ digit_of n }
 {
     if n < 10 { 48 + n } else { 55 + n }
 }
@@ -57,7 +57,7 @@ fn digit(n: u8) -> u8
 // The last `k` hexadecimal digits.
 pub fn hexadecimal(d: Draft, k: usize, n: u32) -> Draft
     requires { d.len + k ≤ draft_bytes }
-    ensures { DraftAppended d (hexadecimalOf k n) k result }
+    ensures { DraftAppended d (hexadecimal_of k n) k result }
 {
     if k == 0 {
         return d;
@@ -70,7 +70,7 @@ pub fn hexadecimal(d: Draft, k: usize, n: u32) -> Draft
 // The last digit, behind those of the tenth if that is not 0.
 pub fn decimal(d: Draft, n: usize) -> Draft
     requires { d.len + 20 ≤ draft_bytes }
-    ensures { DraftAppended d (decimalOf n) (length (decimalOf n)) result }
+    ensures { DraftAppended d (decimal_of n) (length (decimal_of n)) result }
 {
     let last = digit((n % 10) as u8);
     if n < 10 {

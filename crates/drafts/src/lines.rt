@@ -1,7 +1,7 @@
 // The lines of the print.
 ghost use Rattle.std.specs.Prelude.{◌++◌, ◌+◌, ◌≤◌, length};
 ghost use Rattle.interp.specs.Answers.{outcome_model, counts_model};
-ghost use Rattle.text.specs.Text.{place_text, decimal as decimalOf, line, terms_line, needs_line, type_line, acceptance_text, outcome_text, counts_text, refusal_text};
+ghost use Rattle.text.specs.Text.{place_text, decimal as decimal_of, line, terms_line, needs_line, type_line, acceptance_text, outcome_text, counts_text, refusal_text};
 ghost use Rattle.drafts.specs.Internal.{DraftAppended, DraftHolds, draft_bytes};
 
 use crate::draft::{Draft, blank, decimal, hexadecimal, word};
@@ -11,7 +11,7 @@ use numbers::{Code, of_stop};
 // A number behind its label.
 fn labelled(d: Draft, label: &[u8], n: usize) -> Draft
     requires { d.len + (length label.now + 20) ≤ draft_bytes }
-    ensures { DraftAppended d (label.now ++ decimalOf n) (length label.now + 20) result }
+    ensures { DraftAppended d (label.now ++ decimal_of n) (length label.now + 20) result }
 {
     let front = word(d, label);
     decimal(front, n)
@@ -56,7 +56,7 @@ fn acceptance(terms: u16, ty: u16, needs: u32) -> Draft
 // A cause behind its label, and the place.
 fn placed(d: Draft, label: &[u8], n: Code) -> Draft
     requires { d.len + (length label.now + 44) ≤ draft_bytes }
-    ensures { DraftAppended d (label.now ++ decimalOf n.cause ++ place_text n.place) (length label.now + 44) result }
+    ensures { DraftAppended d (label.now ++ decimal_of n.cause ++ place_text n.place) (length label.now + 44) result }
 {
     let front = labelled(d, label, n.cause as usize);
     labelled(front, b" at ", n.place as usize)

@@ -2,7 +2,7 @@
 #![tactic(auto)]
 
 ghost use Rattle.std.specs.Prelude.{true, [], ◌≡◌, eqb, length};
-ghost use Rattle.semantics.specs.Runs.{eager as eagerRunner, lazy as lazyRunner, run};
+ghost use Rattle.semantics.specs.Runs.{eager as eager_runner, lazy as lazy_runner, run};
 ghost use Rattle.semantics.specs.Recording.{recording};
 ghost use Rattle.program.specs.Limits.{frame_numbers};
 ghost use Rattle.accessors.specs.Internal.{FormedSheet};
@@ -98,7 +98,7 @@ fn eager(
 ) -> RecordedRun
     requires { Cleared s.now start.now (length cells.old) (length posts.old) true calls depth c }
     ensures { after_recording result cells.new posts.new [] noted.new
-        ≡ recording s.now (request_of eagerRunner enforce start.now calls depth)
+        ≡ recording s.now (request_of eager_runner enforce start.now calls depth)
         (buffers_of cells.old posts.old []) noted.old }
 {
     let access = start_access(s, start);
@@ -132,7 +132,7 @@ fn lazy(
 ) -> RecordedRun
     requires { Cleared s.now start.now (length cells.old) (length posts.old) (eqb (length frames.old) frame_numbers) calls depth c }
     ensures { after_recording result cells.new posts.new frames.new noted.new
-        ≡ recording s.now (request_of lazyRunner enforce start.now calls depth)
+        ≡ recording s.now (request_of lazy_runner enforce start.now calls depth)
         (buffers_of cells.old posts.old frames.old) noted.old }
 {
     lay_frames(s, start, frames);
@@ -164,7 +164,7 @@ pub fn record_eager(
     noted: &mut [u8],
 ) -> RecordedRun
     ensures { after_recording result cells.new posts.new [] noted.new
-        ≡ recording sheet.now (request_of eagerRunner enforce start.now calls depth)
+        ≡ recording sheet.now (request_of eager_runner enforce start.now calls depth)
         (buffers_of cells.old posts.old []) noted.old }
 {
     let a = admit(sheet, start, cells.len(), posts.len(), true, calls, depth);
@@ -189,7 +189,7 @@ pub fn record_lazy(
     noted: &mut [u8],
 ) -> RecordedRun
     ensures { after_recording result cells.new posts.new frames.new noted.new
-        ≡ recording sheet.now (request_of lazyRunner enforce start.now calls depth)
+        ≡ recording sheet.now (request_of lazy_runner enforce start.now calls depth)
         (buffers_of cells.old posts.old frames.old) noted.old }
 {
     let a = admit(
@@ -220,7 +220,7 @@ pub fn run_eager(
     posts: &mut [u32],
 ) -> Run
     ensures { after result cells.new posts.new []
-        ≡ run sheet.now (request_of eagerRunner enforce start.now calls depth) (buffers_of cells.old posts.old []) }
+        ≡ run sheet.now (request_of eager_runner enforce start.now calls depth) (buffers_of cells.old posts.old []) }
 {
     let mut none = [0; 0];
     let r = record_eager(sheet, start, calls, depth, enforce, cells, posts, &mut none);
@@ -239,7 +239,7 @@ pub fn run_lazy(
     frames: &mut [u32],
 ) -> Run
     ensures { after result cells.new posts.new frames.new
-        ≡ run sheet.now (request_of lazyRunner enforce start.now calls depth)
+        ≡ run sheet.now (request_of lazy_runner enforce start.now calls depth)
         (buffers_of cells.old posts.old frames.old) }
 {
     let mut none = [0; 0];

@@ -3,7 +3,7 @@
 
 ghost use Rattle.std.specs.Prelude.{◌≡◌, leb, length};
 ghost use Rattle.accessors.specs.Internal.{FormedSheet, ReadableSheet};
-ghost use Rattle.erasure.specs.Lean.{erasable as erasableOf, lean_sheet};
+ghost use Rattle.erasure.specs.Lean.{erasable as erasable_of, lean_sheet};
 ghost use Rattle.erasure.specs.Erasure.{if_erasable, erasure};
 ghost use Rattle.lean.specs.Answers.{after_erasure};
 
@@ -49,7 +49,7 @@ fn erase_readable(s: &[u8], c: Counts, buffer: &mut [u8]) -> Erased
 fn erase_accepted(s: &[u8], c: Counts, buffer: &mut [u8]) -> Erased
     requires { FormedSheet s.now c }
     ensures { after_erasure result buffer.new
-        ≡ if_erasable (erasableOf s.now) (leb (length (lean_sheet s.now)) (length buffer.old)) (lean_sheet s.now)
+        ≡ if_erasable (erasable_of s.now) (leb (length (lean_sheet s.now)) (length buffer.old)) (lean_sheet s.now)
         buffer.old }
 {
     if !erasable(s, c) {
@@ -68,7 +68,7 @@ fn erase_accepted(s: &[u8], c: Counts, buffer: &mut [u8]) -> Erased
 // Whether the sheet is of version 1 and has no test, reachable or not.
 fn erasable(s: &[u8], c: Counts) -> bool
     requires { FormedSheet s.now c }
-    ensures { result ≡ erasableOf s.now }
+    ensures { result ≡ erasable_of s.now }
 {
     (be16(s, 3) == 1) & untested(s, c)
 }

@@ -2,7 +2,7 @@
 ghost use Rattle.std.specs.Prelude.{◌∷◌, ◌++◌, ◌≡◌, ◌+◌, ◌≤◌, length, drop};
 ghost use Rattle.std.proofs.Math.Seq.{paste};
 ghost use Rattle.program.specs.Bytes.{overwrite};
-ghost use Rattle.program.specs.Layout.{types as typeCount, terms as termCount};
+ghost use Rattle.program.specs.Layout.{types as type_count, terms as term_count};
 ghost use Rattle.erasure.specs.Kept.{gather};
 ghost use Rattle.erasure.specs.Lean.{kept_type, kept_term, bytes16, type_bytes_lem, term_bytes, lean_sheet};
 ghost use Rattle.leanwriting.specs.Internal.{Puttable, TypesPuttable, TermsPuttable, SheetPuttable};
@@ -39,7 +39,7 @@ fn put_head(buffer: &mut [u8], at: usize, tag: u8, size: u16)
 fn put_types(s: &[u8], c: Counts, types: &[u16; TYPE_PLACES], buffer: &mut [u8], at: usize)
     requires { TypesPuttable s.now c types.now buffer.old at }
     ensures { buffer.new
-        ≡ overwrite buffer.old at (gather (kept_type s.now) (type_bytes_lem s.now) (typeCount s.now)) }
+        ≡ overwrite buffer.old at (gather (kept_type s.now) (type_bytes_lem s.now) (type_count s.now)) }
 {
     let n = c.types;
     let mut count = 0;
@@ -67,7 +67,7 @@ fn put_terms(
 )
     requires { TermsPuttable s.now c types.now terms.now buffer.old at }
     ensures { buffer.new
-        ≡ overwrite buffer.old at (gather (kept_term s.now) (term_bytes s.now) (termCount s.now)) }
+        ≡ overwrite buffer.old at (gather (kept_term s.now) (term_bytes s.now) (term_count s.now)) }
 {
     let n = c.terms;
     let mut count = 0;

@@ -3,7 +3,7 @@
 
 ghost use Rattle.std.specs.Prelude.{true, [], ◌≡◌, ◌+◌, min as least};
 ghost use Rattle.interp.specs.Answers.{after, buffers_of, run_model};
-ghost use Rattle.queues.specs.Queues.{inside as insideOf, after_turn};
+ghost use Rattle.queues.specs.Queues.{inside as inside_of, after_turn};
 ghost use Rattle.queues.specs.Answers.{job_model, queue_model, lines_model};
 ghost use Rattle.lines.specs.Serving.{job_run, serve_of};
 ghost use Rattle.semantics.specs.Runs.{post_count};
@@ -28,7 +28,7 @@ fn lower(a: usize, b: usize) -> usize
 
 // The run of a job. What is left of the list of posts, from the place on, is lent on to it.
 fn run_job(job: Job, place: usize, store: &[u8], cells: &mut [u8], posts: &mut [u32]) -> Run
-    requires { insideOf (job_model job) store.now ≡ true }
+    requires { inside_of (job_model job) store.now ≡ true }
     ensures { after result cells.new posts.new []
         ≡ job_run (job_model job) place store.now (buffers_of cells.old posts.old []) }
 {

@@ -2,8 +2,8 @@
 #![tactic(auto)]
 
 ghost use Rattle.std.specs.Prelude.{◌≡◌, ◌*◌, ◌≤◌, length};
-ghost use Rattle.program.specs.Layout.{terms as termCount};
-ghost use Rattle.intervals.specs.Pairs.{is_number, numbers_below, ordered as orderedPairs, pairs_ok};
+ghost use Rattle.program.specs.Layout.{terms as term_count};
+ghost use Rattle.intervals.specs.Pairs.{is_number, numbers_below, ordered as ordered_pairs, pairs_ok};
 ghost use Rattle.accessors.specs.Internal.{FormedSheet};
 ghost use Rattle.pairs.specs.Internal.{TermOf, PairsFit, PairsLaid};
 
@@ -22,7 +22,7 @@ fn is_number(s: &[u8], c: Counts, t: u16) -> bool
 // How many terms are numbers.
 fn count_numbers(s: &[u8], c: Counts) -> u16
     requires { FormedSheet s.now c }
-    ensures { result ≡ numbers_below s.now (termCount s.now) }
+    ensures { result ≡ numbers_below s.now (term_count s.now) }
 {
     let count = c.terms;
     let mut n = 0;
@@ -39,7 +39,7 @@ fn count_numbers(s: &[u8], c: Counts) -> u16
 // Whether none of so many pairs has a lowest above its highest.
 fn ordered(pairs: &[u16], count: u16) -> bool
     requires { 2 * count ≤ length pairs.now }
-    ensures { result ≡ orderedPairs pairs.now count }
+    ensures { result ≡ ordered_pairs pairs.now count }
 {
     let n = count as usize;
     let mut i = 0;
@@ -70,7 +70,7 @@ pub fn pairs_ok(s: &[u8], c: Counts, pairs: &[u16]) -> bool
 // Gives the word of each number term its pair, as first and second: the word of a number term and that of a number that is known within limits are alike.
 pub fn lay_pairs(s: &[u8], c: Counts, pairs: &[u16], terms: &mut [u64; TERM_PLACES])
     requires { PairsFit s.now c pairs.now terms.old }
-    ensures { PairsLaid s.now pairs.now (termCount s.now) terms.old terms.new }
+    ensures { PairsLaid s.now pairs.now (term_count s.now) terms.old terms.new }
 {
     let count = c.terms;
     let mut n = 0;

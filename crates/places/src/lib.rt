@@ -2,7 +2,7 @@
 #![tactic(auto)]
 
 ghost use Rattle.std.specs.Prelude.{false, ◌≡◌, ◌≤◌};
-ghost use Rattle.places.specs.Internal.{present as presentOf, AtRoot, children_at, ReadyPlace, Reached};
+ghost use Rattle.places.specs.Internal.{present as present_of, AtRoot, children_at, ReadyPlace, Reached};
 
 use accessors::{term, type_record};
 use program::records::Counts;
@@ -24,7 +24,7 @@ pub struct Child {
 }
 
 pub fn present(t: u16, b: Bindings, n: u8) -> Child
-    ensures { result ≡ presentOf t b n }
+    ensures { result ≡ present_of t b n }
 {
     Child {
         present: true,

@@ -3,7 +3,7 @@
 #![tactic(auto)]
 
 ghost use Rattle.std.specs.Prelude.{◌≡◌, ◌<◌};
-ghost use Rattle.privileges.specs.Sets.{privilege_count, has, meet as meet_of, union as unionOf, insert as insertOf, remove as removeOf, subset as subsetOf};
+ghost use Rattle.privileges.specs.Sets.{privilege_count, has, meet as meet_of, union as union_of, insert as insert_of, remove as remove_of, subset as subset_of};
 
 // Whether privilege p is in the set m.
 pub fn contains(p: u8, m: u32) -> bool
@@ -22,7 +22,7 @@ pub fn meet(a: u32, b: u32) -> u32
 
 // What a or b has.
 pub fn union(a: u32, b: u32) -> u32
-    ensures { result ≡ unionOf a b }
+    ensures { result ≡ union_of a b }
 {
     a | b
 }
@@ -30,7 +30,7 @@ pub fn union(a: u32, b: u32) -> u32
 // The set m with privilege p.
 pub fn insert(p: u8, m: u32) -> u32
     requires { p < privilege_count }
-    ensures { result ≡ insertOf p m }
+    ensures { result ≡ insert_of p m }
 {
     m | (1u32 << p)
 }
@@ -38,14 +38,14 @@ pub fn insert(p: u8, m: u32) -> u32
 // The set m without privilege p.
 pub fn remove(p: u8, m: u32) -> u32
     requires { p < privilege_count }
-    ensures { result ≡ removeOf p m }
+    ensures { result ≡ remove_of p m }
 {
     m & !(1u32 << p)
 }
 
 // Whether every privilege of a is in b.
 pub fn subset(a: u32, b: u32) -> bool
-    ensures { result ≡ subsetOf a b }
+    ensures { result ≡ subset_of a b }
 {
     (a & b) == a
 }

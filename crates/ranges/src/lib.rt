@@ -2,7 +2,7 @@
 #![tactic(auto)]
 
 ghost use Rattle.std.specs.Prelude.{true, [], ◌≡◌, length};
-ghost use Rattle.semantics.specs.Runs.{eager as eagerRunner};
+ghost use Rattle.semantics.specs.Runs.{eager as eager_runner};
 ghost use Rattle.intervals.specs.Runs.{interval_run};
 ghost use Rattle.refinement.specs.Claims.{decided_by, interval_outcome_of};
 ghost use Rattle.interp.specs.Answers.{request_of, buffers_of};
@@ -72,7 +72,7 @@ fn evaluate(
 ) -> IntervalRun
     requires { PairedRun s.now pairs.now start.now (length cells.old) (length posts.old) calls depth c }
     ensures { after_intervals result cells.new posts.new
-        ≡ interval_run s.now pairs.now (request_of eagerRunner enforce start.now calls depth)
+        ≡ interval_run s.now pairs.now (request_of eager_runner enforce start.now calls depth)
         (buffers_of cells.old posts.old []) }
 {
     let root = c.terms - 1;
@@ -115,7 +115,7 @@ fn run_admitted(
 ) -> IntervalRun
     requires { Cleared s.now start.now (length cells.old) (length posts.old) true calls depth c }
     ensures { after_intervals result cells.new posts.new
-        ≡ interval_run s.now pairs.now (request_of eagerRunner enforce start.now calls depth)
+        ≡ interval_run s.now pairs.now (request_of eager_runner enforce start.now calls depth)
         (buffers_of cells.old posts.old []) }
 {
     if !pairs_ok(s, c, pairs) {
@@ -136,7 +136,7 @@ pub fn run(
     posts: &mut [u32],
 ) -> IntervalRun
     ensures { after_intervals result cells.new posts.new
-        ≡ interval_run sheet.now pairs.now (request_of eagerRunner enforce start.now calls depth)
+        ≡ interval_run sheet.now pairs.now (request_of eager_runner enforce start.now calls depth)
         (buffers_of cells.old posts.old []) }
 {
     let a = admit(sheet, start, cells.len(), posts.len(), true, calls, depth);

@@ -1,8 +1,8 @@
 // Terms without the checks and enables, numbered anew without gaps; and whether there is a test among them.
 ghost use Rattle.std.specs.Prelude.{◌&&◌, ◌≡◌, leb};
-ghost use Rattle.program.specs.Layout.{terms as termCount};
+ghost use Rattle.program.specs.Layout.{terms as term_count};
 ghost use Rattle.accessors.specs.Internal.{FormedSheet};
-ghost use Rattle.erasure.specs.Lean.{untested as untestedBelow};
+ghost use Rattle.erasure.specs.Lean.{untested as untested_below};
 ghost use Rattle.renumbering.specs.Internal.{TermsNumbered};
 
 use accessors::term;
@@ -53,7 +53,7 @@ pub fn number_terms(s: &[u8], c: Counts) -> TermNumbers
 // Whether no term is a test.
 pub fn untested(s: &[u8], c: Counts) -> bool
     requires { FormedSheet s.now c }
-    ensures { result ≡ untestedBelow s.now (termCount s.now) }
+    ensures { result ≡ untested_below s.now (term_count s.now) }
 {
     let n = c.terms;
     let mut t = 0;

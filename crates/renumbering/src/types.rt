@@ -1,7 +1,7 @@
 // Types whose records become equal are merged into the first of them; those that are kept are numbered anew without gaps.
 ghost use Rattle.std.specs.Prelude.{◌≡◌};
 ghost use Rattle.accessors.specs.Internal.{FormedSheet};
-ghost use Rattle.erasure.specs.Lean.{alike as alikeOf, representatives, representative};
+ghost use Rattle.erasure.specs.Lean.{alike as alike_of, representatives, representative};
 ghost use Rattle.renumbering.specs.Internal.{MergingType, MergingPair, TypesNumbered};
 
 use accessors::type_record;
@@ -19,7 +19,7 @@ pub struct TypeNumbers {
 // types are merged.
 fn alike(s: &[u8], c: Counts, numbers: &[u16; TYPE_PLACES], t: u16, u: u16) -> bool
     requires { MergingPair s.now c numbers.now t u }
-    ensures { result ≡ alikeOf s.now (representatives s.now t) t u }
+    ensures { result ≡ alike_of s.now (representatives s.now t) t u }
 {
     let x = type_record(s, c, t);
     let y = type_record(s, c, u);

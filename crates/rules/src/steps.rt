@@ -4,7 +4,7 @@ ghost use Rattle.privileges.specs.Sets.{privilege_count};
 ghost use Rattle.program.specs.Limits.{max_nesting};
 ghost use Rattle.program.specs.Layout.{types_of, guard_in};
 ghost use Rattle.typing.specs.Rules.{post_needs};
-ghost use Rattle.typing.specs.Checking.{joined as joinedOf};
+ghost use Rattle.typing.specs.Checking.{joined as joined_of};
 ghost use Rattle.program.specs.Decoding.{is_guard};
 ghost use Rattle.program.specs.Search.{found_model};
 ghost use Rattle.subtyping.specs.Known.{KnownSheet, KnownSheetPrivilege, Answered};
@@ -132,7 +132,7 @@ pub fn posted(guard: u8, t: u16, j: Inferred) -> Inferred
 
 // Of two branches: the wider of their types, if there is one, and the needs of the term.
 pub fn joined(t: u16, w: Found, needs: u32) -> Inferred
-    ensures { inferred_model result ≡ joinedOf t (found_model w) needs }
+    ensures { inferred_model result ≡ joined_of t (found_model w) needs }
 {
     match w {
         Found::At(ty) => Inferred::Typed {

@@ -1,7 +1,7 @@
 // The smaller of two refused terms: that with fewer terms in it, or of as many the one with the lower number.
 ghost use Rattle.std.specs.Prelude.{◌≡◌};
 ghost use Rattle.rules.specs.Inference.{inferred_model};
-ghost use Rattle.subterms.specs.Smallest.{smaller as smallerOf, faulty_as};
+ghost use Rattle.subterms.specs.Smallest.{smaller as smaller_of, faulty_as};
 ghost use Rattle.smallest.specs.Internal.{candidate_model, or_own};
 
 use typing::answer::{Fault, Inferred};
@@ -14,7 +14,7 @@ pub enum Candidate {
 }
 
 pub fn smaller(a: Candidate, b: Candidate) -> Candidate
-    ensures { candidate_model result ≡ smallerOf (candidate_model a) (candidate_model b) }
+    ensures { candidate_model result ≡ smaller_of (candidate_model a) (candidate_model b) }
 {
     let Candidate::Faulty {
         term: t,

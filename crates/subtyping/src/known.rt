@@ -1,7 +1,7 @@
 // The pairs of types that were found to be subtypes while a sheet is judged, so that none is compared again. Without this, types 12 deep can take 4,095
 // comparisons each time they meet, since each level has two pairs of parts.
 ghost use Rattle.std.specs.Prelude.{◌≡◌};
-ghost use Rattle.subtyping.specs.Known.{TypePair, knows as knowsOf, with_pair as noted_of};
+ghost use Rattle.subtyping.specs.Known.{TypePair, knows as knows_of, with_pair as noted_of};
 
 use program::limits::TYPE_PLACES;
 
@@ -14,7 +14,7 @@ pub type Known = [u32; KNOWN_WORDS];
 // Whether a is known to be a subtype of b.
 pub fn knows(known: &Known, a: u16, b: u16) -> bool
     requires { TypePair a b }
-    ensures { result ≡ knowsOf known.now a b }
+    ensures { result ≡ knows_of known.now a b }
 {
     let at = (a as usize) * 8 + ((b / 32) as usize);
     privileges::contains((b % 32) as u8, known[at])

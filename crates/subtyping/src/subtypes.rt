@@ -1,7 +1,7 @@
 // Function types, subtyping, and the wider of two types.
 ghost use Rattle.std.specs.Prelude.{◌&&◌, ◌≡◌, leb, ltb};
 ghost use Rattle.program.specs.Layout.{types_of};
-ghost use Rattle.typing.specs.Subtyping.{subtype as subtypeOf, wider as widerOf};
+ghost use Rattle.typing.specs.Subtyping.{subtype as subtype_of, wider as wider_of};
 ghost use Rattle.program.specs.Search.{found_model};
 ghost use Rattle.subtyping.specs.Known.{KnownSheet, Answered};
 
@@ -23,7 +23,7 @@ pub fn is_function(c: Counts, t: u16) -> bool
 // not compared again.
 pub fn subtype(s: &[u8], c: Counts, known: &mut Known, a: u16, b: u16) -> bool
     requires { KnownSheet s.now c known.old }
-    ensures { Answered (types_of s.now) result (subtypeOf (types_of s.now) a b) known.new }
+    ensures { Answered (types_of s.now) result (subtype_of (types_of s.now) a b) known.new }
 {
     if a == b {
         return true;
@@ -55,7 +55,7 @@ pub fn subtype(s: &[u8], c: Counts, known: &mut Known, a: u16, b: u16) -> bool
 // The wider of two types, if one is a subtype of the other. Equal types, the common case, pass the first test at once.
 pub fn wider(s: &[u8], c: Counts, known: &mut Known, a: u16, b: u16) -> Found
     requires { KnownSheet s.now c known.old }
-    ensures { Answered (types_of s.now) (found_model result) (widerOf (types_of s.now) a b) known.new }
+    ensures { Answered (types_of s.now) (found_model result) (wider_of (types_of s.now) a b) known.new }
 {
     if subtype(s, c, known, a, b) {
         return Found::At(b);

@@ -8,37 +8,15 @@ use lib.ListN.{get_or, length, set, length-set}
 use lib.Seq.{get_or-set_same, get_or-set_other}
 use Rattle.program.specs.Limits.{max_terms}
 use Rattle.program.specs.Layout.{terms}
-use Rattle.program.specs.Records.{CountsOf, no_term, term_record, authority_record, guard_record}
+use Rattle.program.specs.Records.{CountsOf, no_term, term_record}
 use Rattle.program.specs.Laws.Readable.{WellFormed}
 use Rattle.program.specs.Laws.Records.{term_none}
 use Rattle.program.specs.declared.records.Counts.{Counts}
 use Rattle.program.specs.declared.records.TermRecord.{TermRecord}
-use Rattle.termtable.specs.Table.{OwnParts, WordOf, Empty, TermWords}
+use Rattle.termtable.specs.Table.{WordOf, Empty, TermWords}
 
 module _ {s : List ℕ} {c : Counts} {t : ℕ} {x : TermRecord} (q : x ≡ term_record s c t) (kind : x.kind < 256) (small : x.small < 256)
     (first : x.first < 65536) where
-  -- a number in the place of second and third, which are not looked at
-  module _ (a : ℕ) (fits : a < 4294967296) (other : OwnParts x.kind → ⊥)
-      (set_is : x.kind ≡ 9 → a ≡ authority_record s x.small) (byte-is : x.kind ≡ 14 → (a < 256) × (a ≡ guard_record s c x.small)) where
-    own_holds : WordOf s c t (x.kind + 256 * x.small + 65536 * x.first + 4294967296 * a)
-    own_holds = let same = ap (λ (y : TermRecord). y.kind) q in record {
-      kind_is = omega arith ∙ same;
-      small_is = omega arith ∙ ap (λ (y : TermRecord). y.small) q;
-      first_is = omega arith ∙ ap (λ (y : TermRecord). y.first) q;
-      second_is = λ n. absurd (other (subst OwnParts (sym same) n));
-      third_is = λ n. absurd (other (subst OwnParts (sym same) n));
-      authority_is = λ k. omega arith ∙ set_is (same ∙ k) ∙ ap (λ (y : TermRecord). authority_record s y.small) q;
-      guard_is = λ k. let h = byte-is (same ∙ k) in omega (arith, h.0) ∙ h.1 ∙ ap (λ (y : TermRecord). guard_record s c y.small) q;
-    }
-
-  pub sign_holds : {a : ℕ} → x.kind ≡ 9 → a ≡ authority_record s x.small → a < 4294967296
-      → WordOf s c t (x.kind + 256 * x.small + 65536 * x.first + 4294967296 * a)
-  sign_holds {a} e p h = own_holds a h (λ n. n.no_sign e) (λ k. p) (λ k. absurd (omega (arith, e, k)))
-
-  pub post_holds : {a : ℕ} → x.kind ≡ 14 → a ≡ guard_record s c x.small → a < 256
-      → WordOf s c t (x.kind + 256 * x.small + 65536 * x.first + 4294967296 * a)
-  post_holds {a} e p h = own_holds a (omega arith) (λ n. n.no_post e) (λ k. absurd (omega (arith, e, k))) (λ k. (h, p))
-
   -- second and third have 16 bits each, from bit 32 and from bit 48 on
   pub plain_holds : (x.kind ≡ 9 → ⊥) → (x.kind ≡ 14 → ⊥) → x.second < 65536 → x.third < 65536
       → WordOf s c t (x.kind + 256 * x.small + 65536 * x.first + 4294967296 * x.second + 281474976710656 * x.third)

@@ -163,11 +163,14 @@ module _ (T : Types) (A : ℕ → ℕ) (p : ℕ) where
 
   pub way_needs : {x z : Placed} {l : List Placed} → Way x l → Among z l → needs T A p z ≡ true
   way_needs (ends h f) among_first = h
+  way_needs (ends h f) (among_later m) = elim m [ ]
   way_needs (goes h f r w) among_first = h
   way_needs (goes h f r w) (among_later m) = way_needs w m
 
   pub way_last : {x z : Placed} {l : List Placed} → Way x l → Last z l → is_cause T A p z ≡ true
   way_last (ends h f) last_alone = f
+  way_last (ends h f) (last_later m) = elim m [ ]
+  way_last (goes h f r w) last_alone = elim w [ ]
   way_last (goes h f r w) (last_later m) = way_last w m
 
   -- two neighbours: the first is no cause, and the second is the one that is followed
@@ -190,6 +193,8 @@ module _ (T : Types) (A : ℕ → ℕ) (p : ℕ) where
   -- if all posts of a term have such a channel and guard, so have those of the chain's last
   pub way_posts : (Q : ℕ → Option ℕ → Type 0) {x z : Placed} {l : List Placed} → Way x l → PostsOf Q x → Last z l → PostsOf Q z
   way_posts Q (ends h f) q last_alone = q
+  way_posts Q (ends h f) q (last_later m) = elim m [ ]
+  way_posts Q (goes h f r w) q last_alone = elim w [ ]
   way_posts Q (goes {x = x} {y = y} h f r w) q (last_later m) = way_posts Q w (child_posts T Q x y (followed_child x y (lowest_among r)) q) m
 
   lowest_only : {y z : Placed} {l : List Placed} → Lowest T A p y l → Lowest T A p z l → y ≡ z

@@ -1,6 +1,6 @@
 -- Terms related by erasure run alike: from whatever states of whatever access controls, with checks passed over in the old term and in force or passed over
 -- in the new one, they end in values related by erasure or stop by the same cause at the old term and its new number, with the same left of the budget.
-use Rattle.std.specs.Prelude.{Bool, false}
+use Rattle.std.specs.Prelude.{Bool, true, false}
 use Rattle.std.proofs.Math.Path.{refl}
 use Prim.Native.Nat.{ℕ, zero, suc}
 use Rattle.program.specs.Terms.{Term}
@@ -34,7 +34,8 @@ module _ (ρ ν : ℕ → ℕ) where
     eval_erased f g h e_number s t e u = r_ends v_num
     eval_erased f g h (e_variable {at} {i}) s t e u = related_found C ρ ν e i at u
     eval_erased f g h (e_function b) s t e u = r_ends (v_closure b e)
-    eval_erased f g h (e_letrec {at} b r) s t e u = related_cell C ρ ν at _ _ (λ u₁. eval_erased f g h r s t (env_bind (v_closure b e) e) u₁) u
+    eval_erased f g h (e_letrec {at} {ty} b r) s t e u =
+        related_cell C ρ ν at _ _ (λ u₁. eval_erased f g h r s t (env_bind (v_closure {r = true} {ty = ty} b e) e) u₁) u
     eval_erased f g h (e_call {at} c a) s t e u =
         related_then C ρ ν _ _ (eval_erased f g h c s t e u)
         (λ _ _ v u₁. related_then C ρ ν _ _ (eval_erased f g h a s t e u₁) (λ _ _ w u₂. h at _ _ _ _ v w s t u₂))
@@ -47,7 +48,7 @@ module _ (ρ ν : ℕ → ℕ) where
     eval_erased f g h (e_binary {at} {op} a b) s t e u =
         related_then C ρ ν _ _ (eval_erased f g h a s t e u)
         (λ _ _ v u₁. related_then C ρ ν _ _ (eval_erased f g h b s t e u₁) (λ _ _ w u₂. related_compute C ρ ν at op v w u₂))
-    eval_erased f g h (e_post {at} {ch} c) s t e u = related_then C ρ ν _ _ (eval_erased f g h c s t e u) (λ _ _ v u₁. related_post C ρ ν at ch refl v u₁)
+    eval_erased f g h (e_post {at} {ch} c) s t e u = related_then C ρ ν _ _ (eval_erased f g h c s t e u) (λ _ _ v u₁. related_post C ρ ν at ch {b = true} refl v u₁)
 
     apply_erased : (k : ℕ) → ErasesApplication (apply standard X (plain false) k) (apply standard Y (plain enforce) k)
     unfolding apply

@@ -8,7 +8,7 @@ use Rattle.privileges.specs.Laws.{⊆_none, ⊆_refl, union_⊆}
 use Rattle.program.specs.Layout.{Types}
 use Rattle.program.specs.Terms.{Op, sum, difference, less, Term}
 use Rattle.typing.specs.Subtyping.{Subtype, sub_same, sub_fun, Wider, wider_second, wider_first}
-use Rattle.typing.specs.Rules.{lookup_type, result_type, current, Derives, d_boolean, d_number, d_variable, d_function, d_letrec, d_call, d_if, d_check, d_enable, d_sign, d_binary, d_post, d_widen}
+use Rattle.typing.specs.Rules.{lookup_type, result_type, current, Derives, d_boolean, d_number, d_variable, d_function, d_letrec, d_call, d_if, d_check, d_test, d_enable, d_sign, d_binary, d_post, d_widen}
 use Rattle.erasure.specs.Laws.Erases.{Erases, e_boolean, e_number, e_variable, e_function, e_letrec, e_call, e_if, e_check, e_enable, e_sign, e_binary, e_post}
 
 -- The types T' are those of T, renumbered by ρ: parts go along, latent sets are empty, and those that become equal are one.
@@ -72,6 +72,7 @@ module _ (T T' : Types) (ρ : ℕ → ℕ) (R : Renames T T' ρ) where
         (d_if (recast R.boolean_kept (⊆_refl 0) (derived d e)) (recast m.0 (⊆_refl 0) (derived d' e')) (recast m.1 (⊆_refl 0) (derived d'' e''))
         (wider_second sub_same))
     derived (d_check d) (e_check e) = derived d e
+    derived (d_test d d' h) e = elim e [ ]
     derived (d_enable d) (e_enable e) = derived d e
     derived (d_sign d s) (e_sign e) = d_sign (derived d e) (⊆_none _)
     derived (d_binary {op = op} d d') (e_binary e e') =

@@ -3,7 +3,7 @@ use Rattle.std.specs.Prelude.{Bool, true, false, cond, List, [], ◌∷◌, ◌+
 use Rattle.std.proofs.Common.{arith, ltb-true}
 use Rattle.program.specs.Limits.{max_types, max_terms}
 use Rattle.program.specs.Bytes.{byte, word16, Bytes}
-use Rattle.program.specs.Layout.{types, type_at_lem, type_field, terms, term_at, first, second, third, types_of}
+use Rattle.program.specs.Layout.{types, type_at_lem, type_field, terms, term_at, types_of}
 use Rattle.program.specs.Formats.{Part, unused, flag, any_number, privilege, principal, channel, function_type, child, body_child}
 use Rattle.program.specs.Decoding.{part_ok, format_at}
 use Rattle.program.specs.Laws.Readable.{WellFormed}

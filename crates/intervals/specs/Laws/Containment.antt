@@ -175,7 +175,7 @@ module _ (L : ℕ → Interval) (ρ : (at n : ℕ) → ℕ) where
       eval_inside (variable at i) k p st e u = inside_found e i at u
       eval_inside (function at ty body) k p st e u = r_ends (v_closure k.1 p e) u
       eval_inside (letrec at ty body rest) k p st e u =
-          inside_cell at _ _ (λ _ _ u₁. eval_inside rest k.2 p.1 st (env_bind (v_closure k.1 p.0 e) e) u₁) u
+          inside_cell at _ _ (λ _ _ u₁. eval_inside rest k.2 p.1 st (env_bind (v_closure {r = true} {ty = ty} k.1 p.0 e) e) u₁) u
       eval_inside (call at c a) k p st e u =
           inside_then _ _ (eval_inside c k.1 p.0 st e u)
           (λ _ _ v _ _ u₁. inside_then _ _ (eval_inside a k.2 p.1 st e u₁) (λ _ _ w _ _ u₂. h at _ _ _ _ v w st _ _ u₂))

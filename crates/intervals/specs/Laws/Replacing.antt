@@ -132,7 +132,8 @@ module _ (ρ : ℕ → ℕ) (count : ℕ) where
       eval_replaced p_number s t r e u = r_ends v_num
       eval_replaced (p_variable {at} {i}) s t r e u = related_found C same same e i at u
       eval_replaced (p_function c) s t r e u = r_ends (v_closure c e)
-      eval_replaced (p_letrec {at} c d) s t r e u = related_cell C same same at _ _ (λ u₁. eval_replaced d s t r (env_bind (v_closure c e) e) u₁) u
+      eval_replaced (p_letrec {at} {ty} c d) s t r e u =
+          related_cell C same same at _ _ (λ u₁. eval_replaced d s t r (env_bind (v_closure {r = true} {ty = ty} c e) e) u₁) u
       eval_replaced (p_call {at} c d) s t r e u =
           related_then C same same _ _ (eval_replaced c s t r e u)
           (λ _ _ v u₁. related_then C same same _ _ (eval_replaced d s t r e u₁) (λ _ _ w u₂. h at _ _ _ _ v w s t r u₂))

@@ -3,7 +3,7 @@ use native.Mathlib.Omega.{arith}
 use mathlib.Core.Logic.{⊎_elim}
 use mathlib.Core.Path.{refl, sym, ◌∙◌}
 use Prim.Native.Nat.{◌-◌}
-use Rattle.program.specs.Layout.{terms as termCount}
+use Rattle.program.specs.Layout.{terms as term_count}
 use Rattle.pairs.proofs.PairLaws.{CountedBelow, counted_yes, counted_no, counted_all, counted_most}
 use Rattle.pairs.proofs.count_numbers.Statement.{statement}
 use Rattle.pairs.proofs.count_numbers.Tie as tie
@@ -66,7 +66,7 @@ returns : tie.Need-returns invariant-loop decreases-loop
 returns c =
     let at-loop = c.before in
     let start = at-loop.before.before in
-    counted_all start.args.s.now at-loop.loop.t (termCount start.args.s.now) at-loop.loop.invariant.count_is
+    counted_all start.args.s.now at-loop.loop.t (term_count start.args.s.now) at-loop.loop.invariant.count_is
     (omega (arith, at-loop.loop.invariant.below, c.loop-test.false, start.requires.counts.terms_are))
 
 pub count_numbers_spec : {M : Type 1} → statement M

@@ -5,7 +5,7 @@ use borrow.Author.Rules.{rules}
 use mathlib.Core.Logic.{⊎_elim}
 use mathlib.Core.Path.{refl, sym, ◌∙◌}
 use Prim.Native.Nat.{◌-◌, ◌*◌, ◌+◌}
-use Rattle.program.specs.Layout.{terms as termCount}
+use Rattle.program.specs.Layout.{terms as term_count}
 use Rattle.intervals.specs.Laws.Pairs.{counted_below}
 use Rattle.pairs.proofs.PairLaws.{LaidBelow, counted_yes, counted_no, counted_most, laid_none, laid_other, laid_pair, laid_all}
 use Rattle.pairs.proofs.lay_pairs.Statement.{statement}
@@ -66,7 +66,7 @@ shared-slice-read-lowest c =
       arith,
       at-loop.loop.invariant.count_is,
       start.requires.enough,
-      counted_below start.args.s.now at-loop.loop.t (termCount start.args.s.now)
+      counted_below start.args.s.now at-loop.loop.t (term_count start.args.s.now)
           (omega (arith, c.before.before.before.loop-test.true, start.requires.counts.terms_are))
           (sym c.before.before.is_number.ensures ∙ c.before.if1.true),
     )
@@ -119,7 +119,7 @@ shared-slice-read-highest c =
       arith,
       at-loop.loop.invariant.count_is,
       start.requires.enough,
-      counted_below start.args.s.now at-loop.loop.t (termCount start.args.s.now)
+      counted_below start.args.s.now at-loop.loop.t (term_count start.args.s.now)
           (omega (arith, at-loop-test.loop-test.true, start.requires.counts.terms_are))
           (sym c.before.before.before.is_number.ensures ∙ c.before.before.if1.true),
     )
@@ -222,7 +222,7 @@ returns c =
     let at-loop = c.before in
     let start = at-loop.before.before.before in
     laid_all start.args.s.now start.args.pairs.now start.args.terms.now at-loop.loop.terms at-loop.loop.t
-    (termCount start.args.s.now)
+    (term_count start.args.s.now)
     at-loop.loop.invariant.laid (omega (arith, at-loop.loop.invariant.below, c.loop-test.false, start.requires.counts.terms_are))
 
 pub lay_pairs_spec : {M : Type 1} → statement M

@@ -4,7 +4,7 @@ use Rattle.std.proofs.Math.Bool.{and-true, and-false}
 use Rattle.std.proofs.Common.{sym, ap, ◌∙◌, eqb-true}
 use Rattle.privileges.specs.Sets.{has, meet, union, insert}
 use Rattle.privileges.specs.Laws.{has_none, has_meet, has_union, has_insert}
-use Rattle.program.specs.Terms.{Term, sign}
+use Rattle.program.specs.Terms.{Term, sign, binary, boolean, call, check, enable, function, if, letrec, number, post, test, variable}
 use Rattle.program.specs.Laws.Trees.{every_any, Signed, signed}
 use Rattle.semantics.specs.Domains.{standard}
 use Rattle.semantics.specs.Values.{Env, Budget}
@@ -98,3 +98,15 @@ eager_lazy A M k (sign at n c) signed r fs h e u =
   where
     all_named : (c : Term) → NamesOnly All c
     all_named c p q = tt
+eager_lazy A M k (boolean at b) never r fs h e u = elim never [ ]
+eager_lazy A M k (number at n) never r fs h e u = elim never [ ]
+eager_lazy A M k (variable at i) never r fs h e u = elim never [ ]
+eager_lazy A M k (function at ty body) never r fs h e u = elim never [ ]
+eager_lazy A M k (letrec at ty body rest) never r fs h e u = elim never [ ]
+eager_lazy A M k (call at fun arg) never r fs h e u = elim never [ ]
+eager_lazy A M k (if at _ then else) never r fs h e u = elim never [ ]
+eager_lazy A M k (check at p inner) never r fs h e u = elim never [ ]
+eager_lazy A M k (enable at p inner) never r fs h e u = elim never [ ]
+eager_lazy A M k (test at p then else) never r fs h e u = elim never [ ]
+eager_lazy A M k (binary at op left right) never r fs h e u = elim never [ ]
+eager_lazy A M k (post at channel guard inner) never r fs h e u = elim never [ ]

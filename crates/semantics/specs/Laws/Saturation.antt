@@ -187,8 +187,8 @@ evaluation_load s w mode eager q z =
     let small = sizes_most s w in
     let h = within max_terms (eager_control (authority s)) mode q.depth (program s) small
     (rights 0 (privs (authority s) (stack q.start))) empty (initial q z) tt in
-    omega (arith, h.most, every_here _ (program s) small, load_most max_terms (left (evaluation_in mode eager s q z)))
+    omega (arith, h.most, every_here (SmallTerm max_terms) (program s) small, load_most max_terms (left (evaluation_in mode eager s q z)))
 evaluation_load s w mode lazy q z =
     let small = sizes_most s w in
     let h = within max_terms (lazy_control (authority s)) mode q.depth (program s) small (stack q.start) empty (initial q z) tt in
-    omega (arith, h.most, every_here _ (program s) small, load_most max_terms (left (evaluation_in mode lazy s q z)))
+    omega (arith, h.most, every_here (SmallTerm max_terms) (program s) small, load_most max_terms (left (evaluation_in mode lazy s q z)))

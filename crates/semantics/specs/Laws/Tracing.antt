@@ -99,7 +99,7 @@ module _ {D : Domain} where
   forgets_enter : (at : ℕ) (v w : ValueOf D) (k l : Term → EnvOf D → Budget → ResultOf D)
       → ((c : Term) (e : EnvOf D) (u : Budget) → Forgets (k c e u) (l c e (forget_in u)))
       → (u : Budget) → Forgets (enter at v w k u) (enter at v w l (forget_in u))
-  forgets_enter at (closure r ty body env) w k l h u = forgets_begin at _ _ (λ x. h body (entered r ty body env w) x) u
+  forgets_enter at (closure r ty body env) w k l h u = forgets_begin at _ (l body (entered {D = D} r ty body env w)) (λ x. h body (entered r ty body env w) x) u
   forgets_enter at (bool b) w k l h u = forgets_stop 18 at u
   forgets_enter at (num n) w k l h u = forgets_stop 18 at u
 
@@ -119,7 +119,7 @@ module _ (I : Interpretation) (X : Control) (M : Mode) where
   eval_forgets f g h (variable at i) st e u = forgets_found at (lookup e i) u
   eval_forgets f g h (function at ty body) st e u = forgets_end (closure false ty body e) u
   eval_forgets f g h (letrec at ty body rest) st e u =
-      forgets_cell at _ _ (λ w. eval_forgets f g h rest st (bind (closure true ty body e) e) w) u
+      forgets_cell at _ (λ w. eval_with I X PlainMode g rest st (bind (closure true ty body e) e) w) (λ w. eval_forgets f g h rest st (bind (closure true ty body e) e) w) u
   eval_forgets f g h (call at c a) st e u =
       forgets_then _ _ _ _ (eval_forgets f g h c st e u) (λ v w. forgets_then _ _ _ _ (eval_forgets f g h a st e w) (λ x y. h at v x st y))
   eval_forgets f g h (if at c y n) st e u =

@@ -10,7 +10,7 @@ use Prim.Native.Nat.{ℕ, zero, suc}
 use Rattle.privileges.specs.Sets.{has, meet, union, insert, remove, ◌⊆◌}
 use Rattle.privileges.specs.Laws.{⊆_trans, ⊆_union_left, ⊆_union_right, ⊆_meet, ⊆_insert, has_inserted, remove_has, remove_insert}
 use Rattle.program.specs.Layout.{Types}
-use Rattle.program.specs.Terms.{Op, sum, difference, less, Term, function, sign}
+use Rattle.program.specs.Terms.{Op, sum, difference, less, Term, sign}
 use Rattle.program.specs.Laws.Trees.{Signed, signed, Standard}
 use Rattle.typing.specs.Subtyping.{Subtype, sub_same, Wider}
 use Rattle.typing.specs.Rules.{lookup_type, remove_authorised, post_needs, result_type, current, Derives, d_boolean, d_number, d_variable, d_function, d_letrec, d_call, d_if, d_test, d_check, d_enable, d_sign, d_binary, d_post, d_widen}

@@ -61,7 +61,7 @@ module _ (t : ℕ) where
       go r false h f = let k = r f in record { listed = among_later k.listed; number_is = k.number_is }
 
   -- where one of the list has the number, one is found
-  pub number_some : {l : List Placed} {x : Placed} → Among x l → placed_number x ≡ t → (y : Placed) × (with_number t l ≡ some y)
+  pub number_some : {x : Placed} {l : List Placed} → Among x l → placed_number x ≡ t → (y : Placed) × (with_number t l ≡ some y)
   unfolding with_number
   number_some {x = x} (among_first {l}) e = (x, λ i. cond (eq-eqb (placed_number x) t e i) (some x) (with_number t l))
   number_some (among_later {z} {l} m) e = go (number_some m e) (eqb (placed_number z) t)
@@ -129,7 +129,7 @@ module _ (s : List ℕ) (w : WellFormed s) where
 
 -- ---- what the bytes give of the whole, they give of each term in it
 module _ (T : Types) where
-  pub within_standard : {Δ Γ : List ℕ} {m n : ℕ} {d c : Term} → Within T Δ m d Γ n c → Standard T c → Standard T d
+  pub within_standard : {Δ : List ℕ} {m : ℕ} {d : Term} {Γ : List ℕ} {n : ℕ} {c : Term} → Within T Δ m d Γ n c → Standard T c → Standard T d
   within_standard here h = h
   within_standard (in_function w) h = within_standard w h.2
   within_standard (in_letrec_body w) h = within_standard w h.2

@@ -163,6 +163,7 @@ module _ (T : Types) (A : ℕ → ℕ) where
 
   pub smallest_least : (l : List Placed) {p : Placed} → Among p l → (y : FaultyTerm) → faulty_at T A p ≡ some y → Least T A l y
   unfolding smallest_of
+  smallest_least [] m y e = elim m [ ]
   smallest_least (p ∷ l) among_first y e = go (smallest_of T A l) refl
     where
       go : (b : Option FaultyTerm) → smallest_of T A l ≡ b → Least T A (p ∷ l) y

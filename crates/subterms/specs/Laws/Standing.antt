@@ -46,6 +46,7 @@ times_has u (x ∷ l) h = go (λ g. times_has u l g) (eqb (placed_number x) u) r
 
 -- one that is there once is one term
 times_same : (u : ℕ) (l : List Placed) {x y : Placed} → Among x l → Among y l → placed_number x ≡ u → placed_number y ≡ u → times u l ≤ 1 → x ≡ y
+times_same u [] m k e f h = elim m [ ]
 times_same u (z ∷ l) among_first among_first e f h = refl
 times_same u (z ∷ l) among_first (among_later m) e f h = absurd (omega (arith, ap one (eq-eqb (placed_number z) u e), times_among u m f))
 times_same u (z ∷ l) (among_later m) among_first e f h = absurd (omega (arith, ap one (eq-eqb (placed_number z) u f), times_among u m e))
@@ -103,7 +104,7 @@ module _ (T : Types) where
     child = p.child;
   })
 
-  parent_of : {Δ Γ : List ℕ} {m n : ℕ} {d c : Term} → Within T Δ m d Γ n c → FoundAmong (placed Δ m d) Γ n c
+  parent_of : {Δ : List ℕ} {m : ℕ} {d : Term} {Γ : List ℕ} {n : ℕ} {c : Term} → Within T Δ m d Γ n c → FoundAmong (placed Δ m d) Γ n c
   parent_of here = inl refl
   parent_of (in_function w) = step _ _ _ among_first (λ _ _ _ v. in_function v) (parent_of w)
   parent_of (in_letrec_body w) = step _ _ _ among_first (λ _ _ _ v. in_letrec_body v) (parent_of w)

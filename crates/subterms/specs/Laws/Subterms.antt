@@ -30,7 +30,7 @@ split (y ∷ l) among_first = inl among_first
 split (y ∷ l) (among_later k) = ⊎_elim (λ h. inl (among_later h)) (λ h. inr h) (split l k)
 
 module _ (T : Types) where
-  pub within_listed : {Δ Γ : List ℕ} {m n : ℕ} {d c : Term} → Within T Δ m d Γ n c → Among (placed Δ m d) (subterms T Γ n c)
+  pub within_listed : {Δ : List ℕ} {m : ℕ} {d : Term} {Γ : List ℕ} {n : ℕ} {c : Term} → Within T Δ m d Γ n c → Among (placed Δ m d) (subterms T Γ n c)
   within_listed {c = boolean at b} here = among_first
   within_listed {c = number at k} here = among_first
   within_listed {c = variable at i} here = among_first
@@ -85,8 +85,11 @@ module _ (T : Types) where
 
   pub listed_within : {x : Placed} (Γ : List ℕ) (n : ℕ) (c : Term) → Among x (subterms T Γ n c) → Standing x Γ n c
   listed_within Γ n (boolean at b) among_first = self
+  listed_within Γ n (boolean at b) (among_later m) = elim m [ ]
   listed_within Γ n (number at k) among_first = self
+  listed_within Γ n (number at k) (among_later m) = elim m [ ]
   listed_within Γ n (variable at i) among_first = self
+  listed_within Γ n (variable at i) (among_later m) = elim m [ ]
   listed_within Γ n (function at ty body) among_first = self
   listed_within Γ n (function at ty body) (among_later m) = up (λ _ _ _ w. in_function w) (listed_within (T.arg ty ∷ Γ) n body m)
   listed_within Γ n (letrec at ty body rest) among_first = self
@@ -120,7 +123,7 @@ module _ (T : Types) where
   listed_within Γ n (post at ch g c) (among_later m) = up (λ _ _ _ w. in_post w) (listed_within Γ n c m)
 
   -- ---- what stands in a term has no more terms in it
-  pub within_size : {Δ Γ : List ℕ} {m n : ℕ} {d c : Term} → Within T Δ m d Γ n c → size d ≤ size c
+  pub within_size : {Δ : List ℕ} {m : ℕ} {d : Term} {Γ : List ℕ} {n : ℕ} {c : Term} → Within T Δ m d Γ n c → size d ≤ size c
   within_size here = omega arith
   within_size (in_function w) = omega (arith, within_size w)
   within_size (in_letrec_body w) = omega (arith, within_size w)
@@ -140,7 +143,7 @@ module _ (T : Types) where
   within_size (in_post w) = omega (arith, within_size w)
 
   -- ---- what stands in a part stands in the whole
-  pub within_trans : {Θ Δ Γ : List ℕ} {k m n : ℕ} {e d c : Term} → Within T Θ k e Δ m d → Within T Δ m d Γ n c → Within T Θ k e Γ n c
+  pub within_trans : {Θ Δ : List ℕ} {k m : ℕ} {e d : Term} {Γ : List ℕ} {n : ℕ} {c : Term} → Within T Θ k e Δ m d → Within T Δ m d Γ n c → Within T Θ k e Γ n c
   within_trans w here = w
   within_trans w (in_function v) = in_function (within_trans w v)
   within_trans w (in_letrec_body v) = in_letrec_body (within_trans w v)
@@ -184,7 +187,7 @@ module _ (T : Types) where
   children_of_lem Γ n (post at ch g c) = (child (in_post here) (omega arith), tt)
 
   -- ---- what every term of a tree has, each that stands in it has
-  pub within_every : (Q : Term → Type 0) {Δ Γ : List ℕ} {m n : ℕ} {d c : Term} → Within T Δ m d Γ n c → Every Q c → Q d
+  pub within_every : (Q : Term → Type 0) {Δ : List ℕ} {m : ℕ} {d : Term} {Γ : List ℕ} {n : ℕ} {c : Term} → Within T Δ m d Γ n c → Every Q c → Q d
   within_every Q {d = d} here h = every_here Q d h
   within_every Q (in_function w) h = within_every Q w h.1
   within_every Q (in_letrec_body w) h = within_every Q w h.1
