@@ -1,5 +1,5 @@
 -- `after_run` stores into the command, the status, 2 and 6 to 11 alone. A list of 16 is the list of its elements, and with these stores it is the definition's
--- list (run-stored).
+-- list (run_stored).
 use Rattle.std.proofs.Common.{arith}
 use Rattle.blocks.specs.Internal.{registers_model}
 use Rattle.blocks.proofs.BlockLaws.{run_stored}
