@@ -1,6 +1,6 @@
 -- Access control as one number. An eager run holds a pair: the set that the signing principal may use, and 2^32 times the granted set. A lazy run holds
 -- how many numbers of its frame store are in use, two for each frame: the set that its principal may use, and the enabled set.
-use Rattle.std.specs.Prelude.{◌≡◌, ℕ, zero, suc, ◌+◌, ◌*◌, ◌/◌, ◌%◌, Bool, true, false, cond, List, length, set, ◌==◌, nat_le, nat_lt, slice_index, slice_set}
+use Rattle.std.specs.Prelude.{◌≡◌, ℕ, zero, suc, ◌+◌, ◌*◌, ◌/◌, ◌%◌, Bool, true, false, cond, List, length, ◌==◌, nat_le, nat_lt, slice_index, slice_set}
 use Rattle.privileges.specs.Sets.{has, meet, insert}
 
 abbrev pub packed : (low high : ℕ) → ℕ

@@ -10,7 +10,7 @@ use borrow.Author.Tests.{lt-leb, le-leb, eq-eqb, ne_eqb, leb-true, eqb-true}
 use Rattle.privileges.specs.Booleans.{and_left, and_right}
 use Rattle.program.specs.Limits.{max_channels, max_principals, max_types, max_terms}
 use Rattle.program.specs.Bytes.{byte, word16}
-use Rattle.program.specs.Layout.{version, has_guards, principals, type_field, types, term_field, terms, guard_field, channels}
+use Rattle.program.specs.Layout.{version, has_guards, type_field, types, term_field, terms, guard_field, channels}
 use Rattle.program.specs.Screening.{Condition, First, first_here, first_later, None, none_end, none_next, unless}
 use Rattle.program.specs.Decoding.{holds, field, field_conditions}
 use Rattle.program.specs.Laws.Screening.{first_left, first_right, append_none, none_unless, found_unless}

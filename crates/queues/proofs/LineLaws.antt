@@ -6,7 +6,7 @@ use Prim.Native.Nat.{ℕ, suc, ◌+◌, ◌-◌, ◌%◌, ◌<◌, ◌≤◌}
 use native.Mathlib.Omega.{arith}
 use lib.Dec.{ltb, leb}
 use lib.ListN.{length, get_or, set}
-use borrow.Author.Tests.{lt-ltb, le-ltb, le-leb, lt-leb, leb-true, leb-false, not-true, not-false}
+use borrow.Author.Tests.{lt-ltb, le-ltb, le-leb, lt-leb, leb-true, leb-false, not-false}
 use Rattle.program.specs.Screening.{clear, found, refuse_at, screen, unless}
 use Rattle.queues.specs.Queues.{max_lines, max_jobs, Job, Lines as LinesOf, new_lines, queue_at, inside, Added, added_to, add_of, nobody, turn_at, next_line, turn_from, turn_of, after_turn}
 use Rattle.queues.specs.Answers.{no_queue, queue_model, lines_model}
@@ -124,15 +124,15 @@ module _ (q : Lines) (l : ℕ) (j : Job) (store : List ℕ) where
     size_of : length (queue_at (lines_model q) l) ≡ n
     size_of = ap length (queue_is q l) ∙ sym size.size_is
 
-    pub outside_answered : not x ≡ true → record { answer = found 28 0; state = lines_model q } ≡ add_of (lines_model q) l j store
+    pub outside_answered : x ≡ false → record { answer = found 28 0; state = lines_model q } ≡ add_of (lines_model q) l j store
     unfolding screen refuse_at
-    outside_answered e = sym (by_tests (lt-ltb l max_lines below) (sym within ∙ not-true x e) refl)
+    outside_answered e = sym (by_tests (lt-ltb l max_lines below) (sym within ∙ e) refl)
 
-    pub full_answered : (not x || leb max_jobs n) ≡ true → not x ≡ false → record { answer = found 29 0; state = lines_model q } ≡ add_of (lines_model q) l j store
+    pub full_answered : (not x || leb max_jobs n) ≡ true → x ≡ true → record { answer = found 29 0; state = lines_model q } ≡ add_of (lines_model q) l j store
     unfolding screen refuse_at
     full_answered e f =
-        let full : leb max_jobs n ≡ true = ap (λ (y : Bool). y || leb max_jobs n) (sym f) ∙ e in
-        sym (by_tests (lt-ltb l max_lines below) (sym within ∙ not-false x f)
+        let full : leb max_jobs n ≡ true = ap (λ (y : Bool). not y || leb max_jobs n) (sym f) ∙ e in
+        sym (by_tests (lt-ltb l max_lines below) (sym within ∙ f)
         (le-ltb (length (queue_at (lines_model q) l)) max_jobs (omega (arith, size_of, leb-true max_jobs n full))))
 
     or_neither : (y z : Bool) → (y || z) ≡ false → (y ≡ false) × (z ≡ false)

@@ -13,7 +13,7 @@ use Rattle.privileges.specs.Booleans.{and_left, and_right}
 use Rattle.program.specs.Limits.{max_types, max_type_depth}
 use Rattle.program.specs.Tests.{also, or_else}
 use Rattle.program.specs.Bytes.{Bytes}
-use Rattle.program.specs.Layout.{principals, types, type_at_lem, types_of}
+use Rattle.program.specs.Layout.{types, type_at_lem, types_of}
 use Rattle.program.specs.Decoding.{base_ok, function_ok, shallow, same_bytes, fresh, type_ok}
 use Rattle.program.specs.Records.{type_at_byte, type_record}
 use Rattle.accessors.specs.Internal.{Laid}

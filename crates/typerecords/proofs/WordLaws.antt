@@ -1,5 +1,5 @@
 -- So many bytes as one number, lowest first (le_word): two such numbers are equal exactly if the bytes agree (same_word). That is said once, over the
--- width, and cited for 8 and for 2, into which the ten bytes of a record split (same-record).
+-- width, and cited for 8 and for 2, into which the ten bytes of a record split (same_record).
 use mathlib.Core.Bool.{Bool, true, false, ◌&&◌}
 use mathlib.Core.List.{List}
 use mathlib.Core.Path.{◌≡◌, refl, sym, ap, ◌∙◌}

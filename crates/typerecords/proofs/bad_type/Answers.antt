@@ -1,9 +1,7 @@
 -- The lowest type record at fault is found in ascending order. All types below t are right and their depths stand in the list, which has room for
 -- 256, the most types of a sheet, so that the search from t on finds what the whole search finds (Laws/Search). The types that are left, n - t, fall, since
 -- each turn adds 1 to t.
-use Rattle.std.proofs.Common.{rules}
 use mathlib.Core.Path.{refl, sym, ap, ◌∙◌, subst}
-use Prim.Native.Nat.{◌-◌}
 use native.Mathlib.Omega.{arith}
 use lib.ListN.{length-set}
 use Rattle.program.specs.Screening.{lowest}
@@ -11,7 +9,7 @@ use Rattle.program.specs.Decoding.{type_ok}
 use Rattle.typerecords.specs.Internal.{DepthIs}
 use Rattle.program.specs.Laws.Readable.{fields_ok}
 use Rattle.program.specs.Laws.Search.{lowest_here, lowest_more, lowest_past, lowest_starts}
-use Rattle.typerecords.proofs.TypeLaws.{TypesPassed, depths_none, depths_more}
+use Rattle.typerecords.proofs.TypeLaws.{depths_none, depths_more}
 use Rattle.typerecords.proofs.bad_type.Goals as goal
 
 pub loop-t-init : goal.loop-t-init
@@ -26,23 +24,11 @@ loop-t-init c =
       depths = depths_none c.args.s.now _;
     }
 
-pub type_depth-requires : goal.type_depth-requires
-type_depth-requires c = record { laid = c.requires; inside = omega (arith, c.loop-t.invariant.passed.all); depths = c.loop-t.invariant.depths }
-
 pub returns-in-Fault : goal.returns-in-Fault
 returns-in-Fault c =
     lowest_here (type_ok c.args.s.now) _ _ c.loop-t-test.true
     (subst (DepthIs c.args.s.now c.loop-t.t) c.in-Fault.is c.type_depth.ensures) ∙ sym
     c.loop-t.invariant.passed.rest_is ∙ (ap (lowest (type_ok c.args.s.now) 0) c.loop-t.invariant.passed.all)
-
-pub overflow_cast-depths : goal.overflow_cast-depths
-overflow_cast-depths c = omega (arith, c.loop-t.invariant.passed.all, (fields_ok c.args.s.now c.requires.none_found).types_high)
-
-pub bounds-depths-t : goal.bounds-depths-t
-bounds-depths-t c = omega (arith, c.loop-t.invariant.passed.all, (fields_ok c.args.s.now c.requires.none_found).types_high)
-
-pub overflow_add-t : goal.overflow_add-t
-overflow_add-t c = omega (arith, c.loop-t.invariant.passed.all, (fields_ok c.args.s.now c.requires.none_found).types_high)
 
 pub loop-t-preserved : goal.loop-t-preserved
 loop-t-preserved c =
@@ -63,3 +49,6 @@ pub returns : goal.returns
 returns c =
     lowest_past (type_ok c.args.s.now) _ _ c.loop-t-test.false ∙ sym c.loop-t.invariant.passed.rest_is ∙
     (ap (lowest (type_ok c.args.s.now) 0) c.loop-t.invariant.passed.all)
+
+pub bounds-depths-t : goal.bounds-depths-t
+bounds-depths-t c = omega (arith, c.loop-t.invariant.passed.all, (fields_ok c.args.s.now c.requires.none_found).types_high)

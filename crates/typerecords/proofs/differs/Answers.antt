@@ -1,43 +1,10 @@
 -- The types are compared from the nearest on: none from j to n - 1 has the record of t, so that the first j decide as the first n. Two records are the same
--- exactly if their two words are (eight-differ, two-differ, two-same). What falls is j, since each turn passes one type.
+-- exactly if their two words are (eight_differ, two_differ, two_same). What falls is j, since each turn passes one type.
 use mathlib.Core.Path.{refl, sym, ◌∙◌}
 use native.Mathlib.Omega.{arith}
-use Rattle.typerecords.proofs.TypeLaws.{FreshFrom, fresh_not, fresh_more, fresh_end}
+use Rattle.typerecords.proofs.TypeLaws.{fresh_not, fresh_more, fresh_end}
 use Rattle.typerecords.proofs.WordLaws.{eight_differ, two_differ, two_same}
 use Rattle.typerecords.proofs.differs.Goals as goal
-
-pub overflow_mul-here : goal.overflow_mul-here
-overflow_mul-here c = omega (arith, c.requires.table.near, c.requires.table.inside)
-
-pub overflow_add-here : goal.overflow_add-here
-overflow_add-here c = omega (arith, c.requires.table.near, c.requires.table.inside)
-
-pub overflow_add-here-2 : goal.overflow_add-here-2
-overflow_add-here-2 c = omega (arith, c.requires.table.near, c.requires.table.inside)
-
-pub le_word-eight-requires : goal.le_word-eight-requires
-le_word-eight-requires c = omega (arith, c.requires.table.inside)
-
-pub le_word-two-requires : goal.le_word-two-requires
-le_word-two-requires c = omega (arith, c.requires.table.inside)
-
-pub loop-j-init : goal.loop-j-init
-loop-j-init c = record { below = omega arith; rest_is = refl }
-
-pub overflow_mul-there : goal.overflow_mul-there
-overflow_mul-there c = omega (arith, c.requires.table.near, c.requires.table.inside)
-
-pub overflow_add-there : goal.overflow_add-there
-overflow_add-there c = omega (arith, c.requires.table.near, c.requires.table.inside)
-
-pub overflow_add-there-in-loop-j : goal.overflow_add-there-in-loop-j
-overflow_add-there-in-loop-j c = omega (arith, c.requires.table.near, c.requires.table.inside)
-
-pub le_word-requires : goal.le_word-requires
-le_word-requires c = omega (arith, c.requires.table.inside)
-
-pub le_word-requires-then-le_word-eight : goal.le_word-requires-then-le_word-eight
-le_word-requires-then-le_word-eight c = omega (arith, c.requires.table.inside)
 
 pub returns-then-le_word-two : goal.returns-then-le_word-two
 returns-then-le_word-two c =

@@ -1,9 +1,7 @@
 -- The types are looked at from the nearest on: none from j to t - 1 has the record of t, so that the first j decide as all before t. A group of which no
--- record has the eight bytes of t is passed (fresh-group); where one has, or no whole group is left, `differs` decides by both words. What falls is j, since
+-- record has the eight bytes of t is passed (fresh_group); where one has, or no whole group is left, `differs` decides by both words. What falls is j, since
 -- each turn passes a group.
-use mathlib.Core.Path.{refl, sym, ◌∙◌}
-use native.Mathlib.Omega.{arith}
-use Rattle.typerecords.proofs.TypeLaws.{FreshFrom, fresh_group}
+use Rattle.typerecords.proofs.TypeLaws.{FreshFrom}
 use Rattle.typerecords.proofs.is_fresh.Given as goal
 
 abbrev pub invariant-loop-j : goal.invariant-loop-j

@@ -1,8 +1,6 @@
 -- The bytes are taken from the last on: w is the word of those after the first `left`. Where one more is taken it has at most 7, so that it is below 256^7
 -- and no operation on 64 bits overflows. What falls is `left`, since each turn takes one byte.
-use Prim.Native.Nat.{◌+◌, ◌-◌}
-use native.Mathlib.Omega.{arith}
-use Rattle.typerecords.proofs.WordLaws.{WordFrom, word_none, word_more, word_all, word_fits}
+use Rattle.typerecords.proofs.WordLaws.{WordFrom}
 use Rattle.typerecords.proofs.le_word.Given as goal
 
 abbrev pub invariant-loop-left : goal.invariant-loop-left

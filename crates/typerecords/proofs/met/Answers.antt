@@ -5,11 +5,7 @@ use Prim.Native.Nat.{ℕ, ◌+◌, ◌*◌, ◌-◌}
 use native.Mathlib.Decide.{ℕ_discrete}
 use native.Mathlib.Omega.{arith}
 use Rattle.typerecords.specs.Internal.{le_word}
-use Rattle.typerecords.proofs.TypeLaws.{NotMetFrom}
 use Rattle.typerecords.proofs.met.Goals as goal
-
-pub loop-k-init : goal.loop-k-init
-loop-k-init c = record { below = omega arith; not_met = λ m h l. absurd (omega arith) }
 
 pub returns-then-le_word-eight : goal.returns-then-le_word-eight
 returns-then-le_word-eight c = λ e. absurd (false≢true (sym e))

@@ -1,10 +1,4 @@
 -- The records are looked at from the last on: the word stands in none from k on. What falls is k, since each turn passes one record.
-use mathlib.Core.Bool.{false≢true}
-use mathlib.Core.Path.{sym, ap, ◌∙◌}
-use Prim.Native.Nat.{ℕ, ◌+◌, ◌*◌, ◌-◌}
-use native.Mathlib.Decide.{ℕ_discrete}
-use native.Mathlib.Omega.{arith}
-use Rattle.typerecords.specs.Internal.{le_word}
 use Rattle.typerecords.proofs.TypeLaws.{NotMetFrom}
 use Rattle.typerecords.proofs.met.Given as goal
 

@@ -1,10 +1,8 @@
 -- A law for each way out: types 0 and 1 right or wrong; a function type of a wrong form, equal to one before, nested deeper than 12, or right.
 -- Its argument and result have lower numbers, so that their depths are in the list, and its own is one more than the larger (depth_is).
 use native.Mathlib.Omega.{arith}
-use borrow.Author.Tests.{not-true, not-false}
 use Rattle.program.specs.Laws.Readable.{fields_ok}
 use Rattle.typerecords.proofs.TypeLaws.{table_at, base_good, base_bad, form_bad, seen_bad, arg_lower, res_lower, depth_over, depth_is}
-use Rattle.std.proofs.Common.{rules}
 use Rattle.typerecords.proofs.type_depth.Goals as goal
 
 pub returns-then-base_ok : goal.returns-then-base_ok
@@ -20,7 +18,7 @@ returns-then-t-lt2 c =
 pub returns-then-not-function_ok : goal.returns-then-not-function_ok
 returns-then-not-function_ok c =
     form_bad c.args.s.now c.args.c c.requires.laid c.args.t c.requires.inside c.type_record-r.ensures
-    c.if-t-lt2.false c.function_ok.ensures (not-true _ c.if-not-function_ok.true)
+    c.if-t-lt2.false c.function_ok.ensures c.if-not-function_ok.true
 
 pub is_fresh-requires : goal.is_fresh-requires
 is_fresh-requires c = table_at c.args.s.now c.args.c c.requires.laid c.args.t c.requires.inside
@@ -28,15 +26,27 @@ is_fresh-requires c = table_at c.args.s.now c.args.c c.requires.laid c.args.t c.
 pub returns-then-not-is_fresh : goal.returns-then-not-is_fresh
 returns-then-not-is_fresh c =
     seen_bad c.args.s.now c.args.c c.requires.laid c.args.t c.requires.inside c.type_record-r.ensures
-    c.if-t-lt2.false c.function_ok.ensures c.is_fresh.ensures (not-true _ c.if-not-is_fresh.true)
+    c.if-t-lt2.false c.function_ok.ensures c.is_fresh.ensures c.if-not-is_fresh.true
+
+pub returns-then-d-ge-MAX_TYPE_DEPTH : goal.returns-then-d-ge-MAX_TYPE_DEPTH
+returns-then-d-ge-MAX_TYPE_DEPTH c =
+    depth_over c.args.s.now c.args.c c.requires.laid c.args.t c.requires.inside c.type_record-r.ensures
+    c.if-t-lt2.false c.function_ok.ensures c.is_fresh.ensures c.if-not-function_ok.false
+    c.if-not-is_fresh.false c.args.depths.now _ c.requires.depths c.larger-d.ensures c.if-d-ge-MAX_TYPE_DEPTH.true
+
+pub returns : goal.returns
+returns c =
+    depth_is c.args.s.now c.args.c c.requires.laid c.args.t c.requires.inside c.type_record-r.ensures
+    c.if-t-lt2.false c.function_ok.ensures c.is_fresh.ensures c.if-not-function_ok.false
+    c.if-not-is_fresh.false c.args.depths.now _ c.requires.depths c.larger-d.ensures c.if-d-ge-MAX_TYPE_DEPTH.false
 
 pub bounds-depths-arg : goal.bounds-depths-arg
 bounds-depths-arg c =
     omega (
       arith,
       arg_lower c.args.s.now c.args.c c.requires.laid c.args.t c.requires.inside c.type_record-r.ensures
-          c.if-t-lt2.false c.function_ok.ensures c.is_fresh.ensures (not-false _ c.if-not-function_ok.false)
-          (not-false _ c.if-not-is_fresh.false),
+          c.if-t-lt2.false c.function_ok.ensures c.is_fresh.ensures c.if-not-function_ok.false
+          c.if-not-is_fresh.false,
       c.requires.inside,
       (fields_ok c.args.s.now c.requires.laid.none_found).types_high,
     )
@@ -46,20 +56,8 @@ bounds-depths-res c =
     omega (
       arith,
       res_lower c.args.s.now c.args.c c.requires.laid c.args.t c.requires.inside c.type_record-r.ensures
-          c.if-t-lt2.false c.function_ok.ensures c.is_fresh.ensures (not-false _ c.if-not-function_ok.false)
-          (not-false _ c.if-not-is_fresh.false),
+          c.if-t-lt2.false c.function_ok.ensures c.is_fresh.ensures c.if-not-function_ok.false
+          c.if-not-is_fresh.false,
       c.requires.inside,
       (fields_ok c.args.s.now c.requires.laid.none_found).types_high,
     )
-
-pub returns-then-d-ge-MAX_TYPE_DEPTH : goal.returns-then-d-ge-MAX_TYPE_DEPTH
-returns-then-d-ge-MAX_TYPE_DEPTH c =
-    depth_over c.args.s.now c.args.c c.requires.laid c.args.t c.requires.inside c.type_record-r.ensures
-    c.if-t-lt2.false c.function_ok.ensures c.is_fresh.ensures (not-false _ c.if-not-function_ok.false)
-    (not-false _ c.if-not-is_fresh.false) c.args.depths.now _ c.requires.depths c.larger-d.ensures c.if-d-ge-MAX_TYPE_DEPTH.true
-
-pub returns : goal.returns
-returns c =
-    depth_is c.args.s.now c.args.c c.requires.laid c.args.t c.requires.inside c.type_record-r.ensures
-    c.if-t-lt2.false c.function_ok.ensures c.is_fresh.ensures (not-false _ c.if-not-function_ok.false)
-    (not-false _ c.if-not-is_fresh.false) c.args.depths.now _ c.requires.depths c.larger-d.ensures c.if-d-ge-MAX_TYPE_DEPTH.false

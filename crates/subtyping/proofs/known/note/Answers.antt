@@ -1,5 +1,4 @@
 -- The bit of the pair is set, by `insert`, and the rest of the table stays as it was.
-use Rattle.std.proofs.Common.{rules}
 use Rattle.subtyping.proofs.KnownLaws.{note_word}
 use Rattle.subtyping.proofs.known.note.Goals as goal
 

@@ -1,47 +1,111 @@
-use Rattle.std.proofs.Common.{rules, ◌&&◌, ◌≡◌, leb, ltb, ℕ, ◌+◌, ◌-◌, ◌*◌, ◌<◌, ◌≤◌, length, ◌/◌, ◌%◌, Bool, true, false, nat_eq, List, [], ◌∷◌, ◌++◌, slice_index_or, slice_set, bit_and, bit_or, Fits, w8, w32, w64, Bor, MutBor}
-use Rattle.program.specs.Layout.{types_of}
-use Rattle.typing.specs.Subtyping.{subtype as subtype_of}
-use Rattle.typing.specs.Subtyping.{wider as wider_of}
-use Rattle.program.specs.Search.{found_model}
-use Rattle.subtyping.specs.Known.{KnownSheet, Answered}
+-- A law for each way out: equal types, a first or a second that is no function, a pair that is known, latent sets, arguments, results. The definition
+-- compares arguments before latent sets; both have to hold, so that the order changes nothing (sub-latent). What falls is the sum of the two types' numbers:
+-- a function type's argument and result have lower numbers than the type (args-fall, results-fall). What is noted at the end is so (sub-noted), so that the
+-- table stays right.
+use native.Mathlib.Omega.{arith}
+use mathlib.Core.Path.{sym, ◌∙◌}
+use Rattle.subtyping.proofs.SubtypeLaws.{small, sub_known, sub_equal, sub_left, sub_right, args_fall, results_fall, sub_latent, sub_args, sub_results, sub_noted}
 use Rattle.subtyping.proofs.subtypes.+subtype.Goals as goal
 
--- src/subtypes.rt:29:9
 pub returns-then-a-b : goal.returns-then-a-b
-returns-then-a-b t c = ?
+returns-then-a-b t c = record { is = sub_equal c.requires.sheet _ _ c.if-a-b.true; known = c.requires.known }
 
--- src/subtypes.rt:32:9
 pub returns-then-not-is_function : goal.returns-then-not-is_function
-returns-then-not-is_function t c = ?
+returns-then-not-is_function t c =
+    record {
+      is = sub_left c.requires.sheet _ _ c.if-a-b.false c.is_function.ensures
+          c.if-not-is_function.true;
+      known = c.requires.known;
+    }
 
--- src/subtypes.rt:35:9
 pub returns-then-not-is_function-2 : goal.returns-then-not-is_function-2
-returns-then-not-is_function-2 t c = ?
+returns-then-not-is_function-2 t c =
+    record {
+      is = sub_right c.requires.sheet _ _ c.if-a-b.false c.is_function.ensures
+          c.if-not-is_function.false c.is_function-2.ensures c.if-not-is_function-2.true;
+      known = c.requires.known;
+    }
 
--- src/subtypes.rt:38:9
+pub knows-requires : goal.knows-requires
+knows-requires t c =
+    record {
+      first_below = small c.requires.sheet _ c.is_function.ensures c.if-not-is_function.false;
+      second_below = small c.requires.sheet _ c.is_function-2.ensures c.if-not-is_function-2.false;
+    }
+
 pub returns-then-knows : goal.returns-then-knows
-returns-then-knows t c = ?
+returns-then-knows t c =
+    record {
+      is = sub_known c.requires.sheet _ _ c.requires.known
+          (small c.requires.sheet _ c.is_function.ensures c.if-not-is_function.false)
+          (small c.requires.sheet _ c.is_function-2.ensures c.if-not-is_function-2.false)
+          c.knows.ensures c.if-knows.true;
+      known = c.requires.known;
+    }
 
--- src/subtypes.rt:43:9
 pub returns-then-not-subset : goal.returns-then-not-subset
-returns-then-not-subset t c = ?
+returns-then-not-subset t c =
+    record {
+      is = sub_latent c.requires.sheet _ _ c.if-a-b.false c.is_function.ensures c.if-not-is_function.false
+          c.is_function-2.ensures c.if-not-is_function-2.false c.type_record-f.ensures
+          c.type_record-g.ensures c.subset.ensures c.if-not-subset.true;
+      known = c.requires.known;
+    }
 
--- src/subtypes.rt:45:9
 pub subtype-requires : goal.subtype-requires
-subtype-requires t c = ?
+subtype-requires t c = (
+  omega (
+    arith,
+    c.decreases,
+    args_fall c.requires.sheet _ _ c.if-a-b.false c.is_function.ensures
+        c.if-not-is_function.false c.is_function-2.ensures c.if-not-is_function-2.false c.type_record-f.ensures
+        c.type_record-g.ensures,
+  ),
+  c.requires,
+)
 
--- src/subtypes.rt:46:9
 pub returns-then-not-subtype : goal.returns-then-not-subtype
-returns-then-not-subtype t c = ?
+returns-then-not-subtype t c =
+    record {
+      is = sub_args c.requires.sheet _ _ c.if-a-b.false c.is_function.ensures c.if-not-is_function.false
+          c.is_function-2.ensures c.if-not-is_function-2.false c.type_record-f.ensures
+          c.type_record-g.ensures c.subset.ensures c.if-not-subset.false
+          c.subtype.ensures.is c.if-not-subtype.true;
+      known = c.subtype.ensures.known;
+    }
 
--- src/subtypes.rt:48:9
 pub subtype-requires-2 : goal.subtype-requires-2
-subtype-requires-2 t c = ?
+subtype-requires-2 t c = (
+  omega (
+    arith,
+    c.decreases,
+    results_fall c.requires.sheet _ _ c.if-a-b.false c.is_function.ensures
+        c.if-not-is_function.false c.is_function-2.ensures c.if-not-is_function-2.false c.type_record-f.ensures
+        c.type_record-g.ensures,
+  ),
+  record { sheet = c.requires.sheet; known = c.subtype.ensures.known },
+)
 
--- src/subtypes.rt:49:9
 pub returns-then-not-subtype-2 : goal.returns-then-not-subtype-2
-returns-then-not-subtype-2 t c = ?
+returns-then-not-subtype-2 t c =
+    record {
+      is = sym c.if-not-subtype-2.true ∙ sub_results c.requires.sheet _ _ c.if-a-b.false c.is_function.ensures
+          c.if-not-is_function.false c.is_function-2.ensures c.if-not-is_function-2.false c.type_record-f.ensures
+          c.type_record-g.ensures c.subset.ensures c.if-not-subset.false c.subtype.ensures.is
+          c.if-not-subtype.false c.subtype-2.ensures.is;
+      known = c.subtype-2.ensures.known;
+    }
 
--- src/subtypes.rt:24:1
+pub note-requires : goal.note-requires
+note-requires t c =
+    record {
+      first_below = small c.requires.sheet _ c.is_function.ensures c.if-not-is_function.false;
+      second_below = small c.requires.sheet _ c.is_function-2.ensures c.if-not-is_function-2.false;
+    }
+
 pub returns : goal.returns
-returns t c = ?
+returns t c =
+    sub_noted c.requires.sheet _ _ c.if-a-b.false c.is_function.ensures c.if-not-is_function.false
+    c.is_function-2.ensures c.if-not-is_function-2.false c.type_record-f.ensures c.type_record-g.ensures
+    c.subset.ensures c.if-not-subset.false c.subtype.ensures.is c.if-not-subtype.false
+    c.subtype-2.ensures.is c.if-not-subtype-2.false c.subtype-2.ensures.known c.note.ensures

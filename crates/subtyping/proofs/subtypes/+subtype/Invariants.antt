@@ -1,10 +1,6 @@
-use Rattle.std.proofs.Common.{◌&&◌, ◌≡◌, leb, ltb, ℕ, ◌+◌, ◌-◌, ◌*◌, ◌<◌, ◌≤◌, length}
-use Rattle.program.specs.Layout.{types_of}
-use Rattle.typing.specs.Subtyping.{subtype as subtype_of}
-use Rattle.typing.specs.Subtyping.{wider as wider_of}
-use Rattle.program.specs.Search.{found_model}
-use Rattle.subtyping.specs.Known.{KnownSheet, Answered}
+-- What falls is the sum of the two types' numbers: a function type's argument and result have lower numbers than the type.
+use Rattle.std.proofs.Common.{◌+◌}
 use Rattle.subtyping.proofs.subtypes.+subtype.Given as goal
 
 abbrev pub decreases-subtype : goal.decreases-subtype
-decreases-subtype l = ?
+decreases-subtype l = l.a + l.b

@@ -1,0 +1,11 @@
+-- The first i numbers are zero, and the others as they were, until all are zero. What falls is length - i, the numbers that are left, since each turn clears
+-- one.
+use Rattle.std.proofs.Common.{◌-◌, length}
+use Rattle.stores.proofs.CellLaws.{ClearedBelow}
+use Rattle.access.proofs.clear_frames.Given as goal
+
+abbrev pub invariant-loop-i : goal.invariant-loop-i
+invariant-loop-i l = ClearedBelow l.initial.a l.a l.i
+
+abbrev pub decreases-loop-i : goal.decreases-loop-i
+decreases-loop-i l = length l.initial.a - l.i

@@ -1,0 +1,15 @@
+-- What a lazy run restores is its first frame's enabled set; an eager one restores nothing.
+use Rattle.std.proofs.Common.{refl}
+use Rattle.access.proofs.AccessLaws.{enabled_lazy, enabled_eager}
+use Rattle.access.proofs.enabled_now.Goals as goal
+
+pub returns-then-lazy_mode : goal.returns-then-lazy_mode
+returns-then-lazy_mode c =
+    record {
+      answer_is = enabled_lazy _ _ _ c.lazy_mode.ensures c.if-lazy_mode.true c.first_enabled.ensures
+          c.number_at.ensures;
+      store_is = refl;
+    }
+
+pub returns : goal.returns
+returns c = record { answer_is = enabled_eager _ _ _ c.lazy_mode.ensures c.if-lazy_mode.false; store_is = refl }
