@@ -1,12 +1,12 @@
 -- From what the code stores to the block of specs/Block.antt.
 use mathlib.Core.Bool.{Bool, true, false, not, ◌&&◌, ◌||◌, false≢true}
-use mathlib.Core.List.{List, [], ◌∷◌, map}
+use mathlib.Core.List.{List, [], ◌∷◌}
 use mathlib.Core.Path.{◌≡◌, refl, sym, ap, ◌∙◌}
 use Prim.Native.Nat.{ℕ, zero, suc, ◌+◌, ◌-◌, ◌^◌, ◌<◌}
 use native.Mathlib.Nat.{mod-eq_of_lt}
 use native.Mathlib.Omega.{arith}
 use lib.Bits.{bit_and, bit_xor, and_mask, xor_add_and}
-use lib.ListN.{length, set, drop, length-map, drop_of_length-le}
+use lib.ListN.{length, set, drop, drop_of_length-le}
 use lib.Seq.{drop-cons}
 use Rattle.privileges.specs.Sets.{has, meet}
 use Rattle.privileges.specs.Laws.{has_meet, has_xor, has_ext}
@@ -42,9 +42,6 @@ elements b i (suc n) = byte b i ∷ elements b (suc i) n
 listed : (b : List ℕ) (i n : ℕ) → length b ≡ i + n → drop i b ≡ elements b i n
 listed b i zero e = drop_of_length-le b {i = i} (omega arith)
 listed b i (suc n) e = drop-cons b i 0 (omega arith) ∙ ap (λ (l : List ℕ). byte b i ∷ l) (listed b (suc i) n (omega arith))
-
-pub sized : (l : List ℕ) (n : ℕ) → length (map (λ (v : ℕ). v) l) ≡ n → length l ≡ n
-sized l n e = simp length-map at e
 
 -- ---- what the stores of a run leave
 module _ (b : List ℕ) (t : RunRegisters) (size : length b ≡ block_bytes) where

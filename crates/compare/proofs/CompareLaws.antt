@@ -1,63 +1,20 @@
 -- What the loops of a comparison keep, and what each of its answers says.
-use mathlib.Core.Bool.{Bool, true, false, cond, ◌&&◌, true≢false, false≢true}
+use mathlib.Core.Bool.{Bool, true, false, cond, ◌&&◌, false≢true}
 use mathlib.Core.List.{List, ◌∷◌}
-use mathlib.Core.Path.{◌≡◌, refl, sym, ap, ◌∙◌, subst}
-use Prim.Native.Nat.{ℕ, suc, ◌+◌, ◌*◌, ◌/◌, ◌%◌, ◌-◌, ◌<◌, ◌≤◌}
+use mathlib.Core.Path.{◌≡◌, sym, ap, ◌∙◌, subst}
+use Prim.Native.Nat.{ℕ, suc, ◌+◌, ◌/◌, ◌%◌, ◌-◌, ◌<◌, ◌≤◌}
 use native.Mathlib.Omega.{arith}
-use lib.Dec.{eqb, leb}
+use lib.Dec.{leb}
 use lib.ListN.{length, drop}
 use lib.Seq.{drop-length}
-use borrow.Author.Tests.{eqb-true, eq-eqb, le-leb, lt-leb}
+use borrow.Author.Tests.{le-leb, lt-leb}
 use Rattle.privileges.specs.Booleans.{bool_ext}
 use Rattle.program.specs.Bytes.{byte}
-use Rattle.traces.specs.Traces.{Event, event_of, event_at, well_formed_record, trace}
+use Rattle.traces.specs.Traces.{Event, event_at, well_formed_record, trace}
 use Rattle.traces.specs.Comparing.{same_event, refused, fits, diverges, compared, if_both, comparison}
-use Rattle.traces.specs.Laws.Subsequences.{same_true, same_self}
 use Rattle.traces.specs.Laws.Greedy.{matched, placed_none, placed_room, compared_fits, compared_diverges}
 use Rattle.traces.specs.Laws.Records.{trace_length, well_formed_true, trace_next, well_formed_next, whole_entry, decision_at}
 use Rattle.compare.specs.Internal.{EntryAt, TwoFormed, matched_entries}
-
--- ---- equal entries
-decision_one : (d e : ℕ) → d ≤ 1 → e ≤ 1 → eqb d 1 ≡ eqb e 1 → d ≡ e
-decision_one d e h g q = bool_cases (eqb d 1) refl
-  where
-    bool_cases : (b : Bool) → eqb d 1 ≡ b → d ≡ e
-    bool_cases true p = eqb-true d 1 p ∙ sym (eqb-true e 1 (sym q ∙ p))
-    bool_cases false p = let x : (d ≡ 1 → ⊥) = λ z. true≢false (sym (eq-eqb d 1 z) ∙ p) in
-        let y : (e ≡ 1 → ⊥) = λ z. true≢false (sym (eq-eqb e 1 z) ∙ sym q ∙ p) in
-        omega (arith, x, y)
-
--- events of equal bytes are equal, and those of others are not
-pub record SameBytes (s : List ℕ) (i : ℕ) (t : List ℕ) (j : ℕ) : Type 0 where
-  pub first : byte s i ≡ byte t j
-  pub second : byte s (i + 1) ≡ byte t (j + 1)
-  pub third : byte s (i + 2) ≡ byte t (j + 2)
-  pub fourth : byte s (i + 3) ≡ byte t (j + 3)
-
-module _ (s : List ℕ) (i : ℕ) (t : List ℕ) (j : ℕ) (a : EntryAt s i) (b : EntryAt t j) (low : byte s (i + 1) < 256) (low' : byte t (j + 1) < 256) where
-  same_parts : same_event (event_at s i) (event_at t j) ≡ true → SameBytes s i t j
-  same_parts q =
-      let e = same_true (event_at s i) (event_at t j) q in
-      let term : byte s i * 256 + byte s (i + 1) ≡ byte t j * 256 + byte t (j + 1) = ap (λ (x : Event). x.term) e in
-      record {
-        first = omega arith;
-        second = omega arith;
-        third = ap (λ (x : Event). x.privilege) e;
-        fourth = decision_one (byte s (i + 3)) (byte t (j + 3)) a.decision b.decision (ap (λ (x : Event). x.decided) e);
-      }
-
-  pub other_bytes : (SameBytes s i t j → ⊥) → false ≡ same_event (event_at s i) (event_at t j)
-  other_bytes n = sym (bool_ext (same_event (event_at s i) (event_at t j)) false (λ q. absurd (n (same_parts q))) (λ q. absurd (false≢true q)))
-
-  pub last_byte : byte s i ≡ byte t j → byte s (i + 1) ≡ byte t (j + 1) → byte s (i + 2) ≡ byte t (j + 2)
-      → eqb (byte s (i + 3)) (byte t (j + 3)) ≡ same_event (event_at s i) (event_at t j)
-  last_byte e f g = bool_ext (eqb (byte s (i + 3)) (byte t (j + 3))) (same_event (event_at s i) (event_at t j)) there
-      (λ q. eq-eqb (byte s (i + 3)) (byte t (j + 3)) (same_parts q).fourth)
-    where
-      there : eqb (byte s (i + 3)) (byte t (j + 3)) ≡ true → same_event (event_at s i) (event_at t j) ≡ true
-      there q =
-          (λ k. same_event (event_at s i) (event_of (sym e k) (sym f k) (sym g k) (sym (eqb-true (byte s (i + 3)) (byte t (j + 3)) q) k)))
-          ∙ same_self (event_at s i)
 
 -- ---- the form of a record: the entries before byte i are well formed
 pub record Formed (s : List ℕ) (i : ℕ) : Type 0 where
@@ -68,9 +25,6 @@ pub record Formed (s : List ℕ) (i : ℕ) : Type 0 where
 module _ (s : List ℕ) where
   pub not_whole : (length s % 4 ≡ 0 → ⊥) → false ≡ well_formed_record s
   not_whole n = sym (bool_ext (well_formed_record s) false (λ w. absurd (n (well_formed_true s w).whole_entries)) (λ q. absurd (false≢true q)))
-
-  pub formed_starts : Formed s 0
-  formed_starts = record { fourth = refl; within = omega arith; so_far = refl }
 
   module _ (whole : length s % 4 ≡ 0) (i : ℕ) (f : Formed s i) (inside : i < length s) where
     pub room : i + 4 ≤ length s
@@ -104,9 +58,6 @@ unfolding matched
 placed_step e f t x b q = λ k. cond (q k) (suc (matched t x)) (matched (e ∷ t) x)
 
 module _ (u o : List ℕ) where
-  pub placing_starts : Placing u o 0 0
-  placing_starts = record { unit_whole = refl; office_whole = refl; unit_within = omega arith; office_within = omega arith; so_far = omega arith }
-
   pub placing_all : (i j : ℕ) → Placing u o i j → i ≡ length u → i / 4 ≡ matched_entries u o
   unfolding matched trace
   placing_all i j p e =

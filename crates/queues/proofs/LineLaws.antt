@@ -2,42 +2,19 @@
 use mathlib.Core.Bool.{Bool, true, false, not, ◌||◌, true≢false}
 use mathlib.Core.List.{List, [], ◌∷◌, ◌++◌, map}
 use mathlib.Core.Path.{◌≡◌, refl, sym, ap, ◌∙◌}
-use Prim.Native.Nat.{ℕ, suc, ◌+◌, ◌-◌, ◌%◌, ◌<◌, ◌≤◌}
+use Prim.Native.Nat.{ℕ, suc, ◌+◌, ◌%◌, ◌<◌, ◌≤◌}
 use native.Mathlib.Omega.{arith}
 use lib.Dec.{ltb, leb}
 use lib.ListN.{length, get_or, set}
-use borrow.Author.Tests.{lt-ltb, le-ltb, le-leb, lt-leb, leb-true, leb-false, not-false}
+use borrow.Author.Tests.{lt-ltb, le-ltb, leb-true, leb-false, not-false}
 use Rattle.program.specs.Screening.{clear, found, refuse_at, screen, unless}
-use Rattle.queues.specs.Queues.{max_lines, max_jobs, Job, Lines as LinesOf, new_lines, queue_at, inside, Added, added_to, add_of, nobody, turn_at, next_line, turn_from, turn_of, after_turn}
+use Rattle.queues.specs.Queues.{max_lines, max_jobs, Job, Lines as LinesOf, queue_at, inside, Added, added_to, add_of, nobody, turn_at, next_line, turn_from, turn_of, after_turn}
 use Rattle.queues.specs.Answers.{no_queue, queue_model, lines_model}
 use Rattle.queues.specs.Internal.{has_job, SizeIs, Next}
 use Rattle.queues.specs.declared.state.Queue.{Queue}
 use Rattle.queues.specs.declared.state.Lines.{Lines}
 use Rattle.queues.specs.Laws.{queue_is}
 use Rattle.queues.proofs.ListLaws.{map_set}
-
--- ---- a part of the store
-module _ (offset size n : ℕ) where
-  pub starts_past : n < offset → false ≡ leb (offset + size) n
-  starts_past h = sym (lt-leb (offset + size) n (omega arith))
-
-  pub ends_within : offset ≤ n → leb size (n - offset) ≡ leb (offset + size) n
-  ends_within h = go (leb size (n - offset)) refl
-    where
-      go : (b : Bool) → leb size (n - offset) ≡ b → b ≡ leb (offset + size) n
-      go true e = sym (le-leb (offset + size) n (omega (arith, leb-true size (n - offset) e)))
-      go false e = sym (lt-leb (offset + size) n (omega (arith, leb-false size (n - offset) e)))
-
--- ---- queues
-pub none_anywhere : (q : Queue) → queue_model q ≡ [] → lines_model (record { queues = q ∷ q ∷ q ∷ q ∷ []; turn = 0; place = 0 }) ≡ new_lines
-none_anywhere q e = λ i. record { queues = e i ∷ e i ∷ e i ∷ e i ∷ []; turn = 0; place = 0 }
-
-by_size : (js : List Job) → ltb 0 (length js) ≡ has_job js
-by_size [] = refl
-by_size (j ∷ js) = lt-ltb 0 (suc (length js)) (omega arith)
-
-pub waiting : (q : Lines) (l n : ℕ) → SizeIs (get_or q.queues l no_queue) n → ltb 0 n ≡ has_job (queue_at (lines_model q) l)
-waiting q l n e = ap (ltb 0) e.size_is ∙ by_size (queue_model (get_or q.queues l no_queue)) ∙ ap has_job (sym (queue_is q l))
 
 -- ---- whose turn it is
 module _ (s : LinesOf) where
@@ -138,9 +115,6 @@ module _ (q : Lines) (l : ℕ) (j : Job) (store : List ℕ) where
     or_neither : (y z : Bool) → (y || z) ≡ false → (y ≡ false) × (z ≡ false)
     or_neither true z e = absurd (true≢false e)
     or_neither false z e = (refl, e)
-
-    pub not_full : (not x || leb max_jobs n) ≡ false → length (queue_model (get_or q.queues l no_queue)) < max_jobs
-    not_full e = omega (arith, size.size_is, leb-false max_jobs n (or_neither (not x) (leb max_jobs n) e).1)
 
     pub has_added : (not x || leb max_jobs n) ≡ false → (more : Queue) → queue_model more ≡ queue_model (get_or q.queues l no_queue) ++ (j ∷ [])
         → record { answer = clear; state = lines_model (record { queues = set q.queues l more; turn = q.turn; place = q.place }) }

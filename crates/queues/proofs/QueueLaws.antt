@@ -1,42 +1,20 @@
 -- One line's queue, from its places to the list of jobs that it stands for.
 use mathlib.Core.Bool.{true, true≢false}
-use mathlib.Core.List.{List, [], ◌∷◌, ◌++◌, map, map-append}
+use mathlib.Core.List.{List, [], ◌∷◌, ◌++◌, map}
 use mathlib.Core.Path.{◌≡◌, sym, ap, ◌∙◌}
 use Prim.Native.Nat.{ℕ, suc, ◌+◌, ◌-◌, ◌<◌, ◌≤◌}
-use native.Mathlib.Numerals.{add-one}
 use native.Mathlib.Omega.{arith}
-use lib.ListN.{length, take, drop, get_or, set, length-map, length-take, length-drop, get_or-map, get_or-eq_default}
-use lib.Seq.{take-suc-set, take_at, length-take-le, get_or-take, get_or-drop}
+use lib.ListN.{length, take, drop, get_or, set, length-map, length-drop}
+use lib.Seq.{take_at, length-take-le, get_or-drop}
 use native.Mathlib.Nat.{add_comm}
 use Rattle.queues.specs.Queues as queues
 use Rattle.queues.specs.Queues.{max_jobs}
-use Rattle.queues.specs.Answers.{job_model, no_job, queue_model}
+use Rattle.queues.specs.Answers.{job_model, queue_model}
 use Rattle.queues.specs.Internal.{has_job, SizeIs}
 use Rattle.queues.specs.declared.state.Job.{Job}
 use Rattle.queues.specs.declared.state.Queue.{Queue}
 use Rattle.program.specs.Laws.Lists.{copied_more}
 use Rattle.queues.proofs.ListLaws.{take_held}
-
--- as many as its count says, and no more than it has places
-module _ (q : Queue) (eight : length q.jobs ≡ max_jobs) where
-  held : length (queue_model q) ≡ length (take q.count q.jobs)
-  held = length-map (take q.count q.jobs) job_model
-
-  pub size_few : q.count < max_jobs → SizeIs q q.count
-  size_few h = record { size_is = omega (arith, held, length-take q.count q.jobs); most = omega arith }
-
-  pub size_full : max_jobs ≤ q.count → SizeIs q max_jobs
-  size_full h = record { size_is = omega (arith, held, length-take q.count q.jobs); most = omega arith }
-
-  pub has_room : length (queue_model q) < max_jobs → q.count < max_jobs
-  has_room h = omega (arith, held, length-take q.count q.jobs)
-
-  -- one job more
-  pub one_more : (j : Job) → length (queue_model q) < max_jobs → queue_model (record { jobs = set q.jobs q.count j; count = q.count + 1 })
-      ≡ queue_model q ++ (job_model j ∷ [])
-  one_more j h =
-      ap (λ (n : ℕ). map job_model (take n (set q.jobs q.count j))) (add-one q.count)
-      ∙ ap (map job_model) (take-suc-set q.jobs q.count j (omega (arith, has_room h))) ∙ map-append job_model (take q.count q.jobs) (j ∷ [])
 
 pub some_job : (js : List queues.Job) → has_job js ≡ true → 0 < length js
 some_job [] e = absurd (true≢false (sym e))
@@ -73,16 +51,3 @@ pub moved_more : (jobs : List Job) (i : ℕ) {rest : List Job} → length jobs �
 moved_more jobs i {rest = rest} eight h e d =
     let next : get_or jobs (i + 1) d ≡ get_or (drop 1 jobs) i d = ap (λ (k : ℕ). get_or jobs k d) (add_comm i 1) ∙ sym (get_or-drop 1 jobs i d) in
     ap (set rest i) next ∙ copied_more (drop 1 jobs) jobs rest i d (omega (arith, length-drop 1 jobs)) (omega arith) e
-
--- the job in a place
-abbrev none : Job
-none = record { offset = 0; length = 0; calls = 0 }
-
-module _ (q : Queue) (n : ℕ) (size : SizeIs q n) (k : ℕ) where
-  pub is_waiting : k < n → job_model (get_or q.jobs k none) ≡ get_or (queue_model q) k no_job
-  is_waiting h =
-      let within : k < q.count = omega (arith, size.size_is, length-map (take q.count q.jobs) job_model, length-take q.count q.jobs) in
-      sym (get_or-map job_model (take q.count q.jobs) k none ∙ ap job_model (get_or-take q.count q.jobs k none within))
-
-  pub none_waiting : n ≤ k → no_job ≡ get_or (queue_model q) k no_job
-  none_waiting h = sym (get_or-eq_default (queue_model q) no_job (omega (arith, size.size_is)))

@@ -3,6 +3,8 @@
 ghost use Rattle.std.specs.Prelude.{◌≤◌};
 ghost use Rattle.vector_io.specs.Internal.{VectorFits};
 
+use std::io::Read;
+
 // One vector's header, with lengths that the buffers at hand have. The numbers of the pairs come last, and their count is as it was read.
 #[derive(Clone, Copy)]
 pub struct Vector {
@@ -41,13 +43,20 @@ fn quad(a: u8, b: u8, c: u8, d: u8) -> u32 {
 }
 
 // The next vector's header; at the end of the input it is not whole.
-pub fn read_vector(start: usize, sheet: usize, cells: usize, posts: usize, frames: usize) -> Vector
+pub fn read_vector<R: Read>(
+    input: &mut R,
+    start: usize,
+    sheet: usize,
+    cells: usize,
+    posts: usize,
+    frames: usize,
+) -> Vector
     ensures { VectorFits start sheet cells posts frames result }
 {
     let mut h = [0u8; 25];
-    let got = io::read_full(0, &mut h);
+    let got = input.read_exact(&mut h);
     Vector {
-        whole: got == 25,
+        whole: got.is_ok(),
         sheet: least(pair(h[0], h[1]), sheet),
         start: least(wide8(h[2]), start),
         calls: quad(h[3], h[4], h[5], h[6]),
@@ -61,11 +70,11 @@ pub fn read_vector(start: usize, sheet: usize, cells: usize, posts: usize, frame
 }
 
 // The numbers of the start stack.
-pub fn read_start(start: &mut [u32]) {
+pub fn read_start<R: Read>(input: &mut R, start: &mut [u32]) {
     let mut i = 0;
     while i < start.len() {
         let mut b = [0u8; 4];
-        io::read_full(0, &mut b);
+        let _ = input.read_exact(&mut b);
         start[i] = quad(b[0], b[1], b[2], b[3]);
         i += 1;
     }
@@ -76,11 +85,11 @@ fn narrow(a: u8, b: u8) -> u16 {
 }
 
 // The numbers of the pairs.
-pub fn read_pairs(pairs: &mut [u16]) {
+pub fn read_pairs<R: Read>(input: &mut R, pairs: &mut [u16]) {
     let mut i = 0;
     while i < pairs.len() {
         let mut b = [0u8; 2];
-        io::read_full(0, &mut b);
+        let _ = input.read_exact(&mut b);
         pairs[i] = narrow(b[0], b[1]);
         i += 1;
     }

@@ -1,30 +1,29 @@
-// The lines that are compared with the recorded ones.
-use libc::STDOUT_FILENO;
+// The lines that are compared with the recorded ones. A write that fails is passed over.
 
-fn word(x: u32) {
-    io::write_all(STDOUT_FILENO, b" ");
-    io::print_decimal(STDOUT_FILENO, x as u64);
+fn word(rt: &impl Print, x: u32) {
+    let _ = rt.write_all(b" ");
+    let _ = rt.print(x);
 }
 
 // A name, a status and the numbers of an answer.
-fn answer(name: &[u8], status: u32, numbers: &[u32]) {
-    io::write_all(STDOUT_FILENO, name);
-    word(status);
+fn answer(rt: &impl Print, name: &[u8], status: u32, numbers: &[u32]) {
+    let _ = rt.write_all(name);
+    word(rt, status);
     let mut i = 0;
     while i < numbers.len() {
-        word(numbers[i]);
+        word(rt, numbers[i]);
         i += 1;
     }
 }
 
-pub fn line(name: &[u8], status: u32, numbers: &[u32]) {
-    answer(name, status, numbers);
-    io::write_all(STDOUT_FILENO, b"\n");
+pub fn line(rt: &impl Print, name: &[u8], status: u32, numbers: &[u32]) {
+    answer(rt, name, status, numbers);
+    let _ = rt.write_all(b"\n");
 }
 
 // The same, with the sum of the buffers.
-pub fn run_line(name: &[u8], status: u32, numbers: &[u32], sum: u32) {
-    answer(name, status, numbers);
-    word(sum);
-    io::write_all(STDOUT_FILENO, b"\n");
+pub fn run_line(rt: &impl Print, name: &[u8], status: u32, numbers: &[u32], sum: u32) {
+    answer(rt, name, status, numbers);
+    word(rt, sum);
+    let _ = rt.write_all(b"\n");
 }

@@ -1,5 +1,5 @@
--- `compare` answers 34 for a record that is not well formed (malformed-unit, malformed-office), and else by the number of entries that `place` places: fewer
--- than the unit has (as-diverges) or all of them (as_fits), of which the office has as many at least (enough).
+-- `compare` answers 34 for a record that is not well formed (malformed_unit, malformed_office), and else by the number of entries that `place` places: fewer
+-- than the unit has (as_diverges) or all of them (as_fits), of which the office has as many at least (enough).
 use native.Mathlib.Omega.{arith}
 use mathlib.Core.Path.{sym, ◌∙◌}
 use Rattle.compare.proofs.CompareLaws.{malformed_unit, malformed_office, as_diverges, as_fits, enough}

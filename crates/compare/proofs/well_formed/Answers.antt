@@ -1,14 +1,11 @@
--- `well_formed` asks for whole entries (not-whole) and then looks at the last byte of each. The invariant: the entries before byte i are well formed; the
--- next is (formed-more) or is not (above-one), and behind the last the record is (formed-all). The measure is length - i, the bytes left, and falls since
+-- `well_formed` asks for whole entries (not_whole) and then looks at the last byte of each. The invariant: the entries before byte i are well formed; the
+-- next is (formed_more) or is not (above_one), and behind the last the record is (formed_all). The measure is length - i, the bytes left, and falls since
 -- each turn adds 4 to i.
-use Rattle.compare.proofs.CompareLaws.{not_whole, formed_starts, above_one, formed_more, formed_all}
+use Rattle.compare.proofs.CompareLaws.{not_whole, above_one, formed_more, formed_all}
 use Rattle.compare.proofs.well_formed.Goals as goal
 
 pub returns-then-s-ne0 : goal.returns-then-s-ne0
 returns-then-s-ne0 c = not_whole c.args.s.now c.if-s-ne0.true
-
-pub loop-i-init : goal.loop-i-init
-loop-i-init c = formed_starts c.args.s.now
 
 pub returns-then-s-i-gt1 : goal.returns-then-s-i-gt1
 returns-then-s-i-gt1 c = above_one c.args.s.now c.if-s-ne0.false c.loop-i.i c.loop-i.invariant c.loop-i-test.true c.if-s-i-gt1.true

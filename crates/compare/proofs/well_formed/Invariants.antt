@@ -1,5 +1,5 @@
--- `well_formed` asks for whole entries (not-whole) and then looks at the last byte of each. The invariant: the entries before byte i are well formed; the
--- next is (formed-more) or is not (above-one), and behind the last the record is (formed-all). The measure is length - i, the bytes left, and falls since
+-- `well_formed` asks for whole entries (not_whole) and then looks at the last byte of each. The invariant: the entries before byte i are well formed; the
+-- next is (formed_more) or is not (above_one), and behind the last the record is (formed_all). The measure is length - i, the bytes left, and falls since
 -- each turn adds 4 to i.
 use Prim.Native.Nat.{◌-◌}
 use lib.ListN.{length}

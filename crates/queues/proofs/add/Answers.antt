@@ -1,7 +1,7 @@
--- `add` tells 27 of a line that there is not (past-lines), then 28 of a part outside the store (outside-answered), then 29 of a full queue (full-answered), and
--- leaves the queues. Else the job stands behind the others of its line (has-added), which has room for it (not_full).
+-- `add` tells 27 of a line that there is not (past_lines), then 28 of a part outside the store (outside_answered), then 29 of a full queue (full_answered), and
+-- leaves the queues. Else the job stands behind the others of its line (has_added), which has room for it.
 use Rattle.queues.specs.Answers.{job_of}
-use Rattle.queues.proofs.LineLaws.{past_lines, outside_answered, full_answered, not_full, has_added}
+use Rattle.queues.proofs.LineLaws.{past_lines, outside_answered, full_answered, has_added}
 use Rattle.queues.proofs.add.Goals as goal
 
 pub returns-then-line-ge-MAX_LINES : goal.returns-then-line-ge-MAX_LINES
@@ -19,11 +19,6 @@ returns-else-outside c =
     full_answered c.args.q c.args.line (job_of c.args.offset c.args.length c.args.calls) c.args.store.now
     c.if-line-ge-MAX_LINES.false c.inside-outside.result c.inside-outside.ensures c.size-full.result c.size-full.ensures c.if-outside-full.true
     c.if-outside.false
-
-pub enqueue-more-requires : goal.enqueue-more-requires
-enqueue-more-requires c =
-    not_full c.args.q c.args.line (job_of c.args.offset c.args.length c.args.calls) c.args.store.now
-    c.if-line-ge-MAX_LINES.false c.inside-outside.result c.inside-outside.ensures c.size-full.result c.size-full.ensures c.if-outside-full.false
 
 pub returns : goal.returns
 returns c =

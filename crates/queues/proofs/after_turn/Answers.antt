@@ -1,4 +1,4 @@
--- `after_turn` leaves the state after a line's turn (turn-over).
+-- `after_turn` leaves the state after a line's turn (turn_over).
 use Rattle.queues.proofs.LineLaws.{turn_over}
 use Rattle.queues.proofs.after_turn.Goals as goal
 

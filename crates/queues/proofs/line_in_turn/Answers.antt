@@ -1,4 +1,4 @@
--- `line_in_turn` asks each of the four lines in turn, from the one that is due: the first that has a job is served (first-line to fourth-line), and
+-- `line_in_turn` asks each of the four lines in turn, from the one that is due: the first that has a job is served (first_line to fourth_line), and
 -- nobody if none has (no_line).
 use mathlib.Core.Path.{sym, ◌∙◌}
 use Rattle.queues.proofs.LineLaws.{first_line, second_line, third_line, fourth_line, no_line}

@@ -1,6 +1,6 @@
 -- `dequeue` gives the first job and moves each of the others up a place. The invariant: i is at most the last place in use, the first i places hold the
 -- jobs of the places behind them, and the others are as they were (moved_more makes it one more). The measure is what is left up to the last place,
--- and falls since each turn adds 1 to i. When the test fails, what is left is the queue without its first job (one-less).
+-- and falls since each turn adds 1 to i. When the test fails, what is left is the queue without its first job (one_less).
 use native.Mathlib.Omega.{arith}
 use Rattle.queues.proofs.QueueLaws.{moved_more, one_less}
 use Rattle.queues.proofs.queue.dequeue.Goals as goal
