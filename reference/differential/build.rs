@@ -8,7 +8,7 @@ const LIB_DIR: &str = "SOVZEDAL_LIB_DIR";
 fn main() {
     let dir = match env::var_os(LIB_DIR) {
         Some(dir) => PathBuf::from(dir),
-        None => PathBuf::from(env!("CARGO_MANIFEST_DIR")).join("../../target/staticlib"),
+        None => PathBuf::from(env!("CARGO_MANIFEST_DIR")).join("../../crates/capi/out"),
     };
     let library = dir.join("libcapi.a");
     if !library.exists() {

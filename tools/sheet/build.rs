@@ -9,7 +9,7 @@ fn main() {
     let package = PathBuf::from(env::var_os("CARGO_MANIFEST_DIR").expect("cargo sets it"));
     let directory = match env::var_os(LIB_DIR) {
         Some(directory) => PathBuf::from(directory),
-        None => package.join("../../target/staticlib"),
+        None => package.join("../../crates/capi/out"),
     };
     println!("cargo:rerun-if-env-changed={LIB_DIR}");
     println!("cargo:rerun-if-changed=build.rs");

@@ -10,7 +10,7 @@ use subtyping::known::Known;
 use typing::answer::Inferred;
 
 // The type and needs of term t under the bindings b and the principal n, or its first fault. What is known of the sheet's types is handed on.
-#[cycle(infer_infer_binary_infer_call_infer_check_infer_enable_infer_function_infer_if_infer_letrec_infer_post_infer_sign_infer_test)]
+#[cycle(inference)]
 pub fn infer(s: &[u8], c: Counts, known: &mut Known, t: u16, b: Bindings, n: u8) -> Inferred
     requires { ReadyTerm s.now c known.old t b n }
     ensures { InferredAs s.now (context b) n t result known.new }
@@ -32,7 +32,7 @@ pub fn infer(s: &[u8], c: Counts, known: &mut Known, t: u16, b: Bindings, n: u8)
     }
 }
 
-#[cycle(infer_infer_binary_infer_call_infer_check_infer_enable_infer_function_infer_if_infer_letrec_infer_post_infer_sign_infer_test)]
+#[cycle(inference)]
 fn infer_function(
     s: &[u8],
     c: Counts,
@@ -51,7 +51,7 @@ fn infer_function(
     steps::function_of(f, x.first, t, j)
 }
 
-#[cycle(infer_infer_binary_infer_call_infer_check_infer_enable_infer_function_infer_if_infer_letrec_infer_post_infer_sign_infer_test)]
+#[cycle(inference)]
 fn infer_letrec(
     s: &[u8],
     c: Counts,
@@ -75,7 +75,7 @@ fn infer_letrec(
     steps::letrec_of(f, t, ty, needs, k)
 }
 
-#[cycle(infer_infer_binary_infer_call_infer_check_infer_enable_infer_function_infer_if_infer_letrec_infer_post_infer_sign_infer_test)]
+#[cycle(inference)]
 fn infer_call(
     s: &[u8],
     c: Counts,
@@ -96,7 +96,7 @@ fn infer_call(
     steps::call_of(s, c, known, t, ty, needs, k)
 }
 
-#[cycle(infer_infer_binary_infer_call_infer_check_infer_enable_infer_function_infer_if_infer_letrec_infer_post_infer_sign_infer_test)]
+#[cycle(inference)]
 fn infer_if(
     s: &[u8],
     c: Counts,
@@ -125,7 +125,7 @@ fn infer_if(
     steps::branched(s, c, known, t, cond, cond_needs, ty, needs, k)
 }
 
-#[cycle(infer_infer_binary_infer_call_infer_check_infer_enable_infer_function_infer_if_infer_letrec_infer_post_infer_sign_infer_test)]
+#[cycle(inference)]
 fn infer_check(
     s: &[u8],
     c: Counts,
@@ -142,7 +142,7 @@ fn infer_check(
     steps::checked(x.small, j)
 }
 
-#[cycle(infer_infer_binary_infer_call_infer_check_infer_enable_infer_function_infer_if_infer_letrec_infer_post_infer_sign_infer_test)]
+#[cycle(inference)]
 fn infer_enable(
     s: &[u8],
     c: Counts,
@@ -161,7 +161,7 @@ fn infer_enable(
 }
 
 // The child is judged under the principal that signs it.
-#[cycle(infer_infer_binary_infer_call_infer_check_infer_enable_infer_function_infer_if_infer_letrec_infer_post_infer_sign_infer_test)]
+#[cycle(inference)]
 fn infer_sign(
     s: &[u8],
     c: Counts,
@@ -179,7 +179,7 @@ fn infer_sign(
     steps::signed(authorised, t, j)
 }
 
-#[cycle(infer_infer_binary_infer_call_infer_check_infer_enable_infer_function_infer_if_infer_letrec_infer_post_infer_sign_infer_test)]
+#[cycle(inference)]
 fn infer_test(
     s: &[u8],
     c: Counts,
@@ -200,7 +200,7 @@ fn infer_test(
     steps::tested(s, c, known, x.small, t, ty, needs, k)
 }
 
-#[cycle(infer_infer_binary_infer_call_infer_check_infer_enable_infer_function_infer_if_infer_letrec_infer_post_infer_sign_infer_test)]
+#[cycle(inference)]
 fn infer_binary(
     s: &[u8],
     c: Counts,
@@ -223,7 +223,7 @@ fn infer_binary(
 }
 
 // The privilege that guards its channel is among the needs.
-#[cycle(infer_infer_binary_infer_call_infer_check_infer_enable_infer_function_infer_if_infer_letrec_infer_post_infer_sign_infer_test)]
+#[cycle(inference)]
 fn infer_post(
     s: &[u8],
     c: Counts,

@@ -164,7 +164,9 @@ module _ (s : List ℕ) (p : ℕ) where
   the_last o h = go o h.among h.needed
     where
       go : {y : Placed} (o : Option Placed) → Among y (listed o []) → needs (types_of s) (authority s) p y ≡ true → needed_by s p o ≡ true
+      go none m f = elim m [ ]
       go (some x) among_first f = f
+      go (some x) (among_later m) f = elim m [ ]
 
 -- a child that does not need the privilege is passed
 passed_by : {s : List ℕ} {p : ℕ} {o : Option Placed} {os : List (Option Placed)} {due : Option Placed} → ChildrenLeft s p due (o ∷ os) → needed_by s p o ≡ false

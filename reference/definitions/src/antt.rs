@@ -75,7 +75,7 @@ fn running(sheet: &str, run: &Running) -> String {
         Err(refusal) => (refused(refusal), 0),
     };
     format!(
-        "running {sheet} {} {} {} (recordedAs (after {outcome} {}) {entries} {})",
+        "running {sheet} {} {} {} (recorded_as (after {outcome} {}) {entries} {})",
         request(&run.query),
         buffers(&run.before),
         list(&run.before.record),
@@ -110,7 +110,7 @@ fn piece(sheet: &[u8], piece: &Result<Option<Piece>, Refusal>) -> String {
             piece.term,
             list(piece.record_in(sheet))
         ),
-        Ok(None) => "no-piece []".to_string(),
+        Ok(None) => "no_piece []".to_string(),
         Err(refusal) => format!("(unreadable {}) []", cause_and_place(*refusal)),
     }
 }
@@ -133,7 +133,7 @@ fn request(query: &Query) -> String {
     };
     let request = &query.request;
     format!(
-        "(requestOf {runner} {} {} {} {})",
+        "(request_of {runner} {} {} {} {})",
         query.checks == Checks::Enforced,
         list(&request.start),
         request.calls,
@@ -143,7 +143,7 @@ fn request(query: &Query) -> String {
 
 fn buffers(buffers: &Buffers) -> String {
     format!(
-        "(buffersOf {} {} {})",
+        "(buffers_of {} {} {})",
         list(&buffers.cells),
         list(&buffers.posts),
         frames(&buffers.frames)
@@ -211,8 +211,8 @@ fn outcome<B, N>(
     number: fn(N) -> String,
 ) -> String {
     match outcome {
-        Outcome::End(Plain::Bool(value)) => format!("(ended (ground-bool {}))", truth(value)),
-        Outcome::End(Plain::Number(value)) => format!("(ended (ground-num {}))", number(value)),
+        Outcome::End(Plain::Bool(value)) => format!("(ended (ground_bool {}))", truth(value)),
+        Outcome::End(Plain::Number(value)) => format!("(ended (ground_num {}))", number(value)),
         Outcome::Stop(Stop { cause, term }) => format!("(stopped {} {term})", cause.number()),
     }
 }
@@ -267,11 +267,11 @@ mod tests {
             rows,
             [
                 "deciding s (accepted 5 1 0)",
-                "running s (requestOf eager true [] 4096 100) \
-                 (buffersOf (replicate 20 7) (8 ∷ 8 ∷ []) (9 ∷ [])) \
+                "running s (request_of eager true [] 4096 100) \
+                 (buffers_of (replicate 20 7) (8 ∷ 8 ∷ []) (9 ∷ [])) \
                  (6 ∷ 6 ∷ 6 ∷ 6 ∷ 6 ∷ 6 ∷ []) \
-                 (recordedAs (after (ran (ended (ground-num 7)) (counted 0 0 1 0)) \
-                 (buffersOf (replicate 20 0) (7 ∷ 8 ∷ []) (9 ∷ []))) \
+                 (recorded_as (after (ran (ended (ground_num 7)) (counted 0 0 1 0)) \
+                 (buffers_of (replicate 20 0) (7 ∷ 8 ∷ []) (9 ∷ []))) \
                  1 (0 ∷ 2 ∷ 1 ∷ 1 ∷ 6 ∷ 6 ∷ []))",
             ]
         );
@@ -289,29 +289,29 @@ mod tests {
             let run = Ranging::answered(&sheet, pairs.to_vec(), Checks::Skipped, request);
             ranging("s", &run)
         };
-        let before = "(requestOf eager false [] 4096 100) \
-                      (buffersOf (replicate 9 7) (8 ∷ 8 ∷ []) (9 ∷ []))";
+        let before = "(request_of eager false [] 4096 100) \
+                      (buffers_of (replicate 9 7) (8 ∷ 8 ∷ []) (9 ∷ []))";
         assert_eq!(
             answered(post(sum(number(7), number(7))), &[1, 2, 3, 9]),
             format!(
                 "ranging s (1 ∷ 2 ∷ 3 ∷ 9 ∷ []) {before} \
-                 (after (ran (ended (ground-num (interval 4 11))) (counted 0 0 1 0)) \
-                 (buffersOf (replicate 9 0) (262155 ∷ 8 ∷ []) (9 ∷ [])))"
+                 (after (ran (ended (ground_num (interval 4 11))) (counted 0 0 1 0)) \
+                 (buffers_of (replicate 9 0) (262155 ∷ 8 ∷ []) (9 ∷ [])))"
             )
         );
         assert_eq!(
             answered(less(number(7), number(7)), &[1, 3, 3, 9]),
             format!(
                 "ranging s (1 ∷ 3 ∷ 3 ∷ 9 ∷ []) {before} \
-                 (after (ran (ended (ground-bool none)) (counted 0 0 0 0)) \
-                 (buffersOf (replicate 9 0) (8 ∷ 8 ∷ []) (9 ∷ [])))"
+                 (after (ran (ended (ground_bool none)) (counted 0 0 0 0)) \
+                 (buffers_of (replicate 9 0) (8 ∷ 8 ∷ []) (9 ∷ [])))"
             )
         );
         assert_eq!(
             answered(number(7), &[2, 1]),
             format!(
                 "ranging s (2 ∷ 1 ∷ []) {before} \
-                 (after (refused 35 0) (buffersOf (replicate 9 7) (8 ∷ 8 ∷ []) (9 ∷ [])))"
+                 (after (refused 35 0) (buffers_of (replicate 9 7) (8 ∷ 8 ∷ []) (9 ∷ [])))"
             )
         );
     }
@@ -340,7 +340,7 @@ mod tests {
             sought(faulty),
             "seeking s (smallest 1 1 9 1) (2 ∷ 0 ∷ 0 ∷ 77 ∷ 0 ∷ 0 ∷ 0 ∷ 0 ∷ [])"
         );
-        assert_eq!(sought(cases::posting(2)), "seeking s no-piece []");
+        assert_eq!(sought(cases::posting(2)), "seeking s no_piece []");
         assert_eq!(sought(Vec::new()), "seeking s (unreadable 1 0) []");
     }
 

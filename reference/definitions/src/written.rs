@@ -24,7 +24,10 @@ pub fn write(directory: &Path, entries: Vec<Entry>, compared: &[Compared]) -> io
     let (src, specs) = (folder.join("src"), folder.join("specs"));
     fs::create_dir_all(&src)?;
     fs::create_dir_all(&specs)?;
-    fs::write(src.join("lib.rt"), "// Rows only, in specs/.\n")?;
+    fs::write(
+        src.join("lib.rt"),
+        "// Rows only, in specs/.\n#![tactic(auto)]\n",
+    )?;
     fs::write(specs.join("Table.antt"), antt::TABLE)?;
     let mut modules = "pub mod Table\n".to_string();
     let rows = number_from(ROWS).unwrap_or(DEFAULT_ROWS) as usize;

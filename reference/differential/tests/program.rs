@@ -57,7 +57,7 @@ fn printed(input: &[u8]) -> String {
         .stdout(Stdio::piped())
         .stderr(Stdio::piped())
         .spawn()
-        .unwrap_or_else(|error| panic!("{}: {error}; rt check sovzedal", path().display()));
+        .unwrap_or_else(|error| panic!("{}: {error}; rt run builds it", path().display()));
     let mut stdin = program.stdin.take().unwrap();
     stdin.write_all(input).expect("the input fits into a pipe");
     drop(stdin);
@@ -69,5 +69,5 @@ fn printed(input: &[u8]) -> String {
 /// Asked when the test runs: a path compiled in would outlive a move.
 fn path() -> PathBuf {
     let package = env::var_os("CARGO_MANIFEST_DIR").expect("cargo sets it");
-    Path::new(&package).join("../../target/bin/sovzedal")
+    Path::new(&package).join("../../crates/sovzedal/out/sovzedal")
 }

@@ -1,22 +1,22 @@
 //! The names in the documents exist. In the tables of `docs/ARCHITECTURE.md`
 //! each definition and theorem is made in the file that is given for it, and
 //! each function in its module; what is defined has code or a theorem, and
-//! each crate has a row. The definitions that a text or a comment speaks of
-//! exist, and so do the names that the templates of the definitions' rows
-//! import, and every link of a document leads to a file and to a heading of it.
+//! each crate has a row. The names that a text or a comment speaks of exist,
+//! and so do those that the templates of the definitions' rows import, and
+//! every link of a document leads to a file and to a heading of it.
 //! Where the repository is not around this workspace, there is nothing to
 //! compare.
 
 mod repository;
 
 use repository::{files_below, repository};
-use std::collections::BTreeMap;
+use std::collections::{BTreeMap, BTreeSet};
 use std::fmt::Debug;
 use std::fs;
 use std::path::{Path, PathBuf};
 
-/// The documents whose paths `crate::module::item` and whose definitions are
-/// looked up.
+/// The documents whose paths `crate::module::item` and whose names are looked
+/// up.
 const DOCUMENTS: [&str; 5] = [
     "README.md",
     "CONTRIBUTING.md",
@@ -47,20 +47,28 @@ fn functions_exist() {
     }
 }
 
-/// In the documents, and in the comments of the crates.
+/// In the documents, and in the comments of the crates. Definitions, lemmas
+/// and Rust's own names are spelled alike, so that a name may be one of any.
 #[test]
-fn definitions_in_text_exist() {
-    let sources: Vec<String> = every_source("specs").collect();
-    let lacks = |word: &&str| !sources.iter().any(|source| has_word(source, word));
+fn names_in_text_exist() {
+    let folders = ["specs", "proofs", "src"];
+    let mut sources: Vec<String> = folders.into_iter().flat_map(every_source).collect();
+    for (folder, extension) in [("include", "h"), ("reference", "rs")] {
+        let paths = files_below(&repository().join(folder), extension);
+        sources.extend(paths.iter().map(|path| code_of(path)));
+    }
+    let known: BTreeSet<&str> = sources.iter().flat_map(|text| parts(text)).collect();
+    let is_crate = |word: &str| repository().join("crates").join(word).exists();
+    let lacks = |word: &&str| !known.contains(word) && !is_crate(word);
     for name in DOCUMENTS {
         let text = document(name);
-        none(name, text.lines().flat_map(definitions_of).filter(lacks));
+        none(name, text.lines().flat_map(names_of).filter(lacks));
     }
     let folder = repository().join("crates");
     for path in [files_below(&folder, "antt"), files_below(&folder, "rt")].concat() {
         let text = fs::read_to_string(&path).expect("a text");
         let comments = text.lines().filter(|line| is_comment(line));
-        let lacking = comments.flat_map(definitions_of).filter(lacks);
+        let lacking = comments.flat_map(names_of).filter(lacks);
         none(&path.display().to_string(), lacking);
     }
 }
@@ -91,8 +99,7 @@ fn words_of_promises_exist() {
     let sources = every_source("src").chain(every_source("specs"));
     let sources: Vec<String> = sources.collect();
     let expressions = cells(&rows, &["promise", "requires", "here"]).flat_map(quoted);
-    let words = expressions.flat_map(|text| text.split(|c| !part_of_name(c)));
-    let words = words.filter(|word| !word.is_empty());
+    let words = expressions.flat_map(parts);
     none(
         "not found",
         words.filter(|word| !sources.iter().any(|source| has_word(source, word))),
@@ -115,7 +122,10 @@ fn each_crate_has_a_row() {
     let rows = architecture();
     let text = document("crates.txt");
     let listed = text.lines().filter_map(|line| line.split_once(':'));
-    let listed: BTreeMap<&str, &str> = listed.filter(|(name, _)| !name.contains('#')).collect();
+    let listed = listed.filter(|(name, _)| !name.contains('#'));
+    // "staticlib" may stand behind the name.
+    let listed = listed.filter_map(|(name, below)| Some((name.split(' ').next()?, below)));
+    let listed: BTreeMap<&str, &str> = listed.collect();
     let rows = rows.iter().filter(|row| row.contains_key("crate"));
     let rows: BTreeMap<&str, &Row> = rows
         .filter_map(|row| Some((quoted(&row["crate"]).next()?, row)))
@@ -232,7 +242,7 @@ fn without_notes(cell: &str) -> String {
     kept
 }
 
-/// A line `use Rattle·crate.specs.File.{names}`.
+/// A line `use Rattle.crate.specs.File.{names}`.
 struct Import<'a> {
     crate_name: &'a str,
     file: &'a str,
@@ -248,11 +258,11 @@ impl Import<'_> {
     }
 }
 
-/// What a text imports from crates of the repository. The library that the
-/// rows themselves are in has a mark in its name, and no folder.
+/// What a text imports from crates of the repository, and not from the
+/// toolchain's library or from that which the rows themselves are in.
 fn imports(text: &str) -> impl Iterator<Item = Import<'_>> {
     let lines = text.lines().filter_map(|line| {
-        let (crate_name, rest) = line.strip_prefix("use Rattle·")?.split_once(".specs.")?;
+        let (crate_name, rest) = line.strip_prefix("use Rattle.")?.split_once(".specs.")?;
         let (file, names) = rest.strip_suffix('}')?.split_once(".{")?;
         Some(Import {
             crate_name,
@@ -260,7 +270,7 @@ fn imports(text: &str) -> impl Iterator<Item = Import<'_>> {
             names,
         })
     });
-    lines.filter(|import| !import.crate_name.contains('·'))
+    lines.filter(|import| !["std", "definition_rows"].contains(&import.crate_name))
 }
 
 /// The links of a document to a file that is not there, or to a heading that
@@ -318,13 +328,20 @@ fn cited(text: &str) -> Option<String> {
     (is_path(crate_name) && is_path(file)).then_some(cell)
 }
 
-/// The definitions that a line speaks of: the words in backticks that are of
-/// letters and digits alone, with a capital inside.
-fn definitions_of(line: &str) -> impl Iterator<Item = &str> {
-    let words = quoted(line).flat_map(|text| text.split(|c| !part_of_name(c)));
-    let words = words.filter(|word| word.chars().all(char::is_alphanumeric));
+/// The names that a line speaks of: the words in backticks that are of letters,
+/// digits and underscores alone, with an underscore inside, or with a capital
+/// as no name has one.
+fn names_of(line: &str) -> impl Iterator<Item = &str> {
+    let words = quoted(line).flat_map(parts);
+    let words = words.filter(|word| word.chars().all(|c| c == '_' || c.is_alphanumeric()));
     let words = words.filter(|word| word.starts_with(char::is_lowercase));
-    words.filter(|word| word.contains(char::is_uppercase))
+    words.filter(|word| word.contains(|c: char| c == '_' || c.is_uppercase()))
+}
+
+/// The words of a text.
+fn parts(text: &str) -> impl Iterator<Item = &str> {
+    let words = text.split(|c| !part_of_name(c));
+    words.filter(|word| !word.is_empty())
 }
 
 /// What stands in backticks.
@@ -405,11 +422,14 @@ fn files(directory: &Path) -> Vec<String> {
         .map(|entry| entry.expect("an entry").path())
         .flat_map(|path| match path.is_dir() {
             true => files(&path),
-            false => vec![without_comments(
-                &fs::read_to_string(&path).expect("a text"),
-            )],
+            false => vec![code_of(&path)],
         })
         .collect()
+}
+
+/// The text of a file, without comments.
+fn code_of(path: &Path) -> String {
+    without_comments(&fs::read_to_string(path).expect("a text"))
 }
 
 fn is_comment(line: &str) -> bool {

@@ -15,6 +15,9 @@ use std::path::{Path, PathBuf};
 /// formatter does not break.
 const LONGEST: usize = 160;
 
+/// Where an argument stands in the name of an operator.
+const ARGUMENT: char = '◌';
+
 #[test]
 fn lines_fit_a_page() {
     let mut long = Vec::new();
@@ -37,7 +40,8 @@ fn files_say_what_they_hold() {
         let mut paths = files(extension);
         paths.retain(|path| {
             let text = read(path);
-            !text.starts_with(comment) && !text.lines().all(|line| line.starts_with("pub mod "))
+            let is_list = |line: &str| ["pub mod ", "mod "].iter().any(|it| line.starts_with(it));
+            !text.starts_with(comment) && !text.lines().all(is_list)
         });
         paths
     });
@@ -48,8 +52,9 @@ fn files_say_what_they_hold() {
 }
 
 /// No two files give one name to a type or to a public definition. A struct or
-/// an enum may be called what its model is called, and each table of examples,
-/// in a file whose name ends in `Cases`, has rows and results of its own.
+/// an enum may be called what its model is called, each table of examples, in a
+/// file whose name ends in `Cases`, has rows and results of its own, and what a
+/// loop keeps and what falls is called as the checker asks.
 #[test]
 fn a_name_means_one_thing() {
     let models = files("antt").into_iter().filter(|path| !is_table(path));
@@ -86,12 +91,13 @@ fn imports_are_used() {
 }
 
 /// The gate tells of an edit that no longer applies only when it comes to it.
+/// Of several pairs each is applied to what those before it made.
 #[test]
 fn edits_apply() {
     let edits = files("edit");
     for edit in &edits {
         let crate_folder = edit.ancestors().nth(2).expect("a crate");
-        let mut file = String::new();
+        let (mut file, mut wanted) = (String::new(), String::new());
         let mut pairs = 0;
         for line in read(edit).lines() {
             if let Some(named) = line.strip_prefix("file: ") {
@@ -99,7 +105,10 @@ fn edits_apply() {
             } else if let Some(old) = line.strip_prefix("old: ") {
                 let found = file.matches(old).count();
                 assert_eq!(found, 1, "{}: {old}", edit.display());
+                wanted = old.to_string();
                 pairs += 1;
+            } else if let Some(new) = line.strip_prefix("new:") {
+                file = file.replacen(&wanted, new.trim_start(), 1);
             }
         }
         assert!(pairs > 0, "{}: nothing is edited", edit.display());
@@ -129,7 +138,18 @@ fn defined(text: &str) -> Vec<String> {
     rests
         .map(|rest| rest.chars().take_while(|&c| part_of_name(c)).collect())
         .filter(|name: &String| name.contains(char::is_alphanumeric))
+        .filter(|name| {
+            !["invariant", "decreases"]
+                .iter()
+                .any(|it| is_asked(name, it))
+        })
         .collect()
+}
+
+/// Whether a name is that of what the checker asks of a function or a loop.
+fn is_asked(name: &str, what: &str) -> bool {
+    name.strip_prefix(what)
+        .is_some_and(|rest| rest.is_empty() || rest.starts_with('-'))
 }
 
 /// What stands in the braces of a line that imports names.
@@ -153,9 +173,8 @@ fn is_comment(line: &str) -> bool {
 
 /// Whether the text has the name as a word, or of an operator each part.
 fn is_used(name: &str, text: &str) -> bool {
-    let operator = !name.starts_with(char::is_alphanumeric) && name.contains('_');
-    match operator {
-        true => name.split('_').all(|part| text.contains(part)),
+    match name.contains(ARGUMENT) {
+        true => name.split(ARGUMENT).all(|part| text.contains(part)),
         false => text.match_indices(name).any(|(at, _)| {
             let before = text[..at].chars().next_back();
             let after = text[at + name.len()..].chars().next();

@@ -14,7 +14,8 @@ pub fn repository() -> PathBuf {
 pub fn files_below(folder: &Path, extension: &str) -> Vec<PathBuf> {
     let entries = fs::read_dir(folder).into_iter().flatten();
     let paths = entries.map(|entry| entry.expect("an entry").path());
-    let kept = paths.filter(|path| !path.ends_with("target") && !path.ends_with(".git"));
+    let made = ["target", "out", ".git"];
+    let kept = paths.filter(|path| !made.iter().any(|it| path.ends_with(it)));
     kept.flat_map(|path| match path.is_dir() {
         true => files_below(&path, extension),
         false if path.extension().is_some_and(|it| it == extension) => vec![path],
