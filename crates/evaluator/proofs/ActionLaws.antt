@@ -1,7 +1,7 @@
 -- What evaluating a term of each action is, by the interpreter's clauses, with its children evaluated at their own numbers. Assumes nothing.
 use mathlib.Core.Bool.{Bool, true, false, cond}
 use mathlib.Core.List.{List, [], ◌∷◌}
-use mathlib.Core.Logic.{◌⊎◌, inl, inr, ⊎_elim}
+use mathlib.Core.Logic.{inl, inr, ⊎_elim}
 use mathlib.Core.Path.{◌≡◌, refl, sym, ap, ap₂, ◌∙◌, fun_ext, subst}
 use Prim.Native.Nat.{ℕ, zero, suc, ◌+◌, ◌-◌, ◌/◌, ◌<◌, ◌≤◌}
 use native.Mathlib.Decide.{dec_lt, ℕ_discrete}
@@ -13,15 +13,14 @@ use lib.ListN.{length, get_or, set}
 use lib.Seq.{get_or-set_other}
 use borrow.Author.Tests.{eq-eqb, ne_eqb, le-leb, lt-leb, lt-ltb, le-ltb}
 use Rattle.program.specs.Decoding.{is_guard}
-use Rattle.privileges.specs.Sets.{privilege_count}
 use Rattle.stores.specs.Words.{boolean_word, interval_word, function_word, stop_word, sort_of, payload_of, env_of, is_stop}
 use Rattle.termtable.specs.Table.{word_kind, word_small, word_first, word_second, word_third, word_guard}
 use Rattle.stores.specs.Cells.{look_of, BindsCell}
 use Rattle.access.specs.Access.{enable_access, enable_frames, enabled_now, restore_frames}
 use Rattle.machine.specs.Steps.{calls_left, cells_made, posts_made, mode_of, saturated_made, operate_saturates, wrapped, counters_saturated, operate_counters, Operated, note_counters, guard_decides, post_cause, post_counters, PostAppended}
 use Rattle.machine.specs.Store.{Store, Done, store_of, done_of, with_frames, and_then, StoreEvaluation, StoreApplication, Action, immediate, call, if, enable, binary, post, action_of, immediate_word, has_room, own_cell, call_s, branch_s, if_s, restored, enable_s, operate_done, binary_s, post_done, post_s, by_action, begin, step, eval_below, apply_at, eval_at}
-use Rattle.machine.specs.Lower.{evaluates_first, evaluates_second, evaluates_third, reads_privilege, reads_guard, ChildrenLower}
-use Rattle.machine.specs.Tails.{TailKind, goes_to, TailSteps}
+use Rattle.machine.specs.Lower.{evaluates_first, evaluates_second, evaluates_third, reads_guard, ChildrenLower}
+use Rattle.machine.specs.Tails.{goes_to, TailSteps}
 use Rattle.machine.specs.declared.tail.TailStep.{TailStep}
 use Rattle.stores.proofs.CellLaws.{bound_room}
 use Rattle.machine.proofs.NoteLaws.{note_others}
@@ -41,9 +40,6 @@ module _ (terms : List ℕ) where
   below_same f m n t h g = fun_ext λ env. fun_ext λ access. fun_ext λ st. below_top f m t env access st h ∙ sym (below_top f n t env access st g)
 
 -- ---- which action a kind has
-up : {m k : ℕ} → (k ≡ m → ⊥) → m ≤ k → suc m ≤ k
-up n h = omega (arith, n)
-
 module _ {terms : List ℕ} (T : TermTable terms) {t x k : ℕ} (small : t < 65536) (is : x ≡ get_or terms t 0) (kind : k ≡ word_kind x) where
   -- a kind that is the number j
   pub node_of : (j : ℕ) → k ≡ j → Node terms t x (action_of j)
@@ -55,18 +51,6 @@ module _ {terms : List ℕ} (T : TermTable terms) {t x k : ℕ} (small : t < 655
   pub node_leaf : k < 4 → Node terms t x immediate
   unfolding action_of
   node_leaf h = node_by (simp (le-leb k 3 (omega arith)))
-
-  pub tail_of : TailKind k → Tail terms t x
-  tail_of h = record {
-    node = record { ready = T; term_small = small; word_is = is; action_is = refl };
-    tail = subst TailKind kind h;
-  }
-
-  pub first_of : (k ≡ 5) ⊎ ((k ≡ 6) ⊎ (11 ≤ k)) → FirstNode terms t x
-  first_of h = record {
-    node = record { ready = T; term_small = small; word_is = is; action_is = refl };
-    kind_is = ⊎_elim (λ e. inl (sym kind ∙ e)) (λ r. inr (⊎_elim (λ e. inl (sym kind ∙ e)) (λ l. inr (omega (arith, kind, l))) r)) h;
-  }
 
   -- sum, difference and less, and what is past them
   node_binary : 11 ≤ k → k ≤ 13 → Node terms t x binary
@@ -99,18 +83,6 @@ module _ {terms : List ℕ} (T : TermTable terms) {t x k : ℕ} (small : t < 655
         lt-leb k 13 h,
       ))
 
--- what the match tells of the kinds that evaluate first, 5, 6 and 11 on
-pub first_kind : (k : ℕ) → 5 ≤ k → (k < 7) ⊎ (11 ≤ k) → (k ≡ 5) ⊎ ((k ≡ 6) ⊎ (11 ≤ k))
-first_kind k l h = ⊎_elim (λ low. ⊎_elim (λ e. inl (sym e)) (λ m. inr (inl (omega arith))) (eq-or-lt_of_le {n = 5} {m = k} l)) (λ high. inr (inr high)) h
-
--- and of those that it leaves over, 4, 7, 9 and 10
-pub tail_kind : (k : ℕ) → (k ≡ 0 → ⊥) → (k ≡ 1 → ⊥) → (k ≡ 2 → ⊥) → (k ≡ 3 → ⊥) → (k ≡ 8 → ⊥) → (k < 5) ⊎ ((7 ≤ k) × (k < 11)) → TailKind k
-tail_kind k n0 n1 n2 n3 n8 h =
-    ⊎_elim (λ low. inl (omega (arith, low, up n3 (up n2 (up n1 (up n0 (omega arith)))))))
-    (λ r. inr (⊎_elim (λ e. inl (sym e)) (λ l. inr (⊎_elim (λ e. inl (sym e)) (λ m. inr (omega (arith, m, r.1)))
-    (eq-or-lt_of_le {n = 9} {m = k} (up n8 l)))) (eq-or-lt_of_le {n = 7} {m = k} r.0)))
-    h
-
 module _ {terms : List ℕ} {t x : ℕ} {h : Action} (N : Node terms t x h) where
   pub lower : ChildrenLower h t x
   lower =
@@ -125,9 +97,6 @@ module _ {terms : List ℕ} {t x : ℕ} {h : Action} (N : Node terms t x h) wher
 
   third_below : {u : ℕ} → evaluates_third h ≡ true → u ≡ word_third x → u < t
   third_below e q = omega (arith, q, lower.third_lower e)
-
-  pub privilege_below : {p : ℕ} → reads_privilege h ≡ true → p ≡ word_small x → p < privilege_count
-  privilege_below e q = omega (arith, q, lower.privilege e)
 
   guard_right : reads_guard h ≡ true → is_guard (word_guard x) ≡ true
   guard_right e = lower.guard e

@@ -6,13 +6,13 @@ use mathlib.Core.Path.{◌≡◌, refl, sym, ap, ◌∙◌}
 use Prim.Native.Nat.{ℕ, ◌≤◌}
 use native.Mathlib.Nat.{le_refl}
 use native.Mathlib.Omega.{arith}
-use denote.Ref.{Bor, MutBor}
+use denote.Ref.{MutBor}
 use Rattle.stores.specs.Words.{is_stop}
 use Rattle.machine.specs.Steps.{calls_left}
 use Rattle.machine.specs.Store.{Store, Done, store_of, done_of, and_then}
 use Rattle.evaluator.specs.Promises.{names_of, store_now, Evaluated}
 
-module _ {run : Store → Done} {n : List ℕ} {c p f o : Bor (List ℕ)} where
+module _ {run : Store → Done} {n : List ℕ} {c p f o : MutBor (List ℕ)} where
   -- the run ends where it stands
   pub ends : {w : ℕ} → run (store_now n c p f o) ≡ done_of w (store_now n c p f o) → Evaluated run n c p f o w n c p f o
   ends e = record { done = sym e; calls = le_refl _; names = refl }

@@ -1,6 +1,6 @@
 -- The contract of the evaluator's functions, said once: what they ask of the words of the terms, and what they give and leave.
 use Rattle.std.specs.Prelude.{cond, List, ◌⊎◌, ◌≡◌, ℕ, ◌+◌, ◌*◌, ◌<◌, ◌≤◌, eqb, length, get_or}
-use Rattle.std.specs.Borrow.{Bor, MutBor}
+use Rattle.std.specs.Borrow.{MutBor}
 use Rattle.program.specs.Limits.{max_terms}
 use Rattle.termtable.specs.Table.{word_kind, word_second}
 use Rattle.machine.specs.Lower.{ChildrenLower}
@@ -54,9 +54,9 @@ pub record BorrowNames : Type 0 where
   pub noted : ℕ
 
 abbrev pub names_of : (cells posts frames noted : MutBor (List ℕ)) → BorrowNames
-names_of c p f o = record { cells = c.name; posts = p.name; frames = f.name; noted = o.name }
+names_of c p f o = record { cells = c.ghost_name; posts = p.ghost_name; frames = f.ghost_name; noted = o.ghost_name }
 
-abbrev pub store_now : (n : List ℕ) (cells posts frames noted : Bor (List ℕ)) → Store
+abbrev pub store_now : (n : List ℕ) (cells posts frames noted : MutBor (List ℕ)) → Store
 store_now n c p f o = store_of n c.now p.now f.now o.now
 
 -- result, counters and stores are as the interpreter's run gives them, and the calls left did not rise

@@ -15,7 +15,7 @@ use stores::words;
 use termtable::{first_of, kind_of, second_of, small_of, third_of, word_at};
 
 // Evaluates term t.
-#[cycle(apply_eval_eval_enable_eval_first_eval_second_eval_tail)]
+#[cycle(evaluation)]
 pub fn eval(
     terms: &[u64; TERM_PLACES],
     cells: &mut &mut [u8],
@@ -54,7 +54,7 @@ pub fn eval(
 }
 
 // A letrec, check, sign or test ends as one child, after a step of its own.
-#[cycle(apply_eval_eval_enable_eval_first_eval_second_eval_tail)]
+#[cycle(evaluation)]
 fn eval_tail(
     terms: &[u64; TERM_PLACES],
     cells: &mut &mut [u8],
@@ -83,7 +83,7 @@ fn eval_tail(
 }
 
 // Enables a privilege while the inner term runs.
-#[cycle(apply_eval_eval_enable_eval_first_eval_second_eval_tail)]
+#[cycle(evaluation)]
 fn eval_enable(
     terms: &[u64; TERM_PLACES],
     cells: &mut &mut [u8],
@@ -122,7 +122,7 @@ fn eval_enable(
 }
 
 // A call, an if, an operation or a post: its first child, and by that word what follows; of an if, one of two branches.
-#[cycle(apply_eval_eval_enable_eval_first_eval_second_eval_tail)]
+#[cycle(evaluation)]
 fn eval_first(
     terms: &[u64; TERM_PLACES],
     cells: &mut &mut [u8],
@@ -178,7 +178,7 @@ fn eval_first(
 }
 
 // A call or an operation after the word a of its first child: the argument or the second number, and what both come to.
-#[cycle(apply_eval_eval_enable_eval_first_eval_second_eval_tail)]
+#[cycle(evaluation)]
 fn eval_second(
     terms: &[u64; TERM_PLACES],
     cells: &mut &mut [u8],
@@ -222,7 +222,7 @@ fn eval_second(
 }
 
 // Applies f to v at the call t: 18, 19, 20, 21, or its body runs in the access `caller`, with its argument in a new cell.
-#[cycle(apply_eval_eval_enable_eval_first_eval_second_eval_tail)]
+#[cycle(evaluation)]
 fn apply(
     terms: &[u64; TERM_PLACES],
     cells: &mut &mut [u8],

@@ -160,7 +160,7 @@ module _ (z : Fixed) where
   pub meets_end : {depth : ℕ} {st : Store} {o : Budget} {w : ℕ} {x : ValueIn z} → RepAt z st w x → Balances z st o → Meets z depth st (done_of w st) (ends x o)
   meets_end {depth} {st} r h = valued r h (later_refl depth st)
 
-  pub meets_found : {depth : ℕ} {st : Store} {o : Budget} {w : ℕ} {x : Option (ValueIn z)} (t : ℕ) → t < 65536
+  pub meets_found : {depth : ℕ} {st : Store} {o : Budget} (t : ℕ) {w : ℕ} {x : Option (ValueIn z)} → t < 65536
       → Finds st.cells (cells_made st.counters) t w x
       → Balances z st o → Meets z depth st (done_of w st) (variable_value t x o)
   meets_found t i (finds_some r) h = meets_end r h
