@@ -3,6 +3,7 @@
 #![tactic(auto)]
 
 use replies::{ANSWER_NUMBERS, LONG_ANSWER};
+use std::io::Read;
 use vector_io::buffers::{
     PAIR_ROOM, cell_buffer, fill_all, fill_cells, fill_numbers, frame_buffer, mix_all, mix_cells,
     mix_numbers, pair_buffer, post_buffer, sheet_buffer, start_buffer,
@@ -11,21 +12,22 @@ use vector_io::input::{Vector, least, read_pairs, read_start, read_vector};
 use vector_io::output::{line, run_line};
 
 // What is told without a run; of a piece also the sum of the bytes that are handed back.
-fn judgements(sheet: &[u8], term: u32) {
+fn judgements(rt: &impl Print, sheet: &[u8], term: u32) {
     let mut answer = [0u32; ANSWER_NUMBERS];
     let r = capi_base::decode(sheet, &mut answer);
-    line(b"decode", r, &answer);
+    line(rt, b"decode", r, &answer);
     let r2 = capi_base::typecheck(sheet, &mut answer);
-    line(b"typecheck", r2, &answer);
+    line(rt, b"typecheck", r2, &answer);
     let r3 = capi_piece::piece(sheet, &mut answer);
     let h = mix_cells(0, piece::record_of(sheet));
-    run_line(b"piece", r3, &answer, h);
+    run_line(rt, b"piece", r3, &answer, h);
     let r4 = capi_term::term(sheet, term, &mut answer);
-    line(b"term", r4, &answer);
+    line(rt, b"term", r4, &answer);
 }
 
 // An eager run on filled buffers of the lengths asked for.
 fn eager(
+    rt: &impl Print,
     name: &[u8],
     sheet: &[u8],
     start: &[u32],
@@ -49,11 +51,12 @@ fn eager(
         &mut answer,
     );
     let h = mix_numbers(mix_cells(0, cells), posts);
-    run_line(name, r, &answer, h);
+    run_line(rt, name, r, &answer, h);
 }
 
 // A lazy one.
 fn lazy(
+    rt: &impl Print,
     name: &[u8],
     sheet: &[u8],
     start: &[u32],
@@ -78,11 +81,12 @@ fn lazy(
         &mut answer,
     );
     let h = mix_all(cells, posts, frames);
-    run_line(name, r, &answer, h);
+    run_line(rt, name, r, &answer, h);
 }
 
 // The same runs with a record of ten entries and a half.
 fn record_eager(
+    rt: &impl Print,
     name: &[u8],
     sheet: &[u8],
     start: &[u32],
@@ -108,10 +112,11 @@ fn record_eager(
         &mut answer,
     );
     let h = mix_cells(mix_numbers(mix_cells(0, cells), posts), &noted);
-    run_line(name, r, &answer, h);
+    run_line(rt, name, r, &answer, h);
 }
 
 fn record_lazy(
+    rt: &impl Print,
     name: &[u8],
     sheet: &[u8],
     start: &[u32],
@@ -138,11 +143,12 @@ fn record_lazy(
         &mut answer,
     );
     let h = mix_cells(mix_all(cells, posts, frames), &noted);
-    run_line(name, r, &answer, h);
+    run_line(rt, name, r, &answer, h);
 }
 
 // An eager run over ranges.
 fn ranging(
+    rt: &impl Print,
     name: &[u8],
     sheet: &[u8],
     pairs: &[u16],
@@ -168,11 +174,12 @@ fn ranging(
         &mut answer,
     );
     let h = mix_numbers(mix_cells(0, cells), posts);
-    run_line(name, r, &answer, h);
+    run_line(rt, name, r, &answer, h);
 }
 
 // Both ways to treat checks: in force, then passed over.
 fn eagers(
+    rt: &impl Print,
     sheet: &[u8],
     start: &[u32],
     calls: u32,
@@ -180,10 +187,31 @@ fn eagers(
     cells: &mut [u8],
     posts: &mut [u32],
 ) {
-    eager(b"eager", sheet, start, calls, depth, 1, cells, posts);
-    eager(b"eager-skip", sheet, start, calls, depth, 0, cells, posts);
-    record_eager(b"eager-record", sheet, start, calls, depth, 1, cells, posts);
+    eager(rt, b"eager", sheet, start, calls, depth, 1, cells, posts);
+    eager(
+        rt,
+        b"eager-skip",
+        sheet,
+        start,
+        calls,
+        depth,
+        0,
+        cells,
+        posts,
+    );
     record_eager(
+        rt,
+        b"eager-record",
+        sheet,
+        start,
+        calls,
+        depth,
+        1,
+        cells,
+        posts,
+    );
+    record_eager(
+        rt,
         b"eager-record-skip",
         sheet,
         start,
@@ -196,6 +224,7 @@ fn eagers(
 }
 
 fn recorded_lazies(
+    rt: &impl Print,
     sheet: &[u8],
     start: &[u32],
     calls: u32,
@@ -205,6 +234,7 @@ fn recorded_lazies(
     frames: &mut [u32],
 ) {
     record_lazy(
+        rt,
         b"lazy-record",
         sheet,
         start,
@@ -216,6 +246,7 @@ fn recorded_lazies(
         frames,
     );
     record_lazy(
+        rt,
         b"lazy-record-skip",
         sheet,
         start,
@@ -229,6 +260,7 @@ fn recorded_lazies(
 }
 
 fn lazies(
+    rt: &impl Print,
     sheet: &[u8],
     start: &[u32],
     calls: u32,
@@ -237,8 +269,11 @@ fn lazies(
     posts: &mut [u32],
     frames: &mut [u32],
 ) {
-    lazy(b"lazy", sheet, start, calls, depth, 1, cells, posts, frames);
     lazy(
+        rt, b"lazy", sheet, start, calls, depth, 1, cells, posts, frames,
+    );
+    lazy(
+        rt,
         b"lazy-skip",
         sheet,
         start,
@@ -249,11 +284,13 @@ fn lazies(
         posts,
         frames,
     );
-    recorded_lazies(sheet, start, calls, depth, cells, posts, frames);
+    recorded_lazies(rt, sheet, start, calls, depth, cells, posts, frames);
 }
 
 // The same, by the pairs that the input has next.
 fn rangings(
+    rt: &impl Print,
+    input: &mut impl Read,
     pairs: &mut [u16],
     sheet: &[u8],
     start: &[u32],
@@ -262,11 +299,12 @@ fn rangings(
     cells: &mut [u8],
     posts: &mut [u32],
 ) {
-    read_pairs(pairs);
+    read_pairs(input, pairs);
     ranging(
-        b"ranges", sheet, pairs, start, calls, depth, 1, cells, posts,
+        rt, b"ranges", sheet, pairs, start, calls, depth, 1, cells, posts,
     );
     ranging(
+        rt,
         b"ranges-skip",
         sheet,
         pairs,
@@ -281,6 +319,8 @@ fn rangings(
 
 // On a part of the largest list.
 fn over_intervals(
+    rt: &impl Print,
+    input: &mut impl Read,
     numbers: usize,
     sheet: &[u8],
     start: &[u32],
@@ -291,10 +331,22 @@ fn over_intervals(
 ) {
     let mut pairs = pair_buffer();
     let used = least(numbers, PAIR_ROOM);
-    rangings(&mut pairs[..used], sheet, start, calls, depth, cells, posts);
+    rangings(
+        rt,
+        input,
+        &mut pairs[..used],
+        sheet,
+        start,
+        calls,
+        depth,
+        cells,
+        posts,
+    );
 }
 
 fn runs(
+    rt: &impl Print,
+    input: &mut impl Read,
     v: Vector,
     sheet: &[u8],
     start: &[u32],
@@ -302,13 +354,17 @@ fn runs(
     posts: &mut [u32],
     frames: &mut [u32],
 ) {
-    eagers(sheet, start, v.calls, v.depth, cells, posts);
-    lazies(sheet, start, v.calls, v.depth, cells, posts, frames);
-    over_intervals(v.pairs, sheet, start, v.calls, v.depth, cells, posts);
+    eagers(rt, sheet, start, v.calls, v.depth, cells, posts);
+    lazies(rt, sheet, start, v.calls, v.depth, cells, posts, frames);
+    over_intervals(
+        rt, input, v.pairs, sheet, start, v.calls, v.depth, cells, posts,
+    );
 }
 
 // One vector, on buffers of the lengths that it asks for.
 fn vector(
+    rt: &impl Print,
+    input: &mut impl Read,
     v: Vector,
     start: &mut [u32],
     sheet: &mut [u8],
@@ -316,14 +372,16 @@ fn vector(
     posts: &mut [u32],
     frames: &mut [u32],
 ) {
-    read_start(start);
-    io::read_full(0, sheet);
-    judgements(sheet, v.term);
-    runs(v, sheet, start, cells, posts, frames);
+    read_start(input, start);
+    let _ = input.read_exact(sheet);
+    judgements(rt, sheet, v.term);
+    runs(rt, input, v, sheet, start, cells, posts, frames);
 }
 
 // The next vector, on parts of the largest buffers; false at the end of the input.
 fn next(
+    rt: &impl Print,
+    input: &mut impl Read,
     start: &mut [u32],
     sheet: &mut [u8],
     cells: &mut [u8],
@@ -331,6 +389,7 @@ fn next(
     frames: &mut [u32],
 ) -> bool {
     let v = read_vector(
+        input,
         start.len(),
         sheet.len(),
         cells.len(),
@@ -346,6 +405,8 @@ fn next(
     let post_places = v.posts;
     let frame_numbers = v.frames;
     vector(
+        rt,
+        input,
         v,
         &mut start[..numbers],
         &mut sheet[..bytes],
@@ -356,22 +417,31 @@ fn next(
     true
 }
 
-fn one() -> bool {
+fn one(rt: &impl Print, input: &mut impl Read) -> bool {
     let mut start = start_buffer();
     let mut sheet = sheet_buffer();
     let mut cells = cell_buffer();
     let mut posts = post_buffer();
     let mut frames = frame_buffer();
-    next(&mut start, &mut sheet, &mut cells, &mut posts, &mut frames)
+    next(
+        rt,
+        input,
+        &mut start,
+        &mut sheet,
+        &mut cells,
+        &mut posts,
+        &mut frames,
+    )
 }
 
 // More vectors than are recorded.
 const MAX_VECTORS: u64 = 65536;
 
 // The loop counts its turns down, since nothing says that the input ends.
-fn main() {
+fn main(rt: HostRuntime) {
+    let mut input = rt.reader();
     let mut turns = MAX_VECTORS;
-    while 0 < turns && one() {
+    while 0 < turns && one(&rt, &mut input) {
         turns -= 1;
     }
 }
