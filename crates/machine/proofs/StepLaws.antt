@@ -2,9 +2,6 @@
 use Rattle.std.proofs.Common.{◌≡◌, ℕ, ◌+◌, ◌-◌, ◌<◌, ◌≤◌, min, Bool, true, false, cond, eqb, ltb, List, length, get_or, set, sym, refl, ap, ◌∙◌, ap₂, arith, ltb-true, le-ltb, lt-ltb, eq-eqb, ne_eqb, le-leb}
 use native.Mathlib.Nat.{min-eq_left, min-eq_right}
 use borrow.Author.Tests.{lt-leb}
-use Rattle.program.specs.Laws.Guards.{guard_privilege}
-use Rattle.program.specs.Decoding.{is_guard}
-use Rattle.privileges.specs.Sets.{privilege_count}
 use Rattle.program.specs.Limits.{no_guard, max_number}
 use Rattle.stores.specs.Words.{boolean_word, number_word, interval_word, undecided_word, stop_word, sort_of, payload_of, env_of}
 use Rattle.access.specs.Access.{enforced, interval_mode, granted_of, allowed_of}
@@ -132,9 +129,6 @@ module _ (k t a b : ℕ) (n : List ℕ) {r : ℕ} where
         less_is l m e = operate_both false (e ∙ sym (simp (ne_eqb k 11 l, ne_eqb k 12 m))) (sym (simp (ne_eqb k 11 l, ne_eqb k 12 m))) refl
 
 -- ---- a post
-pub guard_low : {g y : ℕ} → g ≡ y → (g ≡ no_guard → ⊥) → is_guard y ≡ true → g < privilege_count
-guard_low {y = y} e n h = omega (arith, e, guard_privilege y h (λ z. n (e ∙ z)))
-
 -- the three ways of a guard: there is none, checks are passed over, or it is decided
 module _ (t x access : ℕ) (n f noted : List ℕ) {g : ℕ} (e : g ≡ word_guard x) where
   pub guard_none : g ≡ no_guard → Guarded t x access n f noted true n f noted

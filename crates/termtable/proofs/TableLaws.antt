@@ -13,7 +13,7 @@ use Rattle.program.specs.Laws.Readable.{WellFormed}
 use Rattle.program.specs.Laws.Records.{term_none}
 use Rattle.program.specs.declared.records.Counts.{Counts}
 use Rattle.program.specs.declared.records.TermRecord.{TermRecord}
-use Rattle.termtable.specs.Table.{WordOf, Empty, TermWords}
+use Rattle.termtable.specs.Table.{WordOf, TermWords}
 
 module _ {s : List ℕ} {c : Counts} {t : ℕ} {x : TermRecord} (q : x ≡ term_record s c t) (kind : x.kind < 256) (small : x.small < 256)
     (first : x.first < 65536) where
@@ -43,9 +43,6 @@ module _ {s : List ℕ} (w : WellFormed s) {c : Counts} (k : CountsOf s c) where
   zero_holds t h =
       plain_holds {x = no_term} (sym (term_none s w.terms_inside c k t h)) (omega arith) (omega arith) (omega arith) (λ e. omega (arith, e))
       (λ e. omega (arith, e)) (omega arith) (omega arith)
-
-  pub filled_none : (words : List ℕ) → Empty words → Filled s c words 0
-  filled_none words e = record { few = omega arith; long = e.long; done = λ t h. absurd (omega arith); rest = λ t h. e.zero_at t }
 
   pub filled_more : {words : List ℕ} {n x : ℕ} → n < c.terms → WordOf s c n x → Filled s c words n → Filled s c (set words n x) (n + 1)
   filled_more {words} {n} {x} h g f = record {
