@@ -57,9 +57,15 @@ fn names_in_text_exist() {
         let paths = files_below(&repository().join(folder), extension);
         sources.extend(paths.iter().map(|path| code_of(path)));
     }
+    let stem = |path: PathBuf| path.file_stem().unwrap().to_string_lossy().into_owned();
+    sources.extend(crates().map(stem));
+    sources.extend(
+        files_below(&repository().join("crates"), "edit")
+            .into_iter()
+            .map(stem),
+    );
     let known: BTreeSet<&str> = sources.iter().flat_map(|text| parts(text)).collect();
-    let is_crate = |word: &str| repository().join("crates").join(word).exists();
-    let lacks = |word: &&str| !known.contains(word) && !is_crate(word);
+    let lacks = |word: &&str| !known.contains(word);
     for name in DOCUMENTS {
         let text = document(name);
         none(name, text.lines().flat_map(names_of).filter(lacks));
