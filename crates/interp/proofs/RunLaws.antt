@@ -9,7 +9,7 @@ use lib.ListN.{length, drop, replicate, length-append, length-drop}
 use borrow.Author.Tests.{eqb-true, ltb-true}
 use Rattle.program.specs.Limits.{frame_numbers}
 use Rattle.privileges.specs.Booleans.{and_left, and_right}
-use Rattle.program.specs.Layout.{principals, authority, root, terms}
+use Rattle.program.specs.Layout.{principals, authority, root}
 use Rattle.program.specs.Records.{CountsOf, authority_record}
 use Rattle.program.specs.Screening.{clear, found, screen}
 use Rattle.program.specs.Laws.Readable.{WellFormed}
