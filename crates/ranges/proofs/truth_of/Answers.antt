@@ -3,10 +3,10 @@ use Rattle.ranges.proofs.IntervalLaws.{is_undecided, is_yes, is_no}
 use Rattle.ranges.proofs.truth_of.Goals as goal
 
 pub returns-then-payload-eq2 : goal.returns-then-payload-eq2
-returns-then-payload-eq2 c = is_undecided c.args.payload c.if-payload-eq2.taken
+returns-then-payload-eq2 c = is_undecided c.args.payload c.if-payload-eq2.true
 
 pub returns-then-payload-gt0 : goal.returns-then-payload-gt0
-returns-then-payload-gt0 c = is_yes c.args.payload c.if-payload-eq2.left c.if-payload-gt0.taken
+returns-then-payload-gt0 c = is_yes c.args.payload c.if-payload-eq2.false c.if-payload-gt0.true
 
 pub returns : goal.returns
-returns c = is_no c.args.payload c.if-payload-gt0.left
+returns c = is_no c.args.payload c.if-payload-gt0.false
