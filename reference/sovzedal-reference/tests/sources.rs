@@ -136,7 +136,11 @@ fn defined(text: &str) -> Vec<String> {
     let lines = lines.map(|line| line.strip_prefix("pub ").unwrap_or(line));
     let rests = lines.filter_map(|line| heads.iter().find_map(|head| line.strip_prefix(head)));
     rests
-        .map(|rest| rest.chars().take_while(|&c| part_of_name(c)).collect())
+        .map(|rest| {
+            rest.chars()
+                .take_while(|&c| part_of_name(c) || c == ARGUMENT)
+                .collect()
+        })
         .filter(|name: &String| name.contains(char::is_alphanumeric))
         .filter(|name| {
             !["invariant", "decreases"]
