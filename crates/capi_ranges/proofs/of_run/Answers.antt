@@ -1,6 +1,5 @@
 -- `of_run` gives the reply that `interval_reply` says, by case: a refused run as the cause and place that `of_refusal` tells (refused_as), any other as its
 -- outcome and counts, of which the precondition says that they are few and that none is of saturated results.
-use Rattle.std.proofs.Common.{rules}
 use mathlib.Core.Path.{subst}
 use Rattle.ranges.specs.Answers.{interval_run_model}
 use Rattle.ranges.specs.declared.answer.IntervalRun.{IntervalRun}

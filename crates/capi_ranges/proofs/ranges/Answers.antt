@@ -1,6 +1,5 @@
 -- `ranges` returns 3 and leaves everything as it was where the list is shorter than eight (short-answer). Else the buffers are as the run leaves them, and
 -- the list holds the reply to its answer (given).
-use Rattle.std.proofs.Common.{rules}
 use mathlib.Core.List.{[]}
 use mathlib.Core.Path.{ap}
 use Rattle.semantics.specs.Runs.{eager, AfterOf}
@@ -14,7 +13,7 @@ pub returns-then-answer-lt-ANSWER_NUMBERS : goal.returns-then-answer-lt-ANSWER_N
 returns-then-answer-lt-ANSWER_NUMBERS c =
     short_answer c.args.sheet.now c.args.pairs.now (request_of eager (enforce_flag c.args.enforce) c.args.start.now
     c.args.calls
-    c.args.depth) (buffers_of c.args.cells.now c.args.posts.now []) c.args.answer.now c.if-answer-lt-ANSWER_NUMBERS.taken
+    c.args.depth) (buffers_of c.args.cells.now c.args.posts.now []) c.args.answer.now c.if-answer-lt-ANSWER_NUMBERS.true
 
 pub of_run-requires : goal.of_run-requires
 of_run-requires c =
@@ -23,11 +22,11 @@ of_run-requires c =
     (buffers_of c.args.cells.now c.args.posts.now []) c.run-r.result (ap (λ (a : AfterOf intervals). a.answer) c.run-r.ensures)
 
 pub put-requires : goal.put-requires
-put-requires c = c.if-answer-lt-ANSWER_NUMBERS.left
+put-requires c = c.if-answer-lt-ANSWER_NUMBERS.false
 
 pub returns : goal.returns
 returns c =
     given c.args.sheet.now c.args.pairs.now
     (request_of eager (enforce_flag c.args.enforce) c.args.start.now c.args.calls c.args.depth)
-    (buffers_of c.args.cells.now c.args.posts.now []) c.args.answer.now c.if-answer-lt-ANSWER_NUMBERS.left c.run-r.result
+    (buffers_of c.args.cells.now c.args.posts.now []) c.args.answer.now c.if-answer-lt-ANSWER_NUMBERS.false c.run-r.result
     c.run-r.ensures c.of_run.ensures c.put.ensures
