@@ -10,6 +10,6 @@ returns-then-e-eq0 c = record { answer_is = look_none _ _ _ _ _ c.walk-e.ensures
 pub returns : goal.returns
 returns c =
     record {
-  answer_is = look_some _ _ _ _ _ c.walk-e.ensures c.if-e-eq0.false c.cell_word.ensures;
-  store_is = refl;
-}
+      answer_is = look_some _ _ _ _ _ c.walk-e.ensures c.if-e-eq0.false c.cell_word.ensures;
+      store_is = refl;
+    }
