@@ -1,10 +1,7 @@
 -- Two tests decide whether term t has a record: t is in the table (no_term_lem past it), and the eight bytes at 14 + 4 * principals + 10 * types + 8 * t lie
 -- in the sheet (cut_term past its end). Then it is read.
-use mathlib.Core.Logic.{⊎_elim}
 use native.Mathlib.Omega.{arith}
-use borrow.Author.Tests.{ltb-true, ltb-false}
 use Rattle.accessors.proofs.RecordLaws.{no_term_lem, cut_term}
-use Rattle.std.proofs.Common.{rules}
 use Rattle.accessors.proofs.term.Goals as goal
 use Rattle.accessors.proofs.term.Goals.{then-c-t-via-then-c-t, then-c-t-via-else-c-t+then-s-at}
 

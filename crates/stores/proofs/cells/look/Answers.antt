@@ -1,7 +1,6 @@
 -- A variable past the bindings is stuck; any other is what its cell holds.
 use mathlib.Core.Path.{refl}
 use Rattle.stores.proofs.CellLaws.{look_none, look_some}
-use Rattle.std.proofs.Common.{rules}
 use Rattle.stores.proofs.cells.look.Goals as goal
 
 pub returns-then-e-eq0 : goal.returns-then-e-eq0
