@@ -8,7 +8,7 @@ use Rattle.typing.specs.Verdicts.{verdict}
 use Rattle.typing.specs.Answers.{verdict_model}
 use Rattle.typing.specs.declared.answer.Verdict.{Verdict}
 use Rattle.semantics.specs.Values.{Budget, budget}
-use Rattle.semantics.specs.Runs.{eager, Request, Buffers, sizes, Course, rejected, started, course, Answer, ran, outcome, left, counts, answer_of, buffers_after, After, run}
+use Rattle.semantics.specs.Runs.{eager, Request, Buffers, sizes, Course, rejected, started, course, Answer, ran, refused, outcome, left, counts, answer_of, buffers_after, After, run}
 use Rattle.semantics.specs.Theorems.{Starts, run_course}
 use Rattle.program.specs.Layout.{root}
 use Rattle.soundness.specs.Claims.{SameRun, Proper}
@@ -27,6 +27,7 @@ starts : (s : List ℕ) (q : Request) (b : Buffers) {a : After} → a ≡ run s 
 starts s q b {a = a} e n = go a.answer refl n
   where
     go : (z : Answer) → a.answer ≡ z → NotRefused z → Starts s q b
+    go (refused cause place) h n = elim n [ ]
     go (ran o k) h n = (o, k, ap (λ (x : After). x.answer) (sym e) ∙ h)
 
 pub agreed : (s start : List ℕ) (calls depth : ℕ) (first second : Bool) (cells posts frames cells' posts' frames' : List ℕ) {v : Verdict} {a b : After}

@@ -136,20 +136,22 @@ fn defined(text: &str) -> Vec<String> {
     let lines = lines.map(|line| line.strip_prefix("pub ").unwrap_or(line));
     let rests = lines.filter_map(|line| heads.iter().find_map(|head| line.strip_prefix(head)));
     rests
-        .map(|rest| rest.chars().take_while(|&c| part_of_name(c)).collect())
-        .filter(|name: &String| name.contains(char::is_alphanumeric))
-        .filter(|name| {
-            !["invariant", "decreases"]
-                .iter()
-                .any(|it| is_asked(name, it))
+        .map(|rest| {
+            rest.chars()
+                .take_while(|&c| part_of_name(c) || c == ARGUMENT)
+                .collect()
         })
+        .filter(|name: &String| name.contains(char::is_alphanumeric))
+        .filter(|name| !is_asked(name))
         .collect()
 }
 
 /// Whether a name is that of what the checker asks of a function or a loop.
-fn is_asked(name: &str, what: &str) -> bool {
-    name.strip_prefix(what)
-        .is_some_and(|rest| rest.is_empty() || rest.starts_with('-'))
+fn is_asked(name: &str) -> bool {
+    ["invariant", "decreases"].iter().any(|what| {
+        let rest = name.strip_prefix(what);
+        rest.is_some_and(|rest| rest.is_empty() || rest.starts_with('-'))
+    })
 }
 
 /// What stands in the braces of a line that imports names.

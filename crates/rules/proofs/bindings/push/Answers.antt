@@ -9,6 +9,6 @@ pub returns : goal.returns
 returns c =
     record {
       context_is = push_context c.args.b.types c.args.b.len c.args.ty
-          (omega (arith, c.well_formed.0.1.1.0.1.0.1, c.requires));
+          (omega (arith, c.requires));
       len_is = refl;
     }
