@@ -15,7 +15,8 @@ use Rattle.erasure.specs.Kept.{kept_below, gather}
 -- below t into which they are merged.
 abbrev pub alike : List ℕ → (representatives : List ℕ) → (t u : ℕ) → Bool
 alike s representatives t u =
-    eqb (byte s (type_at_lem s u)) (byte s (type_at_lem s t)) && eqb (get_or representatives ((types_of s).arg u) 0) (get_or representatives ((types_of s).arg t) 0)
+    eqb (byte s (type_at_lem s u)) (byte s (type_at_lem s t))
+    && eqb (get_or representatives ((types_of s).arg u) 0) (get_or representatives ((types_of s).arg t) 0)
     && eqb (get_or representatives ((types_of s).res u) 0) (get_or representatives ((types_of s).res t) 0)
 
 abbrev pub or_self : (self : ℕ) → Option ℕ → ℕ

@@ -135,7 +135,8 @@ module _ {s ps old new : List ℕ} {t : ℕ} (h : PairsLaid s ps t old new) wher
 
   -- the next pair, at the next number term
   pub laid_pair : {x n : ℕ} {new' : List ℕ} → t < length old → true ≡ is_number s t → n ≡ numbers_below s t → get_or ps (2 * n) 0 < 65536
-      → get_or ps (2 * n + 1) 0 < 65536 → x ≡ interval_word (get_or ps (2 * n) 0) (get_or ps (2 * n + 1) 0) → new' ≡ set new t x → PairsLaid s ps (t + 1) old new'
+      → get_or ps (2 * n + 1) 0 < 65536 → x ≡ interval_word (get_or ps (2 * n) 0) (get_or ps (2 * n + 1) 0) → new' ≡ set new t x
+      → PairsLaid s ps (t + 1) old new'
   laid_pair {x} low e q l m p same =
       subst (PairsLaid s ps (t + 1) old) (sym same)
       (laid_number low e (subst (IntervalEncoded (pair_of s ps t)) (sym p)

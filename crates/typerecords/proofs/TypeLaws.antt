@@ -38,7 +38,8 @@ pub record NotMetFrom (s : List ℕ) (i n eight k : ℕ) : Type 0 where
 
 fresh_step : (s : List ℕ) (t j : ℕ) → 0 < j → fresh s t j ≡ (not (same_bytes s (type_at_lem s (j - 1)) (type_at_lem s t) 10) && fresh s t (j - 1))
 fresh_step s t zero h = absurd (omega arith)
-fresh_step s t (suc k) h = let e : suc k - 1 ≡ k = omega arith in ap (λ (x : ℕ). not (same_bytes s (type_at_lem s x) (type_at_lem s t) 10) && fresh s t x) (sym e)
+fresh_step s t (suc k) h = let e : suc k - 1 ≡ k =
+    omega arith in ap (λ (x : ℕ). not (same_bytes s (type_at_lem s x) (type_at_lem s t) 10) && fresh s t x) (sym e)
 
 module _ (s : List ℕ) (at t j : ℕ) (T : TableAt s at t) {b : Bool} (e : b ≡ same_bytes s (at + 10 * (j - 1)) (at + 10 * t) 10) (h : 0 < j) where
   fresh_is : fresh s t j ≡ (not b && fresh s t (j - 1))

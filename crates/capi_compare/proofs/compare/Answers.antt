@@ -1,5 +1,5 @@
--- `compare` returns 3 and leaves the list as it was where a record is longer than 2^32 - 1 bytes (long-unit, long-office) or the list shorter than eight
--- (few-numbers). Else the number of the answer is one of entries and fits into 32 bits (few-entries), and `put` leaves the reply (given).
+-- `compare` returns 3 and leaves the list as it was where a record is longer than 2^32 - 1 bytes (long_unit, long_office) or the list shorter than eight
+-- (few_numbers). Else the number of the answer is one of entries and fits into 32 bits (few_entries), and `put` leaves the reply (given).
 use Rattle.capi_compare.proofs.EntryLaws.{long_unit, long_office, few_numbers, few_entries, given}
 use Rattle.capi_compare.proofs.compare.Goals as goal
 
@@ -7,7 +7,8 @@ pub returns-then-unit-gt-MAX_RECORD : goal.returns-then-unit-gt-MAX_RECORD
 returns-then-unit-gt-MAX_RECORD c = long_unit c.args.unit.now c.args.office.now c.args.answer.now c.if-unit-gt-MAX_RECORD.true
 
 pub returns-then-office-gt-MAX_RECORD : goal.returns-then-office-gt-MAX_RECORD
-returns-then-office-gt-MAX_RECORD c = long_office c.args.unit.now c.args.office.now c.args.answer.now c.if-unit-gt-MAX_RECORD.false c.if-office-gt-MAX_RECORD.true
+returns-then-office-gt-MAX_RECORD c = long_office c.args.unit.now c.args.office.now c.args.answer.now c.if-unit-gt-MAX_RECORD.false
+    c.if-office-gt-MAX_RECORD.true
 
 pub returns-then-answer-lt-ANSWER_NUMBERS : goal.returns-then-answer-lt-ANSWER_NUMBERS
 returns-then-answer-lt-ANSWER_NUMBERS c =

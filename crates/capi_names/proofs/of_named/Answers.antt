@@ -1,4 +1,4 @@
--- `of_named` gives the reply of each case: the lowest term that names the privilege, that none does, or the refusal: 30, or as the numbers of `of_reader`
+-- `of_named` gives the reply of each case: the lowest term that names the privilege, that none does, or the refusal: 30, or as the numbers of `of_decoding`
 -- tell it.
 use mathlib.Core.Path.{refl}
 use Rattle.replies.specs.Laws.{by, refused_as}

@@ -1,5 +1,5 @@
--- `of_outcome` gives the reply that `interval_finished` says, by case: a stop as the cause and term that `of_stop` tells (stopped-as), an end as 0 and a truth
--- value (ended-truth) or 1 and a range (ended-interval). `counted` adds the counts, of which the last is 0.
+-- `of_outcome` gives the reply that `interval_finished` says, by case: a stop as the cause and term that `of_stop` tells (stopped_as), an end as 0 and a truth
+-- value (ended_truth) or 1 and a range (ended_interval). `counted` adds the counts, of which the last is 0.
 use mathlib.Core.Path.{◌∙◌, ap}
 use Rattle.interp.specs.Answers.{counts_model}
 use Rattle.ranges.specs.Answers.{interval_outcome_model}

@@ -1,4 +1,4 @@
--- `ranges` returns 3 and leaves everything as it was where the list is shorter than eight (short-answer). Else the buffers are as the run leaves them, and
+-- `ranges` returns 3 and leaves everything as it was where the list is shorter than eight (short_answer). Else the buffers are as the run leaves them, and
 -- the list holds the reply to its answer (given).
 use mathlib.Core.List.{[]}
 use mathlib.Core.Path.{ap}

@@ -1,5 +1,5 @@
--- `eager` returns 3 and leaves everything as it was where the list is shorter than nine (short-answer). Else buffers and record are as the run leaves them,
--- and `put_nine` leaves the nine numbers (nine-written).
+-- `eager` returns 3 and leaves everything as it was where the list is shorter than nine (short_answer). Else buffers and record are as the run leaves them,
+-- and `put_nine` leaves the nine numbers (nine_written).
 use mathlib.Core.List.{[]}
 use Rattle.semantics.specs.Runs.{eager}
 use Rattle.interp.specs.Answers.{request_of, buffers_of}

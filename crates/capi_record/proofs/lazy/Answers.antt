@@ -1,5 +1,5 @@
--- `lazy` returns 3 and leaves everything as it was where the list is shorter than nine (short-answer). Else buffers and record are as the run leaves them,
--- and `put_nine` leaves the nine numbers (nine-written).
+-- `lazy` returns 3 and leaves everything as it was where the list is shorter than nine (short_answer). Else buffers and record are as the run leaves them,
+-- and `put_nine` leaves the nine numbers (nine_written).
 use Rattle.semantics.specs.Runs.{lazy}
 use Rattle.interp.specs.Answers.{request_of, buffers_of}
 use Rattle.replies.specs.Replies.{enforce_flag}

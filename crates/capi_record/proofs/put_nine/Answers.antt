@@ -1,4 +1,4 @@
--- The eight numbers of the run, which `put` leaves, are followed by the number of entries (in-nine).
+-- The eight numbers of the run, which `put` leaves, are followed by the number of entries (in_nine).
 use native.Mathlib.Omega.{arith}
 use Rattle.interp.specs.Answers.{run_model}
 use Rattle.replies.specs.Replies.{run_reply}

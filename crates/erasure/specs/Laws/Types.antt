@@ -151,10 +151,12 @@ module _ (s : List ℕ) (w : WellFormed s) where
       record {
         kinds = eqb-true (byte s (type_at_lem s u)) (byte s (type_at_lem s t)) (search (e, and_left, and_right));
         args = sym (heads_head t ((types_of s).arg u) l a.arg)
-            ∙ eqb-true (get_or (representatives s t) ((types_of s).arg u) 0) (get_or (representatives s t) ((types_of s).arg t) 0) (search (e, and_left, and_right))
+            ∙ eqb-true (get_or (representatives s t) ((types_of s).arg u) 0) (get_or (representatives s t) ((types_of s).arg t) 0)
+            (search (e, and_left, and_right))
             ∙ heads_head t ((types_of s).arg t) l b.arg;
         results = sym (heads_head t ((types_of s).res u) l a.res)
-            ∙ eqb-true (get_or (representatives s t) ((types_of s).res u) 0) (get_or (representatives s t) ((types_of s).res t) 0) (search (e, and_left, and_right))
+            ∙ eqb-true (get_or (representatives s t) ((types_of s).res u) 0) (get_or (representatives s t) ((types_of s).res t) 0)
+            (search (e, and_left, and_right))
             ∙ heads_head t ((types_of s).res t) l b.res;
       }
 
@@ -306,7 +308,8 @@ module _ (s : List ℕ) (w : WellFormed s) where
   new_latent t l = type_latent s w (representative s t) (head_kept t l) (head_in t l)
 
   -- records that become equal are merged
-  merge : (t u : ℕ) → t < types s → u < types s → byte s (type_at_lem s t) ≡ byte s (type_at_lem s u) → new_type s ((types_of s).arg t) ≡ new_type s ((types_of s).arg u)
+  merge : (t u : ℕ) → t < types s → u < types s → byte s (type_at_lem s t) ≡ byte s (type_at_lem s u)
+      → new_type s ((types_of s).arg t) ≡ new_type s ((types_of s).arg u)
       → new_type s ((types_of s).res t) ≡ new_type s ((types_of s).res u) → representative s t ≡ representative s u
   merge t u l m ek ea er =
       let a = lower t (types s) l (omega arith) (omega arith) in
@@ -355,7 +358,8 @@ module _ (s : List ℕ) (w : WellFormed s) where
 
   -- two that are kept have different records
   new_distinct : (t u : ℕ) → kept_type s t ≡ true → t < types s → kept_type s u ≡ true → u < types s
-      → same_bytes (lean_sheet s) (type_at_lem (lean_sheet s) (kept_below (kept_type s) t)) (type_at_lem (lean_sheet s) (kept_below (kept_type s) u)) 10 ≡ true → t ≡ u
+      → same_bytes (lean_sheet s) (type_at_lem (lean_sheet s) (kept_below (kept_type s) t))
+      (type_at_lem (lean_sheet s) (kept_below (kept_type s) u)) 10 ≡ true → t ≡ u
   new_distinct t u k l g m h =
       let i : ℕ = type_at_lem (lean_sheet s) (kept_below (kept_type s) t) in
       let j : ℕ = type_at_lem (lean_sheet s) (kept_below (kept_type s) u) in
@@ -370,17 +374,20 @@ module _ (s : List ℕ) (w : WellFormed s) where
 
   new_fresh : (t n : ℕ) → kept_type s t ≡ true → t < types s → n ≤ kept_below (kept_type s) t → fresh (lean_sheet s) (kept_below (kept_type s) t) n ≡ true
   new_fresh t zero k l h = refl
-  new_fresh t (suc u) k l h = and_both (differs (same_bytes (lean_sheet s) (type_at_lem (lean_sheet s) u) (type_at_lem (lean_sheet s) (kept_below (kept_type s) t)) 10) refl)
+  new_fresh t (suc u) k l h = and_both (differs
+      (same_bytes (lean_sheet s) (type_at_lem (lean_sheet s) u) (type_at_lem (lean_sheet s) (kept_below (kept_type s) t)) 10) refl)
       (new_fresh t u k l (omega arith))
     where
       o : Old (kept_type s) (types s) u
       o = old_of (kept_type s) (types s) u (omega (arith, kept_mono (kept_type s) t (types s) (omega arith)))
 
-      differs : (b : Bool) → same_bytes (lean_sheet s) (type_at_lem (lean_sheet s) u) (type_at_lem (lean_sheet s) (kept_below (kept_type s) t)) 10 ≡ b → not b ≡ true
+      differs : (b : Bool) → same_bytes (lean_sheet s) (type_at_lem (lean_sheet s) u)
+          (type_at_lem (lean_sheet s) (kept_below (kept_type s) t)) 10 ≡ b → not b ≡ true
       differs false e = refl
       differs true e =
           let q : o.old ≡ t = new_distinct o.old t o.kept o.below k l
-          (ap (λ (x : ℕ). same_bytes (lean_sheet s) (type_at_lem (lean_sheet s) x) (type_at_lem (lean_sheet s) (kept_below (kept_type s) t)) 10) o.number ∙ e) in
+          (ap (λ (x : ℕ). same_bytes (lean_sheet s) (type_at_lem (lean_sheet s) x) (type_at_lem (lean_sheet s) (kept_below (kept_type s) t)) 10) o.number
+          ∙ e) in
           absurd (omega (arith, ap (kept_below (kept_type s)) q, o.number))
 
   kept_type_ok : (t : ℕ) → kept_type s t ≡ true → t < types s → type_ok (lean_sheet s) (kept_below (kept_type s) t) ≡ true
@@ -399,7 +406,8 @@ module _ (s : List ℕ) (w : WellFormed s) where
       go (no h) =
           let f = function_type s w t (is_function t (omega arith) l) in
           let e : new_type s t ≡ kept_below (kept_type s) t = number_kept t k in
-          (λ i. cond (le-ltb (kept_below (kept_type s) t) 2 (omega (arith, number_high t (omega arith) l)) i) (base_ok (lean_sheet s) (kept_below (kept_type s) t))
+          (λ i. cond (le-ltb (kept_below (kept_type s) t) 2 (omega (arith, number_high t (omega arith) l)) i)
+          (base_ok (lean_sheet s) (kept_below (kept_type s) t))
           (function_ok (lean_sheet s) (kept_below (kept_type s) t) && shallow (lean_sheet s) max_type_depth (kept_below (kept_type s) t)
           && fresh (lean_sheet s) (kept_below (kept_type s) t) (kept_below (kept_type s) t)))
           ∙ and_both (and_both

@@ -147,7 +147,8 @@ module _ (s s' : List ℕ) (a : SameButNumbers s s') where
       λ i. eqb (type_kind t l i) 2 && eqb (type_byte t 1 l (omega arith) i) 0 && ltb (type_word t 2 l (omega arith) i) t
       && ltb (type_word t 4 l (omega arith) i) t
 
-  same_same_bytes : (u t n : ℕ) → u < types s → t < types s → n ≤ 10 → same_bytes s' (type_at_lem s' u) (type_at_lem s' t) n ≡ same_bytes s (type_at_lem s u) (type_at_lem s t) n
+  same_same_bytes : (u t n : ℕ) → u < types s → t < types s → n ≤ 10
+      → same_bytes s' (type_at_lem s' u) (type_at_lem s' t) n ≡ same_bytes s (type_at_lem s u) (type_at_lem s t) n
   same_same_bytes u t zero lu lt h = refl
   same_same_bytes u t (suc n) lu lt h =
       λ i. eqb (type_byte u n lu (omega arith) i) (type_byte t n lt (omega arith) i) && same_same_bytes u t n lu lt (omega arith) i

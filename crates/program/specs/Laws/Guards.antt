@@ -39,7 +39,8 @@ last_privilege = refl
 pub guard_low : (x : ℕ) → is_guard x ≡ true → (p : ℕ) → guard_in x ≡ some p → (p ≡ x) × (p < privilege_count)
 guard_low x h p e = go (leb x max_privilege) refl (eqb x no_guard) refl h e
   where
-    go : (a : Bool) → leb x max_privilege ≡ a → (b : Bool) → eqb x no_guard ≡ b → (a || b) ≡ true → cond b none (some x) ≡ some p → (p ≡ x) × (p < privilege_count)
+    go : (a : Bool) → leb x max_privilege ≡ a → (b : Bool) → eqb x no_guard ≡ b → (a || b) ≡ true → cond b none (some x) ≡ some p
+        → (p ≡ x) × (p < privilege_count)
     go a ea true eb h e = absurd (none-ne-some p e)
     go true ea false eb h e = let q : x ≡ p = some-injective x p e in (sym q, omega (arith, leb-true x max_privilege ea, q))
     go false ea false eb h e = absurd (false≢true h)

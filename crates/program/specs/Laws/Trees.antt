@@ -83,7 +83,8 @@ pub tree_depth : (s : List ℕ) → WellFormed s → (j k t : ℕ) → t < terms
 tree_depth s w zero k t l p q = absurd (omega arith)
 tree_depth s w (suc j) zero t l p q = absurd (omega arith)
 tree_depth s w (suc j) (suc k) t l p q =
-    node_same (guard_of s) (kind_of (kind_byte s t)) t (small s t) (first s t) (second s t) (third s t) (λ y. tree_to s j y) (λ y. tree_to s k y) (below s w t l)
+    node_same (guard_of s) (kind_of (kind_byte s t)) t (small s t) (first s t) (second s t) (third s t) (λ y. tree_to s j y)
+    (λ y. tree_to s k y) (below s w t l)
     (λ y h. tree_depth s w j k y (omega arith) (omega arith) (omega arith))
 
 pub tree_node : (s : List ℕ) → WellFormed s → (t : ℕ) → t < terms s

@@ -57,7 +57,8 @@ word32_halves s b i j e =
 -- ---- no two function types have the same parts
 differs_below : (s : List ℕ) (t n u : ℕ) → fresh s t n ≡ true → u < n → same_bytes s (type_at_lem s u) (type_at_lem s t) 10 ≡ false
 differs_below s t zero u h l = absurd (omega arith)
-differs_below s t (suc n) u h l = go (dec_lt u n) (differs_below s t n u (and_right (not (same_bytes s (type_at_lem s n) (type_at_lem s t) 10)) (fresh s t n) h))
+differs_below s t (suc n) u h l = go (dec_lt u n)
+    (differs_below s t n u (and_right (not (same_bytes s (type_at_lem s n) (type_at_lem s t) 10)) (fresh s t n) h))
   where
     go : Dec (u < n) → (u < n → same_bytes s (type_at_lem s u) (type_at_lem s t) 10 ≡ false) → same_bytes s (type_at_lem s u) (type_at_lem s t) 10 ≡ false
     go (yes k) rest = rest k
@@ -89,7 +90,8 @@ module _ (s : List ℕ) (b : Bytes s) (t u : ℕ) where
       (and_both (at 1 (i + 1) (j + 1) (omega arith) (omega arith) (f.zero_is ∙ sym g.zero_is))
       (and_both (at 0 i j (omega arith) (omega arith) (f.kind_is ∙ sym g.kind_is)) refl)))))))))
     where
-      at : (n x y : ℕ) → x ≡ type_at_lem s t + n → y ≡ type_at_lem s u + n → byte s x ≡ byte s y → eqb (byte s (type_at_lem s t + n)) (byte s (type_at_lem s u + n)) ≡ true
+      at : (n x y : ℕ) → x ≡ type_at_lem s t + n → y ≡ type_at_lem s u + n → byte s x ≡ byte s y
+          → eqb (byte s (type_at_lem s t + n)) (byte s (type_at_lem s u + n)) ≡ true
       at n x y p q e = eq-eqb (byte s (type_at_lem s t + n)) (byte s (type_at_lem s u + n)) (ap (byte s) (sym p) ∙ e ∙ ap (byte s) q)
 
   later_differs : WellFormed s → (types_of s).is_fun t ≡ true → (types_of s).is_fun u ≡ true → (types_of s).arg t ≡ (types_of s).arg u → (types_of s).res t

@@ -1,5 +1,5 @@
--- The words of the terms are decoded and have the pairs laid in: they are as the evaluator asks (laid_table) and as the refinement asks (interval-table).
--- The run holds the start stack's grants and, above the root, the set of principal 0, as the meaning does (intervals-after).
+-- The words of the terms are decoded and have the pairs laid in: they are as the evaluator asks (laid_table) and as the refinement asks (interval_table).
+-- The run holds the start stack's grants and, above the root, the set of principal 0, as the meaning does (intervals_after).
 use native.Mathlib.Omega.{arith}
 use mathlib.Core.List.{[], ◌∷◌}
 use mathlib.Core.Path.{refl}

@@ -1,4 +1,4 @@
--- 35 is told where the pairs are not right (pairs-refused), and else the run is as `evaluate` gives it.
+-- 35 is told where the pairs are not right (pairs_refused), and else the run is as `evaluate` gives it.
 use mathlib.Core.Path.{sym, ◌∙◌}
 use Rattle.ranges.proofs.IntervalLaws.{pairs_refused}
 use Rattle.ranges.proofs.run_admitted.Goals as goal

@@ -34,11 +34,13 @@ module _ (mode : ℕ) (b : Bool) (style : lazy_mode mode ≡ b) (access low : �
   unfolding enable_frames
   enable_frames_lem f p = λ i. cond (style i) (set f (last_of_lem (used i)) (insert p (get_or f (last_of_lem (used i)) 0))) f
 
-  restore_frames_lem : (f g : List ℕ) → restore_frames mode access g (enabled_now mode access f) ≡ cond b (set g (last_of_lem low) (get_or f (last_of_lem low) 0)) g
+  restore_frames_lem : (f g : List ℕ) → restore_frames mode access g (enabled_now mode access f)
+      ≡ cond b (set g (last_of_lem low) (get_or f (last_of_lem low) 0)) g
   unfolding restore_frames enabled_now
   restore_frames_lem f g = (λ i. cond (style i) (set g (last_of_lem (used i)) (cond (style i) (get_or f (last_of_lem (used i)) 0) 0)) g) ∙ same b
     where
-      same : (b : Bool) → cond b (set g (last_of_lem low) (cond b (get_or f (last_of_lem low) 0) 0)) g ≡ cond b (set g (last_of_lem low) (get_or f (last_of_lem low) 0)) g
+      same : (b : Bool) → cond b (set g (last_of_lem low) (cond b (get_or f (last_of_lem low) 0) 0)) g
+          ≡ cond b (set g (last_of_lem low) (get_or f (last_of_lem low) 0)) g
       same true = refl
       same false = refl
 
@@ -143,14 +145,16 @@ module _ (A : ℕ → ℕ) (f : List ℕ) where
       → Frames A (signed_frames d f authorised) (d + 1) (frame n 0 ∷ xs)
   frames_sign n authorised d xs e l h =
       subst (λ k. Frames A (signed_frames d f authorised) k (frame n 0 ∷ xs)) (sym (add-one d))
-      (a_frame (get_or-set_other (set f (d * 2) authorised) (d * 2 + 1) (d * 2) 0 0 (λ e. omega arith) ∙ get_or-set_same f (d * 2) authorised 0 (omega arith) ∙ e)
+      (a_frame (get_or-set_other (set f (d * 2) authorised) (d * 2 + 1) (d * 2) 0 0 (λ e. omega arith)
+      ∙ get_or-set_same f (d * 2) authorised 0 (omega arith) ∙ e)
       (get_or-set_same (set f (d * 2) authorised) (d * 2 + 1) 0 0 (omega (arith, length-set f (d * 2) authorised)))
       (frames_same (signed_frames d f authorised) h (signed_same d f authorised)))
 
   abbrev enabled_frames : (at p : ℕ) → List ℕ
   enabled_frames at p = set f at (insert p (get_or f at 0))
 
-  frames_enable : (p : ℕ) {d : ℕ} {xs : List Frame} → Frames A f d xs → d * 2 ≤ length f → Frames A (enabled_frames (last_of_lem (d * 2)) p) d (enable_first p xs)
+  frames_enable : (p : ℕ) {d : ℕ} {xs : List Frame} → Frames A f d xs → d * 2 ≤ length f
+      → Frames A (enabled_frames (last_of_lem (d * 2)) p) d (enable_first p xs)
   frames_enable p no_frames l = no_frames
   frames_enable p (a_frame {d = d} {x = x} {xs = xs} e g h) l =
       subst (λ at. Frames A (enabled_frames at p) (suc d) (enable_first p (x ∷ xs))) (sym (last_is d))

@@ -1,6 +1,6 @@
 -- The draft of `render` holds the printed text, and the buffers are left as `used` says, by the verdict of `typecheck`: a refused sheet is told and not
--- run (rejected-reported), an accepted one is told with its run (accepted-reported). The run's answer depends on the lengths of the buffers alone, and these
--- are the largest, as in the definition of the print, by the precondition (buffers-largest).
+-- run (rejected_reported), an accepted one is told with its run (accepted_reported). The run's answer depends on the lengths of the buffers alone, and these
+-- are the largest, as in the definition of the print, by the precondition (buffers_largest).
 use mathlib.Core.Path.{sym, ap, ◌∙◌}
 use Rattle.typing.specs.Answers.{verdict_model}
 use Rattle.report.proofs.ReportLaws.{rejected_reported, accepted_reported, buffers_largest}

@@ -1,5 +1,5 @@
 -- The records of those among the first `next` types that are kept stand one after the other, and the count is how many they are. A type is kept
--- if its number is the count (entry_first, entry_other); its record then comes behind the others (gathered-yes). The types that are left, n - next, fall,
+-- if its number is the count (entry_first, entry_other); its record then comes behind the others (gathered_yes). The types that are left, n - next, fall,
 -- since each turn adds 1 to `next`.
 use native.Mathlib.Omega.{arith}
 use mathlib.Core.Path.{sym, ap}

@@ -1,4 +1,5 @@
--- `of_run` gives the registers that `registers_of` says, by case: a refused run as the cause and place that `of_refusal` tells (refusal_registers), any other as
+-- `of_run` gives the registers that `registers_of` says, by case: a refused run as the cause and place that `of_refusal` tells (refusal_registers), any other
+-- as
 -- `of_outcome` does. In that case the precondition `FewCalls` is what `of_outcome` requires.
 use mathlib.Core.Path.{◌∙◌, sym, ap, subst}
 use Rattle.interp.specs.Answers.{run_model}
