@@ -11,7 +11,7 @@ use Rattle.replies.specs.Replies.{not_done}
 use Rattle.replies.specs.Laws.{fit}
 use Rattle.lines.specs.Serving.{serve_turn, serve_of}
 use Rattle.lines.specs.Sessions.{Operation, add, serve, stepped, session, added_if, added_by, added_in, served_in, Sound}
-use Rattle.lines.specs.Theorems.{start_sound, session_sound, in_order_lem}
+use Rattle.lines.specs.Theorems.{start_sound, session_sound, in_order_holds}
 use Rattle.capi_lines.specs.States.{state_numbers, max_allowance, places_read, queue_read, state_read, state_written}
 use Rattle.capi_lines.specs.Entries.{AddLeft, state_after, add_left, lines_add, ServeLeft, served_state, serve_left, lines_serve}
 
@@ -144,7 +144,7 @@ session_readable os s r h = record {
   sound = session_sound os s r.sound;
   small = λ l.
       small_rest (served_in l os s) (queue_at (session os s) l)
-      (subst SmallAllowances (in_order_lem l os s r.sound) (small_append (queue_at s l) (added_in l os s) (r.small l) (added_small l os s h)));
+      (subst SmallAllowances (in_order_holds l os s r.sound) (small_append (queue_at s l) (added_in l os s) (r.small l) (added_small l os s h)));
 }
 
 pub session_read_back : (os : List Operation) → SmallAdds os → state_read (state_written (session os new_lines)) ≡ session os new_lines

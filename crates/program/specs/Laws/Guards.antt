@@ -49,7 +49,7 @@ pub guard_privilege : (x : ℕ) → is_guard x ≡ true → (x ≡ no_guard → 
 guard_privilege x h n = (guard_low x h x (λ i. cond (ne_eqb x no_guard n i) none (some x))).1
 
 pub guard_below : (s : List ℕ) → WellFormed s → (c : ℕ) → c < max_channels → (p : ℕ) → guard_of s c ≡ some p → p < privilege_count
-guard_below s w c l p e = (guard_low (guard_byte s c) (w.guard_ok_lem c l) p e).1
+guard_below s w c l p e = (guard_low (guard_byte s c) (w.guard_ok_holds c l) p e).1
 
 -- a privilege guards a channel exactly if it is the guard byte, since no privilege is the byte for none
 pub guard_contains : (p x : ℕ) → p < privilege_count → eqb x p ≡ contains p (guard_in x)

@@ -12,4 +12,4 @@ returns-then-not-pairs_ok c =
     c.args.posts.now c.args.calls c.args.depth c.requires (sym c.pairs_ok.ensures ∙ c.if-not-pairs_ok.true)
 
 pub evaluate-requires : goal.evaluate-requires
-evaluate-requires c = record { cleared = c.requires; pairs_ok_lem = sym c.pairs_ok.ensures ∙ c.if-not-pairs_ok.false }
+evaluate-requires c = record { cleared = c.requires; pairs_ok_holds = sym c.pairs_ok.ensures ∙ c.if-not-pairs_ok.false }

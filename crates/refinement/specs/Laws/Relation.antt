@@ -211,7 +211,7 @@ module _ (z : Fixed) where
   module _ {l : List ℕ} {m : ℕ} where
     pub rep_word : {w : ℕ} {x : ValueIn z} → Rep l m w x → WordOfSort (sort_for x) w
     rep_word (rep_bool h) = z.coding.truth_word h
-    rep_word (rep_num h) = z.coding.number_word_lem h
+    rep_word (rep_num h) = z.coding.number_word_holds h
     rep_word (rep_fun h b e) = h
     rep_word (rep_rec h b p q v e) = h
 
