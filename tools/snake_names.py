@@ -5,7 +5,7 @@ usage: python3 tools/snake_names.py
 
 What turns: each name that a file of specs/ or proofs/ declares (a definition, a lemma, a field, a constructor), in files of .antt, in the ghost parts of
 files of .rt, in edits, and in documents where it stands between backticks. Types, modules and Rust's own names stay. An answer that goes by a goal's name keeps it.
-Where two names fall together, the lemma gets the ending _lem.
+Where two names fall together, the definition takes the plain name, the lemma gets the ending _lem, and a record's field _holds.
 """
 
 import collections
@@ -75,38 +75,45 @@ def comment_at(line):
 
 
 def declarations():
-    """Each declared name with the files that declare it, and the names that are fields."""
-    where, fields = collections.defaultdict(set), set()
+    """Each declared name with the files that declare it, the names that stand indented, those of definitions, and those of records' fields."""
+    where, inner, defined, fields = collections.defaultdict(set), set(), set(), set()
     for path in files(".antt"):
+        record = False
         for line in read(path).split("\n"):
+            if re.match(r"\S", line) and not line.startswith("--"):
+                record = re.match(r"(?:pub )?record ", line) is not None
             m = DECLARED.match(line[: comment_at(line)])
             if not m or (m[4] or "").startswith(("tie.", "goal.")):
                 continue
             where[m[2]].add(path)
             if m[1]:
-                fields.add(m[2])
-    return where, fields
+                inner.add(m[2])
+                if record:
+                    fields.add(m[2])
+            elif re.match(r"(?:abbrev|unfoldable) ", line):
+                defined.add(m[2])
+    return where, inner, defined, fields
 
 
 def is_function_proof(path):
     return re.search(r"/proofs/.+/[A-Z]\w*\.antt$", path) is not None
 
 
-def spellings(where):
-    """The new spelling of each name; a lemma that would meet another name in some file gets an ending."""
+def spellings(where, defined, fields):
+    """The new spelling of each name; a lemma or a field that would meet another name in some file gets an ending."""
     words = [set(TOKEN.findall(read(path))) for path in list(files(".antt")) + list(files(".rt"))]
     rows, by_new = {}, collections.defaultdict(list)
     for name in where:
         if not name[0].isupper():
             by_new[snake(name)].append(name)
     for new, names in by_new.items():
-        # Of names that fall together, the one in camel case is a definition and takes the plain name; a lemma has dashes, or port.py turned it.
-        names.sort(key=lambda n: (n == new, "-" in n, n))
+        # Of names that fall together a definition comes first; port.py has turned some names of either kind.
+        names.sort(key=lambda n: (n not in defined, n == new, "-" in n, n))
         if len(names) == 1 and names[0] != new:
             rows[names[0]] = new
         for i, name in enumerate(names if len(names) > 1 else []):
             met = any(name in w and any(other in w for other in names[:i]) for w in words)
-            rows[name] = new + "_lem" if met else new
+            rows[name] = new + ("_holds" if name in fields else "_lem") if met else new
     return {old: new for old, new in rows.items() if old != new}
 
 
@@ -120,7 +127,7 @@ def library_names(text):
     return found
 
 
-def turn_code(text, rows, fields, keep, aliases):
+def turn_code(text, rows, inner, keep, aliases):
     def one(m):
         word, before = m[0], text[: m.start()]
         if word in keep or word not in rows:
@@ -130,7 +137,7 @@ def turn_code(text, rows, fields, keep, aliases):
             head = head[1] if head else ""
             if head in ("tie", "goal"):
                 return word
-            if word not in fields and not (head[:1].isupper() or head in aliases):
+            if word not in inner and not (head[:1].isupper() or head in aliases):
                 return word
         return rows[word]
 
@@ -146,7 +153,7 @@ def turn_prose(text, rows):
     return CODE.sub(lambda m: TOKEN.sub(lambda t: rows.get(t[0], t[0]), m[0]), text)
 
 
-def turn_antt(path, rows, fields):
+def turn_antt(path, rows, inner):
     text = read(path)
     keep = library_names(text)
     if is_function_proof(path):
@@ -160,11 +167,11 @@ def turn_antt(path, rows, fields):
         at = comment_at(line)
         out.append((line[:at], line[at:]))
     # The code is turned as a whole, so that a name at a line's head is seen; comments go beside it.
-    code = turn_code("\n".join(a for a, _ in out), rows, fields, keep, aliases).split("\n")
+    code = turn_code("\n".join(a for a, _ in out), rows, inner, keep, aliases).split("\n")
     return "\n".join(a + turn_prose(b, rows) for a, (_, b) in zip(code, out))
 
 
-def turn_rt(path, rows, fields):
+def turn_rt(path, rows, inner):
     text = read(path)
     at, out = 0, []
     for m in GHOST.finditer(text):
@@ -177,7 +184,7 @@ def turn_rt(path, rows, fields):
                 depth += {"{": 1, "}": -1}.get(text[end], 0)
                 end += 1
         out.append(comments_of_rust(text[at : m.start()], rows))
-        out.append(turn_code(text[m.start() : end], rows, fields, library_names(text), set()))
+        out.append(turn_code(text[m.start() : end], rows, inner, library_names(text), set()))
         at = end
     out.append(comments_of_rust(text[at:], rows))
     return "".join(out)
@@ -191,10 +198,10 @@ def main():
     # Rattle makes a module specs.contracts of its own in each crate.
     if os.path.exists("crates/evaluator/specs/Contracts.antt"):
         move("evaluator", "Contracts", "Promises")
-    where, fields = declarations()
-    rows = spellings(where)
+    where, inner, defined, fields = declarations()
+    rows = spellings(where, defined, fields)
     for path in list(files(".antt")) + list(files(".rt")):
-        new = (turn_antt if path.endswith(".antt") else turn_rt)(path, rows, fields)
+        new = (turn_antt if path.endswith(".antt") else turn_rt)(path, rows, inner)
         if new != read(path):
             with open(path, "w", encoding="utf-8") as f:
                 f.write(new)
@@ -206,7 +213,7 @@ def main():
                 f.write(new)
     for path in files(".edit"):
         text = read(path)
-        new = "\n".join(line if line.startswith("file:") else turn_code(line, rows, fields, set(), set()) for line in text.split("\n"))
+        new = "\n".join(line if line.startswith("file:") else turn_code(line, rows, inner, set(), set()) for line in text.split("\n"))
         if new != text:
             with open(path, "w", encoding="utf-8") as f:
                 f.write(new)

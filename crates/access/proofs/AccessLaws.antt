@@ -2,7 +2,7 @@
 use Rattle.std.proofs.Common.{◌≡◌, ℕ, zero, suc, ◌+◌, ◌-◌, ◌%◌, ◌<◌, ◌≤◌, Bool, true, false, cond, List, length, get_or, set, sym, refl, ◌∙◌, arith, le-leb}
 use borrow.Author.Tests.{lt-leb}
 use Rattle.privileges.specs.Sets.{has, meet, insert}
-use Rattle.access.specs.Access.{packed, low_of, high_of, lazy_mode, walk_grants, frames_grant, granted_of, sign_access, sign_frames, last_of_lem, first_enabled, enable_access, enable_frames, enabled_now, restore_frames}
+use Rattle.access.specs.Access.{packed, low_of, high_of, lazy_mode, walk_grants, frames_grant, granted_of, sign_access, sign_frames, last_of, first_enabled, enable_access, enable_frames, enabled_now, restore_frames}
 use Rattle.stores.specs.Returns.{Returned}
 
 -- ---- the walk
@@ -48,10 +48,10 @@ pub record WalkedTo (f : List ℕ) (used p d : ℕ) : Type 0 where
   pub rest_is : walk_grants f d p ≡ walk_grants f used p
 
 -- one less, modulo 2^64
-pub last_of : (n r : ℕ) → r < 18446744073709551616 → n < 18446744073709551616 → (r + 1) % 18446744073709551616 ≡ n → r ≡ last_of_lem n
-unfolding last_of_lem
-last_of zero r h g e = omega arith
-last_of (suc d) r h g e = omega arith
+pub last_of_lem : (n r : ℕ) → r < 18446744073709551616 → n < 18446744073709551616 → (r + 1) % 18446744073709551616 ≡ n → r ≡ last_of n
+unfolding last_of
+last_of_lem zero r h g e = omega arith
+last_of_lem (suc d) r h g e = omega arith
 
 -- ---- by the mode, which the code asks for as b
 module _ (mode access : ℕ) (f : List ℕ) {b : Bool} (q : b ≡ lazy_mode mode) where

@@ -49,13 +49,13 @@ unfoldable pub sign_frames : (mode access : ℕ) (frames : List ℕ) (authorised
 sign_frames mode access f authorised = cond (lazy_mode mode) (slice_set (slice_set f (low_of access) authorised) (low_of access + 1) 0) f
 
 -- the last number of so many: with none, 2^64 - 1, an index that is past every store
-unfoldable pub last_of_lem : ℕ → ℕ
-last_of_lem zero = 18446744073709551615
-last_of_lem (suc d) = d
+unfoldable pub last_of : ℕ → ℕ
+last_of zero = 18446744073709551615
+last_of (suc d) = d
 
 -- where the first frame has its enabled set
 abbrev pub first_enabled : (access : ℕ) → ℕ
-first_enabled access = last_of_lem (low_of access)
+first_enabled access = last_of (low_of access)
 
 unfoldable pub enable_access : (mode access p : ℕ) → ℕ
 enable_access mode access p = cond (lazy_mode mode) access (cond (has p (low_of access)) (packed (low_of access) (insert p (high_of access))) access)

@@ -3,7 +3,7 @@
 // 1 if checks are enforced, 2 more if it is lazy, and 4 more if its numbers are intervals.
 #![tactic(auto)]
 
-ghost use Rattle.std.specs.Prelude.{◌≡◌, ◌<◌, true, false, set, slice_index, slice_set};
+ghost use Rattle.std.specs.Prelude.{◌≡◌, ◌<◌, true, false, slice_index, slice_set};
 ghost use Rattle.privileges.specs.Sets.{privilege_count};
 ghost use Rattle.access.specs.Access.{packed, low_of, high_of, enforced, lazy_mode, interval_mode, ModeIs, frames_grant, granted_of, sign_access, sign_frames, first_enabled, enable_access, enable_frames, enabled_now, restore_frames};
 ghost use Rattle.stores.specs.Cells.{zeros_like};

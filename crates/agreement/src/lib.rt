@@ -69,10 +69,10 @@ pub fn compare_checks(
     frames2: &mut [u32],
 ) -> Compared
     ensures verdict_value { verdict_model result.verdict ≡ verdict sheet.now }
-    ensures frames_after { after result.«enforced» cells.new posts.new frames.new
+    ensures first_run { after result.«enforced» cells.new posts.new frames.new
         ≡ run sheet.now (request_of (runner_of lazy) true start.now calls depth)
         (buffers_of cells.old posts.old frames.old) }
-    ensures frames2_after { after result.«skipped» cells2.new posts2.new frames2.new
+    ensures second_run { after result.«skipped» cells2.new posts2.new frames2.new
         ≡ run sheet.now (request_of (runner_of lazy2) false start.now calls depth)
         (buffers_of cells2.old posts2.old frames2.old) }
     ensures agreement { length cells.old ≡ length cells2.old → length posts.old ≡ length posts2.old
@@ -109,10 +109,10 @@ pub fn compare_starts(
     frames2: &mut [u32],
 ) -> ComparedStarts
     ensures named_value { named_model result.named ≡ naming sheet.now privilege }
-    ensures frames_after { after result.first cells.new posts.new frames.new
+    ensures first_run { after result.first cells.new posts.new frames.new
         ≡ run sheet.now (request_of (runner_of lazy) true start.now calls depth)
         (buffers_of cells.old posts.old frames.old) }
-    ensures frames2_after { after result.second cells2.new posts2.new frames2.new
+    ensures second_run { after result.second cells2.new posts2.new frames2.new
         ≡ run sheet.now (request_of (runner_of lazy2) true start2.now calls depth)
         (buffers_of cells2.old posts2.old frames2.old) }
     ensures irrelevance { length cells.old ≡ length cells2.old → length posts.old ≡ length posts2.old

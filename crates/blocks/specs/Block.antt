@@ -41,7 +41,7 @@ registers_of (ran (ended g) k) = record { flag = 2 ^ 0; cause = 0; value = value
 registers_of (ran (stopped c t) k) = record { flag = 2 ^ 1; cause = c; value = 0; calls = k.calls; place = t }
 registers_of (refused c p) = record { flag = 2 ^ 2; cause = c; value = 0; calls = 0; place = p }
 
--- a byte's bits that are not in another one (Laws: has-without)
+-- a byte's bits that are not in another one (Laws: has_without)
 unfoldable pub without : (status bits : ℕ) → ℕ
 without m n = bit_xor m (bit_and m n)
 
@@ -78,7 +78,7 @@ pub data WriteAnswer : Type 0 where
 abbrev pub read_of : (block : List ℕ) (address : ℕ) → ReadAnswer
 read_of b a = cond (leb a max_address) (read_byte (byte b a)) (read_refused 23 0)
 
--- "The interrupt is raised while status and mask share a bit." (Theorems: raised-exactly)
+-- "The interrupt is raised while status and mask share a bit." (Theorems: raised_exactly)
 abbrev pub raised : (block : List ℕ) → Bool
 raised b = not (eqb (meet (byte b 1) (byte b 3)) 0)
 

@@ -46,7 +46,7 @@ module _ (block : List ℕ) (a : Answer) where
   other_bits k h = flagged k ∙ flag_high k (byte block 1) (bit_of a) h (bit_small a)
 
 -- ---- "2 cause, … 6 and 7 value …, 8 and 9 calls made, 10 and 11 term or place … Pairs have the highest byte first."
--- what a block is read as; of its status, one_bit and other-bits say it
+-- what a block is read as; of its status, one_bit and other_bits say it
 pub record Registers (block : List ℕ) (t : RunRegisters) : Type 0 where
   pub cause_is : byte block 2 ≡ t.cause
   pub value_is : word16 block 6 ≡ t.value

@@ -54,4 +54,5 @@ module _ (block answer : List ℕ) where
           buffers = buffers_of cells posts [];
         })
         ∙ ap (after_write answer) (f ∙ ap (λ (l : List ℕ). write_of l a v s b) load)
-        ∙ (λ i. cond (sym (fit block_bytes answer_numbers block answer size room) i) (returned_block 3 answer block b) (after_write answer (write_of block a v s b)))
+        ∙ (λ i. cond (sym (fit block_bytes answer_numbers block answer size room) i) (returned_block 3 answer block b)
+        (after_write answer (write_of block a v s b)))

@@ -20,7 +20,8 @@ write_reply (write_refused c p) r = accessed 2 c p r 0
 
 -- A block of another length than 16, or a short list: 3; nothing is done, and nothing is written anywhere.
 abbrev pub block_read : (block : List ℕ) (address : ℕ) (answer : List ℕ) → Reply
-block_read block a answer = cond (unfit block_bytes answer_numbers block answer) (not_done answer) (written (read_reply (read_of block a) (raised block)) answer)
+block_read block a answer = cond (unfit block_bytes answer_numbers block answer) (not_done answer)
+    (written (read_reply (read_of block a) (raised block)) answer)
 
 -- what a write returned and left
 pub record BlockLeft : Type 0 where

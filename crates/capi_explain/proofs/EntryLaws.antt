@@ -62,7 +62,8 @@ listed s p r h = omega (arith, h.length_is, explained_short s p)
 
 -- ---- the reply and the list, by the answer
 module _ (terms : List ℕ) where
-  reply_by : (a : Explanation) → chain_length a ≡ length (chain_terms (explanation_model a terms)) → explanation_reply a ≡ explain_reply (explanation_model a terms)
+  reply_by : (a : Explanation) → chain_length a ≡ length (chain_terms (explanation_model a terms))
+      → explanation_reply a ≡ explain_reply (explanation_model a terms)
   reply_by (Chain n) h = ap chain_reply h
   reply_by NotNeeded h = refl
   reply_by (Unreadable f) h = refl

@@ -54,7 +54,8 @@ module _ (state answer store : List ℕ) (size : length state ≡ state_numbers)
   add_given r e f g put =
       (λ i. record { reply = in_place answer room g put i; state = f i })
       ∙ ap (add_left state answer) (e ∙ ap (λ (s : LinesOf). add_of s l j store) load)
-      ∙ (λ i. cond (sym (fit state_numbers 8 state answer size room) i) (returned_add 3 answer state) (add_left state answer (add_of (state_read state) l j store)))
+      ∙ (λ i. cond (sym (fit state_numbers 8 state answer size room) i) (returned_add 3 answer state)
+      (add_left state answer (add_of (state_read state) l j store)))
 
 -- ---- a job is served
 reply_eight : (t : ServeAnswer) → length (serve_reply t).numbers ≡ 8

@@ -11,7 +11,7 @@ use Rattle.replies.specs.Replies.{not_done}
 use Rattle.replies.specs.Laws.{fit}
 use Rattle.lines.specs.Serving.{serve_turn, serve_of}
 use Rattle.lines.specs.Sessions.{Operation, add, serve, stepped, session, added_if, added_by, added_in, served_in, Sound}
-use Rattle.lines.specs.Theorems.{start_sound, session_sound, in_order_lem}
+use Rattle.lines.specs.Theorems.{start_sound, session_sound, in_order_holds}
 use Rattle.capi_lines.specs.States.{state_numbers, max_allowance, places_read, queue_read, state_read, state_written}
 use Rattle.capi_lines.specs.Entries.{AddLeft, state_after, add_left, lines_add, ServeLeft, served_state, serve_left, lines_serve}
 
@@ -59,7 +59,8 @@ module _ (js : List Job) (small : SmallAllowances js) where
   all_eight n = λ i. take n (same 0 i ∷ same 1 i ∷ same 2 i ∷ same 3 i ∷ same 4 i ∷ same 5 i ∷ same 6 i ∷ same 7 i ∷ [])
 
 whole : (js : List Job) → length js ≤ max_jobs → take (length js)
-    (get_or js 0 no_job ∷ get_or js 1 no_job ∷ get_or js 2 no_job ∷ get_or js 3 no_job ∷ get_or js 4 no_job ∷ get_or js 5 no_job ∷ get_or js 6 no_job ∷ get_or js 7 no_job ∷ []) ≡ js
+    (get_or js 0 no_job ∷ get_or js 1 no_job ∷ get_or js 2 no_job ∷ get_or js 3 no_job ∷ get_or js 4 no_job ∷ get_or js 5 no_job ∷ get_or js 6 no_job
+    ∷ get_or js 7 no_job ∷ []) ≡ js
 whole [] h = refl
 whole (a ∷ []) h = refl
 whole (a ∷ b ∷ []) h = refl
@@ -143,7 +144,7 @@ session_readable os s r h = record {
   sound = session_sound os s r.sound;
   small = λ l.
       small_rest (served_in l os s) (queue_at (session os s) l)
-      (subst SmallAllowances (in_order_lem l os s r.sound) (small_append (queue_at s l) (added_in l os s) (r.small l) (added_small l os s h)));
+      (subst SmallAllowances (in_order_holds l os s r.sound) (small_append (queue_at s l) (added_in l os s) (r.small l) (added_small l os s h)));
 }
 
 pub session_read_back : (os : List Operation) → SmallAdds os → state_read (state_written (session os new_lines)) ≡ session os new_lines
@@ -217,7 +218,8 @@ pub written_size : (s : Lines) → length (state_written s) ≡ state_numbers
 unfolding state_written
 written_size s = refl
 
-same_step : (o : Operation) (answer : List ℕ) (s : Lines) → StateReadable s → Room o answer → list_stepped o answer (state_written s) ≡ state_written (stepped o s)
+same_step : (o : Operation) (answer : List ℕ) (s : Lines) → StateReadable s → Room o answer
+    → list_stepped o answer (state_written s) ≡ state_written (stepped o s)
 same_step (add l j store) answer s r room =
     ap (λ (x : AddLeft). x.state) (add_read (state_written s) (written_size s) s (read_back s r.sound r.small) store answer room l j)
     ∙ add_written s store l j

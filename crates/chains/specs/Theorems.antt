@@ -69,7 +69,8 @@ root_needs s p h =
 root_height : (s : List ℕ) (p : ℕ) → Needed s p → height_of (root_of s) ≤ max_nesting
 root_height s p h = program_height s (well_formed s (acceptance s h.count h.type h.needs h.acceptance_is).readable)
 
-root_way : (s : List ℕ) (p k : ℕ) → Needed s p → max_nesting ≤ k → Way (types_of s) (authority s) p (root_of s) (chain (types_of s) (authority s) p k (root_of s))
+root_way : (s : List ℕ) (p k : ℕ) → Needed s p → max_nesting ≤ k
+    → Way (types_of s) (authority s) p (root_of s) (chain (types_of s) (authority s) p k (root_of s))
 root_way s p k h l = chain_way (types_of s) (authority s) p k (root_of s) (omega (arith, root_height s p h)) (root_needs s p h)
 
 -- The chain of an accepted sheet that needs the privilege is as each sentence says.

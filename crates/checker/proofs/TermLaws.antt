@@ -157,7 +157,7 @@ module _ {s : List ℕ} {c : Counts} {l : List ℕ} {t : ℕ} {b : Bindings} {n 
   post_guard e a = a ∙ guard_is s well c W.ready.sheet.counts x.small (post_channel e)
 
   pub post_guard_byte : x.kind ≡ 14 → {g : ℕ} → g ≡ guard_record s c x.small → is_guard g ≡ true
-  post_guard_byte e a = subst (λ (g : ℕ). is_guard g ≡ true) (sym (post_guard e a)) (well.guard_ok_lem x.small (post_channel e))
+  post_guard_byte e a = subst (λ (g : ℕ). is_guard g ≡ true) (sym (post_guard e a)) (well.guard_ok_holds x.small (post_channel e))
 
   left : (y z : ℕ) → y < t → binding_depth_at s t ≡ max (binding_depth_at s y) (binding_depth_at s z) → ChildReady s c t y b n
   left y z h e = plain y h (omega (arith, e, le-max_left (binding_depth_at s y) (binding_depth_at s z)))

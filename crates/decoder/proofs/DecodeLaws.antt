@@ -31,9 +31,9 @@ pub found_none : {r : Found} {o : Option ℕ} → r ≡ Nothing → found_model 
 found_none e h = sym h ∙ ap found_model e
 
 -- ---- a guard
-pub guard_ok_lem : (s : List ℕ) (c : Counts) → Laid s c → (channel : ℕ) → channel < max_channels → {g : ℕ} → g ≡ guard_record s c channel
+pub guard_ok_holds : (s : List ℕ) (c : Counts) → Laid s c → (channel : ℕ) → channel < max_channels → {g : ℕ} → g ≡ guard_record s c channel
     → is_guard g ≡ guard_ok s channel
-guard_ok_lem s c L channel h e =
+guard_ok_holds s c L channel h e =
     ap is_guard (e ∙ guard_laid s (fields_ok s L.none_found).ends c L.counts_are channel h)
 
 -- ---- the fields, and then the tables

@@ -96,7 +96,8 @@ module _ (s l : List ℕ) (T : TermsOk s) (few : terms s ≤ max_terms) (P : Pla
     where
       go : (b : Bool) → eqb x (root s) ≡ b → ((y : ℕ) → y < terms s → nested_by l (terms s) k y ≡ nested_in s k y)
           → or_else (eqb x (root s)) (λ _. nested_by l (terms s) k (get_or l x 0)) ≡ or_else (eqb x (root s)) (λ _. nested_in s k (parent s x (terms s)))
-      go true e before = (λ i. or_else (e i) (λ _. nested_by l (terms s) k (get_or l x 0))) ∙ sym (λ i. or_else (e i) (λ _. nested_in s k (parent s x (terms s))))
+      go true e before = (λ i. or_else (e i) (λ _. nested_by l (terms s) k (get_or l x 0)))
+          ∙ sym (λ i. or_else (e i) (λ _. nested_in s k (parent s x (terms s))))
       go false e before =
           let n = eqb-false x (root s) e in
           let u : suc x < terms s = omega (arith, n) in

@@ -252,12 +252,14 @@ link_more (suc k) (suc (suc m)) p t hp ht =
     let e : suc (suc (suc k + m)) ≡ suc k + suc (suc m) = omega arith in
     many k t ∙ ap (λ (z : ℕ). link_of z (pick (eqb (suc k) 0) p t)) e
 
-pub links_more : (s : List ℕ) → TermsOk s → terms s ≤ max_terms → (t : ℕ) → t < terms s → {x : Shape} → x ≡ shape_at s t → (l l' : List ℕ) → length l ≡ max_terms
+pub links_more : (s : List ℕ) → TermsOk s → terms s ≤ max_terms → (t : ℕ) → t < terms s → {x : Shape} → x ≡ shape_at s t
+    → (l l' : List ℕ) → length l ≡ max_terms
     → Links s l t → LinkedAll l l' x t → Links s l' (t + 1)
 links_more s T few t h {x} e l l' k w v = record {
   each = λ y g.
       let n : t + 1 ≡ suc t = omega arith in
-      v y (omega arith) ∙ ap (λ (z : ℕ). link_times z (get_or l y 0) t) (among_is s T few t h e y) ∙ ap (λ (z : ℕ). link_times (times_in s y t) z t) (w.each y g)
+      v y (omega arith) ∙ ap (λ (z : ℕ). link_times z (get_or l y 0) t) (among_is s T few t h e y)
+      ∙ ap (λ (z : ℕ). link_times (times_in s y t) z t) (w.each y g)
       ∙ link_more (times_in s y t) (times_below s y t) (parent s y t) t (λ q. omega (arith, (parent_higher s T y t (omega arith) q).above))
       (λ q. omega (arith, child_lower s T y t h (λ z. omega arith)))
       ∙ ap (λ (z : ℕ). link_of (times_below s y z) (parent s y z)) (sym n);
@@ -344,7 +346,8 @@ module _ (s : List ℕ) (c : Counts) (L : Laid s c) (T : TermsOk s) (t : ℕ) (h
   few : terms s ≤ max_terms
   few = (fields_ok s L.none_found).terms_high
 
-  pub place_is : {n body sig : Bool} → n ≡ cond (eqb (t + 1) c.terms) (eqb (get_or l t 0) 0) (not (eqb (get_or l t 0) 0) && not (eqb (get_or l t 0) many_parents))
+  pub place_is : {n body sig : Bool} → n ≡ cond (eqb (t + 1) c.terms) (eqb (get_or l t 0) 0)
+      (not (eqb (get_or l t 0) 0) && not (eqb (get_or l t 0) many_parents))
       → body ≡ signed_body s (format_at s t).second (second s t) → sig ≡ is_sign s t → (n && body && (not (eqb (t + 1) c.terms) || sig)) ≡ placed_ok s t
   place_is {n} {body} {sig} en eb es =
       let some : 1 ≤ terms s = (fields_ok s L.none_found).terms_low in

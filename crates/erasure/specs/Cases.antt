@@ -158,7 +158,8 @@ erasures =
     ∷ erasing [] [] (refused 1 0) [] ∷ []
 
 pub erased_cases : map erasure_of erasures ≡ map due_of erasures
-unfolding erasures erasure_of erasure lean_sheet representatives representative kept_type new_types new_type kept_term inner_in inner new_terms new_term untested
+unfolding erasures erasure_of erasure lean_sheet representatives representative kept_type new_types new_type kept_term inner_in inner
+    new_terms new_term untested
     erasable kept_below gather verdict decoding screen refuse_at infer subtype subtype_in wider remove_authorised has meet union insert remove subset
 erased_cases = refl
 

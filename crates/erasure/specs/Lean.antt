@@ -3,7 +3,7 @@
 use Rattle.std.specs.Prelude.{Bool, true, not, cond, ◌&&◌, List, [], ◌∷◌, ◌++◌, ℕ, zero, suc, ◌*◌, ◌/◌, ◌%◌, leb, eqb, get_or, take}
 use Rattle.std.proofs.Math.Option.{Option, none, some}
 use Rattle.program.specs.Bytes.{byte}
-use Rattle.program.specs.Layout.{version, type_field, types, type_at_lem, terms, kind_byte, small, first, second, third, types_of}
+use Rattle.program.specs.Layout.{version, type_field, types, type_at, terms, kind_byte, small, first, second, third, types_of}
 use Rattle.program.specs.Formats.{Part, unused, flag, any_number, privilege, principal, channel, function_type, child, body_child}
 use Rattle.program.specs.Screening.{lowest}
 use Rattle.program.specs.Decoding.{format_at}
@@ -15,7 +15,8 @@ use Rattle.erasure.specs.Kept.{kept_below, gather}
 -- below t into which they are merged.
 abbrev pub alike : List ℕ → (representatives : List ℕ) → (t u : ℕ) → Bool
 alike s representatives t u =
-    eqb (byte s (type_at_lem s u)) (byte s (type_at_lem s t)) && eqb (get_or representatives ((types_of s).arg u) 0) (get_or representatives ((types_of s).arg t) 0)
+    eqb (byte s (type_at s u)) (byte s (type_at s t))
+    && eqb (get_or representatives ((types_of s).arg u) 0) (get_or representatives ((types_of s).arg t) 0)
     && eqb (get_or representatives ((types_of s).res u) 0) (get_or representatives ((types_of s).res t) 0)
 
 abbrev pub or_self : (self : ℕ) → Option ℕ → ℕ
@@ -76,9 +77,9 @@ abbrev pub bytes16 : ℕ → List ℕ
 bytes16 x = x / 256 ∷ x % 256 ∷ []
 
 -- a type's record: its parts renumbered, "every latent set empty"
-abbrev pub type_bytes_lem : List ℕ → (type : ℕ) → List ℕ
-type_bytes_lem s t =
-    byte s (type_at_lem s t) ∷ 0 ∷ bytes16 (new_type s ((types_of s).arg t)) ++ bytes16 (new_type s ((types_of s).res t)) ++ 0 ∷ 0 ∷ 0 ∷ 0 ∷ []
+abbrev pub type_bytes : List ℕ → (type : ℕ) → List ℕ
+type_bytes s t =
+    byte s (type_at s t) ∷ 0 ∷ bytes16 (new_type s ((types_of s).arg t)) ++ bytes16 (new_type s ((types_of s).res t)) ++ 0 ∷ 0 ∷ 0 ∷ 0 ∷ []
 
 -- a part of a term's record
 abbrev pub new_part : List ℕ → Part → (value : ℕ) → ℕ
@@ -98,7 +99,7 @@ term_bytes s t =
     ++ bytes16 (new_part s (format_at s t).third (third s t))
 
 abbrev pub type_field_bytes : List ℕ → List ℕ
-type_field_bytes s = 3 ∷ bytes16 (10 * new_types s) ++ gather (kept_type s) (type_bytes_lem s) (types s)
+type_field_bytes s = 3 ∷ bytes16 (10 * new_types s) ++ gather (kept_type s) (type_bytes s) (types s)
 
 abbrev pub term_field_bytes : List ℕ → List ℕ
 term_field_bytes s = 4 ∷ bytes16 (8 * new_terms s) ++ gather (kept_term s) (term_bytes s) (terms s)

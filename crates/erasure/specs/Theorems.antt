@@ -16,7 +16,7 @@ use Rattle.typing.specs.Theorems.{acceptance}
 use Rattle.semantics.specs.Runs.{Request, Buffers, run}
 use Rattle.semantics.specs.Theorems.{Starts}
 use Rattle.soundness.specs.Claims.{GrantsSet, Comparable}
-use Rattle.erasure.specs.Lean.{kept_type, new_types, new_type, is_erased, kept_term, new_terms, new_term, type_bytes_lem, lean_sheet, untested, erasable}
+use Rattle.erasure.specs.Lean.{kept_type, new_types, new_type, is_erased, kept_term, new_terms, new_term, type_bytes, lean_sheet, untested, erasable}
 use Rattle.erasure.specs.Erasure.{ErasureAnswer, refused, lean, if_room, if_erasable, erased, erasure}
 use Rattle.erasure.specs.Claims.{RenumberedRun}
 use Rattle.erasure.specs.Laws.Kept.{kept_strict, old_of}
@@ -175,11 +175,11 @@ written_sheet s b n e =
     (lean_sheet_lem s r.old_terms r.type r.needs r.old_accepted r.old_erasable)
 
 -- ---- Theorem 3: the new numbers
--- "Type records that become equal are merged into the first of them, and types and terms keep their old order." `type_bytes s t` is what the record of t
+-- "Type records that become equal are merged into the first of them, and types and terms keep their old order." `type_bytes_lem s t` is what the record of t
 -- becomes, whether it is kept or not. A check or an enable has its inner term's new number, so that this one stands in its place as a child.
 pub record Merging (s : List ℕ) : Type 0 where
-  pub merged : (t u : ℕ) → t < types s → u < types s → (type_bytes_lem s t ≡ type_bytes_lem s u) ↔ (new_type s t ≡ new_type s u)
-  pub first_kept : (t : ℕ) → t < types s → (kept_type s t ≡ true) ↔ ((u : ℕ) → u < t → type_bytes_lem s u ≡ type_bytes_lem s t → ⊥)
+  pub merged : (t u : ℕ) → t < types s → u < types s → (type_bytes s t ≡ type_bytes s u) ↔ (new_type s t ≡ new_type s u)
+  pub first_kept : (t : ℕ) → t < types s → (kept_type s t ≡ true) ↔ ((u : ℕ) → u < t → type_bytes s u ≡ type_bytes s t → ⊥)
   pub types_in_order : (t u : ℕ) → kept_type s t ≡ true → kept_type s u ≡ true → t < u → new_type s t < new_type s u
   pub terms_in_order : (t u : ℕ) → kept_term s t ≡ true → kept_term s u ≡ true → t < u → new_term s t < new_term s u
   pub inner_stands : (t : ℕ) → t < terms s → is_erased s t ≡ true → new_term s t ≡ new_term s (first s t)

@@ -102,7 +102,8 @@ module _ {terms : List ℕ} {t x : ℕ} {h : Action} (N : Node terms t x h) wher
   guard_right e = lower.guard e
 
   module _ (k : ℕ) where
-    top : (env access : ℕ) (st : Store) → eval_at terms k t env access st ≡ by_action h (eval_below terms (apply_at terms k) t) (apply_at terms k) t x env access st
+    top : (env access : ℕ) (st : Store) → eval_at terms k t env access st
+        ≡ by_action h (eval_below terms (apply_at terms k) t) (apply_at terms k) t x env access st
     unfolding eval_at step
     top env access st = below_top terms (apply_at terms k) 65536 t env access st N.term_small ∙ rw (← N.word_is, N.action_is) refl
 
@@ -232,7 +233,8 @@ module _ {terms : List ℕ} {t x : ℕ} (P : PairNode terms t x) where
           ∙ ap ending (sym (eq-eqb (word_kind x) 5 e))
 
       operated : (h : OperationKind (word_kind x))
-          → binary_s (eval_below terms (apply_at terms k) t (word_first x)) (eval_below terms (apply_at terms k) t (word_second x)) (word_kind x) t env access st
+          → binary_s (eval_below terms (apply_at terms k) t (word_first x)) (eval_below terms (apply_at terms k) t (word_second x))
+          (word_kind x) t env access st
           ≡ ending (eqb (word_kind x) 5)
       operated h =
           ap₂ (λ (f g : StoreEvaluation). binary_s f g (word_kind x) t env access st) (child (binary_node P.node h) k p (operand_below p refl).0)

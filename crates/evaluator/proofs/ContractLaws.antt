@@ -18,7 +18,8 @@ module _ {run : Store → Done} {n : List ℕ} {c p f o : MutBor (List ℕ)} whe
   ends e = record { done = sym e; calls = le_refl _; names = refl }
 
   -- it ends there, and what was lent meanwhile is as it was
-  pub ends_same : {w : ℕ} {n' : List ℕ} {c' p' f' o' : MutBor (List ℕ)} → store_now n' c' p' f' o' ≡ store_now n c p f o → names_of c' p' f' o' ≡ names_of c p f o
+  pub ends_same : {w : ℕ} {n' : List ℕ} {c' p' f' o' : MutBor (List ℕ)} → store_now n' c' p' f' o' ≡ store_now n c p f o
+      → names_of c' p' f' o' ≡ names_of c p f o
       → run (store_now n c p f o) ≡ done_of w (store_now n c p f o) → Evaluated run n c p f o w n' c' p' f' o'
   ends_same {w} s k e = record {
     done = ap (λ (st : Store). done_of w st) s ∙ sym e;

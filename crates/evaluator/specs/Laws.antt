@@ -77,7 +77,7 @@ module _ {s : List ℕ} (w : WellFormed s) {c : Counts} (k : CountsOf s c) {t x 
     post_guard e =
         let r = term_is s w c k t h in
         let l = channel_below s w t h (ap (λ (n : ℕ). (format (kind_of n)).small) e) in
-        subst (λ (g : ℕ). is_guard g ≡ true) (sym ((rw r at d.guard_is) e ∙ guard_is s w c k (small s t) l)) (w.guard_ok_lem (small s t) l)
+        subst (λ (g : ℕ). is_guard g ≡ true) (sym ((rw r at d.guard_is) e ∙ guard_is s w c k (small s t) l)) (w.guard_ok_holds (small s t) l)
 
     -- second and third stand in the word but of a sign and of a post, whose actions evaluate neither
     inside : ChildrenLower (action_of kind) t x

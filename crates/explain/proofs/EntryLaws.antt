@@ -31,7 +31,8 @@ use Rattle.chains.specs.declared.answer.Explanation.TheVariants.{NotNeeded, Unre
 use Rattle.chains.specs.declared.answer.Explained.{Explained}
 
 -- ---- an answer with no chain
-unchained_as : {r : Explained} (a : Explanation) (e : ExplainedOf) → r ≡ without_chain a → explanation_model a (replicate max_nesting 0) ≡ e → chain_terms e ≡ []
+unchained_as : {r : Explained} (a : Explanation) (e : ExplainedOf) → r ≡ without_chain a
+    → explanation_model a (replicate max_nesting 0) ≡ e → chain_terms e ≡ []
     → chain_length a ≡ 0 → ExplainedAs r e
 unchained_as a e q h k l = rw q (record { answer_is = h; length_is = l ∙ sym (ap length k); terms_are = rw k })
 
@@ -50,9 +51,11 @@ module _ (s : List ℕ) (p : ℕ) {r : Explained} where
     refused_unreadable e q = unreadable_explained q (ap verdict_model (sym e) ∙ w)
 
     pub refused_fault : {f : Fault} → v ≡ answer.Refused f → r ≡ without_chain (Refused f) → ExplainedAs r (explanation s p)
-    refused_fault {f} e q = by_verdict s p (rejected (fault_cause f) (fault_place f)) (ap verdict_model (sym e) ∙ w) (unchained_as (Refused f) _ q refl refl refl)
+    refused_fault {f} e q = by_verdict s p (rejected (fault_cause f) (fault_place f)) (ap verdict_model (sym e) ∙ w)
+        (unchained_as (Refused f) _ q refl refl refl)
 
-    pub accepted_explained : {n τ N : ℕ} → v ≡ answer.Accepted n τ N → ExplainedAs r (explained_in s p N (leb p max_privilege)) → ExplainedAs r (explanation s p)
+    pub accepted_explained : {n τ N : ℕ} → v ≡ answer.Accepted n τ N → ExplainedAs r (explained_in s p N (leb p max_privilege))
+        → ExplainedAs r (explanation s p)
     accepted_explained {n} {τ} {N} e t = by_verdict s p (accepted n τ N) (ap verdict_model (sym e) ∙ w) t
 
 -- the root's needs are those of the verdict
@@ -88,5 +91,6 @@ module _ (s : List ℕ) (p N : ℕ) {r : Explained} where
     pub needed : z ≡ true → ExplainedAs r (explained (map placed_number (chain_of s p))) → ExplainedAs r (explained_in s p N (leb p max_privilege))
     needed f t = rw (le-leb p max_privilege h, sym e ∙ f) t
 
-pub needs_followable : {s : List ℕ} {c : Counts} {N : ℕ} → RootNeeds s c N → {p : ℕ} → p ≤ max_privilege → {z : Bool} → z ≡ has p N → z ≡ true → Followable s c p
+pub needs_followable : {s : List ℕ} {c : Counts} {N : ℕ} → RootNeeds s c N → {p : ℕ} → p ≤ max_privilege → {z : Bool} → z ≡ has p N
+    → z ≡ true → Followable s c p
 needs_followable w {p} h e f = record { sheet = w.sheet; privilege = omega arith; needing = w.needs_are p ∙ sym e ∙ f }

@@ -30,7 +30,8 @@ use Rattle.chains.specs.Explaining.{needing, in_latent, needs, is_cause}
 use Rattle.places.proofs.PlaceLaws.{◌and◌, all, among, at_record, most, term_of, tree_is}
 
 -- the latent set of a function type is that of its record
-pub latent_is : {s : List ℕ} {c : Counts} (S : FormedSheet s c) (p ty : ℕ) → (types_of s).is_fun ty ≡ true → {f : TypeRecord} → f ≡ type_record s c ty → {r : Bool}
+pub latent_is : {s : List ℕ} {c : Counts} (S : FormedSheet s c) (p ty : ℕ) → (types_of s).is_fun ty ≡ true → {f : TypeRecord}
+    → f ≡ type_record s c ty → {r : Bool}
     → r ≡ has p f.latent → r ≡ has p ((types_of s).latent ty)
 latent_is S p ty h q g = g ∙ ap (has p) (type_parts S ty h q).latent_is
 

@@ -43,14 +43,14 @@ abbrev those : List (Option Placed) → List Placed
 those [] = []
 those (o ∷ os) = listed o (those os)
 
-abbrev in_order_lem : Children → List (Option Placed)
-in_order_lem k = k.first ∷ k.second ∷ k.third ∷ []
+abbrev in_order_holds : Children → List (Option Placed)
+in_order_holds k = k.first ∷ k.second ∷ k.third ∷ []
 
 tested : (z : Bool) (x y : Placed) → cond z (y ∷ []) (x ∷ y ∷ []) ≡ listed (cond z none (some x)) (y ∷ [])
 tested true x y = refl
 tested false x y = refl
 
-followed_is : (T : Types) (A : ℕ → ℕ) (p : ℕ) (x : Placed) → followed T A p x ≡ those (in_order_lem (followed_of T A p x))
+followed_is : (T : Types) (A : ℕ → ℕ) (p : ℕ) (x : Placed) → followed T A p x ≡ those (in_order_holds (followed_of T A p x))
 unfolding followed
 followed_is T A p (placed Γ n (boolean at b)) = refl
 followed_is T A p (placed Γ n (number at k)) = refl
@@ -138,7 +138,7 @@ cause_ends p at a e f = record { is = rw (f, sym a ∙ e); following = λ g. abs
 
 -- else one of the children is the next
 pub all_left : (s : List ℕ) (p : ℕ) (at : Place) {z : Bool} → needs_at s p at ≡ true → z ≡ cause_at s p at → z ≡ false
-    → ChildrenLeft s p (next_at s p at) (in_order_lem (followed_at s p at))
+    → ChildrenLeft s p (next_at s p at) (in_order_holds (followed_at s p at))
 unfolding next
 all_left s p at h a e = record {
   due_is = rw (sym a ∙ e) (ap (among s p) (followed_is (types_of s) (authority s) p (placed_at s at)));
@@ -258,7 +258,7 @@ module _ {s : List ℕ} {c : Counts} {k : List ℕ} {p : ℕ} {at : Place} (F : 
         call_ends e d = cause_ends p at call_is_cause e d
 
         module _ (e : z ≡ false) {v : Bool} (d : v ≡ has p N) where
-          both_left : ChildrenLeft s p (next_at s p at) (in_order_lem (followed_at s p at))
+          both_left : ChildrenLeft s p (next_at s p at) (in_order_holds (followed_at s p at))
           both_left = all_left s p at F.following.needing call_is_cause e
 
           part_needed : needed_by s p (followed_at s p at).first ≡ v

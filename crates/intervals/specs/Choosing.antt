@@ -1,5 +1,5 @@
 -- The sheet with other numbers, by its bytes. 02, W14: "Each term keeps one choice for the run; … for every such choice the plain run": it is the plain run of
--- the sheet whose number terms have the numbers chosen (SheetTheorems.antt: contains-plain).
+-- the sheet whose number terms have the numbers chosen (SheetTheorems.antt: contains_plain).
 use Rattle.std.specs.Prelude.{cond, List, ℕ, zero, suc, ◌+◌}
 use Rattle.program.specs.Bytes.{with_word16}
 use Rattle.program.specs.Layout.{terms, term_at}

@@ -23,7 +23,7 @@ pub record Words (pairs : List ℕ) : Type 0 where
 pub record Choice (s pairs : List ℕ) (ρ : (at n : ℕ) → ℕ) : Type 0 where
   pub inside : (t : ℕ) → t < terms s → is_number s t ≡ true → Inside (pair_of s pairs t) (ρ t (first s t))
 
--- "the plain run" for a choice: number terms stand for what is chosen. The run of a sheet is the one for its own numbers (Theorems.antt: own-numbers).
+-- "the plain run" for a choice: number terms stand for what is chosen. The run of a sheet is the one for its own numbers (Theorems.antt: own_numbers).
 abbrev pub chosen : (ρ : (at n : ℕ) → ℕ) → Interpretation
 chosen ρ = record { domain = single; literal = ρ }
 

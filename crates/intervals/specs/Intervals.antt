@@ -11,14 +11,14 @@ abbrev pub interval : (low high : ℕ) → Interval
 interval a b = record { low = a; high = b }
 
 -- "A sum or difference has the range from the least to the greatest of its results, held ones too, over all pairs of values from its two ranges." A sum grows
--- with both of its parts, a difference with the first, and it falls with the second. Theorems.antt: sum-spans, difference-spans.
+-- with both of its parts, a difference with the first, and it falls with the second. Theorems.antt: sum_spans, difference_spans.
 abbrev pub sum_of : Interval → Interval → Interval
 sum_of i j = interval (single.sum i.low j.low) (single.sum i.high j.high)
 
 abbrev pub difference_of : Interval → Interval → Interval
 difference_of i j = interval (single.difference i.low j.high) (single.difference i.high j.low)
 
--- "Less is undecided unless every pair of values from its two ranges agrees." Yes, no, or none where it is undecided. Theorems.antt: less-decides.
+-- "Less is undecided unless every pair of values from its two ranges agrees." Yes, no, or none where it is undecided. Theorems.antt: less_decides.
 abbrev pub less_of : Interval → Interval → Option Bool
 less_of i j = cond (ltb i.high j.low) (some true) (cond (leb j.high i.low) (some false) none)
 

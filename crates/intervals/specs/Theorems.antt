@@ -188,7 +188,7 @@ pub own_numbers : (s : List ℕ) (q : Request) (b : Buffers) → chosen_run (λ 
 unfolding chosen_run chosen_course run course
 own_numbers s q b = refl
 
--- There is a choice wherever the pairs have passed 35: the lowest of each. So what is said of every choice (contains, and contains-plain of SheetTheorems.antt)
+-- There is a choice wherever the pairs have passed 35: the lowest of each. So what is said of every choice (contains, and contains_plain of SheetTheorems.antt)
 -- is said of something.
 pub a_choice : (s ps : List ℕ) → pairs_ok s ps ≡ true → Choice s ps (λ t n. (pair_of s ps t).low)
 a_choice s ps ok = record { inside = λ t l e. lowest (pair_of s ps t) (pair_nonempty s ps ok t l e) }

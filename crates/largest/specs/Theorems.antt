@@ -112,7 +112,8 @@ module _ (s : List ℕ) (q : Request) (b : Buffers) where
   unfolding largest_run
   largest_untouched right c p = go (screen (largest_conditions right s q))
     where
-      go : (x : Screening) → (unless_found (refused_with b) x (λ _. run s q b)).answer ≡ refused c p → (unless_found (refused_with b) x (λ _. run s q b)).buffers ≡ b
+      go : (x : Screening) → (unless_found (refused_with b) x (λ _. run s q b)).answer ≡ refused c p
+          → (unless_found (refused_with b) x (λ _. run s q b)).buffers ≡ b
       go clear e = refused_untouched s q b c p e
       go (found d r) e = refl
 

@@ -14,7 +14,7 @@ use Rattle.program.specs.Laws.Trees.{parts, below}
 use Rattle.program.specs.declared.records.Counts.{Counts}
 use Rattle.program.specs.declared.records.TypeRecord.{TypeRecord}
 use Rattle.program.specs.declared.records.TermRecord.{TermRecord}
-use Rattle.erasure.specs.Lean.{new_type, new_term, bytes16, type_bytes_lem, new_part, term_bytes}
+use Rattle.erasure.specs.Lean.{new_type, new_term, bytes16, type_bytes, new_part, term_bytes}
 use Rattle.erasure.specs.Laws.Types.{fun_in}
 use Rattle.leanwriting.specs.Internal.{NumberedType, NumberedTerm}
 use Rattle.renumbering.proofs.TypeLaws.{PartsNumbered, parts_below, type_read}
@@ -26,7 +26,7 @@ module _ {s y : List ℕ} {c : Counts} {t : ℕ} (N : NumberedType s c y t) {x :
   parts_in = parts_below N.ready.sheet N.inside (omega (arith, N.inside)) (omega (arith, N.inside)) e
 
   pub type_bytes_are : {r : List ℕ} → r ≡ x.kind ∷ 0 ∷ bytes16 (get_or y x.arg 0) ++ bytes16 (get_or y x.res 0) ++ bytes16 0 ++ bytes16 0
-      → r ≡ type_bytes_lem s t
+      → r ≡ type_bytes s t
   type_bytes_are q =
       q
       ∙ (λ i. x.kind ∷ 0 ∷ bytes16 (N.ready.table.each x.arg parts_in.arg_below i)

@@ -12,7 +12,7 @@ use Rattle.program.specs.Bytes.{overwrite}
 use Rattle.program.specs.Layout.{type_field, types, terms}
 use Rattle.program.specs.declared.records.Counts.{Counts}
 use Rattle.erasure.specs.Kept.{kept_below, gather}
-use Rattle.erasure.specs.Lean.{kept_type, new_types, kept_term, new_terms, bytes16, type_bytes_lem, term_bytes, lean_sheet}
+use Rattle.erasure.specs.Lean.{kept_type, new_types, kept_term, new_terms, bytes16, type_bytes, term_bytes, lean_sheet}
 use Rattle.erasure.specs.Laws.Kept.{kept_most, kept_strict, kept_mono, gather_yes, gather_no, gather_length}
 use Rattle.erasure.specs.Laws.Bytes.{lean_size}
 use Rattle.erasure.specs.Laws.Types.{new_types_most}
@@ -77,7 +77,7 @@ pub record Gathering (keep : ℕ → Bool) (bytes : ℕ → List ℕ) (w : ℕ) 
   pub wide : (t : ℕ) → length (bytes t) ≡ w
   pub room : at + w * kept_below keep n ≤ length b
 
-pub type_gathering : (s b : List ℕ) (at : ℕ) → at + 10 * new_types s ≤ length b → Gathering (kept_type s) (type_bytes_lem s) 10 b at (types s)
+pub type_gathering : (s b : List ℕ) (at : ℕ) → at + 10 * new_types s ≤ length b → Gathering (kept_type s) (type_bytes s) 10 b at (types s)
 unfolding new_types
 type_gathering s b at h = record { wide = λ t. refl; room = h }
 
@@ -208,22 +208,22 @@ module _ {s : List ℕ} {c : Counts} {y : TypeNumbers} {m : TermNumbers} (R : Sh
     prefix_length : length (take (type_field s) s) ≡ type_field s
     prefix_length = length-take-le (type_field s) s (omega (arith, R.sheet.well_formed.terms_inside))
 
-    types_length : length (gather (kept_type s) (type_bytes_lem s) (types s)) ≡ 10 * new_types s
+    types_length : length (gather (kept_type s) (type_bytes s) (types s)) ≡ 10 * new_types s
     unfolding new_types
-    types_length = gather_length (kept_type s) (type_bytes_lem s) 10 (λ t. refl) (types s)
+    types_length = gather_length (kept_type s) (type_bytes s) 10 (λ t. refl) (types s)
 
     at_types : 8 + 4 * c.principals ≡ type_field s
     at_types = omega (arith, R.sheet.counts.principals_are)
 
     pub sheet_put : {b₁ b₂ b₃ b₄ b₅ : List ℕ} → b₁ ≡ paste b 0 s (8 + 4 * c.principals)
         → b₂ ≡ overwrite b₁ (8 + 4 * c.principals) (3 ∷ bytes16 (10 * y.count))
-        → b₃ ≡ overwrite b₂ (8 + 4 * c.principals + 3) (gather (kept_type s) (type_bytes_lem s) (types s))
+        → b₃ ≡ overwrite b₂ (8 + 4 * c.principals + 3) (gather (kept_type s) (type_bytes s) (types s))
         → b₄ ≡ overwrite b₃ (8 + 4 * c.principals + 3 + 10 * y.count) (4 ∷ bytes16 (8 * m.count))
         → b₅ ≡ overwrite b₄ (8 + 4 * c.principals + 3 + 10 * y.count + 3) (gather (kept_term s) (term_bytes s) (terms s))
         → b₅ ≡ lean_sheet s ++ drop (length (lean_sheet s)) b
     unfolding lean_sheet
     sheet_put {b₁} {b₂} {b₃} {b₄} {b₅} e₁ e₂ e₃ e₄ e₅ =
-        in_turn b (take (type_field s) s) (3 ∷ bytes16 (10 * new_types s)) (gather (kept_type s) (type_bytes_lem s) (types s)) (4 ∷ bytes16 (8 * new_terms s))
+        in_turn b (take (type_field s) s) (3 ∷ bytes16 (10 * new_types s)) (gather (kept_type s) (type_bytes s) (types s)) (4 ∷ bytes16 (8 * new_terms s))
         (gather (kept_term s) (term_bytes s) (terms s)) room
         (8 + 4 * c.principals) (8 + 4 * c.principals + 3) (8 + 4 * c.principals + 3 + 10 * y.count) (8 + 4 * c.principals + 3 + 10 * y.count + 3)
         (e₁ ∙ ap (paste b 0 s) at_types ∙ paste_over b 0 s (type_field s) (omega (arith, R.sheet.well_formed.terms_inside)))

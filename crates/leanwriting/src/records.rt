@@ -1,6 +1,6 @@
 // The records of the lean sheet, byte by byte.
 ghost use Rattle.std.specs.Prelude.{◌∷◌, ◌++◌, ◌≡◌, ◌/◌, ◌%◌};
-ghost use Rattle.erasure.specs.Lean.{bytes16, type_bytes_lem, term_bytes};
+ghost use Rattle.erasure.specs.Lean.{bytes16, type_bytes, term_bytes};
 ghost use Rattle.leanwriting.specs.Internal.{NumberedType, NumberedTerm};
 
 use accessors::{term, type_record};
@@ -44,7 +44,7 @@ fn eight(kind: u8, small: u8, a: u16, b: u16, d: u16) -> [u8; 8]
 // The new record of type t: its parts have their new numbers, and its latent set is empty.
 pub fn type_bytes(s: &[u8], c: Counts, types: &[u16; TYPE_PLACES], t: u16) -> [u8; 10]
     requires { NumberedType s.now c types.now t }
-    ensures { result ≡ type_bytes_lem s.now t }
+    ensures { result ≡ type_bytes s.now t }
 {
     let x = type_record(s, c, t);
     let a = x.arg as usize;

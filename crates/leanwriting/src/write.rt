@@ -4,7 +4,7 @@ ghost use Rattle.std.proofs.Math.Seq.{paste};
 ghost use Rattle.program.specs.Bytes.{overwrite};
 ghost use Rattle.program.specs.Layout.{types as type_count, terms as term_count};
 ghost use Rattle.erasure.specs.Kept.{gather};
-ghost use Rattle.erasure.specs.Lean.{kept_type, kept_term, bytes16, type_bytes_lem, term_bytes, lean_sheet};
+ghost use Rattle.erasure.specs.Lean.{kept_type, kept_term, bytes16, type_bytes, term_bytes, lean_sheet};
 ghost use Rattle.leanwriting.specs.Internal.{Puttable, TypesPuttable, TermsPuttable, SheetPuttable};
 
 use crate::records::{term_bytes, type_bytes};
@@ -39,7 +39,7 @@ fn put_head(buffer: &mut [u8], at: usize, tag: u8, size: u16)
 fn put_types(s: &[u8], c: Counts, types: &[u16; TYPE_PLACES], buffer: &mut [u8], at: usize)
     requires { TypesPuttable s.now c types.now buffer.old at }
     ensures { buffer.new
-        ≡ overwrite buffer.old at (gather (kept_type s.now) (type_bytes_lem s.now) (type_count s.now)) }
+        ≡ overwrite buffer.old at (gather (kept_type s.now) (type_bytes s.now) (type_count s.now)) }
 {
     let n = c.types;
     let mut count = 0;

@@ -53,7 +53,7 @@ module _ (q : Lines) (l : ℕ) (next : Next q l) (store cells posts : List ℕ) 
 
   module _ (below : l < max_lines) where
     pub has_one : has_job (queue_model (get_or q.queues l no_queue)) ≡ true
-    has_one = ap has_job (sym (queue_is q l)) ∙ next.has_job_lem below
+    has_one = ap has_job (sym (queue_is q l)) ∙ next.has_job_holds below
 
     module _ (taken : Taken) (parts : queue_model (get_or q.queues l no_queue) ≡ job_model taken.job ∷ queue_model taken.rest) where
       abbrev J : Job

@@ -69,7 +69,8 @@ unfolding serve_of turn_from largest_run run screen refuse_at course eval apply 
 other_cells = refl
 
 pub many_places :
-    ((serve_of after2 store (buffers_with (zeros 257))).answer ≡ answered (ran (ended (ground_num 7)) (record { calls = 0; cells = 0; posts = 1; saturated = 0 })))
+    ((serve_of after2 store (buffers_with (zeros 257))).answer
+    ≡ answered (ran (ended (ground_num 7)) (record { calls = 0; cells = 0; posts = 1; saturated = 0 })))
     × ((serve_of after2 store (buffers_with (zeros 258))).answer ≡ answered (refused 15 0))
 unfolding serve_of turn_from largest_run run screen refuse_at course eval apply eval_with add_authorised has meet union insert remove subset
 many_places = (refl, refl)

@@ -53,7 +53,7 @@ abbrev pub served_in : (line : ℕ) → List Operation → Lines → List Job
 served_in l [] s = []
 served_in l (o ∷ os) s = served_by l o s ++ served_in l os (stepped o s)
 
--- four queues of at most eight jobs, and a turn that is one of the lines: so at first, and after every add and serve (Theorems: start-sound, step-sound)
+-- four queues of at most eight jobs, and a turn that is one of the lines: so at first, and after every add and serve (Theorems: start_sound, step_sound)
 pub record Sound (s : Lines) : Type 0 where
   pub four : length s.queues ≡ max_lines
   pub turn_below : s.turn < max_lines

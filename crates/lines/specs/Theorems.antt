@@ -174,18 +174,18 @@ module _ (l : ℕ) (s : LinesOf) (h : Sound s) where
   balance (add k j store) = add_balance k j store (screen (add_conditions s k j store)) refl
   balance (serve store b) = append-nil (queue_at s l) ∙ serve_balance store b (turn_of s) refl
 
-pub in_order_lem : (l : ℕ) (os : List Operation) (s : LinesOf) → Sound s → queue_at s l ++ added_in l os s ≡ served_in l os s ++ queue_at (session os s) l
-in_order_lem l [] s h = append-nil (queue_at s l)
-in_order_lem l (o ∷ os) s h =
+pub in_order_holds : (l : ℕ) (os : List Operation) (s : LinesOf) → Sound s → queue_at s l ++ added_in l os s ≡ served_in l os s ++ queue_at (session os s) l
+in_order_holds l [] s h = append-nil (queue_at s l)
+in_order_holds l (o ∷ os) s h =
     sym (append_assoc (queue_at s l) (added_by l o s) (added_in l os (stepped o s)))
     ∙ ap (λ (xs : List Job). xs ++ added_in l os (stepped o s)) (balance l s h o)
     ∙ append_assoc (served_by l o s) (queue_at (stepped o s) l) (added_in l os (stepped o s))
-    ∙ ap (λ (xs : List Job). served_by l o s ++ xs) (in_order_lem l os (stepped o s) (step_sound o s h))
+    ∙ ap (λ (xs : List Job). served_by l o s ++ xs) (in_order_holds l os (stepped o s) (step_sound o s h))
     ∙ sym (append_assoc (served_by l o s) (served_in l os (stepped o s)) (queue_at (session os (stepped o s)) l))
 
 -- "The queues start empty, and only these entries change them": of each line, what was added is what was served, in that order, and then what waits.
 pub from_the_start : (l : ℕ) (os : List Operation) → added_in l os new_lines ≡ served_in l os new_lines ++ queue_at (session os new_lines) l
-from_the_start l os = sym (ap (λ (xs : List Job). xs ++ added_in l os new_lines) (none_waits l)) ∙ in_order_lem l os new_lines start_sound
+from_the_start l os = sym (ap (λ (xs : List Job). xs ++ added_in l os new_lines) (none_waits l)) ∙ in_order_holds l os new_lines start_sound
 
 -- ---- "A job with j jobs before it in its own queue has its turn within 4 × (j + 1) runs"
 -- how many lines have their turn before this one
@@ -308,7 +308,7 @@ module _ (l : ℕ) (below : l < max_lines) where
         soon = soon;
         itself = λ none.
             sym (get_or-append (served_in l os s) (queue_at (session os s) l) none j soon)
-            ∙ sym (ap (λ (xs : List Job). get_or xs j none) (in_order_lem l os s h)) ∙ get_or-append (queue_at s l) (added_in l os s) none j w;
+            ∙ sym (ap (λ (xs : List Job). get_or xs j none) (in_order_holds l os s h)) ∙ get_or-append (queue_at s l) (added_in l os s) none j w;
       }
 
 -- ---- one serve

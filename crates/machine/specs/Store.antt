@@ -79,7 +79,8 @@ call_bound w behind st =
 
 -- ---- the kinds of terms
 unfoldable pub letrec_s : StoreEvaluation → (body t : ℕ) → StoreEvaluation
-letrec_s p body t env access st = cond (has_room st) (p (own_cell st) access (cell_bound (function_word body (own_cell st)) env st)) (done_of (stop_word 21 t) st)
+letrec_s p body t env access st = cond (has_room st) (p (own_cell st) access (cell_bound (function_word body (own_cell st)) env st))
+    (done_of (stop_word 21 t) st)
 
 unfoldable pub call_s : StoreEvaluation → StoreEvaluation → StoreApplication → (t : ℕ) → StoreEvaluation
 call_s p q ap t env access st = and_then (p env access st) (λ f st₁. and_then (q env access st₁) (λ v st₂. ap t f v access st₂))

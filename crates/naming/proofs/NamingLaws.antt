@@ -31,7 +31,8 @@ use Rattle.irrelevance.specs.Naming.{Naming, refused, unnamed, named, naming_of,
 use Rattle.naming.specs.Internal.{NamingSheet, NamingTerm}
 
 -- ---- a term of a kind that names none
-names_none : (G : ℕ → Option ℕ) (k : Kind) → (number_of_kind k ≡ 7 → ⊥) → (number_of_kind k ≡ 10 → ⊥) → (number_of_kind k ≡ 14 → ⊥) → (p t x a b c : ℕ) (f : ℕ → Term)
+names_none : (G : ℕ → Option ℕ) (k : Kind) → (number_of_kind k ≡ 7 → ⊥) → (number_of_kind k ≡ 10 → ⊥) → (number_of_kind k ≡ 14 → ⊥)
+    → (p t x a b c : ℕ) (f : ℕ → Term)
     → false ≡ contains p (named_by (node G k t x a b c f))
 names_none G Boolean n7 n10 n14 p t x a b c f = refl
 names_none G Number n7 n10 n14 p t x a b c f = refl

@@ -30,7 +30,8 @@ pub fn names(sheet: &[u8], privilege: u32) -> Named
 // The same of a readable sheet with its counts.
 fn names_readable(s: &[u8], c: Counts, privilege: u32) -> Named
     requires { FormedSheet s.now c }
-    ensures { named_model result ≡ unless_found refused (screen (unless 30 (leb privilege max_privilege) ∷ [])) (λ _. naming_of (lowest_naming s.now privilege)) }
+    ensures { named_model result ≡ unless_found refused (screen (unless 30 (leb privilege max_privilege) ∷ []))
+        (λ _. naming_of (lowest_naming s.now privilege)) }
 {
     if MAX_PRIVILEGE_NUMBER < privilege {
         return Named::NoPrivilege;

@@ -54,7 +54,7 @@ counted_most s (suc t) = omega (arith, one_most (is_number s t), counted_most s 
 -- the first i of n pairs are in order
 pub record OrderedBelow (ps : List ℕ) (n i : ℕ) : Type 0 where
   pub below : i ≤ n
-  pub in_order_lem : ordered ps i ≡ true
+  pub in_order_holds : ordered ps i ≡ true
 
 pub ordered_next : (ps : List ℕ) (i : ℕ) → get_or ps (2 * i) 0 ≤ get_or ps (2 * i + 1) 0 → ordered ps i ≡ true → ordered ps (i + 1) ≡ true
 ordered_next ps i h e =
@@ -76,7 +76,7 @@ module _ (s ps : List ℕ) where
   abbrev count : ℕ
   count = numbers_below s (terms s)
 
-  abbrev tested : (version-right as_many in_order_lem : Bool) → Bool
+  abbrev tested : (version-right as_many in_order_holds : Bool) → Bool
   tested a b c = a && b && c
 
   pub other_version : (version s ≡ 1 → ⊥) → false ≡ pairs_ok s ps
@@ -135,7 +135,8 @@ module _ {s ps old new : List ℕ} {t : ℕ} (h : PairsLaid s ps t old new) wher
 
   -- the next pair, at the next number term
   pub laid_pair : {x n : ℕ} {new' : List ℕ} → t < length old → true ≡ is_number s t → n ≡ numbers_below s t → get_or ps (2 * n) 0 < 65536
-      → get_or ps (2 * n + 1) 0 < 65536 → x ≡ interval_word (get_or ps (2 * n) 0) (get_or ps (2 * n + 1) 0) → new' ≡ set new t x → PairsLaid s ps (t + 1) old new'
+      → get_or ps (2 * n + 1) 0 < 65536 → x ≡ interval_word (get_or ps (2 * n) 0) (get_or ps (2 * n + 1) 0) → new' ≡ set new t x
+      → PairsLaid s ps (t + 1) old new'
   laid_pair {x} low e q l m p same =
       subst (PairsLaid s ps (t + 1) old) (sym same)
       (laid_number low e (subst (IntervalEncoded (pair_of s ps t)) (sym p)

@@ -43,7 +43,8 @@ module _ (s : List ℕ) {d : Decoded} (p : decoded_model d ≡ decoding s) where
   unreadable_located {f} e q =
       subst (LocatedAs s (piece_of s)) (sym q)
       (subst (λ (a : Piece). LocatedAs s a (record { piece = Unreadable f; at = 0; len = 0 }))
-      (ap (λ (x : Screening). unless_found unreadable x λ _. piece_in s) (sym (ap decoded_model e) ∙ p)) (record { piece_is = refl; at_is = refl; len_is = refl }))
+      (ap (λ (x : Screening). unless_found unreadable x λ _. piece_in s) (sym (ap decoded_model e) ∙ p))
+      (record { piece_is = refl; at_is = refl; len_is = refl }))
 
   pub readable_located : {c : Counts} → d ≡ Readable c → {r : Located} → LocatedAs s (piece_in s) r → LocatedAs s (piece_of s) r
   unfolding piece_of

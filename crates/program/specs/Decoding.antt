@@ -3,7 +3,7 @@ use Rattle.std.specs.Prelude.{Bool, true, false, not, cond, ◌&&◌, ◌||◌, 
 use Rattle.program.specs.Limits.{max_principals, max_types, max_terms, max_channels, no_guard, max_type_depth, max_nesting, max_privilege}
 use Rattle.program.specs.Tests.{also, or_else}
 use Rattle.program.specs.Bytes.{byte, word16}
-use Rattle.program.specs.Layout.{version, has_guards, principals, type_field, types, type_at_lem, term_field, terms, guard_field, sheet_end, channels, guard_byte, root, kind_byte, small, first, second, third, types_of}
+use Rattle.program.specs.Layout.{version, has_guards, principals, type_field, types, type_at, term_field, terms, guard_field, sheet_end, channels, guard_byte, root, kind_byte, small, first, second, third, types_of}
 use Rattle.program.specs.Formats.{Part, unused, flag, any_number, privilege, principal, channel, function_type, child, body_child, is_child, Format, kind_of, format}
 use Rattle.program.specs.Screening.{Condition, Screening, clear, unless, seek, screen}
 
@@ -24,12 +24,12 @@ field s o tag ok =
 -- "Type 0 is the boolean and type 1 the number, with the rest zero"
 abbrev pub base_ok : List ℕ → (t : ℕ) → Bool
 base_ok s t =
-    eqb (byte s (type_at_lem s t)) t && eqb (byte s (type_at_lem s t + 1)) 0 && eqb ((types_of s).arg t) 0 && eqb ((types_of s).res t) 0
+    eqb (byte s (type_at s t)) t && eqb (byte s (type_at s t + 1)) 0 && eqb ((types_of s).arg t) 0 && eqb ((types_of s).res t) 0
     && eqb ((types_of s).latent t) 0
 
 -- "all others are functions of types with lower numbers"
 abbrev pub function_ok : List ℕ → (t : ℕ) → Bool
-function_ok s t = eqb (byte s (type_at_lem s t)) 2 && eqb (byte s (type_at_lem s t + 1)) 0 && ltb ((types_of s).arg t) t && ltb ((types_of s).res t) t
+function_ok s t = eqb (byte s (type_at s t)) 2 && eqb (byte s (type_at s t + 1)) 0 && ltb ((types_of s).arg t) t && ltb ((types_of s).res t) t
 
 -- "nested at most 12 deep, types 0 and 1 counting 0"
 abbrev pub shallow : List ℕ → (deep t : ℕ) → Bool
@@ -44,7 +44,7 @@ same_bytes s i j (suc n) = eqb (byte s (i + n)) (byte s (j + n)) && same_bytes s
 -- "No two records are equal": the record of t differs from those of the first so many types
 abbrev pub fresh : List ℕ → (t count : ℕ) → Bool
 fresh s t zero = true
-fresh s t (suc u) = not (same_bytes s (type_at_lem s u) (type_at_lem s t) 10) && fresh s t u
+fresh s t (suc u) = not (same_bytes s (type_at s u) (type_at s t) 10) && fresh s t u
 
 abbrev pub type_ok : List ℕ → (t : ℕ) → Bool
 type_ok s t = cond (ltb t 2) (base_ok s t) (function_ok s t && shallow s max_type_depth t && fresh s t t)

@@ -27,12 +27,12 @@ type_field s = 8 + 4 * principals s
 abbrev pub types : List ℕ → ℕ
 types s = word16 s (type_field s + 1) / 10
 
-abbrev pub type_at_lem : List ℕ → (type : ℕ) → ℕ
-type_at_lem s t = type_field s + 3 + 10 * t
+abbrev pub type_at : List ℕ → (type : ℕ) → ℕ
+type_at s t = type_field s + 3 + 10 * t
 
 -- "Tag 4: 1 to 1,024 terms, eight bytes each"
 abbrev pub term_field : List ℕ → ℕ
-term_field s = type_at_lem s (types s)
+term_field s = type_at s (types s)
 
 abbrev pub terms : List ℕ → ℕ
 terms s = word16 s (term_field s + 1) / 8
@@ -96,7 +96,7 @@ pub record Types : Type 0 where
 abbrev pub types_of : List ℕ → Types
 types_of s = record {
   is_fun = λ t. leb 2 t && ltb t (types s);
-  arg = λ t. word16 s (type_at_lem s t + 2);
-  res = λ t. word16 s (type_at_lem s t + 4);
-  latent = λ t. word32 s (type_at_lem s t + 6);
+  arg = λ t. word16 s (type_at s t + 2);
+  res = λ t. word16 s (type_at s t + 4);
+  latent = λ t. word32 s (type_at s t + 6);
 }

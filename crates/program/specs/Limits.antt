@@ -66,7 +66,7 @@ abbrev pub max_depth : ℕ
 max_depth = 100
 
 -- The frames of the deepest lazy run: those of the start stack, and as many as terms nest for the root and for each open call. Two numbers each make the 6,496
--- of its store (`refinement`, Laws/Controls: frames-fit).
+-- of its store (`refinement`, Laws/Controls: frames_fit).
 abbrev pub max_frames : ℕ
 max_frames = max_start_frames + (max_depth + 1) * max_nesting
 

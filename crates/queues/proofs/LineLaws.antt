@@ -39,7 +39,7 @@ module _ (q : Lines) where
   S = lines_model q
 
   is_next : (l : ℕ) → l < max_lines → has_job (queue_at S l) ≡ true → turn_of S ≡ turn_at l (queue_at S l) (λ _. nobody) → Next q l
-  is_next l h e f = record { has_job_lem = λ _. e; turn_is = λ _. f; or_nobody = λ g. absurd (omega arith) }
+  is_next l h e f = record { has_job_holds = λ _. e; turn_is = λ _. f; or_nobody = λ g. absurd (omega arith) }
 
   abbrev a : ℕ
   a = q.turn % max_lines
@@ -71,7 +71,7 @@ module _ (q : Lines) where
         pub no_line : has_job (queue_at S d) ≡ false → Next q max_lines
         unfolding turn_from
         no_line e = record {
-          has_job_lem = λ h. absurd (omega arith);
+          has_job_holds = λ h. absurd (omega arith);
           turn_is = λ h. absurd (omega arith);
           or_nobody = λ _. later S 3 a not_a ∙ later S 2 b not-b ∙ later S 1 c not-c ∙ later S 0 d e;
         }

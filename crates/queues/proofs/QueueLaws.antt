@@ -46,7 +46,8 @@ module _ (q : Queue) (n : ℕ) (size : SizeIs q n) where
           ∙ ap (λ (r : List Job). x ∷ r)
           (sym ((λ k. take (before k) (f k)) ∙ take_at (take i xs) (drop i (x ∷ xs)) i (length-take-le i xs (omega (arith, size.most)))))
 
-pub moved_more : (jobs : List Job) (i : ℕ) {rest : List Job} → length jobs ≡ max_jobs → i + 1 < max_jobs → rest ≡ take i (drop 1 jobs) ++ drop i jobs → (d : Job)
+pub moved_more : (jobs : List Job) (i : ℕ) {rest : List Job} → length jobs ≡ max_jobs → i + 1 < max_jobs
+    → rest ≡ take i (drop 1 jobs) ++ drop i jobs → (d : Job)
     → set rest i (get_or jobs (i + 1) d) ≡ take (i + 1) (drop 1 jobs) ++ drop (i + 1) jobs
 moved_more jobs i {rest = rest} eight h e d =
     let next : get_or jobs (i + 1) d ≡ get_or (drop 1 jobs) i d = ap (λ (k : ℕ). get_or jobs k d) (add_comm i 1) ∙ sym (get_or-drop 1 jobs i d) in

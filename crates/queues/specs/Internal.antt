@@ -15,6 +15,6 @@ pub record SizeIs (q : Queue) (n : ℕ) : Type 0 where
 
 -- the line that is served, or 4
 pub record Next (q : Lines) (line : ℕ) : Type 0 where
-  pub has_job_lem : line < max_lines → has_job (queue_at (lines_model q) line) ≡ true
+  pub has_job_holds : line < max_lines → has_job (queue_at (lines_model q) line) ≡ true
   pub turn_is : line < max_lines → turn_of (lines_model q) ≡ turn_at line (queue_at (lines_model q) line) (λ _. nobody)
   pub or_nobody : max_lines ≤ line → turn_of (lines_model q) ≡ nobody

@@ -83,7 +83,8 @@ module _ (s ps start : List ℕ) (e : Bool) (cells posts : List ℕ) (calls dept
       pub intervals_after : pairs_ok s ps ≡ true → (store noted : List ℕ) {terms : List ℕ} {mode access : ℕ} {t : Tally} (o : IntervalOutcome)
           {cells' posts' frames' noted' : List ℕ}
           → IntervalTable s c ps terms → StartAccess s start access → ModeIs false e true mode
-          → Tallied calls (root_done terms (c.terms - 1) mode access calls depth (buffers_of cells posts store) noted) t (buffers_of cells' posts' frames') noted'
+          → Tallied calls (root_done terms (c.terms - 1) mode access calls depth (buffers_of cells posts store) noted) t
+          (buffers_of cells' posts' frames') noted'
           → interval_outcome_model o ≡ interval_outcome_of (c.terms - 1) t.word
           → after_intervals (Ran o t.made) cells' posts' ≡ interval_run s ps request (buffers_of cells posts [])
       intervals_after ok store noted {terms} {mode} {t = t} o {cells' = cells'} {posts' = posts'} table a is v outcome-is =

@@ -7,4 +7,4 @@ use Rattle.interp.specs.Internal.{Cleared}
 -- a run that is admitted, with pairs that are right
 pub record PairedRun (s pairs start : List ℕ) (cells posts calls depth : ℕ) (c : Counts) : Type 0 where
   pub cleared : Cleared s start cells posts true calls depth c
-  pub pairs_ok_lem : pairs_ok s pairs ≡ true
+  pub pairs_ok_holds : pairs_ok s pairs ≡ true

@@ -9,7 +9,7 @@ use lib.Dec.{eqb}
 use lib.ListN.{get_or}
 use borrow.Author.Tests.{eqb-true, eqb-false, eq-eqb, ne_eqb}
 use Rattle.privileges.specs.Booleans.{bool_ext}
-use Rattle.program.specs.Layout.{types, type_at_lem}
+use Rattle.program.specs.Layout.{types, type_at}
 use Rattle.program.specs.Records.{type_at_byte, type_record}
 use Rattle.program.specs.Screening.{lowest}
 use Rattle.program.specs.Laws.Readable.{WellFormed}
@@ -28,7 +28,8 @@ unfolding new_type
 head_number s a b e = ap (kept_below (kept_type s)) e
 
 -- the record that is read, of a type of the sheet
-pub type_read : {s : List ℕ} {c : Counts} → FormedSheet s c → {t : ℕ} → t < types s → {x : TypeRecord} → x ≡ type_record s c t → x ≡ type_at_byte s (type_at_lem s t)
+pub type_read : {s : List ℕ} {c : Counts} → FormedSheet s c → {t : ℕ} → t < types s → {x : TypeRecord} → x ≡ type_record s c t
+    → x ≡ type_at_byte s (type_at s t)
 type_read {s} {c} S {t} l e = e ∙ type_laid s S.well_formed.terms_inside c S.counts t l
 
 -- its parts are lower than every type from t on, but for type 0

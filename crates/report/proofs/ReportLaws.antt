@@ -2,7 +2,7 @@
 use mathlib.Core.Bool.{Bool, true, ◌&&◌, cond}
 use mathlib.Core.List.{List, [], ◌++◌}
 use mathlib.Core.Path.{◌≡◌, sym, ap, ◌∙◌}
-use Prim.Native.Nat.{ℕ, ◌+◌, ◌<◌, ◌≤◌}
+use Prim.Native.Nat.{ℕ, ◌<◌, ◌≤◌}
 use native.Mathlib.Omega.{arith}
 use lib.Dec.{leb, eqb}
 use lib.ListN.{length, take, drop}
@@ -46,7 +46,8 @@ module _ (d : Draft) (t : List ℕ) (size : length d.bytes ≡ draft_bytes) (roo
   too_short h = record {
     leaves = λ cells posts.
         ap (λ (n : ℕ). whole (tooShort n) (buffers_of cells posts []) t) (sym held_length)
-        ∙ sym (ap (λ (b : Bool). delivered b (contents d) t (buffers_of cells posts [])) (lt-leb (length (contents d)) (length t) (omega (arith, held_length))));
+        ∙ sym (ap (λ (b : Bool). delivered b (contents d) t (buffers_of cells posts []))
+        (lt-leb (length (contents d)) (length t) (omega (arith, held_length))));
   }
 
   pub fitting : (i : ℕ) (x : List ℕ) → i ≤ d.len → d.len ≤ i → d.len ≤ length t → x ≡ take i d.bytes ++ drop i t
@@ -57,7 +58,8 @@ module _ (d : Draft) (t : List ℕ) (size : length d.bytes ≡ draft_bytes) (roo
         let is : x ≡ contents d ++ drop (length (contents d)) t =
         e ∙ ap (λ (n : ℕ). take n d.bytes ++ drop n t) all ∙ ap (λ (n : ℕ). contents d ++ drop n t) (sym held_length) in
         (λ j. whole (written (sym held_length j)) (buffers_of cells posts []) (is j))
-        ∙ sym (ap (λ (b : Bool). delivered b (contents d) t (buffers_of cells posts [])) (le-leb (length (contents d)) (length t) (omega (arith, held_length))));
+        ∙ sym (ap (λ (b : Bool). delivered b (contents d) t (buffers_of cells posts []))
+        (le-leb (length (contents d)) (length t) (omega (arith, held_length))));
   }
 
 -- ---- the run of an accepted sheet

@@ -7,7 +7,7 @@ use Rattle.semantics.specs.Values.{Budget, budget}
 use Rattle.semantics.specs.Meaning.{traced}
 use Rattle.semantics.specs.Runs.{Request, Buffers, Sizes, sizes, run_conditions, evaluation_in, Course, rejected, started, settled, left, After, run}
 
--- the course of a run that lists what it decides; but for the list it is that of the run (RecordTheorems.antt, as-without)
+-- the course of a run that lists what it decides; but for the list it is that of the run (RecordTheorems.antt, as_without)
 unfoldable pub traced_course : List ℕ → Request → Sizes → Course
 traced_course s q z = settled (screen (run_conditions s q z)) λ _. evaluation_in (traced q.enforce) q.runner s q z
 

@@ -174,7 +174,7 @@ counts_few s q b o k e =
     (omega (arith, evaluation_load s (started_well s q b (o, k, e)) (plain q.enforce) q.runner q (sizes b))))
 
 -- What a run that starts leaves in the buffers b: "Posts made so far stand in the lent list and its other entries are untouched; cell and frame stores are
--- all zero." A refused run leaves every buffer as it was: refused-untouched.
+-- all zero." A refused run leaves every buffer as it was: refused_untouched.
 pub record Leaves (r : Runner) (made : List ℕ) (b d : Buffers) : Type 0 where
   pub posts_first : take (length made) d.posts ≡ made
   pub rest_untouched : drop (length made) d.posts ≡ drop (length made) b.posts

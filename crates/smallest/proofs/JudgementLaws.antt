@@ -27,7 +27,8 @@ use Rattle.smallest.specs.Internal.{place_judgement, Judges, Judgeable}
 pub goes : {j : Inferred} {τ N : ℕ} {r : Judgement} (k : ℕ → ℕ → Judgement) → j ≡ Typed τ N → r ≡ k τ N → r ≡ (inferred_model j next k)
 goes k e q = q ∙ ap (λ (j : Inferred). inferred_model j next k) (sym e)
 
-pub result_is : {r : Judgement} {σ : ℕ} (k t τ N : ℕ) (j : Judgement) → r ≡ binary_step σ t τ N j → σ ≡ binary_result k → r ≡ binary_step (binary_result k) t τ N j
+pub result_is : {r : Judgement} {σ : ℕ} (k t τ N : ℕ) (j : Judgement) → r ≡ binary_step σ t τ N j → σ ≡ binary_result k
+    → r ≡ binary_step (binary_result k) t τ N j
 result_is k t τ N j q e = q ∙ ap (λ (z : ℕ). binary_step z t τ N j) e
 
 module _ {s : List ℕ} {c : Counts} {l : List ℕ} {at : Place} {i j k : Inferred} (G : Judgeable s c l at i j k) {x : TermRecord}

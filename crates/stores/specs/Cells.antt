@@ -22,7 +22,8 @@ look_of cells t env k = cond (eqb (walk_of cells env k) 0) (stop_word 18 t) (cel
 
 -- cell number i, from 0, with a word and the cell behind it
 unfoldable pub cell_set : List ℕ → (i w behind : ℕ) → List ℕ
-cell_set l i w behind = with_word16 (with_word16 (with_word16 (set l (i * 8) (sort_of w % 256)) (i * 8 + 1) (payload_of w)) (i * 8 + 3) (env_of w)) (i * 8 + 5) behind
+cell_set l i w behind = with_word16 (with_word16 (with_word16 (set l (i * 8) (sort_of w % 256)) (i * 8 + 1) (payload_of w)) (i * 8 + 3) (env_of w))
+    (i * 8 + 5) behind
 
 -- the cell after so many, by its number of 16 bits
 abbrev pub next_cell : (made : ℕ) → ℕ

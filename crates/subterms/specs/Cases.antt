@@ -110,7 +110,8 @@ cases =
     ∷ query [] (rejected 1 0) (unreadable 1 0) [] ∷ []
 
 pub worked : map observed cases ≡ map due cases
-unfolding cases piece_of smallest_of faulty_at verdict decoding screen refuse_at infer subtype subtype_in wider remove_authorised has meet union insert remove subset
+unfolding cases piece_of smallest_of faulty_at verdict decoding screen refuse_at infer subtype subtype_in wider remove_authorised has meet
+    union insert remove subset
 worked = refl
 
 -- a row: a sheet, a term's number, and what is told of it

@@ -38,7 +38,7 @@ pub record SmallestPiece (s : List ℕ) (t count cause : ℕ) : Type 0 where
   pub count_is : size (tree s t) ≡ count
   -- it is refused there, by a fault of its own
   pub refused : infer (types_of s) (authority s) bindings principal (tree s t) ≡ fault cause t
-  pub by_rules_lem : by_rules cause ≡ true
+  pub by_rules_holds : by_rules cause ≡ true
   -- each child of it is accepted where it stands
   pub children_typed : (y : Placed) → Among y (children (types_of s) (placed bindings principal (tree s t))) → HasType (types_of s) (authority s) y
   -- "the fewest terms in it, itself counted": no term with fewer is refused where it stands

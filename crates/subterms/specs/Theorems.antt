@@ -56,7 +56,7 @@ pub record RefusedByRules (s : List ℕ) : Type 0 where
   pub cause : ℕ
   pub place : ℕ
   pub verdict_is : verdict s ≡ rejected cause place
-  pub by_rules_lem : by_rules cause ≡ true
+  pub by_rules_holds : by_rules cause ≡ true
 
 -- "any other", but for an unreadable one: a readable sheet that is accepted, or refused by another number, which is 13
 pub record NotByRules (s : List ℕ) : Type 0 where
@@ -81,7 +81,7 @@ module _ (s : List ℕ) (r : Readable s) where
     cause = cause;
     place = at;
     verdict_is = verdict_is e;
-    by_rules_lem = ruled (types_of s) (authority s) [] 0 (program s) e;
+    by_rules_holds = ruled (types_of s) (authority s) [] 0 (program s) e;
   }
 
 -- the reader's numbers and 13 are others
@@ -96,7 +96,7 @@ root_faulty s h = screened (decoding s) refl h.verdict_is
     rooted : (b : Bool) (τ N : ℕ) → judgement s ≡ typed τ N → cond b (accepted (terms s) τ N) (rejected 13 (root s)) ≡ rejected h.cause h.place
         → Readable s → Readable s × HasFault (types_of s) (authority s) (placed [] 0 (program s))
     rooted true τ N e f r = absurd (let z : ◌≡◌ {A = ℕ} 0 1 = cc in omega arith)
-    rooted false τ N e f r = absurd (let z : 13 ≡ h.cause = cc in true≢false (sym h.by_rules_lem ∙ sym (ap by_rules z)))
+    rooted false τ N e f r = absurd (let z : 13 ≡ h.cause = cc in true≢false (sym h.by_rules_holds ∙ sym (ap by_rules z)))
 
     judged : (j : Judgement) → judgement s ≡ j → concluded (terms s) (root s) j ≡ rejected h.cause h.place → Readable s
         → Readable s × HasFault (types_of s) (authority s) (placed [] 0 (program s))
@@ -108,7 +108,7 @@ root_faulty s h = screened (decoding s) refl h.verdict_is
     screened clear e f = judged (judgement s) refl f e
     screened (found cause place) e f =
         let z : cause ≡ h.cause = cc in
-        let b : by_rules cause ≡ true = ap by_rules z ∙ h.by_rules_lem in
+        let b : by_rules cause ≡ true = ap by_rules z ∙ h.by_rules_holds in
         ⊎_elim (λ l. absurd (reader_other cause l b)) (λ q. absurd (true≢false (sym b ∙ ap by_rules q))) (decoding_readers s cause place e)
 
 module _ (s : List ℕ) where

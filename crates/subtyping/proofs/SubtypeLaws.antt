@@ -103,7 +103,8 @@ module _ {s : List ℕ} {c : Counts} (S : FormedSheet s c) (a b : ℕ) where
 
         pub sub_right : v ≡ false → false ≡ subtype (types_of s) a b
         sub_right e = sym (unequal ∙ λ i. also (first_function i) λ _. also ((sym (function_is S b hv) ∙ e) i) λ _.
-            also (subtype (types_of s) ((types_of s).arg b) ((types_of s).arg a)) λ _. also (subset ((types_of s).latent a) ((types_of s).latent b)) λ _. subtype
+            also (subtype (types_of s) ((types_of s).arg b) ((types_of s).arg a)) λ _. also
+            (subset ((types_of s).latent a) ((types_of s).latent b)) λ _. subtype
             (types_of s) ((types_of s).res a) ((types_of s).res b))
 
         module _ (ev : v ≡ true) {f g : TypeRecord} (hf : f ≡ type_record s c a) (hg : g ≡ type_record s c b) where

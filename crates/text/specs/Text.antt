@@ -29,7 +29,7 @@ unfoldable pub decimal_in : (k : ℕ) → ℕ → List ℕ
 decimal_in zero n = []
 decimal_in (suc k) n = cond (ltb n 10) [] (decimal_in k (n / 10)) ++ digit (n % 10) ∷ []
 
--- no number of 64 bits has more than 20 (Theorems: one-digit, tenth)
+-- no number of 64 bits has more than 20 (Theorems: one_digit, tenth)
 unfoldable pub decimal : ℕ → List ℕ
 decimal n = decimal_in 20 n
 
@@ -83,7 +83,7 @@ eager_sizes = record { cells = max_cells; posts = max_posts; frames = 0 }
 abbrev pub program_answer : List ℕ → Answer
 program_answer s = answer_of (root s) program_request eager_sizes (course s program_request eager_sizes)
 
--- The run of an accepted sheet is never turned back (Theorems: accepted-runs).
+-- The run of an accepted sheet is never turned back (Theorems: accepted_runs).
 abbrev pub of_run : (accepted : List ℕ) → Answer → List ℕ
 of_run xs (ran o k) = xs ++ line (outcome_text o ++ counts_text k)
 of_run xs (refused c p) = refusal_text c p

@@ -47,7 +47,8 @@ unfolding course
 accepted_runs s n τ N e = (
   _,
   _,
-  λ i. answer_of (root s) program_request eager_sizes (settled (starts s (acceptance s n τ N e).readable i) (λ _. evaluation eager s program_request eager_sizes)),
+  λ i. answer_of (root s) program_request eager_sizes
+      (settled (starts s (acceptance s n τ N e).readable i) (λ _. evaluation eager s program_request eager_sizes)),
 )
 
 -- ---- an input longer than any sheet

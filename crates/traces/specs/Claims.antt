@@ -16,7 +16,7 @@ pub data Storable : List Event → Type 0 where
 
 -- "fits" with the number missing: the office has so many entries more than the unit
 pub record Fits (unit office : List Event) (missing : ℕ) : Type 0 where
-  pub in_order_lem : Subsequence unit office
+  pub in_order_holds : Subsequence unit office
   pub missing_is : length unit + missing ≡ length office
 
 -- "the number, from 0, of the unit's first entry up to which they no longer can": the entries 0 to k do not occur, and each shorter beginning does

@@ -38,12 +38,12 @@ module _ (u o : List Event) where
           let s = subst (λ (x : List Event). Subsequence x o) (take_all (matched u o) u (omega arith)) (placed_occurs u o) in
           let f : fits (length o - length u) ≡ fits m = sym (compared_fits u o (omega arith)) ∙ e in
           let g : length o - length u ≡ m = cc in
-          record { in_order_lem = s; missing_is = omega (arith, no_longer s) }
+          record { in_order_holds = s; missing_is = omega (arith, no_longer s) }
 
       back : Fits u o m → compared u o ≡ fits m
       back f =
           let e : length o - length u ≡ m = omega (arith, f.missing_is) in
-          compared_fits u o (all_placed f.in_order_lem) ∙ ap fits e
+          compared_fits u o (all_placed f.in_order_holds) ∙ ap fits e
 
   -- It diverges at k exactly if k is the first entry up to which the unit's do not occur.
   pub compared_as_diverges : (k : ℕ) → (compared u o ≡ diverges k) ↔ Diverges u o k

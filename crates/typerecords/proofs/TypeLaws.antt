@@ -13,7 +13,7 @@ use Rattle.privileges.specs.Booleans.{and_left, and_right}
 use Rattle.program.specs.Limits.{max_types, max_type_depth}
 use Rattle.program.specs.Tests.{also, or_else}
 use Rattle.program.specs.Bytes.{Bytes}
-use Rattle.program.specs.Layout.{types, type_at_lem, types_of}
+use Rattle.program.specs.Layout.{types, type_at, types_of}
 use Rattle.program.specs.Decoding.{base_ok, function_ok, shallow, same_bytes, fresh, type_ok}
 use Rattle.program.specs.Records.{type_at_byte, type_record}
 use Rattle.accessors.specs.Internal.{Laid}
@@ -36,9 +36,10 @@ pub record NotMetFrom (s : List ℕ) (i n eight k : ℕ) : Type 0 where
   pub below : k ≤ n
   pub not_met : (m : ℕ) → k ≤ m → m < n → le_word s (i + 10 * m) 8 ≡ eight → ⊥
 
-fresh_step : (s : List ℕ) (t j : ℕ) → 0 < j → fresh s t j ≡ (not (same_bytes s (type_at_lem s (j - 1)) (type_at_lem s t) 10) && fresh s t (j - 1))
+fresh_step : (s : List ℕ) (t j : ℕ) → 0 < j → fresh s t j ≡ (not (same_bytes s (type_at s (j - 1)) (type_at s t) 10) && fresh s t (j - 1))
 fresh_step s t zero h = absurd (omega arith)
-fresh_step s t (suc k) h = let e : suc k - 1 ≡ k = omega arith in ap (λ (x : ℕ). not (same_bytes s (type_at_lem s x) (type_at_lem s t) 10) && fresh s t x) (sym e)
+fresh_step s t (suc k) h = let e : suc k - 1 ≡ k =
+    omega arith in ap (λ (x : ℕ). not (same_bytes s (type_at s x) (type_at s t) 10) && fresh s t x) (sym e)
 
 module _ (s : List ℕ) (at t j : ℕ) (T : TableAt s at t) {b : Bool} (e : b ≡ same_bytes s (at + 10 * (j - 1)) (at + 10 * t) 10) (h : 0 < j) where
   fresh_is : fresh s t j ≡ (not b && fresh s t (j - 1))
@@ -105,7 +106,7 @@ module _ (s : List ℕ) (c : Counts) (L : Laid s c) (t : ℕ) (l : t < types s) 
 
   -- ---- a type's record
   module _ {r : TypeRecord} (e : r ≡ type_record s c t) where
-    read : r ≡ type_at_byte s (type_at_lem s t)
+    read : r ≡ type_at_byte s (type_at s t)
     read = e ∙ type_laid s fields.terms_in c L.counts_are t l
 
     module _ (low : t < 2) {b : Bool} (g : b ≡ (eqb r.kind t && eqb r.zero 0 && eqb r.arg 0 && eqb r.res 0 && eqb r.latent 0)) where

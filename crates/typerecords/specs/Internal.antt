@@ -2,7 +2,7 @@
 use Rattle.std.specs.Prelude.{true, false, List, ◌≡◌, ℕ, zero, suc, ◌+◌, ◌*◌, ◌<◌, ◌≤◌, leb, length, get_or}
 use Rattle.program.specs.Limits.{max_principals}
 use Rattle.program.specs.Bytes.{byte}
-use Rattle.program.specs.Layout.{types, type_at_lem}
+use Rattle.program.specs.Layout.{types, type_at}
 use Rattle.program.specs.Decoding.{shallow, type_ok}
 use Rattle.program.specs.declared.records.Counts.{Counts}
 use Rattle.accessors.specs.Internal.{Laid}
@@ -21,7 +21,7 @@ pub record WordAt (s : List ℕ) (at width : ℕ) : Type 0 where
 
 -- the type table begins at `at`, and the record of type t lies in the sheet
 pub record TableAt (s : List ℕ) (at t : ℕ) : Type 0 where
-  pub begins : (u : ℕ) → at + 10 * u ≡ type_at_lem s u
+  pub begins : (u : ℕ) → at + 10 * u ≡ type_at s u
   -- 11 bytes of fields before it, and four for each principal
   pub near : at ≤ 11 + 4 * max_principals
   pub inside : at + 10 * t + 10 ≤ length s

@@ -13,7 +13,7 @@ pub data Subtype (T : Types) : ℕ → ℕ → Type 0 where
       → Subtype T (T.res a) (T.res b) → Subtype T a b
 
 -- 02, W4: "where one type fits the other, and have the wider type". c is the wider of a and b: b if a fits it, or else a if b fits it. Of a readable
--- sheet's types it is the same from which of the two one starts, since subtyping is antisymmetric (Theorems: wider-either).
+-- sheet's types it is the same from which of the two one starts, since subtyping is antisymmetric (Theorems: wider_either).
 pub data Wider (T : Types) : (a b c : ℕ) → Type 0 where
   wider_second : {a b : ℕ} → Subtype T a b → Wider T a b b
   wider_first : {a b : ℕ} → (Subtype T a b → ⊥) → Subtype T b a → Wider T a b a

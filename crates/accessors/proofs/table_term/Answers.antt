@@ -1,7 +1,6 @@
--- All of the record of term t lies in the sheet, since the caller says so, and has what stands there (a-term). It begins after the first field's 5 bytes,
+-- All of the record of term t lies in the sheet, since the caller says so, and has what stands there (a_term). It begins after the first field's 5 bytes,
 -- the heads of the next three, 3 each, the principals, the types and the terms before t.
 use Rattle.accessors.proofs.RecordLaws.{a_term}
-use Rattle.std.proofs.Common.{rules}
 use Rattle.accessors.proofs.table_term.Goals as goal
 
 pub returns : goal.returns

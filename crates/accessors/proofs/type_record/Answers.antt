@@ -1,7 +1,6 @@
--- One test decides whether the ten bytes at 11 + 4 * principals + 10 * t lie in the sheet: a record outside is all zeros (no-type), one inside has
--- what stands there (a-type). Whether t is in the table is not asked. 11 are the first field's 5 bytes and the heads of the second and third, 3 each.
+-- One test decides whether the ten bytes at 11 + 4 * principals + 10 * t lie in the sheet: a record outside is all zeros (no_type_lem), one inside has
+-- what stands there (a_type). Whether t is in the table is not asked. 11 are the first field's 5 bytes and the heads of the second and third, 3 each.
 use Rattle.accessors.proofs.RecordLaws.{no_type_lem, a_type}
-use Rattle.std.proofs.Common.{rules}
 use Rattle.accessors.proofs.type_record.Goals as goal
 
 pub returns-then-s-at : goal.returns-then-s-at

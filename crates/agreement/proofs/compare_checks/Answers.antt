@@ -7,8 +7,8 @@ pub returns : goal.returns
 returns c =
     record {
       verdict_value = c.typecheck-verdict.ensures;
-      frames_after = c.run_either-first.ensures;
-      frames2_after = c.run_either-second.ensures;
+      first_run = c.run_either-first.ensures;
+      second_run = c.run_either-second.ensures;
       agreement = agreed c.args.sheet.now c.args.start.now c.args.calls c.args.depth
           c.args.lazy c.args.lazy2 c.args.cells.now c.args.posts.now c.args.frames.now c.args.cells2.now
           c.args.posts2.now c.args.frames2.now c.typecheck-verdict.ensures c.run_either-first.ensures

@@ -7,8 +7,8 @@ pub returns : goal.returns
 returns c =
     record {
       named_value = c.names-named.ensures;
-      frames_after = c.run_either-first.ensures;
-      frames2_after = c.run_either-second.ensures;
+      first_run = c.run_either-first.ensures;
+      second_run = c.run_either-second.ensures;
       irrelevance = alike c.args.sheet.now c.args.privilege c.args.calls c.args.depth c.args.start.now c.args.lazy
           c.args.cells.now c.args.posts.now c.args.frames.now c.args.start2.now c.args.lazy2
           c.args.cells2.now c.args.posts2.now c.args.frames2.now c.names-named.ensures

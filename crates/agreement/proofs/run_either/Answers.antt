@@ -1,5 +1,5 @@
--- `run_either` answers and leaves what the definition's run does by the runner asked for (by-either). For the lazy one that is the contract of `run_lazy`.
--- The contract of `run_eager` is about a run without a frame store: an eager run with one takes the same course and leaves it as it is (by-eager).
+-- `run_either` answers and leaves what the definition's run does by the runner asked for (by_either). For the lazy one that is the contract of `run_lazy`.
+-- The contract of `run_eager` is about a run without a frame store: an eager run with one takes the same course and leaves it as it is (by_eager).
 use mathlib.Core.Bool.{true, false}
 use Rattle.agreement.proofs.AgreementLaws.{by_eager, by_either}
 use Rattle.agreement.proofs.run_either.Goals as goal

@@ -113,7 +113,8 @@ module _ (T : Types) (A : ℕ → ℕ) (p : ℕ) where
       require_traced (T.is_fun φ) 24 at λ _. require_traced (subtype T α (T.arg φ)) 25 at λ _. typed_traced λ h.
       ⊎_elim (λ m. absurd (true≢false (sym m ∙ sym (ap (in_latent T p) e) ∙ f)))
       (λ u. ⊎_elim (λ m. here e m) (λ m. later (here e' m)) (union_has p N M u)) (union_has p (T.latent φ) (union N M) h)
-  explained_if Γ n (if at c y o) f = next_traced (infer T A Γ n c) _ λ σ N e. next_traced (infer T A Γ n y) _ λ τ M e'. next_traced (infer T A Γ n o) _ λ ρ K e''.
+  explained_if Γ n (if at c y o) f = next_traced (infer T A Γ n c) _ λ σ N e. next_traced (infer T A Γ n y) _ λ τ M e'. next_traced
+      (infer T A Γ n o) _ λ ρ K e''.
       require_traced (eqb σ 0) 10 at λ _. joined_traced at _ (wider T τ ρ) λ h.
       ⊎_elim (λ m. here e m) (λ u. ⊎_elim (λ m. later (here e' m)) (λ m. later (later (here e'' m))) (union_has p M K u)) (union_has p N (union M K) h)
   explained_if Γ n (check at q c) f = next_traced (infer T A Γ n c) _ λ τ N e. typed_traced λ h. here e (insert_has p q N f h)

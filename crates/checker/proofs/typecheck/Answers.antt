@@ -1,4 +1,4 @@
--- A refusal by the reader is the verdict (unreadable-is). A sheet that is read has its own counts, as `typecheck_readable` requires (readable-counted),
+-- A refusal by the reader is the verdict (unreadable_is). A sheet that is read has its own counts, as `typecheck_readable` requires (readable_counted),
 -- and that gives the verdict.
 use Rattle.checker.proofs.VerdictLaws.{unreadable_is, readable_counted}
 use Rattle.checker.proofs.typecheck.Goals as goal

@@ -1,5 +1,5 @@
--- The root is a term, principal 0 is one of the sheet's, and judging the root adds fewer than 32 bindings (root-ready), as `infer` requires; of the types
--- nothing is known yet (known-none). The verdict that is concluded from the root's judgement is then the sheet's (program-is, verdict-is).
+-- The root is a term, principal 0 is one of the sheet's, and judging the root adds fewer than 32 bindings (root_ready), as `infer` requires; of the types
+-- nothing is known yet (known_none). The verdict that is concluded from the root's judgement is then the sheet's (program_is, verdict_is).
 use native.Mathlib.Omega.{arith}
 use mathlib.Core.Path.{refl}
 use Rattle.subtyping.proofs.KnownLaws.{known_none}

@@ -6,11 +6,11 @@ use native.Mathlib.Omega.{arith}
 use Rattle.std.proofs.Math.ListN.{length-append, get_or-append}
 use Rattle.std.proofs.Math.Seq.{get_or-take, get_or-append-add}
 use Rattle.program.specs.Bytes.{byte, word16}
-use Rattle.program.specs.Layout.{version, principals, type_field, types, type_at_lem, term_field, terms, term_at, kind_byte, small, first, second, third, types_of}
+use Rattle.program.specs.Layout.{version, principals, type_field, types, type_at, term_field, terms, term_at, kind_byte, small, first, second, third, types_of}
 use Rattle.program.specs.Decoding.{format_at}
 use Rattle.program.specs.Laws.Readable.{WellFormed}
 use Rattle.erasure.specs.Kept.{kept_below, gather}
-use Rattle.erasure.specs.Lean.{kept_type, new_types, new_type, kept_term, new_terms, bytes16, type_bytes_lem, new_part, term_bytes, type_field_bytes, term_field_bytes, lean_sheet}
+use Rattle.erasure.specs.Lean.{kept_type, new_types, new_type, kept_term, new_terms, bytes16, type_bytes, new_part, term_bytes, type_field_bytes, term_field_bytes, lean_sheet}
 use Rattle.erasure.specs.Laws.Kept.{kept_most, gather_length, gather_inside, gather_at}
 
 -- a number is read as it is written
@@ -64,17 +64,17 @@ module _ (s : List ℕ) (w : WellFormed s) where
 
   type_length : length (type_field_bytes s) ≡ 3 + 10 * new_types s
   unfolding new_types
-  type_length = omega (arith, gather_length (kept_type s) (type_bytes_lem s) 10 (λ t. refl) (types s))
+  type_length = omega (arith, gather_length (kept_type s) (type_bytes s) 10 (λ t. refl) (types s))
 
   -- byte j of the record of a type that is kept
   pub type_byte : (t : ℕ) → kept_type s t ≡ true → t < types s → (j : ℕ) → j < 10
-      → byte (lean_sheet s) (type_at_lem (lean_sheet s) (kept_below (kept_type s) t) + j) ≡ byte (type_bytes_lem s t) j
+      → byte (lean_sheet s) (type_at (lean_sheet s) (kept_below (kept_type s) t) + j) ≡ byte (type_bytes s t) j
   type_byte t k l j h =
-      at_type (type_at_lem (lean_sheet s) (kept_below (kept_type s) t) + j) (3 + (10 * kept_below (kept_type s) t + j)) (omega (arith, same_type_field))
-      ∙ past_header 3 (10 * new_types s) (gather (kept_type s) (type_bytes_lem s) (types s) ++ term_field_bytes s) (10 * kept_below (kept_type s) t + j)
-      ∙ get_or-append (gather (kept_type s) (type_bytes_lem s) (types s)) (term_field_bytes s) 0 (10 * kept_below (kept_type s) t + j)
-      (gather_inside (kept_type s) (type_bytes_lem s) 10 (λ t. refl) (types s) t k l j h)
-      ∙ gather_at (kept_type s) (type_bytes_lem s) 10 (λ t. refl) (types s) t k l j h
+      at_type (type_at (lean_sheet s) (kept_below (kept_type s) t) + j) (3 + (10 * kept_below (kept_type s) t + j)) (omega (arith, same_type_field))
+      ∙ past_header 3 (10 * new_types s) (gather (kept_type s) (type_bytes s) (types s) ++ term_field_bytes s) (10 * kept_below (kept_type s) t + j)
+      ∙ get_or-append (gather (kept_type s) (type_bytes s) (types s)) (term_field_bytes s) 0 (10 * kept_below (kept_type s) t + j)
+      (gather_inside (kept_type s) (type_bytes s) 10 (λ t. refl) (types s) t k l j h)
+      ∙ gather_at (kept_type s) (type_bytes s) 10 (λ t. refl) (types s) t k l j h
 
   -- ---- the terms
   pub term_field_is : term_field (lean_sheet s) ≡ type_field s + (3 + 10 * new_types s)
@@ -127,31 +127,31 @@ module _ (s : List ℕ) (w : WellFormed s) where
   -- ---- the records, part by part
   module _ (t : ℕ) (k : kept_type s t ≡ true) (l : t < types s) where
     abbrev type_place : ℕ
-    type_place = type_at_lem (lean_sheet s) (kept_below (kept_type s) t)
+    type_place = type_at (lean_sheet s) (kept_below (kept_type s) t)
 
-    type_at : (i j : ℕ) → i ≡ type_place + j → j < 10 → byte (lean_sheet s) i ≡ byte (type_bytes_lem s t) j
-    type_at i j e h = ap (byte (lean_sheet s)) e ∙ type_byte t k l j h
+    type_at_lem : (i j : ℕ) → i ≡ type_place + j → j < 10 → byte (lean_sheet s) i ≡ byte (type_bytes s t) j
+    type_at_lem i j e h = ap (byte (lean_sheet s)) e ∙ type_byte t k l j h
 
-    pub type_kind : byte (lean_sheet s) type_place ≡ byte s (type_at_lem s t)
-    type_kind = type_at type_place 0 (omega arith) (omega arith)
+    pub type_kind : byte (lean_sheet s) type_place ≡ byte s (type_at s t)
+    type_kind = type_at_lem type_place 0 (omega arith) (omega arith)
 
     pub type_zero : byte (lean_sheet s) (type_place + 1) ≡ 0
-    type_zero = type_at (type_place + 1) 1 refl (omega arith)
+    type_zero = type_at_lem (type_place + 1) 1 refl (omega arith)
 
     pub type_arg : (types_of (lean_sheet s)).arg (kept_below (kept_type s) t) ≡ new_type s ((types_of s).arg t)
     type_arg =
-        (λ i. type_at (type_place + 2) 2 refl (omega arith) i * 256 + type_at (type_place + 2 + 1) 3 (omega arith) (omega arith) i)
+        (λ i. type_at_lem (type_place + 2) 2 refl (omega arith) i * 256 + type_at_lem (type_place + 2 + 1) 3 (omega arith) (omega arith) i)
         ∙ written16 (new_type s ((types_of s).arg t))
 
     pub type_res : (types_of (lean_sheet s)).res (kept_below (kept_type s) t) ≡ new_type s ((types_of s).res t)
     type_res =
-        (λ i. type_at (type_place + 4) 4 refl (omega arith) i * 256 + type_at (type_place + 4 + 1) 5 (omega arith) (omega arith) i)
+        (λ i. type_at_lem (type_place + 4) 4 refl (omega arith) i * 256 + type_at_lem (type_place + 4 + 1) 5 (omega arith) (omega arith) i)
         ∙ written16 (new_type s ((types_of s).res t))
 
     pub type_latent : (types_of (lean_sheet s)).latent (kept_below (kept_type s) t) ≡ 0
     type_latent = λ i.
-        (type_at (type_place + 6) 6 refl (omega arith) i * 256 + type_at (type_place + 6 + 1) 7 (omega arith) (omega arith) i) * 65536
-        + (type_at (type_place + 6 + 2) 8 (omega arith) (omega arith) i * 256 + type_at (type_place + 6 + 2 + 1) 9 (omega arith) (omega arith) i)
+        (type_at_lem (type_place + 6) 6 refl (omega arith) i * 256 + type_at_lem (type_place + 6 + 1) 7 (omega arith) (omega arith) i) * 65536
+        + (type_at_lem (type_place + 6 + 2) 8 (omega arith) (omega arith) i * 256 + type_at_lem (type_place + 6 + 2 + 1) 9 (omega arith) (omega arith) i)
 
   module _ (t : ℕ) (k : kept_term s t ≡ true) (l : t < terms s) where
     abbrev term_place : ℕ

@@ -31,7 +31,8 @@ parent_has : (s : List ℕ) (x n : ℕ) → 0 < times_below s x n → ParentFoun
 parent_has s x zero h = absurd (omega arith)
 parent_has s x (suc n) h = go (eqb (times_in s x n) 0) refl (parent_has s x n)
   where
-    go : (b : Bool) → eqb (times_in s x n) 0 ≡ b → (0 < times_below s x n → ParentFound s x n (parent s x n)) → ParentFound s x (suc n) (pick b (parent s x n) n)
+    go : (b : Bool) → eqb (times_in s x n) 0 ≡ b → (0 < times_below s x n → ParentFound s x n (parent s x n))
+        → ParentFound s x (suc n) (pick b (parent s x n) n)
     go true e rest =
         let z : times_in s x n ≡ 0 = eqb-true (times_in s x n) 0 e in
         let r = rest (omega arith) in

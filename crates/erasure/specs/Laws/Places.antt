@@ -274,7 +274,8 @@ module _ (s : List ℕ) (w : WellFormed s) where
       let r : root (lean_sheet s) ≡ kept_below (kept_term s) (root s) = sym (new_root s w) ∙ term_kept s w (root s) (root_kept s w) in
       ap (eqb (kept_below (kept_term s) t)) r
       ∙ bool_ext (eqb (kept_below (kept_term s) t) (kept_below (kept_term s) (root s))) (eqb t (root s))
-      (λ e. eq-eqb t (root s) (kept_one (kept_term s) t (root s) k (root_kept s w) (eqb-true (kept_below (kept_term s) t) (kept_below (kept_term s) (root s)) e)))
+      (λ e. eq-eqb t (root s) (kept_one (kept_term s) t (root s) k (root_kept s w)
+      (eqb-true (kept_below (kept_term s) t) (kept_below (kept_term s) (root s)) e)))
       (λ e. eq-eqb (kept_below (kept_term s) t) (kept_below (kept_term s) (root s)) (ap (kept_below (kept_term s)) (eqb-true t (root s) e)))
 
   kept_placed_ok : (t : ℕ) → kept_term s t ≡ true → t < terms s → placed_ok (lean_sheet s) (kept_below (kept_term s) t) ≡ true

@@ -54,7 +54,8 @@ module _ (s : List ℕ) (G G' : ℕ → Option ℕ) (plain : (x : ℕ) → G x �
   node_erases Difference n m o x a b c u = e_binary (erased a (u.first_below refl)) (erased b (u.second_below refl))
   node_erases Less n m o x a b c u = e_binary (erased a (u.first_below refl)) (erased b (u.second_below refl))
   node_erases Post n m o x a b c u =
-      subst₂ (λ (p q : Option ℕ). Erases (new_type s) (new_term s) (post t x p (f a)) (post (new_term s t) x q (g (new_term s a)))) (sym (plain x)) (sym (plain' x))
+      subst₂ (λ (p q : Option ℕ). Erases (new_type s) (new_term s) (post t x p (f a)) (post (new_term s t) x q (g (new_term s a))))
+      (sym (plain x)) (sym (plain' x))
       (e_post (erased a (u.first_below refl)))
 
 -- ---- the whole tree
@@ -83,7 +84,8 @@ module _ (s : List ℕ) (r : Readable s) (version_1 : version s ≡ 1) (no_test 
       ≡ node (guard_of (lean_sheet s)) (kind_of (kind_byte s t)) (new_term s t) (small s t) (new_part s (format_at s t).first (first s t))
       (new_part s (format_at s t).second (second s t)) (new_part s (format_at s t).third (third s t)) (tree (lean_sheet s)) =
       ap (tree (lean_sheet s)) (sym same) ∙ tree_node (lean_sheet s) w' n (omega (arith, same, term_in s w t l, terms_are s w))
-      ∙ λ i. node (guard_of (lean_sheet s)) (kind_of (term_kind s w t k l i)) (same i) (term_small s w t k l i) (term_first s w t k l i) (term_second s w t k l i)
+      ∙ λ i. node (guard_of (lean_sheet s)) (kind_of (term_kind s w t k l i)) (same i) (term_small s w t k l i) (term_first s w t k l i)
+      (term_second s w t k l i)
       (term_third s w t k l i) (tree (lean_sheet s)) in
       subst₂ (Erases (new_type s) (new_term s)) (sym (tree_node s w t l)) (sym new)
       (node_erases s (guard_of s) (guard_of (lean_sheet s)) (without_guards s version_1).none_guarded
@@ -91,7 +93,8 @@ module _ (s : List ℕ) (r : Readable s) (version_1 : version s ≡ 1) (no_test 
       (λ q. not_idle t 7 e (kind_is t l Check q) refl) (λ q. not_idle t 8 e (kind_is t l Enable q) refl)
       (λ q. untested_at s (terms s) t no_test l (kind_is t l Test q)) (small s t) (first s t) (second s t) (third s t) (below s w t l))
 
-  idle_erases : (t : ℕ) → t < terms s → is_erased s t ≡ true → Erases (new_type s) (new_term s) (tree s (first s t)) (tree (lean_sheet s) (new_term s (first s t)))
+  idle_erases : (t : ℕ) → t < terms s → is_erased s t ≡ true
+      → Erases (new_type s) (new_term s) (tree s (first s t)) (tree (lean_sheet s) (new_term s (first s t)))
       → Erases (new_type s) (new_term s) (tree s t) (tree (lean_sheet s) (new_term s t))
   idle_erases t l e under =
       let at : (K : Kind) → kind_of (kind_byte s t) ≡ K → tree s t ≡ node (guard_of s) K t (small s t) (first s t) (second s t) (third s t) (tree s) =

@@ -103,7 +103,8 @@ module _ (s : List ℕ) (r : Readable s) (version_1 : version s ≡ 1) where
   field_4 : None (field (lean_sheet s) (term_field (lean_sheet s)) 4 (holds 8 1 max_terms))
   field_4 =
       field_none (lean_sheet s) (term_field (lean_sheet s)) 4 (holds 8 1 max_terms) (term_tag s w)
-      (ap (holds 8 1 max_terms) (term_size s w) ∙ holds_eight (new_terms s) (omega (arith, new_terms_are s w)) (omega (arith, new_terms_most s w, w.terms_most)))
+      (ap (holds 8 1 max_terms) (term_size s w)
+      ∙ holds_eight (new_terms s) (omega (arith, new_terms_are s w)) (omega (arith, new_terms_most s w, w.terms_most)))
       (omega (arith, term_size s w, term_field_is s w, room))
 
   ends_well : None (guard_conditions (lean_sheet s) ++ unless 2 (eqb (sheet_end (lean_sheet s)) (length (lean_sheet s))) ∷ [])

@@ -48,7 +48,8 @@ module _ (ρ ν : ℕ → ℕ) where
     eval_erased f g h (e_binary {at} {op} a b) s t e u =
         related_then C ρ ν _ _ (eval_erased f g h a s t e u)
         (λ _ _ v u₁. related_then C ρ ν _ _ (eval_erased f g h b s t e u₁) (λ _ _ w u₂. related_compute C ρ ν at op v w u₂))
-    eval_erased f g h (e_post {at} {ch} c) s t e u = related_then C ρ ν _ _ (eval_erased f g h c s t e u) (λ _ _ v u₁. related_post C ρ ν at ch {b = true} refl v u₁)
+    eval_erased f g h (e_post {at} {ch} c) s t e u =
+        related_then C ρ ν _ _ (eval_erased f g h c s t e u) (λ _ _ v u₁. related_post C ρ ν at ch {b = true} refl v u₁)
 
     apply_erased : (k : ℕ) → ErasesApplication (apply standard X (plain false) k) (apply standard Y (plain enforce) k)
     unfolding apply

@@ -167,7 +167,8 @@ module _ (s : List ℕ) (w : WellFormed s) where
   same_channels : channels (lean_sheet s) ≡ channels s
   same_channels = ap (λ (v : ℕ). cond (eqb v 2) max_channels 1) (same_version s w)
 
-  part_ok_lem : (t : ℕ) → t < terms s → (p : Part) (x : ℕ) → part_ok s t p x ≡ true → part_ok (lean_sheet s) (kept_below (kept_term s) t) p (new_part s p x) ≡ true
+  part_ok_lem : (t : ℕ) → t < terms s → (p : Part) (x : ℕ) → part_ok s t p x ≡ true
+      → part_ok (lean_sheet s) (kept_below (kept_term s) t) p (new_part s p x) ≡ true
   part_ok_lem t l unused x h = h
   part_ok_lem t l flag x h = h
   part_ok_lem t l any_number x h = h

@@ -14,7 +14,7 @@ use borrow.Author.Tests.{ltb-true, leb-true, eqb-true, eq-eqb, lt-ltb, le-leb, l
 use Rattle.privileges.specs.Booleans.{and_left, and_right, and_both}
 use Rattle.program.specs.Tests.{also, or_else}
 use Rattle.program.specs.Bytes.{byte, word16}
-use Rattle.program.specs.Layout.{types, type_at_lem, types_of}
+use Rattle.program.specs.Layout.{types, type_at, types_of}
 use Rattle.program.specs.Screening.{lowest}
 use Rattle.program.specs.Decoding.{base_ok, function_ok, shallow, same_bytes, fresh, type_ok}
 use Rattle.program.specs.Limits.{max_type_depth}
@@ -22,7 +22,7 @@ use Rattle.program.specs.Laws.Screening.{lowest_none, lowest_some}
 use Rattle.program.specs.Laws.Readable.{WellFormed}
 use Rattle.program.specs.Laws.Types.{function_type}
 use Rattle.erasure.specs.Kept.{kept_below}
-use Rattle.erasure.specs.Lean.{alike, or_self, first_alike, representatives, representative, kept_type, new_types, new_type, bytes16, type_bytes_lem, lean_sheet}
+use Rattle.erasure.specs.Lean.{alike, or_self, first_alike, representatives, representative, kept_type, new_types, new_type, bytes16, type_bytes, lean_sheet}
 use Rattle.erasure.specs.Laws.Kept.{kept_none, kept_yes, kept_mono, kept_strict, kept_one, kept_most, Old, old_of}
 use Rattle.erasure.specs.Laws.Bytes.{written16, types_are, type_kind, type_zero, type_arg, type_res, type_latent}
 use Rattle.erasure.specs.Laws.Typing.{Renames}
@@ -86,7 +86,7 @@ heads_at s (suc n) t h = go (dec_lt t n) (heads_at s n t)
 
 -- the records of two types become equal
 pub record BecomeEqual (s : List ℕ) (t u : ℕ) : Type 0 where
-  pub kinds : byte s (type_at_lem s u) ≡ byte s (type_at_lem s t)
+  pub kinds : byte s (type_at s u) ≡ byte s (type_at s t)
   pub args : representative s ((types_of s).arg u) ≡ representative s ((types_of s).arg t)
   pub results : representative s ((types_of s).res u) ≡ representative s ((types_of s).res t)
 
@@ -105,18 +105,18 @@ module _ (s : List ℕ) (w : WellFormed s) where
   is_function t h l = and_both (le-leb 2 t h) (lt-ltb t (types s) l)
 
   record BaseType (t : ℕ) : Type 0 where
-    kind : byte s (type_at_lem s t) ≡ t
-    zero_is : byte s (type_at_lem s t + 1) ≡ 0
+    kind : byte s (type_at s t) ≡ t
+    zero_is : byte s (type_at s t + 1) ≡ 0
     arg : (types_of s).arg t ≡ 0
     res : (types_of s).res t ≡ 0
 
   base : (t : ℕ) → t < 2 → BaseType t
   base t h =
       let ok : base_ok s t ≡ true = (λ i. cond (sym (lt-ltb t 2 h) i) (base_ok s t) (function_ok s t && shallow s max_type_depth t && fresh s t t))
-      ∙ w.type_ok_lem t (omega (arith, w.types_least)) in
+      ∙ w.type_ok_holds t (omega (arith, w.types_least)) in
       record {
-        kind = eqb-true (byte s (type_at_lem s t)) t (search (and_left, and_right));
-        zero_is = eqb-true (byte s (type_at_lem s t + 1)) 0 (search (and_left, and_right));
+        kind = eqb-true (byte s (type_at s t)) t (search (and_left, and_right));
+        zero_is = eqb-true (byte s (type_at s t + 1)) 0 (search (and_left, and_right));
         arg = eqb-true ((types_of s).arg t) 0 (search (and_left, and_right));
         res = eqb-true ((types_of s).res t) 0 (search (and_left, and_right));
       }
@@ -149,12 +149,14 @@ module _ (s : List ℕ) (w : WellFormed s) where
       let a = lower u t (omega arith) (omega arith) (omega arith) in
       let b = lower t t l (omega arith) (omega arith) in
       record {
-        kinds = eqb-true (byte s (type_at_lem s u)) (byte s (type_at_lem s t)) (search (e, and_left, and_right));
+        kinds = eqb-true (byte s (type_at s u)) (byte s (type_at s t)) (search (e, and_left, and_right));
         args = sym (heads_head t ((types_of s).arg u) l a.arg)
-            ∙ eqb-true (get_or (representatives s t) ((types_of s).arg u) 0) (get_or (representatives s t) ((types_of s).arg t) 0) (search (e, and_left, and_right))
+            ∙ eqb-true (get_or (representatives s t) ((types_of s).arg u) 0) (get_or (representatives s t) ((types_of s).arg t) 0)
+            (search (e, and_left, and_right))
             ∙ heads_head t ((types_of s).arg t) l b.arg;
         results = sym (heads_head t ((types_of s).res u) l a.res)
-            ∙ eqb-true (get_or (representatives s t) ((types_of s).res u) 0) (get_or (representatives s t) ((types_of s).res t) 0) (search (e, and_left, and_right))
+            ∙ eqb-true (get_or (representatives s t) ((types_of s).res u) 0) (get_or (representatives s t) ((types_of s).res t) 0)
+            (search (e, and_left, and_right))
             ∙ heads_head t ((types_of s).res t) l b.res;
       }
 
@@ -218,7 +220,7 @@ module _ (s : List ℕ) (w : WellFormed s) where
 
   -- ---- the new numbers
   -- a kind is that of the representative, so that functions are merged into functions
-  kind_function : (t : ℕ) → 2 ≤ t → t < types s → byte s (type_at_lem s t) ≡ 2
+  kind_function : (t : ℕ) → 2 ≤ t → t < types s → byte s (type_at s t) ≡ 2
   kind_function t h l = (function_type s w t (is_function t h l)).kind_is
 
   head_low : (t : ℕ) → t < 2 → representative s t ≡ t
@@ -306,7 +308,8 @@ module _ (s : List ℕ) (w : WellFormed s) where
   new_latent t l = type_latent s w (representative s t) (head_kept t l) (head_in t l)
 
   -- records that become equal are merged
-  merge : (t u : ℕ) → t < types s → u < types s → byte s (type_at_lem s t) ≡ byte s (type_at_lem s u) → new_type s ((types_of s).arg t) ≡ new_type s ((types_of s).arg u)
+  merge : (t u : ℕ) → t < types s → u < types s → byte s (type_at s t) ≡ byte s (type_at s u)
+      → new_type s ((types_of s).arg t) ≡ new_type s ((types_of s).arg u)
       → new_type s ((types_of s).res t) ≡ new_type s ((types_of s).res u) → representative s t ≡ representative s u
   merge t u l m ek ea er =
       let a = lower t (types s) l (omega arith) (omega arith) in
@@ -355,10 +358,11 @@ module _ (s : List ℕ) (w : WellFormed s) where
 
   -- two that are kept have different records
   new_distinct : (t u : ℕ) → kept_type s t ≡ true → t < types s → kept_type s u ≡ true → u < types s
-      → same_bytes (lean_sheet s) (type_at_lem (lean_sheet s) (kept_below (kept_type s) t)) (type_at_lem (lean_sheet s) (kept_below (kept_type s) u)) 10 ≡ true → t ≡ u
+      → same_bytes (lean_sheet s) (type_at (lean_sheet s) (kept_below (kept_type s) t))
+      (type_at (lean_sheet s) (kept_below (kept_type s) u)) 10 ≡ true → t ≡ u
   new_distinct t u k l g m h =
-      let i : ℕ = type_at_lem (lean_sheet s) (kept_below (kept_type s) t) in
-      let j : ℕ = type_at_lem (lean_sheet s) (kept_below (kept_type s) u) in
+      let i : ℕ = type_at (lean_sheet s) (kept_below (kept_type s) t) in
+      let j : ℕ = type_at (lean_sheet s) (kept_below (kept_type s) u) in
       let at_zero : (x : ℕ) → x + 0 ≡ x = λ x. omega arith in
       let kinds : byte (lean_sheet s) i ≡ byte (lean_sheet s) j =
       ap (byte (lean_sheet s)) (sym (at_zero i)) ∙ same_byte (lean_sheet s) i j 10 0 h (omega arith) ∙ ap (byte (lean_sheet s)) (at_zero j) in
@@ -370,17 +374,20 @@ module _ (s : List ℕ) (w : WellFormed s) where
 
   new_fresh : (t n : ℕ) → kept_type s t ≡ true → t < types s → n ≤ kept_below (kept_type s) t → fresh (lean_sheet s) (kept_below (kept_type s) t) n ≡ true
   new_fresh t zero k l h = refl
-  new_fresh t (suc u) k l h = and_both (differs (same_bytes (lean_sheet s) (type_at_lem (lean_sheet s) u) (type_at_lem (lean_sheet s) (kept_below (kept_type s) t)) 10) refl)
+  new_fresh t (suc u) k l h = and_both (differs
+      (same_bytes (lean_sheet s) (type_at (lean_sheet s) u) (type_at (lean_sheet s) (kept_below (kept_type s) t)) 10) refl)
       (new_fresh t u k l (omega arith))
     where
       o : Old (kept_type s) (types s) u
       o = old_of (kept_type s) (types s) u (omega (arith, kept_mono (kept_type s) t (types s) (omega arith)))
 
-      differs : (b : Bool) → same_bytes (lean_sheet s) (type_at_lem (lean_sheet s) u) (type_at_lem (lean_sheet s) (kept_below (kept_type s) t)) 10 ≡ b → not b ≡ true
+      differs : (b : Bool) → same_bytes (lean_sheet s) (type_at (lean_sheet s) u)
+          (type_at (lean_sheet s) (kept_below (kept_type s) t)) 10 ≡ b → not b ≡ true
       differs false e = refl
       differs true e =
           let q : o.old ≡ t = new_distinct o.old t o.kept o.below k l
-          (ap (λ (x : ℕ). same_bytes (lean_sheet s) (type_at_lem (lean_sheet s) x) (type_at_lem (lean_sheet s) (kept_below (kept_type s) t)) 10) o.number ∙ e) in
+          (ap (λ (x : ℕ). same_bytes (lean_sheet s) (type_at (lean_sheet s) x) (type_at (lean_sheet s) (kept_below (kept_type s) t)) 10) o.number
+          ∙ e) in
           absurd (omega (arith, ap (kept_below (kept_type s)) q, o.number))
 
   kept_type_ok : (t : ℕ) → kept_type s t ≡ true → t < types s → type_ok (lean_sheet s) (kept_below (kept_type s) t) ≡ true
@@ -399,7 +406,8 @@ module _ (s : List ℕ) (w : WellFormed s) where
       go (no h) =
           let f = function_type s w t (is_function t (omega arith) l) in
           let e : new_type s t ≡ kept_below (kept_type s) t = number_kept t k in
-          (λ i. cond (le-ltb (kept_below (kept_type s) t) 2 (omega (arith, number_high t (omega arith) l)) i) (base_ok (lean_sheet s) (kept_below (kept_type s) t))
+          (λ i. cond (le-ltb (kept_below (kept_type s) t) 2 (omega (arith, number_high t (omega arith) l)) i)
+          (base_ok (lean_sheet s) (kept_below (kept_type s) t))
           (function_ok (lean_sheet s) (kept_below (kept_type s) t) && shallow (lean_sheet s) max_type_depth (kept_below (kept_type s) t)
           && fresh (lean_sheet s) (kept_below (kept_type s) t) (kept_below (kept_type s) t)))
           ∙ and_both (and_both
@@ -427,37 +435,37 @@ module _ (s : List ℕ) (w : WellFormed s) where
   new_types_most = kept_most (kept_type s) (types s)
 
   -- ---- records that become equal, byte by byte
-  pub merged_exactly : (t u : ℕ) → t < types s → u < types s → (type_bytes_lem s t ≡ type_bytes_lem s u) ↔ (new_type s t ≡ new_type s u)
+  pub merged_exactly : (t u : ℕ) → t < types s → u < types s → (type_bytes s t ≡ type_bytes s u) ↔ (new_type s t ≡ new_type s u)
   unfolding new_type
   merged_exactly t u l m = (λ e. ap (kept_below (kept_type s)) (forth e), λ e. back (number_head t u l m e))
     where
-      word : (i : ℕ) → type_bytes_lem s t ≡ type_bytes_lem s u → word16 (type_bytes_lem s t) i ≡ word16 (type_bytes_lem s u) i
+      word : (i : ℕ) → type_bytes s t ≡ type_bytes s u → word16 (type_bytes s t) i ≡ word16 (type_bytes s u) i
       word i e = ap (λ (b : List ℕ). word16 b i) e
 
-      forth : type_bytes_lem s t ≡ type_bytes_lem s u → representative s t ≡ representative s u
+      forth : type_bytes s t ≡ type_bytes s u → representative s t ≡ representative s u
       forth e =
           merge t u l m (ap (λ (b : List ℕ). byte b 0) e)
           (sym (written16 (new_type s ((types_of s).arg t))) ∙ word 2 e ∙ written16 (new_type s ((types_of s).arg u)))
           (sym (written16 (new_type s ((types_of s).res t))) ∙ word 4 e ∙ written16 (new_type s ((types_of s).res u)))
 
-      back : representative s t ≡ representative s u → type_bytes_lem s t ≡ type_bytes_lem s u
+      back : representative s t ≡ representative s u → type_bytes s t ≡ type_bytes s u
       back e =
           let q = same_trans (head_of t l).same (subst (λ (x : ℕ). BecomeEqual s x u) (sym e) (same_sym (head_of u m).same)) in
           λ i. sym q.kinds i ∷ 0 ∷ bytes16 (kept_below (kept_type s) (sym q.args i)) ++ bytes16 (kept_below (kept_type s) (sym q.results i))
           ++ 0 ∷ 0 ∷ 0 ∷ 0 ∷ []
 
   -- the first of them is kept, and no other
-  pub kept_exactly : (t : ℕ) → t < types s → (kept_type s t ≡ true) ↔ ((u : ℕ) → u < t → type_bytes_lem s u ≡ type_bytes_lem s t → ⊥)
+  pub kept_exactly : (t : ℕ) → t < types s → (kept_type s t ≡ true) ↔ ((u : ℕ) → u < t → type_bytes s u ≡ type_bytes s t → ⊥)
   unfolding new_type kept_type
   kept_exactly t l = (forth, back)
     where
-      forth : eqb (representative s t) t ≡ true → (u : ℕ) → u < t → type_bytes_lem s u ≡ type_bytes_lem s t → ⊥
+      forth : eqb (representative s t) t ≡ true → (u : ℕ) → u < t → type_bytes s u ≡ type_bytes s t → ⊥
       forth k u h e =
           let m : u < types s = omega arith in
           let q : representative s u ≡ representative s t = number_head u t m l ((merged_exactly u t m l).0 e) in
           omega (arith, q, eqb-true (representative s t) t k, (head_of u m).low)
 
-      back : ((u : ℕ) → u < t → type_bytes_lem s u ≡ type_bytes_lem s t → ⊥) → eqb (representative s t) t ≡ true
+      back : ((u : ℕ) → u < t → type_bytes s u ≡ type_bytes s t → ⊥) → eqb (representative s t) t ≡ true
       back differ =
           let a = head_of t l in
           elim (dec_lt (representative s t) t) [

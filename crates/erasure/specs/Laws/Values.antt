@@ -3,13 +3,13 @@ use Rattle.std.specs.Prelude.{Bool, true, false, cond, List, [], ◌∷◌, ◌+
 use Rattle.std.proofs.Common.{arith, ltb-true}
 use Rattle.program.specs.Limits.{max_types, max_terms}
 use Rattle.program.specs.Bytes.{byte, word16, Bytes}
-use Rattle.program.specs.Layout.{types, type_at_lem, type_field, terms, term_at, types_of}
+use Rattle.program.specs.Layout.{types, type_at, type_field, terms, term_at, types_of}
 use Rattle.program.specs.Formats.{Part, unused, flag, any_number, privilege, principal, channel, function_type, child, body_child}
 use Rattle.program.specs.Decoding.{part_ok, format_at}
 use Rattle.program.specs.Laws.Readable.{WellFormed}
 use Rattle.program.specs.Laws.Trees.{parts}
 use Rattle.erasure.specs.Kept.{gather}
-use Rattle.erasure.specs.Lean.{kept_type, new_types, new_type, kept_term, new_terms, new_term, bytes16, type_bytes_lem, new_part, term_bytes, type_field_bytes, term_field_bytes, lean_sheet}
+use Rattle.erasure.specs.Lean.{kept_type, new_types, new_type, kept_term, new_terms, new_term, bytes16, type_bytes, new_part, term_bytes, type_field_bytes, term_field_bytes, lean_sheet}
 use Rattle.erasure.specs.Laws.Types.{lower, fun_in, number_in, new_types_most}
 use Rattle.erasure.specs.Laws.Terms.{term_in, new_terms_most}
 
@@ -71,10 +71,10 @@ module _ (s : List ℕ) (w : WellFormed s) where
     word_below : (i : ℕ) → word16 s i < 65536
     word_below i = omega (arith, b.below i, b.below (i + 1))
 
-    type_bytes : (t : ℕ) → t < types s → Bytes (type_bytes_lem s t)
-    type_bytes t l =
+    type_bytes_lem : (t : ℕ) → t < types s → Bytes (type_bytes s t)
+    type_bytes_lem t l =
         let c = lower s w t (types s) l (omega arith) (omega arith) in
-        bytes_cons (b.below (type_at_lem s t))
+        bytes_cons (b.below (type_at s t))
         (bytes_cons (omega arith)
         (bytes_number (new_type s ((types_of s).arg t)) _ (omega (arith, type_small ((types_of s).arg t) c.arg))
         (bytes_number (new_type s ((types_of s).res t)) _ (omega (arith, type_small ((types_of s).res t) c.res))
@@ -100,5 +100,5 @@ module _ (s : List ℕ) (w : WellFormed s) where
         let terms-fit : 8 * new_terms s < 65536 = omega (arith, new_terms_most s w, w.terms_most) in
         bytes_append (take (type_field s) s) (type_field_bytes s ++ term_field_bytes s) (bytes_take (type_field s) s b)
         (bytes_append (type_field_bytes s) (term_field_bytes s)
-        (bytes_cons (omega arith) (bytes_number (10 * new_types s) _ types-fit (bytes_gather (kept_type s) (type_bytes_lem s) (types s) type_bytes)))
+        (bytes_cons (omega arith) (bytes_number (10 * new_types s) _ types-fit (bytes_gather (kept_type s) (type_bytes s) (types s) type_bytes_lem)))
         (bytes_cons (omega arith) (bytes_number (8 * new_terms s) _ terms-fit (bytes_gather (kept_term s) (term_bytes s) (terms s) term_bytes_lem))))

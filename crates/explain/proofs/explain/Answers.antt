@@ -1,5 +1,5 @@
--- `explain` answers what `explanation` says: the reader's refusal is the verdict and is told (unreadable-is, unreadable-explained), and a sheet that is read
--- has its own counts, as `explain_readable` requires (readable-counted).
+-- `explain` answers what `explanation` says: the reader's refusal is the verdict and is told (unreadable_is, unreadable_explained), and a sheet that is read
+-- has its own counts, as `explain_readable` requires (readable_counted).
 use Rattle.checker.proofs.VerdictLaws.{unreadable_is, readable_counted}
 use Rattle.explain.proofs.EntryLaws.{unreadable_explained}
 use Rattle.explain.proofs.explain.Goals as goal

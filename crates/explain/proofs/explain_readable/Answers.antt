@@ -1,5 +1,5 @@
--- `explain_readable` answers what `explanation` says, by the verdict: a refusal is told (refused-unreadable, refused-fault), and the needs that a sheet is
--- accepted with are the root's (accepted-needs), as `explain_needs` requires.
+-- `explain_readable` answers what `explanation` says, by the verdict: a refusal is told (refused_unreadable, refused_fault), and the needs that a sheet is
+-- accepted with are the root's (accepted_needs), as `explain_needs` requires.
 use Rattle.checker.proofs.VerdictLaws.{sheet_of}
 use Rattle.explain.proofs.EntryLaws.{refused_unreadable, refused_fault, accepted_explained, accepted_needs}
 use Rattle.explain.proofs.explain_readable.Goals as goal

@@ -1,4 +1,4 @@
--- The run holds the start stack's grants and, above the root, the set of principal 0, as the meaning does (eager-after).
+-- The run holds the start stack's grants and, above the root, the set of principal 0, as the meaning does (eager_after).
 use mathlib.Core.List.{[], ◌∷◌}
 use Rattle.interp.proofs.RunLaws.{eager_after}
 use Rattle.interp.proofs.eager.Goals as goal

@@ -1,4 +1,4 @@
--- The words of the terms are decoded, and as the evaluator asks (table_of). The answer is told from the tally of the root (answered-by).
+-- The words of the terms are decoded, and as the evaluator asks (table_of). The answer is told from the tally of the root (answered_by).
 use native.Mathlib.Omega.{arith}
 use mathlib.Core.Path.{refl}
 use Prim.Native.Nat.{◌-◌}

@@ -1,4 +1,4 @@
--- A run that is not admitted answers the refusal and leaves every buffer and the record as they were (eager-refused); an admitted one is as `eager`
+-- A run that is not admitted answers the refusal and leaves every buffer and the record as they were (eager_refused); an admitted one is as `eager`
 -- requires and answers as it does. An eager run has no frame store, so that the test of one is `true`.
 use mathlib.Core.Bool.{true}
 use Rattle.interp.proofs.RunLaws.{is_admitted, eager_refused}

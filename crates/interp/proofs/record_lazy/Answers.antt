@@ -1,4 +1,4 @@
--- A run that is not admitted answers the refusal and leaves every buffer and the record as they were (lazy-refused); an admitted one is as `lazy`
+-- A run that is not admitted answers the refusal and leaves every buffer and the record as they were (lazy_refused); an admitted one is as `lazy`
 -- requires and answers as it does. The frame store has 6,496 = 2 * (16 + 101 * 32) numbers: two for each of 16 start frames and of 32 for the root
 -- and each of 100 open calls.
 use lib.Dec.{eqb}

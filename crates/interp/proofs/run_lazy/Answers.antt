@@ -1,4 +1,4 @@
--- `run_lazy` answers and leaves what the definition's run does: it is the run with a record of no bytes, without the number of its entries (plain-after).
+-- `run_lazy` answers and leaves what the definition's run does: it is the run with a record of no bytes, without the number of its entries (plain_after).
 use Rattle.interp.proofs.RunLaws.{plain_after}
 use Rattle.interp.proofs.run_lazy.Goals as goal
 

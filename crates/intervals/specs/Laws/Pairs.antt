@@ -27,5 +27,5 @@ ordered_at ps i (suc n) h e =
 
 pub pair_ordered : (s ps : List ℕ) → pairs_ok s ps ≡ true → (t : ℕ) → t < terms s → is_number s t ≡ true → (pair_of s ps t).low ≤ (pair_of s ps t).high
 pair_ordered s ps ok t l e =
-    let in_order_lem : ordered ps (numbers_below s (terms s)) ≡ true = search (ok, and_right) in
-    ordered_at ps (numbers_below s t) (numbers_below s (terms s)) (counted_below s t (terms s) l e) in_order_lem
+    let in_order_holds : ordered ps (numbers_below s (terms s)) ≡ true = search (ok, and_right) in
+    ordered_at ps (numbers_below s t) (numbers_below s (terms s)) (counted_below s t (terms s) l e) in_order_holds

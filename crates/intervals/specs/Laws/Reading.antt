@@ -7,7 +7,7 @@ use Rattle.privileges.specs.Booleans.{and_left, and_right}
 use Rattle.program.specs.Limits.{max_principals, max_types, max_terms, max_channels, no_guard, max_type_depth, max_nesting}
 use Rattle.program.specs.Tests.{also, or_else}
 use Rattle.program.specs.Bytes.{byte, word16, word32}
-use Rattle.program.specs.Layout.{version, has_guards, principals, authority, type_field, types, type_at_lem, term_field, terms, term_at, guard_field, guard_at, sheet_end, channels, guard_byte, guard_in, guard_of, root, kind_byte, small, first, second, third, types_of}
+use Rattle.program.specs.Layout.{version, has_guards, principals, authority, type_field, types, type_at, term_field, terms, term_at, guard_field, guard_at, sheet_end, channels, guard_byte, guard_in, guard_of, root, kind_byte, small, first, second, third, types_of}
 use Rattle.program.specs.Formats.{Part, unused, flag, any_number, privilege, principal, channel, function_type, child, body_child, kind_of, format}
 use Rattle.program.specs.Screening.{onward, lowest, unless, seek}
 use Rattle.program.specs.Decoding.{holds, field, base_ok, function_ok, shallow, same_bytes, fresh, type_ok, part_ok, format_at, term_ok, child_count, times_in, times_below, is_sign, signed_body, placed_ok, parent, nested_in, guard_ok, field_conditions, table_conditions, decoding_conditions, is_guard}
@@ -43,7 +43,7 @@ module _ (s s' : List ℕ) (a : SameButNumbers s s') where
   same_types : types s' ≡ types s
   same_types = (λ i. word16 s' (same_type_field i + 1) / 10) ∙ (λ i. word_front (type_field s + 1) (omega arith) i / 10)
 
-  same_type_at : (t : ℕ) → type_at_lem s' t ≡ type_at_lem s t
+  same_type_at : (t : ℕ) → type_at s' t ≡ type_at s t
   same_type_at t = λ i. same_type_field i + 3 + 10 * t
 
   same_term_field : term_field s' ≡ term_field s
@@ -123,19 +123,19 @@ module _ (s s' : List ℕ) (a : SameButNumbers s s') where
       ++ unless 2 (eqb (same_end i) (a.lengths i)) ∷ []
 
   -- ---- 5
-  type_byte : (t j : ℕ) → t < types s → j < 10 → byte s' (type_at_lem s' t + j) ≡ byte s (type_at_lem s t + j)
-  type_byte t j l h = (λ i. byte s' (same_type_at t i + j)) ∙ a.front (type_at_lem s t + j) (omega arith)
+  type_byte : (t j : ℕ) → t < types s → j < 10 → byte s' (type_at s' t + j) ≡ byte s (type_at s t + j)
+  type_byte t j l h = (λ i. byte s' (same_type_at t i + j)) ∙ a.front (type_at s t + j) (omega arith)
 
-  type_word : (t j : ℕ) → t < types s → j < 9 → word16 s' (type_at_lem s' t + j) ≡ word16 s (type_at_lem s t + j)
-  type_word t j l h = (λ i. word16 s' (same_type_at t i + j)) ∙ word_front (type_at_lem s t + j) (omega arith)
+  type_word : (t j : ℕ) → t < types s → j < 9 → word16 s' (type_at s' t + j) ≡ word16 s (type_at s t + j)
+  type_word t j l h = (λ i. word16 s' (same_type_at t i + j)) ∙ word_front (type_at s t + j) (omega arith)
 
-  type_kind : (t : ℕ) → t < types s → byte s' (type_at_lem s' t) ≡ byte s (type_at_lem s t)
-  type_kind t l = (λ i. byte s' (same_type_at t i)) ∙ a.front (type_at_lem s t) (omega arith)
+  type_kind : (t : ℕ) → t < types s → byte s' (type_at s' t) ≡ byte s (type_at s t)
+  type_kind t l = (λ i. byte s' (same_type_at t i)) ∙ a.front (type_at s t) (omega arith)
 
   type_latent : (t : ℕ) → t < types s → (types_of s').latent t ≡ (types_of s).latent t
   type_latent t l =
       (λ i. word32 s' (same_type_at t i + 6))
-      ∙ λ i. word_front (type_at_lem s t + 6) (omega arith) i * 65536 + word_front (type_at_lem s t + 6 + 2) (omega arith) i
+      ∙ λ i. word_front (type_at s t + 6) (omega arith) i * 65536 + word_front (type_at s t + 6 + 2) (omega arith) i
 
   same_base : (t : ℕ) → t < types s → base_ok s' t ≡ base_ok s t
   same_base t l =
@@ -147,7 +147,8 @@ module _ (s s' : List ℕ) (a : SameButNumbers s s') where
       λ i. eqb (type_kind t l i) 2 && eqb (type_byte t 1 l (omega arith) i) 0 && ltb (type_word t 2 l (omega arith) i) t
       && ltb (type_word t 4 l (omega arith) i) t
 
-  same_same_bytes : (u t n : ℕ) → u < types s → t < types s → n ≤ 10 → same_bytes s' (type_at_lem s' u) (type_at_lem s' t) n ≡ same_bytes s (type_at_lem s u) (type_at_lem s t) n
+  same_same_bytes : (u t n : ℕ) → u < types s → t < types s → n ≤ 10
+      → same_bytes s' (type_at s' u) (type_at s' t) n ≡ same_bytes s (type_at s u) (type_at s t) n
   same_same_bytes u t zero lu lt h = refl
   same_same_bytes u t (suc n) lu lt h =
       λ i. eqb (type_byte u n lu (omega arith) i) (type_byte t n lt (omega arith) i) && same_same_bytes u t n lu lt (omega arith) i

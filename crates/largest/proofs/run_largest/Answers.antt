@@ -1,5 +1,5 @@
--- With the lengths asked for the answer is that of `run_eager`: what is screened first would turn that run back too (as-run). With others nothing is run: a
--- sheet that cannot be read gets its own refusal (as-unreadable), and a readable one 15 (as-buffers), since an empty stack is never 14.
+-- With the lengths asked for the answer is that of `run_eager`: what is screened first would turn that run back too (as_run). With others nothing is run: a
+-- sheet that cannot be read gets its own refusal (as_unreadable), and a readable one 15 (as_buffers), since an empty stack is never 14.
 use Rattle.largest.proofs.RunLaws.{as_run, as_unreadable, as_buffers}
 use Rattle.largest.proofs.run_largest.Goals as goal
 

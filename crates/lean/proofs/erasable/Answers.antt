@@ -1,4 +1,4 @@
--- The version and the search for tests are the definition's (erasable-is).
+-- The version and the search for tests are the definition's (erasable_is).
 use Rattle.renumbering.proofs.TermLaws.{erasable_is}
 use Rattle.lean.proofs.erasable.Goals as goal
 

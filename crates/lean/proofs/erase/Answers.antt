@@ -1,5 +1,5 @@
--- `erase` answers and leaves what `erasure` says: the reader's refusal is the verdict and is told (unreadable-is, unreadable-erasure), and a sheet that is
--- read has its own counts, as `erase_readable` requires (readable-counted).
+-- `erase` answers and leaves what `erasure` says: the reader's refusal is the verdict and is told (unreadable_is, unreadable_erasure), and a sheet that is
+-- read has its own counts, as `erase_readable` requires (readable_counted).
 use Rattle.checker.proofs.VerdictLaws.{unreadable_is, readable_counted}
 use Rattle.lean.proofs.EntryLaws.{unreadable_erasure}
 use Rattle.lean.proofs.erase.Goals as goal

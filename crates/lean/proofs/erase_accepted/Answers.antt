@@ -1,5 +1,5 @@
--- A sheet that is not erasable is 32 (not-erasable), and a buffer shorter than the lean sheet 33 (no_room); the length is that of the sheet's four
--- fields (size_is). Otherwise the whole of it is written (all-written).
+-- A sheet that is not erasable is 32 (not_erasable), and a buffer shorter than the lean sheet 33 (no_room); the length is that of the sheet's four
+-- fields (size_is). Otherwise the whole of it is written (all_written).
 use native.Mathlib.Omega.{arith}
 use Rattle.leanwriting.proofs.WriteLaws.{size_is, size_small}
 use Rattle.lean.proofs.EntryLaws.{not_erasable, no_room, all_written, sheet_ready}

@@ -1,5 +1,5 @@
--- `erase_readable` answers and leaves what `erasure` says, by the verdict: a refusal is told and leaves the buffer (refused-unreadable, refused-fault), and
--- an accepted sheet is as `erase_accepted` says (accepted-erasure).
+-- `erase_readable` answers and leaves what `erasure` says, by the verdict: a refusal is told and leaves the buffer (refused_unreadable, refused_fault), and
+-- an accepted sheet is as `erase_accepted` says (accepted_erasure).
 use Rattle.checker.proofs.VerdictLaws.{sheet_of}
 use Rattle.lean.proofs.EntryLaws.{refused_unreadable, refused_fault, accepted_erasure}
 use Rattle.lean.proofs.erase_readable.Goals as goal

@@ -2,8 +2,7 @@
 -- queue. If its part lies outside the store it is 28 (outside_served), and if not it is run (run_served). Either way the line has had its turn. The place
 -- has room for the posts made, since no run makes more than are left of the list (may_move).
 use Rattle.std.proofs.Common.{arith}
-use mathlib.Core.Path.{sym, ◌∙◌}
-use Rattle.lines.proofs.ServeLaws.{nobody_served, has_one, outside_served, run_served, may_move}
+use Rattle.lines.proofs.ServeLaws.{nobody_served, outside_served, run_served, may_move}
 use Rattle.lines.proofs.serve.Goals as goal
 
 pub returns-then-line-ge-MAX_LINES : goal.returns-then-line-ge-MAX_LINES
@@ -12,21 +11,12 @@ returns-then-line-ge-MAX_LINES c =
     c.args.cells.now
     c.args.posts.now c.if-line-ge-MAX_LINES.true
 
-pub dequeue-taken-requires : goal.dequeue-taken-requires
-dequeue-taken-requires c =
-    has_one c.args.q c.line_in_turn-line.result c.line_in_turn-line.ensures c.args.store.now
-    c.args.cells.now
-    c.args.posts.now c.if-line-ge-MAX_LINES.false
-
 pub returns-then-not-inside : goal.returns-then-not-inside
 returns-then-not-inside c =
     outside_served c.args.q c.line_in_turn-line.result c.line_in_turn-line.ensures c.args.store.now
     c.args.cells.now
     c.args.posts.now c.if-line-ge-MAX_LINES.false c.dequeue-taken.result c.dequeue-taken.ensures c.inside.result
     c.inside.ensures c.if-not-inside.true c.after_turn-lines.ensures
-
-pub run_job-run-requires : goal.run_job-run-requires
-run_job-run-requires c = sym c.inside.ensures ∙ c.if-not-inside.false
 
 pub advance-lines-requires : goal.advance-lines-requires
 advance-lines-requires c =

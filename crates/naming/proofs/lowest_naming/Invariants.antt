@@ -1,5 +1,5 @@
--- The search from t on finds what the whole search finds (Seeking), since no term below t names p (seek-more). A term that does is the lowest (seek-here), and
--- past the last there is none (seek-past). The terms that are left, n - t, fall, since each turn adds 1 to t.
+-- The search from t on finds what the whole search finds (Seeking), since no term below t names p (seek_more). A term that does is the lowest (seek_here), and
+-- past the last there is none (seek_past). The terms that are left, n - t, fall, since each turn adds 1 to t.
 use Prim.Native.Nat.{◌-◌}
 use Rattle.naming.proofs.NamingLaws.{NotNamedBelow}
 use Rattle.naming.proofs.lowest_naming.Given as goal

@@ -1,5 +1,5 @@
--- A sheet that the decoder refuses is refused so (unreadable-naming); one that is read is well-formed and has its counts, and what is told of it is told of the
--- bytes (readable-naming).
+-- A sheet that the decoder refuses is refused so (unreadable_naming); one that is read is well-formed and has its counts, and what is told of it is told of the
+-- bytes (readable_naming).
 use Rattle.checker.proofs.VerdictLaws.{readable_sheet}
 use Rattle.naming.proofs.NamingLaws.{unreadable_naming, readable_naming}
 use Rattle.naming.proofs.names.Goals as goal

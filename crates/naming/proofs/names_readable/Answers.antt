@@ -1,4 +1,4 @@
--- A privilege above 31 is 30 (too-high); of any other the lowest term that names it is told (not-above).
+-- A privilege above 31 is 30 (too_high); of any other the lowest term that names it is told (not_above).
 use Rattle.naming.proofs.NamingLaws.{too_high, not_above}
 use Rattle.naming.proofs.names_readable.Goals as goal
 

@@ -1,4 +1,4 @@
--- n is the count below t, which a number term adds to (counted-yes). The terms that are left, count - t, fall, since each turn adds 1 to t.
+-- n is the count below t, which a number term adds to (counted_yes). The terms that are left, count - t, fall, since each turn adds 1 to t.
 use Prim.Native.Nat.{◌-◌}
 use Rattle.pairs.proofs.PairLaws.{CountedBelow}
 use Rattle.pairs.proofs.count_numbers.Given as goal

@@ -1,4 +1,4 @@
--- The number terms below t have their pairs, of which n are laid (laid-pair), and the other words are as they were (laid-other). The terms that are
+-- The number terms below t have their pairs, of which n are laid (laid_pair), and the other words are as they were (laid_other). The terms that are
 -- left, count - t, fall, since each turn adds 1 to t.
 use native.Mathlib.Omega.{arith}
 use mathlib.Core.Path.{refl, sym, ◌∙◌}

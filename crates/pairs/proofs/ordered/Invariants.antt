@@ -1,4 +1,4 @@
--- The first i pairs are in order (ordered-next); one that is not decides (ordered-not). The pairs that are left, n - i, fall, since each turn adds 1 to
+-- The first i pairs are in order (ordered_next); one that is not decides (ordered_not). The pairs that are left, n - i, fall, since each turn adds 1 to
 -- i.
 use Prim.Native.Nat.{◌-◌}
 use Rattle.pairs.proofs.PairLaws.{OrderedBelow}

@@ -1,4 +1,4 @@
--- The root is the last term, present, without bindings and under principal 0 (root-at).
+-- The root is the last term, present, without bindings and under principal 0 (root_at).
 use Rattle.places.proofs.PlaceLaws.{root_at}
 use Rattle.places.proofs.root.Goals as goal
 

@@ -39,7 +39,8 @@ last_privilege = refl
 pub guard_low : (x : ℕ) → is_guard x ≡ true → (p : ℕ) → guard_in x ≡ some p → (p ≡ x) × (p < privilege_count)
 guard_low x h p e = go (leb x max_privilege) refl (eqb x no_guard) refl h e
   where
-    go : (a : Bool) → leb x max_privilege ≡ a → (b : Bool) → eqb x no_guard ≡ b → (a || b) ≡ true → cond b none (some x) ≡ some p → (p ≡ x) × (p < privilege_count)
+    go : (a : Bool) → leb x max_privilege ≡ a → (b : Bool) → eqb x no_guard ≡ b → (a || b) ≡ true → cond b none (some x) ≡ some p
+        → (p ≡ x) × (p < privilege_count)
     go a ea true eb h e = absurd (none-ne-some p e)
     go true ea false eb h e = let q : x ≡ p = some-injective x p e in (sym q, omega (arith, leb-true x max_privilege ea, q))
     go false ea false eb h e = absurd (false≢true h)
@@ -48,7 +49,7 @@ pub guard_privilege : (x : ℕ) → is_guard x ≡ true → (x ≡ no_guard → 
 guard_privilege x h n = (guard_low x h x (λ i. cond (ne_eqb x no_guard n i) none (some x))).1
 
 pub guard_below : (s : List ℕ) → WellFormed s → (c : ℕ) → c < max_channels → (p : ℕ) → guard_of s c ≡ some p → p < privilege_count
-guard_below s w c l p e = (guard_low (guard_byte s c) (w.guard_ok_lem c l) p e).1
+guard_below s w c l p e = (guard_low (guard_byte s c) (w.guard_ok_holds c l) p e).1
 
 -- a privilege guards a channel exactly if it is the guard byte, since no privilege is the byte for none
 pub guard_contains : (p x : ℕ) → p < privilege_count → eqb x p ≡ contains p (guard_in x)

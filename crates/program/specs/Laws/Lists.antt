@@ -13,7 +13,8 @@ pub sized : (l : List ℕ) (n : ℕ) → length (map (λ (v : ℕ). v) l) ≡ n 
 sized l n e = sized_by (λ (v : ℕ). v) l n e
 
 -- a copy in progress, the first entries of b before the rest of t, with one entry more
-pub copied_more : {A : Type 0} (b t x : List A) (i : ℕ) (d : A) → i < length b → i < length t → x ≡ take i b ++ drop i t → set x i (get_or b i d) ≡ take (i + 1) b
+pub copied_more : {A : Type 0} (b t x : List A) (i : ℕ) (d : A) → i < length b → i < length t → x ≡ take i b ++ drop i t
+    → set x i (get_or b i d) ≡ take (i + 1) b
     ++ drop (i + 1) t
 copied_more {A = A} b t x i d h g e =
     ap (λ (y : List A). set y i (get_or b i d)) (e ∙ ap (λ (y : List A). take i b ++ y) (drop-cons t i d g))

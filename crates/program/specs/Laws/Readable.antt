@@ -68,11 +68,11 @@ pub record WellFormed (s : List ℕ) : Type 0 where
   pub terms_most : terms s ≤ max_terms
   pub whole : sheet_end s ≡ length s
   pub terms_inside : term_at s (terms s) ≤ length s
-  pub type_ok_lem : (t : ℕ) → t < types s → type_ok s t ≡ true
-  pub term_ok_lem : (t : ℕ) → t < terms s → term_ok s t ≡ true
-  pub placed_ok_lem : (t : ℕ) → t < terms s → placed_ok s t ≡ true
+  pub type_ok_holds : (t : ℕ) → t < types s → type_ok s t ≡ true
+  pub term_ok_holds : (t : ℕ) → t < terms s → term_ok s t ≡ true
+  pub placed_ok_holds : (t : ℕ) → t < terms s → placed_ok s t ≡ true
   pub nested_ok : (t : ℕ) → t < terms s → nested_in s max_nesting t ≡ true
-  pub guard_ok_lem : (c : ℕ) → c < max_channels → guard_ok s c ≡ true
+  pub guard_ok_holds : (c : ℕ) → c < max_channels → guard_ok s c ≡ true
 
 -- what the fields give
 pub record FieldsOk (s : List ℕ) : Type 0 where
@@ -121,11 +121,11 @@ tables_ok s f (none_next a (none_next b (none_next c (none_next d (none_next e n
   terms_most = f.terms_high;
   whole = f.ends;
   terms_inside = f.terms_in;
-  type_ok_lem = λ t h. lowest_none (type_ok s) 0 (types s) a t (omega arith) (omega arith);
-  term_ok_lem = λ t h. lowest_none (term_ok s) 0 (terms s) b t (omega arith) (omega arith);
-  placed_ok_lem = λ t h. lowest_none (placed_ok s) 0 (terms s) c t (omega arith) (omega arith);
+  type_ok_holds = λ t h. lowest_none (type_ok s) 0 (types s) a t (omega arith) (omega arith);
+  term_ok_holds = λ t h. lowest_none (term_ok s) 0 (terms s) b t (omega arith) (omega arith);
+  placed_ok_holds = λ t h. lowest_none (placed_ok s) 0 (terms s) c t (omega arith) (omega arith);
   nested_ok = λ t h. lowest_none (nested_in s max_nesting) 0 (terms s) d t (omega arith) (omega arith);
-  guard_ok_lem = λ t h. lowest_none (guard_ok s) 0 max_channels e t (omega arith) (omega arith);
+  guard_ok_holds = λ t h. lowest_none (guard_ok s) 0 max_channels e t (omega arith) (omega arith);
 }
 
 pub well_formed : (s : List ℕ) → Readable s → WellFormed s

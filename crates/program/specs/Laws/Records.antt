@@ -8,7 +8,7 @@ use Rattle.std.proofs.Math.Dec.{leb}
 use borrow.Author.Tests.{lt-ltb, le-ltb, le-leb}
 use Rattle.program.specs.Limits.{max_channels, no_guard}
 use Rattle.program.specs.Bytes.{byte, word32}
-use Rattle.program.specs.Layout.{has_guards, principals, types, type_at_lem, terms, term_at, guard_field, guard_at, sheet_end, guard_byte, authority}
+use Rattle.program.specs.Layout.{has_guards, principals, types, type_at, terms, term_at, guard_field, guard_at, sheet_end, guard_byte, authority}
 use Rattle.program.specs.declared.records.Counts.{Counts}
 use Rattle.program.specs.Records.{CountsOf, term_at_byte, no_term, term_record, type_at_byte, no_type, type_record, authority_record, guard_record}
 use Rattle.program.specs.Laws.Readable.{WellFormed}
@@ -32,10 +32,10 @@ module _ (s : List ℕ) (inside : term_at s (terms s) ≤ length s) (c : Counts)
   unfolding term_record
   term_none t h = λ i. cond (le-ltb t c.terms (omega (arith, k.terms_are)) i && leb (byte_of t + 8) (length s)) (term_at_byte s (byte_of t)) no_term
 
-  pub type_laid : (t : ℕ) → t < types s → type_record s c t ≡ type_at_byte s (type_at_lem s t)
+  pub type_laid : (t : ℕ) → t < types s → type_record s c t ≡ type_at_byte s (type_at s t)
   unfolding type_record
   type_laid t h =
-      let e : 11 + 4 * c.principals + 10 * t ≡ type_at_lem s t = omega (arith, k.principals_are) in
+      let e : 11 + 4 * c.principals + 10 * t ≡ type_at s t = omega (arith, k.principals_are) in
       ap (λ (b : Bool). cond b (type_at_byte s (11 + 4 * c.principals + 10 * t)) no_type)
       (le-leb (11 + 4 * c.principals + 10 * t + 10) (length s) (omega (arith, inside)))
       ∙ ap (type_at_byte s) e
@@ -62,7 +62,7 @@ module _ (s : List ℕ) (w : WellFormed s) where
   pub term_is : (c : Counts) → CountsOf s c → (t : ℕ) → t < terms s → term_record s c t ≡ term_at_byte s (term_at s t)
   term_is c k t h = term_laid s w.terms_inside c k t h
 
-  pub type_is : (c : Counts) → CountsOf s c → (t : ℕ) → t < types s → type_record s c t ≡ type_at_byte s (type_at_lem s t)
+  pub type_is : (c : Counts) → CountsOf s c → (t : ℕ) → t < types s → type_record s c t ≡ type_at_byte s (type_at s t)
   type_is c k t h = type_laid s w.terms_inside c k t h
 
   pub authority_is : (n : ℕ) → n < principals s → authority_record s n ≡ authority s n

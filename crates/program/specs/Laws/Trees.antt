@@ -28,7 +28,7 @@ parts_of s t h = record {
 }
 
 pub parts : (s : List ℕ) → WellFormed s → (t : ℕ) → t < terms s → Parts s t
-parts s w t l = parts_of s t (w.term_ok_lem t l)
+parts s w t l = parts_of s t (w.term_ok_holds t l)
 
 -- ---- children are lower than their parent
 child_lower : (s : List ℕ) (t : ℕ) (p : Part) (x : ℕ) → part_ok s t p x ≡ true → is_child p ≡ true → x < t
@@ -57,7 +57,7 @@ below_of s t h =
     }
 
 pub below : (s : List ℕ) → WellFormed s → (t : ℕ) → t < terms s → Below (format_at s t) t (first s t) (second s t) (third s t)
-below s w t l = below_of s t (w.term_ok_lem t l)
+below s w t l = below_of s t (w.term_ok_holds t l)
 
 -- ---- a term of the tree is the node of its record over its children's trees
 node_same : (G : ℕ → Option ℕ) (k : Kind) (t x a b c : ℕ) (f g : ℕ → Term) → Below (format k) t a b c → ((y : ℕ) → y < t → f y ≡ g y)
@@ -83,7 +83,8 @@ pub tree_depth : (s : List ℕ) → WellFormed s → (j k t : ℕ) → t < terms
 tree_depth s w zero k t l p q = absurd (omega arith)
 tree_depth s w (suc j) zero t l p q = absurd (omega arith)
 tree_depth s w (suc j) (suc k) t l p q =
-    node_same (guard_of s) (kind_of (kind_byte s t)) t (small s t) (first s t) (second s t) (third s t) (λ y. tree_to s j y) (λ y. tree_to s k y) (below s w t l)
+    node_same (guard_of s) (kind_of (kind_byte s t)) t (small s t) (first s t) (second s t) (third s t) (λ y. tree_to s j y)
+    (λ y. tree_to s k y) (below s w t l)
     (λ y h. tree_depth s w j k y (omega arith) (omega arith) (omega arith))
 
 pub tree_node : (s : List ℕ) → WellFormed s → (t : ℕ) → t < terms s
@@ -215,7 +216,7 @@ pub record PlacementOk (s : List ℕ) (t : ℕ) : Type 0 where
 
 pub placed : (s : List ℕ) → WellFormed s → (t : ℕ) → t < terms s → PlacementOk s t
 placed s w t l =
-    let h = w.placed_ok_lem t l in
+    let h = w.placed_ok_holds t l in
     record {
       times = eqb-true (times_below s t (terms s)) (cond (eqb t (root s)) 0 1) (search (and_left, and_right));
       body_signed = search (and_left, and_right);

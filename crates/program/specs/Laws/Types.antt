@@ -6,7 +6,7 @@ use Rattle.std.proofs.lemmas.Bool.{not-true}
 use Rattle.program.specs.Limits.{max_type_depth}
 use Rattle.privileges.specs.Booleans.{and_left, and_right, and_both}
 use Rattle.program.specs.Bytes.{byte, word16, word32, Bytes}
-use Rattle.program.specs.Layout.{types, type_at_lem, Types, types_of}
+use Rattle.program.specs.Layout.{types, type_at, Types, types_of}
 use Rattle.program.specs.Decoding.{base_ok, function_ok, shallow, same_bytes, fresh}
 use Rattle.program.specs.Laws.Readable.{WellFormed}
 
@@ -18,8 +18,8 @@ pub record PartsLower (T : Types) : Type 0 where
 pub record FunctionType (s : List ℕ) (t : ℕ) : Type 0 where
   pub low : 2 ≤ t
   pub inside : t < types s
-  pub kind_is : byte s (type_at_lem s t) ≡ 2
-  pub zero_is : byte s (type_at_lem s t + 1) ≡ 0
+  pub kind_is : byte s (type_at s t) ≡ 2
+  pub zero_is : byte s (type_at s t + 1) ≡ 0
   pub arg_below : (types_of s).arg t < t
   pub res_below : (types_of s).res t < t
   pub depth : shallow s max_type_depth t ≡ true
@@ -30,12 +30,12 @@ function_type s w t h =
     let l : 2 ≤ t = leb-true 2 t (and_left (leb 2 t) (ltb t (types s)) h) in
     let i : t < types s = ltb-true t (types s) (and_right (leb 2 t) (ltb t (types s)) h) in
     let ok : (function_ok s t && shallow s max_type_depth t && fresh s t t) ≡ true =
-    (λ i. cond (sym (le-ltb t 2 l) i) (base_ok s t) (function_ok s t && shallow s max_type_depth t && fresh s t t)) ∙ w.type_ok_lem t i in
+    (λ i. cond (sym (le-ltb t 2 l) i) (base_ok s t) (function_ok s t && shallow s max_type_depth t && fresh s t t)) ∙ w.type_ok_holds t i in
     record {
       low = l;
       inside = i;
-      kind_is = eqb-true (byte s (type_at_lem s t)) 2 (search (and_left, and_right));
-      zero_is = eqb-true (byte s (type_at_lem s t + 1)) 0 (search (and_left, and_right));
+      kind_is = eqb-true (byte s (type_at s t)) 2 (search (and_left, and_right));
+      zero_is = eqb-true (byte s (type_at s t + 1)) 0 (search (and_left, and_right));
       arg_below = ltb-true ((types_of s).arg t) t (search (and_left, and_right));
       res_below = ltb-true ((types_of s).res t) t (search (and_left, and_right));
       depth = search (and_left, and_right);
@@ -55,24 +55,25 @@ word32_halves s b i j e =
     (omega (arith, f (i + 2), f (j + 2)), omega (arith, f (i + 2), f (j + 2)))
 
 -- ---- no two function types have the same parts
-differs_below : (s : List ℕ) (t n u : ℕ) → fresh s t n ≡ true → u < n → same_bytes s (type_at_lem s u) (type_at_lem s t) 10 ≡ false
+differs_below : (s : List ℕ) (t n u : ℕ) → fresh s t n ≡ true → u < n → same_bytes s (type_at s u) (type_at s t) 10 ≡ false
 differs_below s t zero u h l = absurd (omega arith)
-differs_below s t (suc n) u h l = go (dec_lt u n) (differs_below s t n u (and_right (not (same_bytes s (type_at_lem s n) (type_at_lem s t) 10)) (fresh s t n) h))
+differs_below s t (suc n) u h l = go (dec_lt u n)
+    (differs_below s t n u (and_right (not (same_bytes s (type_at s n) (type_at s t) 10)) (fresh s t n) h))
   where
-    go : Dec (u < n) → (u < n → same_bytes s (type_at_lem s u) (type_at_lem s t) 10 ≡ false) → same_bytes s (type_at_lem s u) (type_at_lem s t) 10 ≡ false
+    go : Dec (u < n) → (u < n → same_bytes s (type_at s u) (type_at s t) 10 ≡ false) → same_bytes s (type_at s u) (type_at s t) 10 ≡ false
     go (yes k) rest = rest k
     go (no k) rest =
         let e : u ≡ n = omega arith in
-        ap (λ (x : ℕ). same_bytes s (type_at_lem s x) (type_at_lem s t) 10) e
-        ∙ not-true (same_bytes s (type_at_lem s n) (type_at_lem s t) 10) (and_left (not (same_bytes s (type_at_lem s n) (type_at_lem s t) 10)) (fresh s t n) h)
+        ap (λ (x : ℕ). same_bytes s (type_at s x) (type_at s t) 10) e
+        ∙ not-true (same_bytes s (type_at s n) (type_at s t) 10) (and_left (not (same_bytes s (type_at s n) (type_at s t) 10)) (fresh s t n) h)
 
 module _ (s : List ℕ) (b : Bytes s) (t u : ℕ) where
   -- byte by byte, from the last: two records with the same kind and parts are same_bytes
   same_same_bytes : FunctionType s t → FunctionType s u → (types_of s).arg t ≡ (types_of s).arg u → (types_of s).res t ≡ (types_of s).res u
-      → (types_of s).latent t ≡ (types_of s).latent u → same_bytes s (type_at_lem s t) (type_at_lem s u) 10 ≡ true
+      → (types_of s).latent t ≡ (types_of s).latent u → same_bytes s (type_at s t) (type_at s u) 10 ≡ true
   same_same_bytes f g ea er el =
-      let i : ℕ = type_at_lem s t in
-      let j : ℕ = type_at_lem s u in
+      let i : ℕ = type_at s t in
+      let j : ℕ = type_at s u in
       let a = word16_bytes s b (i + 2) (j + 2) ea in
       let r = word16_bytes s b (i + 4) (j + 4) er in
       let h = word32_halves s b (i + 6) (j + 6) el in
@@ -89,8 +90,9 @@ module _ (s : List ℕ) (b : Bytes s) (t u : ℕ) where
       (and_both (at 1 (i + 1) (j + 1) (omega arith) (omega arith) (f.zero_is ∙ sym g.zero_is))
       (and_both (at 0 i j (omega arith) (omega arith) (f.kind_is ∙ sym g.kind_is)) refl)))))))))
     where
-      at : (n x y : ℕ) → x ≡ type_at_lem s t + n → y ≡ type_at_lem s u + n → byte s x ≡ byte s y → eqb (byte s (type_at_lem s t + n)) (byte s (type_at_lem s u + n)) ≡ true
-      at n x y p q e = eq-eqb (byte s (type_at_lem s t + n)) (byte s (type_at_lem s u + n)) (ap (byte s) (sym p) ∙ e ∙ ap (byte s) q)
+      at : (n x y : ℕ) → x ≡ type_at s t + n → y ≡ type_at s u + n → byte s x ≡ byte s y
+          → eqb (byte s (type_at s t + n)) (byte s (type_at s u + n)) ≡ true
+      at n x y p q e = eq-eqb (byte s (type_at s t + n)) (byte s (type_at s u + n)) (ap (byte s) (sym p) ∙ e ∙ ap (byte s) q)
 
   later_differs : WellFormed s → (types_of s).is_fun t ≡ true → (types_of s).is_fun u ≡ true → (types_of s).arg t ≡ (types_of s).arg u → (types_of s).res t
       ≡ (types_of s).res u

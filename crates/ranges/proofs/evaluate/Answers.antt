@@ -1,5 +1,5 @@
--- The words of the terms are decoded and have the pairs laid in: they are as the evaluator asks (laid_table) and as the refinement asks (interval-table).
--- The run holds the start stack's grants and, above the root, the set of principal 0, as the meaning does (intervals-after).
+-- The words of the terms are decoded and have the pairs laid in: they are as the evaluator asks (laid_table) and as the refinement asks (interval_table).
+-- The run holds the start stack's grants and, above the root, the set of principal 0, as the meaning does (intervals_after).
 use native.Mathlib.Omega.{arith}
 use mathlib.Core.List.{[], ◌∷◌}
 use mathlib.Core.Path.{refl}
@@ -21,7 +21,7 @@ lay_pairs-requires c =
       counts = c.requires.cleared.counts;
       decoded = c.decode_terms.ensures;
       enough = pairs_enough
-          c.args.s.now c.args.pairs.now c.requires.pairs_ok_lem;
+          c.args.s.now c.args.pairs.now c.requires.pairs_ok_holds;
     }
 
 pub start_access-access-requires : goal.start_access-access-requires
@@ -33,7 +33,7 @@ evaluate_words-t-requires c = laid_table c.requires.cleared.well_formed c.requir
 pub returns : goal.returns
 returns c =
     intervals_after c.args.s.now c.args.pairs.now c.args.start.now c.args.enforce c.args.cells.now
-    c.args.posts.now c.args.calls c.args.depth c.requires.cleared c.requires.pairs_ok_lem (0 ∷ []) [] c.outcome_of.result
+    c.args.posts.now c.args.calls c.args.depth c.requires.cleared c.requires.pairs_ok_holds (0 ∷ []) [] c.outcome_of.result
     (interval_table c.requires.cleared.well_formed c.requires.cleared.counts c.decode_terms.ensures
     c.lay_pairs.ensures)
     c.start_access-access.ensures c.mode_over_intervals.ensures c.evaluate_words-t.ensures

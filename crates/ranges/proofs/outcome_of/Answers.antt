@@ -1,4 +1,4 @@
--- A stop, a truth value, a range and a function each give the outcome of the definition (outcome-by); a function is stop 18 at the root.
+-- A stop, a truth value, a range and a function each give the outcome of the definition (outcome_by); a function is stop 18 at the root.
 use mathlib.Core.Path.{ap, ◌∙◌}
 use Rattle.semantics.specs.Runs.{ended, ground_bool, ground_num}
 use Rattle.intervals.specs.Intervals.{interval}

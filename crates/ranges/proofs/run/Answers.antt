@@ -1,4 +1,4 @@
--- A run that is not admitted answers the refusal and leaves every buffer as it was (run-refused); an admitted one is as `run_admitted` requires and
+-- A run that is not admitted answers the refusal and leaves every buffer as it was (run_refused); an admitted one is as `run_admitted` requires and
 -- answers as it does. An eager run has no frame store, so that the test of one is `true`.
 use Rattle.ranges.proofs.IntervalLaws.{run_refused, is_admitted}
 use Rattle.ranges.proofs.run.Goals as goal

@@ -1,4 +1,4 @@
--- 35 is told where the pairs are not right (pairs-refused), and else the run is as `evaluate` gives it.
+-- 35 is told where the pairs are not right (pairs_refused), and else the run is as `evaluate` gives it.
 use mathlib.Core.Path.{sym, ◌∙◌}
 use Rattle.ranges.proofs.IntervalLaws.{pairs_refused}
 use Rattle.ranges.proofs.run_admitted.Goals as goal
@@ -12,4 +12,4 @@ returns-then-not-pairs_ok c =
     c.args.posts.now c.args.calls c.args.depth c.requires (sym c.pairs_ok.ensures ∙ c.if-not-pairs_ok.true)
 
 pub evaluate-requires : goal.evaluate-requires
-evaluate-requires c = record { cleared = c.requires; pairs_ok_lem = sym c.pairs_ok.ensures ∙ c.if-not-pairs_ok.false }
+evaluate-requires c = record { cleared = c.requires; pairs_ok_holds = sym c.pairs_ok.ensures ∙ c.if-not-pairs_ok.false }

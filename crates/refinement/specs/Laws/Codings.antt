@@ -29,7 +29,7 @@ numbers_saturate mode k a b = cond (interval_mode mode) false (saturates_of k (p
 pub record Coding (D : Domain) (mode : ℕ) : Type 1 where
   pub Number : (word : ℕ) → D.Number → Type 0
   pub Truth : (word : ℕ) → D.Truth → Type 0
-  pub number_word_lem : {w : ℕ} {n : D.Number} → Number w n → WordOfSort 1 w
+  pub number_word_holds : {w : ℕ} {n : D.Number} → Number w n → WordOfSort 1 w
   pub truth_word : {w : ℕ} {b : D.Truth} → Truth w b → WordOfSort 0 w
   -- boolean terms, and the branch of an if
   pub truth_coded : (b : Bool) → Truth (boolean_word b) (D.truth b)

@@ -8,7 +8,7 @@ use Rattle.std.proofs.Math.Decide.{ℕ_discrete}
 use Rattle.program.specs.Limits.{frame_numbers, max_frames}
 use Rattle.privileges.specs.Sets.{has, meet, insert}
 use Rattle.semantics.specs.Access.{Frame, frame, chk, enable_first, lazy_control, Rights, rights, add_authorised, eager_control}
-use Rattle.access.specs.Access.{packed, low_of, high_of, enforced, lazy_mode, walk_grants, frames_grant, granted_of, sign_access, sign_frames, last_of_lem, enable_access, enable_frames, enabled_now, restore_frames}
+use Rattle.access.specs.Access.{packed, low_of, high_of, enforced, lazy_mode, walk_grants, frames_grant, granted_of, sign_access, sign_frames, last_of, enable_access, enable_frames, enabled_now, restore_frames}
 use Rattle.refinement.specs.Laws.Relation.{Fixed, FramesKept}
 use Rattle.refinement.specs.Laws.Steps.{Models}
 
@@ -30,15 +30,17 @@ module _ (mode : ℕ) (b : Bool) (style : lazy_mode mode ≡ b) (access low : �
   unfolding enable_access
   enable_access_lem p = λ i. cond (style i) access (cond (has p (used i)) (packed (used i) (insert p (high_of access))) access)
 
-  enable_frames_lem : (f : List ℕ) (p : ℕ) → enable_frames mode access f p ≡ cond b (set f (last_of_lem low) (insert p (get_or f (last_of_lem low) 0))) f
+  enable_frames_lem : (f : List ℕ) (p : ℕ) → enable_frames mode access f p ≡ cond b (set f (last_of low) (insert p (get_or f (last_of low) 0))) f
   unfolding enable_frames
-  enable_frames_lem f p = λ i. cond (style i) (set f (last_of_lem (used i)) (insert p (get_or f (last_of_lem (used i)) 0))) f
+  enable_frames_lem f p = λ i. cond (style i) (set f (last_of (used i)) (insert p (get_or f (last_of (used i)) 0))) f
 
-  restore_frames_lem : (f g : List ℕ) → restore_frames mode access g (enabled_now mode access f) ≡ cond b (set g (last_of_lem low) (get_or f (last_of_lem low) 0)) g
+  restore_frames_lem : (f g : List ℕ) → restore_frames mode access g (enabled_now mode access f)
+      ≡ cond b (set g (last_of low) (get_or f (last_of low) 0)) g
   unfolding restore_frames enabled_now
-  restore_frames_lem f g = (λ i. cond (style i) (set g (last_of_lem (used i)) (cond (style i) (get_or f (last_of_lem (used i)) 0) 0)) g) ∙ same b
+  restore_frames_lem f g = (λ i. cond (style i) (set g (last_of (used i)) (cond (style i) (get_or f (last_of (used i)) 0) 0)) g) ∙ same b
     where
-      same : (b : Bool) → cond b (set g (last_of_lem low) (cond b (get_or f (last_of_lem low) 0) 0)) g ≡ cond b (set g (last_of_lem low) (get_or f (last_of_lem low) 0)) g
+      same : (b : Bool) → cond b (set g (last_of low) (cond b (get_or f (last_of low) 0) 0)) g
+          ≡ cond b (set g (last_of low) (get_or f (last_of low) 0)) g
       same true = refl
       same false = refl
 
@@ -109,13 +111,13 @@ signed_same : (d : ℕ) (f : List ℕ) (authorised i : ℕ) → i < 2 * d → ge
 signed_same d f authorised i h =
     get_or-set_other (set f (d * 2) authorised) (d * 2 + 1) i 0 0 (λ e. omega arith) ∙ get_or-set_other f (d * 2) i authorised 0 (λ e. omega arith)
 
-last_is : (d : ℕ) → last_of_lem (suc d * 2) ≡ d * 2 + 1
-unfolding last_of_lem
-last_is d = ap last_of_lem {x = suc d * 2} {y = suc (d * 2 + 1)} (omega arith)
+last_is : (d : ℕ) → last_of (suc d * 2) ≡ d * 2 + 1
+unfolding last_of
+last_is d = ap last_of {x = suc d * 2} {y = suc (d * 2 + 1)} (omega arith)
 
 -- the first frame's enabled set is put back
-enable_kept : (d : ℕ) (f g : List ℕ) (v : ℕ) → d * 2 ≤ length f → FramesKept d (set f (last_of_lem (d * 2)) v) g
-    → FramesKept d f (set g (last_of_lem (d * 2)) (get_or f (last_of_lem (d * 2)) 0))
+enable_kept : (d : ℕ) (f g : List ℕ) (v : ℕ) → d * 2 ≤ length f → FramesKept d (set f (last_of (d * 2)) v) g
+    → FramesKept d f (set g (last_of (d * 2)) (get_or f (last_of (d * 2)) 0))
 enable_kept zero f g v l k = record { long = simp length-set (k.long ∙ simp length-set); same = λ i h. absurd (omega arith) }
 enable_kept (suc d) f g v l k = subst (λ at. FramesKept (suc d) (set f at v) g → FramesKept (suc d) f (set g at (get_or f at 0))) (sym (last_is d)) go k
   where
@@ -143,14 +145,16 @@ module _ (A : ℕ → ℕ) (f : List ℕ) where
       → Frames A (signed_frames d f authorised) (d + 1) (frame n 0 ∷ xs)
   frames_sign n authorised d xs e l h =
       subst (λ k. Frames A (signed_frames d f authorised) k (frame n 0 ∷ xs)) (sym (add-one d))
-      (a_frame (get_or-set_other (set f (d * 2) authorised) (d * 2 + 1) (d * 2) 0 0 (λ e. omega arith) ∙ get_or-set_same f (d * 2) authorised 0 (omega arith) ∙ e)
+      (a_frame (get_or-set_other (set f (d * 2) authorised) (d * 2 + 1) (d * 2) 0 0 (λ e. omega arith)
+      ∙ get_or-set_same f (d * 2) authorised 0 (omega arith) ∙ e)
       (get_or-set_same (set f (d * 2) authorised) (d * 2 + 1) 0 0 (omega (arith, length-set f (d * 2) authorised)))
       (frames_same (signed_frames d f authorised) h (signed_same d f authorised)))
 
   abbrev enabled_frames : (at p : ℕ) → List ℕ
   enabled_frames at p = set f at (insert p (get_or f at 0))
 
-  frames_enable : (p : ℕ) {d : ℕ} {xs : List Frame} → Frames A f d xs → d * 2 ≤ length f → Frames A (enabled_frames (last_of_lem (d * 2)) p) d (enable_first p xs)
+  frames_enable : (p : ℕ) {d : ℕ} {xs : List Frame} → Frames A f d xs → d * 2 ≤ length f
+      → Frames A (enabled_frames (last_of (d * 2)) p) d (enable_first p xs)
   frames_enable p no_frames l = no_frames
   frames_enable p (a_frame {d = d} {x = x} {xs = xs} e g h) l =
       subst (λ at. Frames A (enabled_frames at p) (suc d) (enable_first p (x ∷ xs))) (sym (last_is d))
@@ -192,7 +196,7 @@ module _ (z : Fixed) (style : lazy_mode z.mode ≡ true) where
       (subst (LazyMode z.authorised (enable_first p a) access d) (sym (enable_frames_lem z.mode true style access (d * 2) h.used f p))
       record {
         used = h.used;
-        long = length-set f (last_of_lem (d * 2)) (insert p (get_or f (last_of_lem (d * 2)) 0)) ∙ h.long;
+        long = length-set f (last_of (d * 2)) (insert p (get_or f (last_of (d * 2)) 0)) ∙ h.long;
         frames = frames_enable z.authorised f p h.frames (omega (arith, h.long));
       })
 
@@ -216,6 +220,6 @@ module _ (z : Fixed) (style : lazy_mode z.mode ≡ true) where
     unsigned = lazy_unsigned;
     undone = λ a access d f g p h l k.
         subst (FramesKept d f) (sym (restore_frames_lem z.mode true style access (d * 2) h.used f g))
-        (enable_kept d f g (insert p (get_or f (last_of_lem (d * 2)) 0)) (omega (arith, h.long))
+        (enable_kept d f g (insert p (get_or f (last_of (d * 2)) 0)) (omega (arith, h.long))
         (subst (λ x. FramesKept d x g) (enable_frames_lem z.mode true style access (d * 2) h.used f p) k));
   }

@@ -95,7 +95,7 @@ module _ (mode : ℕ) (plain : interval_mode mode ≡ false) where
   exact_coding = record {
     Number = ExactNumber;
     Truth = ExactTruth;
-    number_word_lem = λ h. h.word;
+    number_word_holds = λ h. h.word;
     truth_word = λ h. h.word;
     truth_coded = truth_exact;
     decide_coded = λ {w} {b} h. ap decided_by h.payload_is ∙ decide_exact b;

@@ -93,7 +93,7 @@ module _ (mode : ℕ) (is-interval : interval_mode mode ≡ true) where
   interval_coding = record {
     Number = IntervalNumber;
     Truth = IntervalTruth;
-    number_word_lem = λ h. h.word;
+    number_word_holds = λ h. h.word;
     truth_word = λ h. h.word;
     truth_coded = truth_interval;
     decide_coded = λ h. h.decided_is;

@@ -185,7 +185,8 @@ module _ (z : Fixed) where
         → Represents t (test t (small_in t) a b)
     on_binary : {t : ℕ} {a b : Term} (op : Op) → kind_in t ≡ kind_number op → first_in t < t → second_in t < t
         → Represents (first_in t) a → Represents (second_in t) b → Represents t (binary t op a b)
-    on_post : {t : ℕ} {a : Term} → kind_in t ≡ 14 → first_in t < t → Represents (first_in t) a → Represents t (post t (small_in t) (guard_in (guard_byte_in t)) a)
+    on_post : {t : ℕ} {a : Term} → kind_in t ≡ 14 → first_in t < t → Represents (first_in t) a
+        → Represents t (post t (small_in t) (guard_in (guard_byte_in t)) a)
 
   -- a function's body is at most 32 high
   pub record Body (b : ℕ) (c : Term) : Type 0 where
@@ -197,7 +198,8 @@ module _ (z : Fixed) where
     pub data Rep (cells : List ℕ) (m : ℕ) : ℕ → ValueIn z → Type 0 where
       rep_bool : {w : ℕ} {b : z.interpretation.domain.Truth} → z.coding.Truth w b → Rep cells m w (bool b)
       rep_num : {w : ℕ} {n : z.interpretation.domain.Number} → z.coding.Number w n → Rep cells m w (num n)
-      rep_fun : {w ty : ℕ} {c : Term} {E : EnvIn z} → WordOfSort 2 w → Body (payload_of w) c → RepEnv cells m (env_of w) E → Rep cells m w (closure false ty c E)
+      rep_fun : {w ty : ℕ} {c : Term} {E : EnvIn z} → WordOfSort 2 w → Body (payload_of w) c → RepEnv cells m (env_of w) E
+          → Rep cells m w (closure false ty c E)
       rep_rec : {w ty : ℕ} {c : Term} {E : EnvIn z} → WordOfSort 2 w → Body (payload_of w) c → 1 ≤ env_of w → env_of w ≤ m → cell_word cells (env_of w) ≡ w
           → RepEnv cells m (behind_of cells (env_of w)) E → Rep cells m w (closure true ty c E)
 
@@ -209,7 +211,7 @@ module _ (z : Fixed) where
   module _ {l : List ℕ} {m : ℕ} where
     pub rep_word : {w : ℕ} {x : ValueIn z} → Rep l m w x → WordOfSort (sort_for x) w
     rep_word (rep_bool h) = z.coding.truth_word h
-    rep_word (rep_num h) = z.coding.number_word_lem h
+    rep_word (rep_num h) = z.coding.number_word_holds h
     rep_word (rep_fun h b e) = h
     rep_word (rep_rec h b p q v e) = h
 

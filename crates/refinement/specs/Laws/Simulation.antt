@@ -25,7 +25,8 @@ leaf_is : (cells : List ℕ) (t x env k : ℕ) → word_kind x ≡ k → immedia
     (cond (eqb k 1) (interval_word (word_first x) (word_second x)) (cond (eqb k 2) (look_of cells t env (word_first x)) (function_word (word_second x) env)))
 unfolding immediate_word
 leaf_is cells t x env k e = λ i. cond (eqb (e i) 0) (boolean_word (ltb 0 (word_small x)))
-    (cond (eqb (e i) 1) (interval_word (word_first x) (word_second x)) (cond (eqb (e i) 2) (look_of cells t env (word_first x)) (function_word (word_second x) env)))
+    (cond (eqb (e i) 1) (interval_word (word_first x) (word_second x))
+    (cond (eqb (e i) 2) (look_of cells t env (word_first x)) (function_word (word_second x) env)))
 
 binary_action : (op : Op) → action_of (kind_number op) ≡ binary
 unfolding action_of

@@ -1,4 +1,4 @@
--- `of_decoded` gives the reply that `of_decoded` says, by case: a refusal as the cause and place that `of_reader` tells (refused_as), a readable sheet as
+-- `of_decoded` gives the reply that `of_decoded` says, by case: a refusal as the cause and place that `of_decoding` tells (refused_as), a readable sheet as
 -- its counts, where both replies are the same by computation.
 use Rattle.replies.specs.Internal.{of_decoded}
 use Rattle.replies.specs.Laws.{by, refused_as}

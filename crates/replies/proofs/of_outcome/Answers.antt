@@ -1,5 +1,5 @@
--- `of_outcome` gives the reply that `finished` says, by case: a stop as the cause and term that `of_stop` tells (stopped-as), an end as 0 and a boolean
--- (ended-bool) or 1 and a number. `counted` adds the counts; that they are few is the precondition of both.
+-- `of_outcome` gives the reply that `finished` says, by case: a stop as the cause and term that `of_stop` tells (stopped_as), an end as 0 and a boolean
+-- (ended_bool) or 1 and a number. `counted` adds the counts; that they are few is the precondition of both.
 use mathlib.Core.Path.{◌∙◌, ap}
 use Rattle.interp.specs.Answers.{outcome_model, counts_model}
 use Rattle.interp.specs.declared.answer.Ground.{Ground}

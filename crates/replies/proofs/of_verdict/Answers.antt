@@ -1,4 +1,4 @@
--- `of_verdict` gives the reply that `verdict_reply` says, by case: a refusal of the reader or of the type checker as the cause and place that `of_reader` or
+-- `of_verdict` gives the reply that `verdict_reply` says, by case: a refusal of the reader or of the type checker as the cause and place that `of_decoding` or
 -- `of_fault` tells (refused_as), an acceptance as its type, terms and needs, where both replies are the same by computation.
 use mathlib.Core.Path.{refl}
 use Rattle.typing.specs.Answers.{verdict_model}

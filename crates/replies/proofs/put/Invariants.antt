@@ -1,6 +1,6 @@
 -- `put` returns the status, and writes the eight numbers of the reply to the front of the list. The invariant: the first i numbers are the reply's, the
--- others as they were, and i is at most 8; written-more makes it one number more. The measure is 8 - i, the numbers left, and falls since each turn adds
--- 1 to i. When the test fails, i is 8 (written_all). The list keeps its length, which is at least 8, so every write is within it (written-length).
+-- others as they were, and i is at most 8; written_more makes it one number more. The measure is 8 - i, the numbers left, and falls since each turn adds
+-- 1 to i. When the test fails, i is 8 (written_all). The list keeps its length, which is at least 8, so every write is within it (written_length).
 use Prim.Native.Nat.{◌-◌}
 use Rattle.replies.specs.Laws.{Copied}
 use Rattle.replies.proofs.put.Given as goal

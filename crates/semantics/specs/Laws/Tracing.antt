@@ -119,7 +119,8 @@ module _ (I : Interpretation) (X : Control) (M : Mode) where
   eval_forgets f g h (variable at i) st e u = forgets_found at (lookup e i) u
   eval_forgets f g h (function at ty body) st e u = forgets_end (closure false ty body e) u
   eval_forgets f g h (letrec at ty body rest) st e u =
-      forgets_cell at _ (λ w. eval_with I X PlainMode g rest st (bind (closure true ty body e) e) w) (λ w. eval_forgets f g h rest st (bind (closure true ty body e) e) w) u
+      forgets_cell at _ (λ w. eval_with I X PlainMode g rest st (bind (closure true ty body e) e) w)
+      (λ w. eval_forgets f g h rest st (bind (closure true ty body e) e) w) u
   eval_forgets f g h (call at c a) st e u =
       forgets_then _ _ _ _ (eval_forgets f g h c st e u) (λ v w. forgets_then _ _ _ _ (eval_forgets f g h a st e w) (λ x y. h at v x st y))
   eval_forgets f g h (if at c y n) st e u =

@@ -291,7 +291,8 @@ module _ (T : Types) (A : ℕ → ℕ) (base : Base T) where
       closure_only
       (λ v. SafelyAlike (T.res φ)
       (enter at v w (λ body e u₁. eval_with standard (eager_control A) (plain true) (apply standard (eager_control A) (plain true) k) body (rights n P) e u₁) u)
-      (enter at v w (λ body e u₁. eval_with standard (eager_control A) (plain false) (apply standard (eager_control A) (plain false) k) body (rights n P) e u₁) u))
+      (enter at v w (λ body e u₁. eval_with standard (eager_control A) (plain false) (apply standard (eager_control A) (plain false) k) body (rights n P) e u₁)
+      u))
       φ hf
       (λ r ty body env h. alike_begin (T.res φ) at _ _
       (λ u₁. alike_widen _ _ (sub_res T h.below)

@@ -86,7 +86,8 @@ module _ (T : Types) (A : ℕ → ℕ) where
       go (typed τ N) f (well h) = no_type_lem e (each_among (HasType T A) m h)
       go (fault cause at) f w = has_fault f
 
-  pub within_fault : {Δ : List ℕ} {m : ℕ} {d : Term} {Γ : List ℕ} {n : ℕ} {c : Term} → Within T Δ m d Γ n c → HasFault T A (placed Δ m d) → HasFault T A (placed Γ n c)
+  pub within_fault : {Δ : List ℕ} {m : ℕ} {d : Term} {Γ : List ℕ} {n : ℕ} {c : Term} → Within T Δ m d Γ n c → HasFault T A (placed Δ m d)
+      → HasFault T A (placed Γ n c)
   within_fault here f = f
   within_fault (in_function w) f = fault_up _ _ _ among_first (within_fault w f)
   within_fault (in_letrec_body w) f = fault_up _ _ _ among_first (within_fault w f)

@@ -137,7 +137,8 @@ module _ (T : Types) (A : ℕ → ℕ) where
   pub smallest_append : (l m : List Placed) → smallest_of T A (l ++ m) ≡ smaller (smallest_of T A l) (smallest_of T A m)
   unfolding smallest_of
   smallest_append [] m = refl
-  smallest_append (x ∷ l) m = ap (smaller (faulty_at T A x)) (smallest_append l m) ∙ sym (smaller_assoc (faulty_at T A x) (smallest_of T A l) (smallest_of T A m))
+  smallest_append (x ∷ l) m = ap (smaller (faulty_at T A x)) (smallest_append l m)
+      ∙ sym (smaller_assoc (faulty_at T A x) (smallest_of T A l) (smallest_of T A m))
 
   pub smallest_found : (l : List Placed) (x : FaultyTerm) → smallest_of T A l ≡ some x → SmallestOf T A l x
   unfolding smallest_of

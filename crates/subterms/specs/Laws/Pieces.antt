@@ -125,7 +125,7 @@ module _ (s : List ℕ) where
             stands = subst (λ (c : Term). Within T p.bindings p.principal c [] 0 (program s)) q p.within;
             count_is = ap size (sym q) ∙ r.count_is;
             refused = ap (infer T A p.bindings p.principal) (sym q) ∙ r.fault_is ∙ ap (fault x.cause) place;
-            by_rules_lem = ruled T A p.bindings p.principal p.part r.fault_is;
+            by_rules_holds = ruled T A p.bindings p.principal p.part r.fault_is;
             children_typed = λ y m. each_among (HasType T A) m
                 (subst (λ (c : Term). EachOf (HasType T A) (children_in T p.bindings p.principal c)) q o.typed_children);
             fewest = λ Γ n u w f. few Γ n u w f;

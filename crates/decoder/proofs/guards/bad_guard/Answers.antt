@@ -6,7 +6,7 @@ use mathlib.Core.Path.{refl, sym, ◌∙◌}
 use Rattle.program.specs.Limits.{max_channels}
 use Rattle.program.specs.Decoding.{guard_ok}
 use Rattle.program.specs.Laws.Search.{lowest_here, lowest_more, lowest_past, lowest_starts}
-use Rattle.decoder.proofs.DecodeLaws.{guard_ok_lem}
+use Rattle.decoder.proofs.DecodeLaws.{guard_ok_holds}
 use Rattle.decoder.proofs.guards.bad_guard.Goals as goal
 
 pub loop-channel-init : goal.loop-channel-init
@@ -15,7 +15,7 @@ loop-channel-init c = record { below = omega arith; all = refl; rest_is = lowest
 pub returns-then-not-g : goal.returns-then-not-g
 returns-then-not-g c =
     lowest_here (guard_ok c.args.s.now) c.loop-channel.channel max_channels c.loop-channel-test.true
-    (sym (guard_ok_lem c.args.s.now c.args.c c.requires c.loop-channel.channel c.loop-channel-test.true
+    (sym (guard_ok_holds c.args.s.now c.args.c c.requires c.loop-channel.channel c.loop-channel-test.true
     c.guard-g.ensures) ∙ c.if-not-g.true) ∙ sym c.loop-channel.invariant.rest_is
 
 pub loop-channel-preserved : goal.loop-channel-preserved
@@ -24,7 +24,7 @@ loop-channel-preserved c =
       below = omega arith;
       all = refl;
       rest_is = c.loop-channel.invariant.rest_is ∙ lowest_more (guard_ok c.args.s.now) c.loop-channel.channel max_channels c.loop-channel-test.true
-          (sym (guard_ok_lem c.args.s.now c.args.c c.requires c.loop-channel.channel c.loop-channel-test.true
+          (sym (guard_ok_holds c.args.s.now c.args.c c.requires c.loop-channel.channel c.loop-channel-test.true
           c.guard-g.ensures) ∙ c.if-not-g.false);
     }
 

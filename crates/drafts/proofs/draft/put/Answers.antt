@@ -1,4 +1,4 @@
--- Where `len` is below 224, the length of the array, `put` appends its byte: the byte is set at `len`, and one byte more is then held (put-held).
+-- Where `len` is below 224, the length of the array, `put` appends its byte: the byte is set at `len`, and one byte more is then held (put_held).
 use native.Mathlib.Omega.{arith}
 use Rattle.drafts.proofs.DraftLaws.{put_held}
 use Rattle.drafts.proofs.draft.put.Goals as goal

@@ -1,4 +1,4 @@
--- The draft of `acceptance` holds the lines of terms, needs and type: the first is appended to a blank draft (from-blank), then the others (then-held).
+-- The draft of `acceptance` holds the lines of terms, needs and type: the first is appended to a blank draft (from_blank), then the others (then_held).
 -- At most 52 bytes: 27 for the terms and 15 for the needs, which are 42, and 10 for the type.
 use native.Mathlib.Omega.{arith}
 use Rattle.drafts.proofs.DraftLaws.{from_blank, then_held}

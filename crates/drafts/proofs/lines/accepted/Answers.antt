@@ -1,4 +1,4 @@
--- The draft of `accepted` holds the whole print of a run: the three lines of `acceptance`, then one line of outcome and counts (chained, then-held).
+-- The draft of `accepted` holds the whole print of a run: the three lines of `acceptance`, then one line of outcome and counts (chained, then_held).
 -- At most 209 bytes: 52 for `acceptance`, and 157 for the last line: 49 for the outcome and 107 for the counts, which are 156, and 1 for the newline.
 use native.Mathlib.Omega.{arith}
 use Rattle.drafts.proofs.DraftLaws.{chained, then_held}

@@ -1,4 +1,4 @@
--- `labelled` appends the label, then the digits of n (chained). These are at most 20 (decimal-most), hence the bound: the label's length and 20.
+-- `labelled` appends the label, then the digits of n (chained). These are at most 20 (decimal_most), hence the bound: the label's length and 20.
 use native.Mathlib.Omega.{arith}
 use Rattle.drafts.proofs.DraftLaws.{chained}
 use Rattle.text.specs.Theorems.{decimal_most}

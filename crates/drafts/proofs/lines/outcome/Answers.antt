@@ -1,5 +1,5 @@
--- `outcome` appends the text of an outcome, by a law for each case: a stop (stop-shown), an end with a number (number-shown), with true (true-shown) and
--- with false (false-shown). At most 49 bytes, the bound for a stop: 5 for "stop ", 4 for " at ", 20 for each of the two numbers.
+-- `outcome` appends the text of an outcome, by a law for each case: a stop (stop_shown), an end with a number (number_shown), with true (true_shown) and
+-- with false (false_shown). At most 49 bytes, the bound for a stop: 5 for "stop ", 4 for " at ", 20 for each of the two numbers.
 use Rattle.drafts.proofs.LineLaws.{stop_shown, number_shown, true_shown, false_shown}
 use Rattle.drafts.proofs.lines.outcome.Goals as goal
 

@@ -1,4 +1,4 @@
--- `type_line` appends "type bool" for type 0 (boolean-line) and "type num" for any other (number-line), each with a newline. At most 10 bytes, the
+-- `type_line` appends "type bool" for type 0 (boolean_line) and "type num" for any other (number_line), each with a newline. At most 10 bytes, the
 -- length of the first.
 use Rattle.drafts.proofs.LineLaws.{boolean_line, number_line}
 use Rattle.drafts.proofs.lines.type_line.Goals as goal

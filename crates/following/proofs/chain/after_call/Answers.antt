@@ -1,5 +1,5 @@
 -- The function part is judged where the call stands. It has no fault, since the call needs the privilege; its type tells whether the call is a cause,
--- and else its needs whether it is the next place (function-next). If it is not, the argument is, which is not judged (argument-next).
+-- and else its needs whether it is the next place (function_next). If it is not, the argument is, which is not judged (argument_next).
 use Rattle.following.proofs.NextLaws.{part_ready, part_faulty, part_type, call_ends, function_next, argument_next}
 use Rattle.following.proofs.chain.after_call.Goals as goal
 

@@ -1,5 +1,5 @@
 -- After a cause there is none; else the children are tried by their position, and the first that needs the privilege is the next. One of them does
--- (all_left), so that the last that is there is not judged (last-next).
+-- (all_left), so that the last that is there is not judged (last_next).
 use borrow.Author.Tests.{not-true}
 use mathlib.Core.List.{[]}
 use mathlib.Core.Path.{refl, ◌∙◌}

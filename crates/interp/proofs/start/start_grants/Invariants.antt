@@ -1,5 +1,5 @@
 -- Each turn adds one frame, from the outermost on: the set is what the frames from place i on grant. A frame grants, of its principal's set, what it
--- enables or the frames behind it grant (grants-more). i is even, so that a frame is never half. The numbers that are left, i, fall by two, a
+-- enables or the frames behind it grant (grants_more). i is even, so that a frame is never half. The numbers that are left, i, fall by two, a
 -- frame's.
 use Rattle.program.specs.Records.{authority_record}
 use Rattle.interp.proofs.StartLaws.{GrantedFrom}

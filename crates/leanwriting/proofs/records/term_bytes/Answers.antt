@@ -1,6 +1,6 @@
--- A law for each arm of the match on the kind: which parts are children and which a function's type (uses-at, uses-one, uses-two), so that they are in
--- the tables (first-in, second-in, third-in, type-in), and that the bytes are those of their new numbers (bytes-are). Kinds below 3 have neither
--- (plain-bytes).
+-- A law for each arm of the match on the kind: which parts are children and which a function's type (uses_at, uses_one, uses_two), so that they are in
+-- the tables (first_in, second_in, third_in, type_in), and that the bytes are those of their new numbers (bytes_are). Kinds below 3 have neither
+-- (plain_bytes).
 use native.Mathlib.Omega.{arith}
 use mathlib.Core.Path.{refl}
 use Rattle.leanwriting.proofs.RecordLaws.{uses_at, uses_one, uses_two, first_in, second_in, third_in, type_in, type_entry, term_entry, kind_high, bytes_are, plain_bytes}

@@ -1,4 +1,4 @@
--- The parts are types of the sheet (parts_in), and the bytes are those of their new numbers (type-bytes-are).
+-- The parts are types of the sheet (parts_in), and the bytes are those of their new numbers (type_bytes_are).
 use native.Mathlib.Omega.{arith}
 use Rattle.leanwriting.proofs.RecordLaws.{parts_in, type_bytes_are}
 use Rattle.leanwriting.proofs.records.type_bytes.Goals as goal

@@ -1,4 +1,4 @@
--- The first i bytes are written; pasted-more makes it one more. The list keeps its length, so that every write is within it (pasted_length). The bytes that
+-- The first i bytes are written; pasted_more makes it one more. The list keeps its length, so that every write is within it (pasted_length). The bytes that
 -- are left, n - i, fall, since each turn adds 1 to i.
 use Prim.Native.Nat.{◌-◌}
 use Rattle.leanwriting.proofs.WriteLaws.{Pasted}

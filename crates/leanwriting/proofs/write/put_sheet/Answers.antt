@@ -1,4 +1,4 @@
--- Each part is written right behind the one before it, and together they are the lean sheet (sheet-put). The buffer has room for all of it (sheet-room) and
+-- Each part is written right behind the one before it, and together they are the lean sheet (sheet_put). The buffer has room for all of it (sheet_room) and
 -- keeps its length.
 use native.Mathlib.Omega.{arith}
 use Rattle.leanwriting.proofs.WriteLaws.{size_small, prefix_in, sheet_room, sheet_put}

@@ -1,5 +1,5 @@
 -- The records of those among the first `next` terms that are kept stand one after the other, and the count is how many they are. A term is kept
--- unless it is a check or an enable (kept_here, gone-here); its record then comes behind the others (gathered-yes). The terms that are left, n - next,
+-- unless it is a check or an enable (kept_here, gone_here); its record then comes behind the others (gathered_yes). The terms that are left, n - next,
 -- fall, since each turn adds 1 to `next`.
 use Prim.Native.Nat.{◌-◌}
 use Rattle.program.specs.Layout.{terms as term_count}

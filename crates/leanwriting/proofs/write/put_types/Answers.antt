@@ -1,10 +1,10 @@
 -- The records of those among the first `next` types that are kept stand one after the other, and the count is how many they are. A type is kept
--- if its number is the count (entry_first, entry_other); its record then comes behind the others (gathered-yes). The types that are left, n - next, fall,
+-- if its number is the count (entry_first, entry_other); its record then comes behind the others (gathered_yes). The types that are left, n - next, fall,
 -- since each turn adds 1 to `next`.
 use native.Mathlib.Omega.{arith}
 use mathlib.Core.Path.{sym, ap}
 use lib.ListN.{length}
-use Rattle.erasure.specs.Lean.{kept_type, type_bytes_lem}
+use Rattle.erasure.specs.Lean.{kept_type, type_bytes}
 use Rattle.renumbering.proofs.TypeLaws.{entry_first, entry_other}
 use Rattle.renumbering.proofs.TableLaws.{within, up_to, through}
 use Rattle.leanwriting.proofs.WriteLaws.{type_gathering, gathered_none, gathered_length, gathered_few, gathered_room, gathered_yes, gathered_no, gathered_all}
@@ -15,7 +15,7 @@ loop-next-init c =
     record {
       below = omega arith;
       all_are = c.requires.ready.sheet.counts.types_are;
-      gathered = gathered_none (kept_type c.args.s.now) (type_bytes_lem c.args.s.now)
+      gathered = gathered_none (kept_type c.args.s.now) (type_bytes c.args.s.now)
           c.args.buffer.now c.args.at;
     }
 

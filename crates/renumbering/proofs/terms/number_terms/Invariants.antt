@@ -1,5 +1,5 @@
 -- The table has the new numbers of the first t terms, and the count is how many of them are kept. A check or an enable gets the number of its inner
--- term, which is lower (inner-number), and any other term the count (own-number). The terms that are left, n - t, fall, since each turn adds 1
+-- term, which is lower (inner_number), and any other term the count (own_number). The terms that are left, n - t, fall, since each turn adds 1
 -- to t.
 use Prim.Native.Nat.{◌-◌}
 use Rattle.program.specs.Limits.{max_terms}

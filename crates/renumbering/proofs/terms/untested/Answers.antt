@@ -1,4 +1,4 @@
--- No term below t is a test (untested-more), and a test settles it (tested). The terms that are left, n - t, fall, since each turn adds 1
+-- No term below t is a test (untested_more), and a test settles it (tested). The terms that are left, n - t, fall, since each turn adds 1
 -- to t.
 use native.Mathlib.Omega.{arith}
 use mathlib.Core.Path.{◌≡◌, sym, ap, ◌∙◌}

@@ -1,4 +1,4 @@
--- The parts of both types are lower than t (upper-parts, lower-parts), so that their numbers are in the table. Two of them are equal where the heads
+-- The parts of both types are lower than t (upper_parts, lower_parts), so that their numbers are in the table. Two of them are equal where the heads
 -- are (alike_is).
 use native.Mathlib.Omega.{arith}
 use Rattle.renumbering.proofs.TypeLaws.{upper_parts, lower_parts, alike_is}

@@ -1,5 +1,5 @@
 -- The table has the new numbers of the first t types, and the count is how many of them are kept. A type that is its own head gets the count
--- (first-number), and any other the number of its head, which is lower (merged-number). The types that are left, n - t, fall, since each
+-- (first_number), and any other the number of its head, which is lower (merged_number). The types that are left, n - t, fall, since each
 -- turn adds 1 to t.
 use native.Mathlib.Omega.{arith}
 use mathlib.Core.Path.{◌≡◌, refl, ap, ◌∙◌}

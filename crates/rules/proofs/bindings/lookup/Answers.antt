@@ -1,4 +1,4 @@
--- A number past the bindings has no type (bound-out); any other counts backwards from the last of the first `len` (bound-in).
+-- A number past the bindings has no type (bound_out); any other counts backwards from the last of the first `len` (bound_in).
 use Rattle.rules.proofs.BindingLaws.{bound_in, bound_out}
 use Rattle.rules.proofs.bindings.lookup.Goals as goal
 

@@ -1,4 +1,4 @@
--- The type is written behind the first `len` and counted, so that it is the nearest of the context and the others stay (push-context). `len` is below
+-- The type is written behind the first `len` and counted, so that it is the nearest of the context and the others stay (push_context). `len` is below
 -- 32, the array's length.
 use native.Mathlib.Omega.{arith}
 use mathlib.Core.Path.{refl}

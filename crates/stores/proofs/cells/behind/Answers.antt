@@ -1,6 +1,5 @@
 -- The cell behind a cell: none, one outside the store, and one inside.
 use Rattle.stores.proofs.CellLaws.{behind_none, behind_out, behind_in}
-use Rattle.std.proofs.Common.{rules}
 use Rattle.stores.proofs.cells.behind.Goals as goal
 
 pub returns-then-e-eq0 : goal.returns-then-e-eq0

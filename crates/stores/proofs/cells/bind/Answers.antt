@@ -1,7 +1,5 @@
 -- A store with no cell left is left alone; one with room gets the cell.
-use native.Mathlib.Omega.{arith}
 use Rattle.stores.proofs.CellLaws.{bind_full, bind_room}
-use Rattle.std.proofs.Common.{rules}
 use Rattle.stores.proofs.cells.bind.Goals as goal
 
 pub returns-then-cells-made : goal.returns-then-cells-made

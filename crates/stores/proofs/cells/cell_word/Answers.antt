@@ -2,7 +2,6 @@
 use native.Mathlib.Omega.{arith}
 use Rattle.stores.proofs.CellLaws.{cell_outside, cell_inside}
 use Prim.Native.Nat.{◌*◌, ◌-◌}
-use Rattle.std.proofs.Common.{rules}
 use Rattle.stores.proofs.cells.cell_word.Goals as goal
 
 pub returns-then-cells-end : goal.returns-then-cells-end

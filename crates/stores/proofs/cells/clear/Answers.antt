@@ -2,10 +2,10 @@
 use native.Mathlib.Omega.{arith}
 use mathlib.Core.Path.{refl, ap, ◌∙◌}
 use mathlib.Core.List.{List}
-use Prim.Native.Nat.{ℕ, ◌-◌}
-use lib.ListN.{length, set, length-set}
+use Prim.Native.Nat.{ℕ}
+use lib.ListN.{set, length-set}
 use borrow.Author.Fill.{fill_more}
-use Rattle.stores.proofs.CellLaws.{ClearedBelow, filled}
+use Rattle.stores.proofs.CellLaws.{filled}
 use Rattle.stores.proofs.cells.clear.Goals as goal
 
 pub loop-i-init : goal.loop-i-init

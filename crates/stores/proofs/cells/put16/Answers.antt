@@ -1,6 +1,5 @@
 -- The number is written as two bytes, the highest first, as `with_word16` says.
 use mathlib.Core.Path.{refl}
-use Rattle.std.proofs.Common.{rules}
 use Rattle.program.specs.Bytes.{with_word16}
 use Rattle.stores.proofs.cells.put16.Goals as goal
 

@@ -2,7 +2,6 @@
 use native.Mathlib.Omega.{arith}
 use Rattle.stores.specs.Cells.{cell_set}
 use lib.ListN.{length-set}
-use Rattle.std.proofs.Common.{rules}
 use Rattle.stores.proofs.cells.put_cell.Goals as goal
 
 pub put16-requires : goal.put16-requires

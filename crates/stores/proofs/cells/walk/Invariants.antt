@@ -1,10 +1,7 @@
 -- Each turn goes one cell behind, so that what is left of the walk leads to the same cell. What falls is `left`, since each turn takes one of the steps that
 -- are left.
-use native.Mathlib.Omega.{arith}
-use Rattle.std.proofs.Common.{rules}
-use mathlib.Core.Path.{◌≡◌, refl}
+use mathlib.Core.Path.{◌≡◌}
 use Rattle.stores.specs.Cells.{walk_of}
-use Rattle.stores.proofs.CellLaws.{walk_more, walk_ends}
 use Rattle.stores.proofs.cells.walk.Given as goal
 
 abbrev pub invariant-loop-left : goal.invariant-loop-left

@@ -2,7 +2,6 @@
 use mathlib.Core.Path.{refl}
 use Rattle.stores.specs.Words.{out_by}
 use Rattle.stores.proofs.WordLaws.{out_by_lem, out_other}
-use Rattle.std.proofs.Common.{rules}
 use Rattle.stores.proofs.words.out_of.Goals as goal
 
 pub returns-in-0 : goal.returns-in-0

@@ -1,6 +1,6 @@
 -- A law for each way out: equal types, a first or a second that is no function, a pair that is known, latent sets, arguments, results. The definition
--- compares arguments before latent sets; both have to hold, so that the order changes nothing (sub-latent). What falls is the sum of the two types' numbers:
--- a function type's argument and result have lower numbers than the type (args-fall, results-fall). What is noted at the end is so (sub-noted), so that the
+-- compares arguments before latent sets; both have to hold, so that the order changes nothing (sub_latent). What falls is the sum of the two types' numbers:
+-- a function type's argument and result have lower numbers than the type (args_fall, results_fall). What is noted at the end is so (sub_noted), so that the
 -- table stays right.
 use native.Mathlib.Omega.{arith}
 use mathlib.Core.Path.{sym, ◌∙◌}
