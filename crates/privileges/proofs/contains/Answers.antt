@@ -1,5 +1,4 @@
 -- A shift and a mask find the digit.
-use Rattle.std.proofs.Common.{rules}
 use Rattle.privileges.proofs.Masks.{contains_is}
 use Rattle.privileges.proofs.contains.Goals as goal
 

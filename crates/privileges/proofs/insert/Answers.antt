@@ -1,5 +1,4 @@
 -- The shifted one is the set of the privilege.
-use Rattle.std.proofs.Common.{rules}
 use Rattle.privileges.proofs.Masks.{insert_is}
 use Rattle.privileges.proofs.insert.Goals as goal
 
