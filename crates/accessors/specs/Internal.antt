@@ -2,7 +2,7 @@
 -- public promise needs this file.
 use Rattle.std.specs.Prelude.{List, ℕ, ◌+◌, ◌*◌, ◌<◌, ◌≤◌, length}
 use Rattle.std.proofs.Common.{arith}
-use Rattle.program.specs.Laws.Readable.{WellFormed}
+use Rattle.program.proofs.Laws.Readable.{WellFormed}
 use Rattle.program.specs.Layout.{terms, term_at}
 use Rattle.program.specs.Screening.{None}
 use Rattle.program.specs.Decoding.{field_conditions, Readable}

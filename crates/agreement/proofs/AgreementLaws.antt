@@ -9,13 +9,13 @@ use Rattle.typing.specs.Answers.{verdict_model}
 use Rattle.typing.specs.declared.answer.Verdict.{Verdict}
 use Rattle.semantics.specs.Values.{Budget, budget}
 use Rattle.semantics.specs.Runs.{eager, Request, Buffers, sizes, Course, rejected, started, course, Answer, ran, refused, outcome, left, counts, answer_of, buffers_after, After, run}
-use Rattle.semantics.specs.Theorems.{Starts, run_course}
+use Rattle.semantics.proofs.Theorems.{Starts, run_course}
 use Rattle.program.specs.Layout.{root}
 use Rattle.soundness.specs.Claims.{SameRun, Proper}
 use Rattle.soundness.specs.Theorems.{demand_3}
 use Rattle.irrelevance.specs.Naming.{naming}
 use Rattle.irrelevance.specs.Answers.{named_model}
-use Rattle.irrelevance.specs.Theorems.{plays_no_part, unnamed_exactly}
+use Rattle.irrelevance.proofs.Theorems.{plays_no_part, unnamed_exactly}
 use Rattle.irrelevance.specs.declared.answer.Named.{Named}
 use Rattle.interp.specs.Answers.{run_model, request_of, buffers_of, after}
 use Rattle.interp.specs.declared.answer.Run.{Run}

@@ -7,8 +7,8 @@ use native.Mathlib.Omega.{arith}
 use lib.ListN.{length}
 use borrow.Author.Tests.{lt-ltb, le-ltb}
 use Rattle.traces.specs.Comparing.{comparison}
-use Rattle.traces.specs.Theorems.{fits_exactly, diverges_exactly}
-use Rattle.traces.specs.Laws.Records.{trace_length}
+use Rattle.traces.proofs.Theorems.{fits_exactly, diverges_exactly}
+use Rattle.traces.proofs.Laws.Records.{trace_length}
 use Rattle.compare.specs.Answers.{comparison_model}
 use Rattle.compare.specs.declared.answer.Comparison.{Comparison}
 use Rattle.compare.specs.declared.answer.Comparison.TheVariants.{Fits, Diverges, Malformed}

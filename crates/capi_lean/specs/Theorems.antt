@@ -3,7 +3,7 @@ use Rattle.std.specs.Prelude.{Bool, true, false, cond, List, ◌++◌, ◌≡◌
 use Rattle.std.proofs.Common.{sym, ap, subst, subst₂, arith}
 use Rattle.replies.specs.Replies.{short, not_done}
 use Rattle.erasure.specs.Erasure.{ErasureAnswer, refused, lean, erasure}
-use Rattle.erasure.specs.Theorems.{LeanOf, Wrote, Refused, wrote, written_sheet, refused_exactly, refused_untouched}
+use Rattle.erasure.proofs.Theorems.{LeanOf, Wrote, Refused, wrote, written_sheet, refused_exactly, refused_untouched}
 use Rattle.capi_lean.specs.Entries.{erase_reply, EraseLeft, erase_left, erase_call}
 
 -- a number of the answer

@@ -10,7 +10,7 @@ use Rattle.numbers.specs.declared.Code.{Code}
 use Rattle.replies.specs.Replies as replies
 use Rattle.subterms.specs.Smallest.{piece_of, record_offset, record_length}
 use Rattle.subterms.specs.Answers.{piece_model}
-use Rattle.subterms.specs.Theorems.{offset_most, length_most}
+use Rattle.subterms.proofs.Theorems.{offset_most, length_most}
 use Rattle.subterms.specs.declared.answer.Piece.{Piece}
 use Rattle.subterms.specs.declared.answer.Piece.TheVariants.{Smallest, NoPiece, Unreadable}
 use Rattle.piece.specs.Answers.{LocatedAs}

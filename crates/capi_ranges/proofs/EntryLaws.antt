@@ -8,7 +8,7 @@ use borrow.Author.Tests.{lt-ltb, le-ltb}
 use Rattle.semantics.specs.Runs.{Request, Buffers, ground_bool, ground_num, ended, stopped}
 use Rattle.intervals.specs.Intervals.{interval}
 use Rattle.intervals.specs.Runs.{interval_run}
-use Rattle.intervals.specs.Theorems.{interval_few, interval_uncounted}
+use Rattle.intervals.proofs.Theorems.{interval_few, interval_uncounted}
 use Rattle.interp.specs.Answers.{counts_model, buffers_of}
 use Rattle.interp.specs.declared.answer.RunCounts.{RunCounts}
 use Rattle.numbers.specs.Codes.{CodeIs}

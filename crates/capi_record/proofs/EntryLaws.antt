@@ -8,7 +8,7 @@ use lib.ListN.{length}
 use borrow.Author.Tests.{lt-ltb, le-ltb}
 use Rattle.semantics.specs.Runs.{Request, Buffers}
 use Rattle.semantics.specs.Recording.{Recorded, recording}
-use Rattle.semantics.specs.RecordTheorems.{record_holds, decisions_few}
+use Rattle.semantics.proofs.RecordTheorems.{record_holds, decisions_few}
 use Rattle.interp.specs.Answers.{run_model, buffers_of, after_recording}
 use Rattle.interp.specs.declared.answer.RecordedRun.{RecordedRun}
 use Rattle.replies.specs.Replies.{run_reply, written_nine, returned_reply}

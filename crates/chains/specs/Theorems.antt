@@ -11,13 +11,13 @@ use Rattle.privileges.specs.Sets.{has}
 use Rattle.program.specs.Limits.{max_nesting, max_privilege}
 use Rattle.program.specs.Layout.{version, authority, types_of}
 use Rattle.program.specs.Terms.{Term, test, post, Plain}
-use Rattle.program.specs.Laws.Readable.{well_formed}
-use Rattle.program.specs.Laws.Nesting.{program_height}
-use Rattle.program.specs.Laws.Types.{lower_types}
-use Rattle.program.specs.Laws.Guards.{program_unguarded}
+use Rattle.program.proofs.Laws.Readable.{well_formed}
+use Rattle.program.proofs.Laws.Nesting.{program_height}
+use Rattle.program.proofs.Laws.Types.{lower_types}
+use Rattle.program.proofs.Laws.Guards.{program_unguarded}
 use Rattle.typing.specs.Verdicts.{Verdict, accepted, rejected, verdict}
-use Rattle.typing.specs.Laws.Checking.{infer_complete}
-use Rattle.typing.specs.Theorems.{Accepted, acceptance}
+use Rattle.typing.proofs.Laws.Checking.{infer_complete}
+use Rattle.typing.proofs.Theorems.{Accepted, acceptance}
 use Rattle.typing.specs.Places.{Placed, placed, placed_number, children, root_of, Among}
 use Rattle.chains.specs.Explaining.{needing, needs, followed, chain, Explained, explained, not_needed, refused, chain_of, explained_if, explained_in, explained_by, explanation}
 use Rattle.chains.specs.Chains.{Neighbours, Last, Cause, post_guarded, Lowest}

@@ -20,10 +20,10 @@ use Rattle.program.specs.Records.{term_at_byte, term_record, type_record, author
 use Rattle.program.specs.declared.records.Counts.{Counts}
 use Rattle.program.specs.declared.records.TermRecord.{TermRecord}
 use Rattle.program.specs.declared.records.TypeRecord.{TypeRecord}
-use Rattle.program.specs.Laws.Readable.{WellFormed}
-use Rattle.program.specs.Laws.Guards.{channels_most}
-use Rattle.program.specs.Laws.Records.{term_is, authority_is, guard_is}
-use Rattle.program.specs.Laws.Trees.{Below, below, parts, tree_node}
+use Rattle.program.proofs.Laws.Readable.{WellFormed}
+use Rattle.program.proofs.Laws.Guards.{channels_most}
+use Rattle.program.proofs.Laws.Records.{term_is, authority_is, guard_is}
+use Rattle.program.proofs.Laws.Trees.{Below, below, parts, tree_node}
 use Rattle.typing.specs.Rules.{remove_authorised}
 use Rattle.typing.specs.Checking.{Judgement, typed, ◌next◌, require, body_fits, infer}
 use Rattle.subtyping.specs.Laws.Records.{TypeParts, type_parts}

@@ -12,7 +12,7 @@ use Rattle.program.specs.declared.answer.Refusal.{Refusal}
 use Rattle.program.specs.declared.answer.Decoded.{Decoded}
 use Rattle.program.specs.declared.answer.Decoded.TheVariants.{Readable, Refused}
 use Rattle.program.specs.declared.records.Counts.{Counts}
-use Rattle.program.specs.Laws.Readable.{well_formed}
+use Rattle.program.proofs.Laws.Readable.{well_formed}
 use Rattle.typing.specs.Checking.{Judgement}
 use Rattle.typing.specs.Verdicts.{term_judgement, Verdict, accepted, rejected, concluded, judgement, verdict}
 use Rattle.typing.specs.Answers.{fault_cause, fault_place}

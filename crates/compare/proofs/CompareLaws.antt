@@ -12,8 +12,8 @@ use Rattle.privileges.specs.Booleans.{bool_ext}
 use Rattle.program.specs.Bytes.{byte}
 use Rattle.traces.specs.Traces.{Event, event_at, well_formed_record, trace}
 use Rattle.traces.specs.Comparing.{same_event, refused, fits, diverges, compared, if_both, comparison}
-use Rattle.traces.specs.Laws.Greedy.{matched, placed_none, placed_room, compared_fits, compared_diverges}
-use Rattle.traces.specs.Laws.Records.{trace_length, well_formed_true, trace_next, well_formed_next, whole_entry, decision_at}
+use Rattle.traces.proofs.Laws.Greedy.{matched, placed_none, placed_room, compared_fits, compared_diverges}
+use Rattle.traces.proofs.Laws.Records.{trace_length, well_formed_true, trace_next, well_formed_next, whole_entry, decision_at}
 use Rattle.compare.specs.Internal.{EntryAt, TwoFormed, matched_entries}
 
 -- ---- the form of a record: the entries before byte i are well formed

@@ -2,7 +2,7 @@
 use Rattle.std.specs.Prelude.{true, List, ◌≡◌, ℕ, ◌+◌, ◌≤◌, length}
 use Rattle.program.specs.Bytes.{byte}
 use Rattle.traces.specs.Traces.{trace, well_formed_record}
-use Rattle.traces.specs.Laws.Greedy.{matched}
+use Rattle.traces.proofs.Laws.Greedy.{matched}
 
 -- a whole entry stands at a place, with 0 or 1 for its decision
 pub record EntryAt (s : List ℕ) (i : ℕ) : Type 0 where

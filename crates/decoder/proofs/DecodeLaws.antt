@@ -7,9 +7,9 @@ use Rattle.program.specs.Limits.{max_channels}
 use Rattle.program.specs.Screening.{found, screen}
 use Rattle.program.specs.Decoding.{guard_ok, table_conditions, decoding, is_guard}
 use Rattle.program.specs.Records.{guard_record}
-use Rattle.program.specs.Laws.Readable.{fields_ok}
-use Rattle.program.specs.Laws.Records.{guard_laid}
-use Rattle.program.specs.Laws.Screening.{first_found, none_screen, first_left}
+use Rattle.program.proofs.Laws.Readable.{fields_ok}
+use Rattle.program.proofs.Laws.Records.{guard_laid}
+use Rattle.program.proofs.Laws.Screening.{first_found, none_screen, first_left}
 use Rattle.program.specs.Answers.{decoding_cause, decoding_place}
 use Rattle.accessors.specs.Internal.{Laid}
 use Rattle.headers.specs.Internal.{HeaderIs}

@@ -16,7 +16,7 @@ use Rattle.program.specs.Layout.{terms, root}
 use Rattle.program.specs.Screening.{onward, lowest}
 use Rattle.program.specs.Decoding.{times_below, placed_ok, parent, nested_in}
 use Rattle.decoder.specs.Internal.{TermsOk, link_of, PlacesOk, Rising, nested_by, Nested, shallow_enough}
-use Rattle.program.specs.Laws.Screening.{lowest_none}
+use Rattle.program.proofs.Laws.Screening.{lowest_none}
 use Rattle.decoder.proofs.PlaceLaws.{Higher, parent_higher}
 
 -- ---- the list of depths

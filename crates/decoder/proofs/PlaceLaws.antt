@@ -17,10 +17,10 @@ use Rattle.accessors.specs.Internal.{Laid, TermInside, term_inside}
 use Rattle.termrecords.specs.Internal.{kind_shape, shape_if, shape_at}
 use Rattle.decoder.specs.Internal.{TermsOk, TableTerm, link_step, Linked, link_times, count_equal, times_in_shape, LinkedAll, ChildrenBelow, link_of, Links, many_parents, TwoBelow}
 use Rattle.program.specs.Records.{term_at_byte, term_record}
-use Rattle.program.specs.Laws.Screening.{lowest_none}
-use Rattle.program.specs.Laws.Readable.{fields_ok}
-use Rattle.program.specs.Laws.Records.{term_laid}
-use Rattle.program.specs.Laws.Trees.{Below, below_of}
+use Rattle.program.proofs.Laws.Screening.{lowest_none}
+use Rattle.program.proofs.Laws.Readable.{fields_ok}
+use Rattle.program.proofs.Laws.Records.{term_laid}
+use Rattle.program.proofs.Laws.Trees.{Below, below_of}
 use Rattle.program.specs.declared.records.Counts.{Counts}
 use Rattle.program.specs.declared.records.TermRecord.{TermRecord}
 use Rattle.termrecords.specs.declared.Shape.{Shape}

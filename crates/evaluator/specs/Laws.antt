@@ -12,10 +12,10 @@ use Rattle.program.specs.Layout.{terms, kind_byte, small}
 use Rattle.program.specs.Formats.{Format, privilege, child, is_child, kind_of, format}
 use Rattle.program.specs.Records.{CountsOf}
 use Rattle.program.specs.declared.records.Counts.{Counts}
-use Rattle.program.specs.Laws.Readable.{WellFormed}
-use Rattle.program.specs.Laws.Guards.{channel_below}
-use Rattle.program.specs.Laws.Records.{term_is, term_none, guard_is}
-use Rattle.program.specs.Laws.Trees.{below, parts}
+use Rattle.program.proofs.Laws.Readable.{WellFormed}
+use Rattle.program.proofs.Laws.Guards.{channel_below}
+use Rattle.program.proofs.Laws.Records.{term_is, term_none, guard_is}
+use Rattle.program.proofs.Laws.Trees.{below, parts}
 use Rattle.termtable.specs.Table.{word_kind, word_guard, OwnParts, WordOf, TermWords}
 use Rattle.machine.specs.Store.{action_of}
 use Rattle.machine.specs.Lower.{evaluates_first, evaluates_second, evaluates_third, reads_privilege, reads_guard, ChildrenLower}

@@ -10,7 +10,7 @@ use Rattle.privileges.specs.Sets.{privilege_count, has}
 use Rattle.program.specs.Layout.{Types, authority, types_of, guard_in}
 use Rattle.program.specs.Terms.{Term, tree, contains}
 use Rattle.program.specs.Records.{term_record, type_record, guard_record}
-use Rattle.program.specs.Laws.Guards.{guard_contains}
+use Rattle.program.proofs.Laws.Guards.{guard_contains}
 use Rattle.program.specs.declared.records.Counts.{Counts}
 use Rattle.program.specs.declared.records.TermRecord.{TermRecord}
 use Rattle.program.specs.declared.records.TypeRecord.{TypeRecord}

@@ -12,7 +12,7 @@ use Rattle.program.specs.Layout.{authority, types_of}
 use Rattle.program.specs.declared.records.Counts.{Counts}
 use Rattle.subtyping.proofs.KnownLaws.{known_none}
 use Rattle.typing.specs.Places.{Placed, placed_number, root_of}
-use Rattle.typing.specs.Laws.Places.{tree_number}
+use Rattle.typing.proofs.Laws.Places.{tree_number}
 use Rattle.chains.specs.Explaining.{needs, next, chain_from, chain, chain_of, explained}
 use Rattle.chains.specs.Answers.{ExplainedAs}
 use Rattle.places.specs.Internal.{placed_at, AtRoot}

@@ -13,7 +13,7 @@ use Rattle.program.specs.Bytes.{byte, word16}
 use Rattle.program.specs.Layout.{version, has_guards, type_field, types, term_field, terms, guard_field, channels}
 use Rattle.program.specs.Screening.{Condition, First, first_here, first_later, None, none_end, none_next, unless}
 use Rattle.program.specs.Decoding.{holds, field, field_conditions}
-use Rattle.program.specs.Laws.Screening.{first_left, first_right, append_none, none_unless, found_unless}
+use Rattle.program.proofs.Laws.Screening.{first_left, first_right, append_none, none_unless, found_unless}
 use Rattle.program.specs.Answers.{decoding_cause, decoding_place}
 use Rattle.accessors.specs.Internal.{Laid}
 use Rattle.headers.specs.Internal.{FieldHolds, FieldIs, version_conditions, VersionHolds, VersionIs, end_at, end_conditions, AfterTerms, EndIs}

@@ -14,8 +14,8 @@ use Rattle.program.specs.Records.{CountsOf}
 use Rattle.program.specs.Screening.{Condition, Screening, found, refuse_at, screen, unless}
 use Rattle.program.specs.Decoding.{decoding_conditions, decoding, Readable}
 use Rattle.program.specs.Answers.{decoding_cause, decoding_place, decoded_model, Counted}
-use Rattle.program.specs.Laws.Screening.{screen_clear, screen_found}
-use Rattle.program.specs.Laws.Readable.{well_formed}
+use Rattle.program.proofs.Laws.Screening.{screen_clear, screen_found}
+use Rattle.program.proofs.Laws.Readable.{well_formed}
 use Rattle.program.specs.declared.answer.Refusal.{Refusal}
 use Rattle.program.specs.declared.answer.Decoded.{Decoded}
 use Rattle.program.specs.declared.answer.Decoded.TheVariants.{Readable as IsReadable, Refused as NotReadable}

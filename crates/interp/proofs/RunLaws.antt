@@ -12,15 +12,15 @@ use Rattle.privileges.specs.Booleans.{and_left, and_right}
 use Rattle.program.specs.Layout.{principals, authority, root}
 use Rattle.program.specs.Records.{CountsOf, authority_record}
 use Rattle.program.specs.Screening.{clear, found, screen}
-use Rattle.program.specs.Laws.Readable.{WellFormed}
-use Rattle.program.specs.Laws.Records.{authority_is}
+use Rattle.program.proofs.Laws.Readable.{WellFormed}
+use Rattle.program.proofs.Laws.Records.{authority_is}
 use Rattle.program.specs.declared.records.Counts.{Counts}
 use Rattle.semantics.specs.Access.{Frame, privs}
 use Rattle.semantics.specs.Runs.{Runner, eager, lazy, Request, Buffers, Sizes, sizes, stack, principals_known, run_conditions, evaluation, evaluation_in, outcome, ran, left, counts, After, cleared_frames, run}
 use Rattle.semantics.specs.Meaning.{traced}
 use Rattle.semantics.specs.Recording.{decided_in, decisions_made, decisions, Recorded, with_entries, recording}
-use Rattle.semantics.specs.RecordTheorems.{traced_clear, refused_unrecorded}
-use Rattle.semantics.specs.Theorems.{course_clear, course_found, run_course, counts_few}
+use Rattle.semantics.proofs.RecordTheorems.{traced_clear, refused_unrecorded}
+use Rattle.semantics.proofs.Theorems.{course_clear, course_found, run_course, counts_few}
 use Rattle.traces.specs.Traces.{Event, recorded}
 use Rattle.stores.specs.declared.values.Out.{Out}
 use Rattle.stores.specs.Words.{out_of}
@@ -29,7 +29,7 @@ use Rattle.access.specs.Access.{ModeIs}
 use Rattle.machine.specs.Steps.{calls_left, cells_made, posts_made, saturated_made, entries_made}
 use Rattle.machine.specs.Store.{Done, store_of, done_of}
 use Rattle.refinement.specs.Claims.{outcome_of, run_counts, laid_out, Refined}
-use Rattle.refinement.specs.Theorems.{eager_refined, lazy_refined}
+use Rattle.refinement.proofs.Theorems.{eager_refined, lazy_refined}
 use Rattle.interp.specs.Answers.{refusal_cause, refusal_place, outcome_model, counts_model, run_model, request_of, buffers_of, after, after_recording}
 use Rattle.interp.specs.Internal.{Cleared, Admits, StartAccess, refused_recording, root_done, Tallied, RootEvaluated}
 use Rattle.interp.specs.Laws.{access_authorised, access_is, tallied_at, tallied_after}

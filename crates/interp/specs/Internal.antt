@@ -5,7 +5,7 @@ use Rattle.program.specs.Layout.{principals}
 use Rattle.program.specs.Records.{CountsOf, authority_record}
 use Rattle.program.specs.Screening.{Condition, clear, found, screen, unless}
 use Rattle.program.specs.Decoding.{decoding_conditions}
-use Rattle.program.specs.Laws.Readable.{WellFormed}
+use Rattle.program.proofs.Laws.Readable.{WellFormed}
 use Rattle.program.specs.declared.records.Counts.{Counts}
 use Rattle.semantics.specs.Access.{privs}
 use Rattle.semantics.specs.Runs.{stack, principals_known, ran, Buffers, stack_ok}

@@ -7,8 +7,8 @@ use Rattle.privileges.specs.Sets.{meet, union}
 use Rattle.program.specs.Limits.{max_terms, max_evaluations}
 use Rattle.program.specs.Layout.{principals, authority, root}
 use Rattle.program.specs.Records.{CountsOf, authority_record}
-use Rattle.program.specs.Laws.Readable.{WellFormed}
-use Rattle.program.specs.Laws.Records.{authority_is}
+use Rattle.program.proofs.Laws.Readable.{WellFormed}
+use Rattle.program.proofs.Laws.Records.{authority_is}
 use Rattle.program.specs.declared.records.Counts.{Counts}
 use Rattle.traces.specs.Traces.{Event}
 use Rattle.semantics.specs.Domains.{Domain}

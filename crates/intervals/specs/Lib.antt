@@ -5,6 +5,3 @@ pub mod Choosing
 pub mod Cases
 pub mod ChoosingCases
 pub mod Claims
-pub mod Laws
-pub mod Theorems
-pub mod SheetTheorems

@@ -9,7 +9,7 @@ use Rattle.program.specs.Decoding.{Readable}
 use Rattle.semantics.specs.Names.{names}
 use Rattle.semantics.specs.Access.{chk}
 use Rattle.semantics.specs.Runs.{Request, Buffers, stack}
-use Rattle.semantics.specs.Theorems.{Starts}
+use Rattle.semantics.proofs.Theorems.{Starts}
 use Rattle.soundness.specs.Claims.{SameLimits}
 
 -- "no check, test or guard names p": none of the sheet's terms does. It may enable p, and its principals may be authorised for it.

@@ -1,6 +1,4 @@
 pub mod Naming
 pub mod Answers
 pub mod Claims
-pub mod Laws
-pub mod Theorems
 pub mod Cases

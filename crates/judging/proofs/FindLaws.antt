@@ -10,15 +10,15 @@ use Rattle.program.specs.Layout.{Types, types_of}
 use Rattle.program.specs.Terms.{Term, boolean, number, variable, function, letrec, call, if, check, enable, sign, test, binary, post, tree}
 use Rattle.program.specs.declared.records.Counts.{Counts}
 use Rattle.typing.specs.Places.{Placed, placed, number_of}
-use Rattle.typing.specs.Laws.Places.{tree_number}
+use Rattle.typing.proofs.Laws.Places.{tree_number}
 use Rattle.rules.specs.Inference.{context}
 use Rattle.places.specs.Internal.{placed_at, children_of, children_at, child_at, Reached, ReadyChild}
 use Rattle.places.specs.declared.Child.{Child}
 use Rattle.places.proofs.PlaceLaws.{there, not_there}
 use Rattle.subterms.specs.Smallest.{subterms}
 use Rattle.subterms.specs.Judging.{with_number}
-use Rattle.subterms.specs.Laws.Subterms.{subterms_in}
-use Rattle.subterms.specs.Laws.Numbers.{first_of, first_of_none, first_of_assoc, number_append, number_above}
+use Rattle.subterms.proofs.Laws.Subterms.{subterms_in}
+use Rattle.subterms.proofs.Laws.Numbers.{first_of, first_of_none, first_of_assoc, number_append, number_above}
 use Rattle.judging.specs.Internal.{FoundAs}
 
 -- ---- a term and its children by their position

@@ -22,7 +22,7 @@ use Rattle.places.proofs.PlaceLaws.{root_place_ready, root_child}
 use Rattle.places.specs.declared.Place.{Place}
 use Rattle.places.specs.declared.Child.{Child}
 use Rattle.subterms.specs.Judging.{with_number, JudgedTerm, refused, judged_as, judged_of, judging}
-use Rattle.subterms.specs.Laws.Subterms.{subterms_in}
+use Rattle.subterms.proofs.Laws.Subterms.{subterms_in}
 use Rattle.judging.specs.Internal.{FoundAs, judged_at, judged_in}
 
 -- ---- the reader's answer

@@ -10,7 +10,7 @@ use Rattle.places.specs.declared.Place.{Place}
 use Rattle.places.specs.declared.Child.{Child}
 use Rattle.subterms.specs.Smallest.{subterms}
 use Rattle.subterms.specs.Judging.{with_number, JudgedTerm, judged_of}
-use Rattle.subterms.specs.Laws.Subterms.{subterms_in}
+use Rattle.subterms.proofs.Laws.Subterms.{subterms_in}
 
 -- term t among those in a child, or none
 pub record FoundAs (s : List ℕ) (c : Counts) (t : ℕ) (o : Option Placed) (r : Child) : Type 0 where

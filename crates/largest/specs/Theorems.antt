@@ -9,11 +9,11 @@ use Rattle.std.proofs.lemmas.List.{length-reverse}
 use Rattle.program.specs.Layout.{root}
 use Rattle.program.specs.Screening.{Screening, clear, found, refuse_at, screen, unless, unless_found}
 use Rattle.program.specs.Decoding.{decoding_conditions, decoding, Readable}
-use Rattle.program.specs.Laws.Screening.{screen_clear, screen_found}
+use Rattle.program.proofs.Laws.Screening.{screen_clear, screen_found}
 use Rattle.semantics.specs.Values.{Budget, budget}
 use Rattle.semantics.specs.Runs.{Request, Buffers, Sizes, sizes, start_ok, buffers_ok, limits_ok, run_conditions, Course, rejected, started, course, Outcome, RunCounts, Answer, refused, ran, left, counts, answer_of, in_order, buffers_after, After, run}
 use Rattle.semantics.specs.Claims.{Few}
-use Rattle.semantics.specs.Theorems.{course_found, run_course, refused_untouched, lengths_kept, counts_few}
+use Rattle.semantics.proofs.Theorems.{course_found, run_course, refused_untouched, lengths_kept, counts_few}
 use Rattle.largest.specs.Largest.{largest_conditions, refused_with, largest_run}
 
 -- ---- "a buffer asked for as the largest and lent in another length is 15"

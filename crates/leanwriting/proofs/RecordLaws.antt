@@ -10,12 +10,12 @@ use Rattle.program.specs.Layout.{types, term_at}
 use Rattle.program.specs.Formats.{Part, unused, function_type, child, is_child, kind_of, format}
 use Rattle.program.specs.Decoding.{part_ok}
 use Rattle.program.specs.Records.{type_record, term_at_byte, term_record}
-use Rattle.program.specs.Laws.Trees.{parts, below}
+use Rattle.program.proofs.Laws.Trees.{parts, below}
 use Rattle.program.specs.declared.records.Counts.{Counts}
 use Rattle.program.specs.declared.records.TypeRecord.{TypeRecord}
 use Rattle.program.specs.declared.records.TermRecord.{TermRecord}
 use Rattle.erasure.specs.Lean.{new_type, new_term, bytes16, type_bytes, new_part, term_bytes}
-use Rattle.erasure.specs.Laws.Types.{fun_in}
+use Rattle.erasure.proofs.Laws.Types.{fun_in}
 use Rattle.leanwriting.specs.Internal.{NumberedType, NumberedTerm}
 use Rattle.renumbering.proofs.TypeLaws.{PartsNumbered, parts_below, type_read}
 use Rattle.renumbering.proofs.TermLaws.{term_read}

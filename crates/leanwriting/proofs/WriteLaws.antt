@@ -13,10 +13,10 @@ use Rattle.program.specs.Layout.{type_field, types, terms}
 use Rattle.program.specs.declared.records.Counts.{Counts}
 use Rattle.erasure.specs.Kept.{kept_below, gather}
 use Rattle.erasure.specs.Lean.{kept_type, new_types, kept_term, new_terms, bytes16, type_bytes, term_bytes, lean_sheet}
-use Rattle.erasure.specs.Laws.Kept.{kept_most, kept_strict, kept_mono, gather_yes, gather_no, gather_length}
-use Rattle.erasure.specs.Laws.Bytes.{lean_size}
-use Rattle.erasure.specs.Laws.Types.{new_types_most}
-use Rattle.erasure.specs.Laws.Terms.{new_terms_most}
+use Rattle.erasure.proofs.Laws.Kept.{kept_most, kept_strict, kept_mono, gather_yes, gather_no, gather_length}
+use Rattle.erasure.proofs.Laws.Bytes.{lean_size}
+use Rattle.erasure.proofs.Laws.Types.{new_types_most}
+use Rattle.erasure.proofs.Laws.Terms.{new_terms_most}
 use Rattle.leanwriting.specs.Internal.{SheetReady}
 use Rattle.renumbering.specs.declared.types.TypeNumbers.{TypeNumbers}
 use Rattle.renumbering.specs.declared.terms.TermNumbers.{TermNumbers}

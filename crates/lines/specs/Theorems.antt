@@ -17,13 +17,13 @@ use Rattle.interp.specs.Answers.{empty_stack_request}
 use Rattle.program.specs.Layout.{root}
 use Rattle.program.specs.Screening.{Screening, clear, found, refuse_at, screen, unless, unless_found}
 use Rattle.program.specs.Decoding.{decoding_conditions, decoding, Readable}
-use Rattle.program.specs.Laws.Screening.{found≢clear, found_first, first_found, clear_none, none_cons, screen_clear, unless_none}
+use Rattle.program.proofs.Laws.Screening.{found≢clear, found_first, first_found, clear_none, none_cons, screen_clear, unless_none}
 use Rattle.program.specs.Limits.{max_cells, max_posts}
 use Rattle.semantics.specs.Values.{Budget, budget}
 use Rattle.semantics.specs.Runs.{Request, Buffers, Sizes, sizes, start_ok, buffers_ok, limits_ok, run_conditions, Course, rejected, started, course, Outcome, RunCounts, Answer, refused, ran, left, counts, answer_of, in_order, course_posts, buffers_after, After, run, post_count}
 use Rattle.semantics.specs.Claims.{Few}
-use Rattle.semantics.specs.Laws.Starting.{counts_in}
-use Rattle.semantics.specs.Theorems.{refused_exactly}
+use Rattle.semantics.proofs.Laws.Starting.{counts_in}
+use Rattle.semantics.proofs.Theorems.{refused_exactly}
 use Rattle.largest.specs.Largest.{is_largest, largest_conditions, refused_with, largest_run}
 use Rattle.lines.specs.Sessions.{Operation, add, serve, stepped, session, serves_in, only, added_if, added_by, in_turn, served_by, added_in, served_in, Sound}
 use Rattle.largest.specs.Theorems.{same_run, largest_few, largest_untouched, largest_lengths}

@@ -15,12 +15,12 @@ use Rattle.program.specs.Screening.{unless, lowest, refuse_at, screen, unless_fo
 use Rattle.program.specs.Decoding.{decoding_conditions, decoding}
 use Rattle.program.specs.Records.{term_at_byte, term_record, guard_record}
 use Rattle.program.specs.Answers.{decoding_cause, decoding_place, decoded_model}
-use Rattle.program.specs.Laws.Kinds.{number_of_kind, kind_number}
-use Rattle.program.specs.Laws.Screening.{screen_clear, screen_found}
-use Rattle.program.specs.Laws.Search.{lowest_here, lowest_more, lowest_past, lowest_starts}
-use Rattle.program.specs.Laws.Records.{term_is, guard_is}
-use Rattle.program.specs.Laws.Trees.{parts, tree_node}
-use Rattle.program.specs.Laws.Guards.{channel_below, guard_contains}
+use Rattle.program.proofs.Laws.Kinds.{number_of_kind, kind_number}
+use Rattle.program.proofs.Laws.Screening.{screen_clear, screen_found}
+use Rattle.program.proofs.Laws.Search.{lowest_here, lowest_more, lowest_past, lowest_starts}
+use Rattle.program.proofs.Laws.Records.{term_is, guard_is}
+use Rattle.program.proofs.Laws.Trees.{parts, tree_node}
+use Rattle.program.proofs.Laws.Guards.{channel_below, guard_contains}
 use Rattle.program.specs.declared.answer.Refusal.{Refusal}
 use Rattle.program.specs.declared.answer.Decoded.{Decoded}
 use Rattle.program.specs.declared.answer.Decoded.TheVariants.{Readable, Refused}

@@ -11,12 +11,12 @@ use lib.Seq.{get_or-set_same, get_or-set_other}
 use borrow.Author.Tests.{le-leb, eq-eqb, ne_eqb}
 use Rattle.program.specs.Layout.{version, terms}
 use Rattle.program.specs.Records.{term_record}
-use Rattle.program.specs.Laws.Records.{term_is}
+use Rattle.program.proofs.Laws.Records.{term_is}
 use Rattle.program.specs.declared.records.Counts.{Counts}
 use Rattle.program.specs.declared.records.TermRecord.{TermRecord}
 use Rattle.intervals.specs.Intervals.{Interval}
 use Rattle.intervals.specs.Pairs.{is_number, numbers_below, pair_of, ordered, pairs_ok}
-use Rattle.intervals.specs.Laws.Pairs.{ordered_at}
+use Rattle.intervals.proofs.Laws.Pairs.{ordered_at}
 use Rattle.stores.specs.Words.{interval_word}
 use Rattle.pairs.specs.Internal.{TermOf, IntervalEncoded, PairsLaid}
 

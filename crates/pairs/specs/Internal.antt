@@ -2,7 +2,7 @@
 use Rattle.std.specs.Prelude.{true, false, List, ◌≡◌, ℕ, ◌*◌, ◌<◌, ◌≤◌, length, get_or}
 use Rattle.program.specs.Layout.{terms}
 use Rattle.program.specs.Records.{CountsOf}
-use Rattle.program.specs.Laws.Readable.{WellFormed}
+use Rattle.program.proofs.Laws.Readable.{WellFormed}
 use Rattle.program.specs.declared.records.Counts.{Counts}
 use Rattle.intervals.specs.Intervals.{Interval}
 use Rattle.intervals.specs.Pairs.{is_number, numbers_below, pair_of}

@@ -22,8 +22,8 @@ use Rattle.subtyping.specs.Known.{Known}
 use Rattle.places.specs.Internal.{AtRoot, child_at}
 use Rattle.places.proofs.PlaceLaws.{root_place_ready, root_child}
 use Rattle.subterms.specs.Smallest.{subterms, FaultyTerm, smallest_of, Piece, unreadable, piece_from, piece_of, record_length, record_of}
-use Rattle.subterms.specs.Laws.Subterms.{subterms_in}
-use Rattle.subterms.specs.Theorems.{record_inside, offset_most, length_most}
+use Rattle.subterms.proofs.Laws.Subterms.{subterms_in}
+use Rattle.subterms.proofs.Theorems.{record_inside, offset_most, length_most}
 use Rattle.subterms.specs.declared.answer.Piece.TheVariants.{Smallest, NoPiece, Unreadable}
 use Rattle.smallest.specs.Internal.{candidate_model, Visitable, VisitedAs}
 use Rattle.smallest.specs.declared.candidates.Candidate.{Candidate}

@@ -17,9 +17,9 @@ use Rattle.program.specs.Records.{term_at_byte, term_record, type_record}
 use Rattle.program.specs.declared.records.Counts.{Counts}
 use Rattle.program.specs.declared.records.TermRecord.{TermRecord}
 use Rattle.program.specs.declared.records.TypeRecord.{TypeRecord}
-use Rattle.program.specs.Laws.Readable.{WellFormed}
-use Rattle.program.specs.Laws.Records.{term_is}
-use Rattle.program.specs.Laws.Trees.{parts, tree_node}
+use Rattle.program.proofs.Laws.Readable.{WellFormed}
+use Rattle.program.proofs.Laws.Records.{term_is}
+use Rattle.program.proofs.Laws.Trees.{parts, tree_node}
 use Rattle.subtyping.specs.Laws.Records.{type_parts}
 use Rattle.subtyping.proofs.KnownLaws.{known_none}
 use Rattle.rules.specs.Inference.{last_first, context, Ready}

@@ -8,5 +8,4 @@ pub mod Screening
 pub mod Decoding
 pub mod Records
 pub mod Answers
-pub mod Laws
 pub mod Search

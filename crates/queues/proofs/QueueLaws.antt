@@ -13,7 +13,7 @@ use Rattle.queues.specs.Answers.{job_model, queue_model}
 use Rattle.queues.specs.Internal.{has_job, SizeIs}
 use Rattle.queues.specs.declared.state.Job.{Job}
 use Rattle.queues.specs.declared.state.Queue.{Queue}
-use Rattle.program.specs.Laws.Lists.{copied_more}
+use Rattle.program.proofs.Laws.Lists.{copied_more}
 use Rattle.queues.proofs.ListLaws.{take_held}
 
 pub some_job : (js : List queues.Job) → has_job js ≡ true → 0 < length js

@@ -7,7 +7,7 @@ use Rattle.std.proofs.Math.Path.{◌≡◌, refl, ap}
 use Rattle.std.proofs.Common.{sym, ◌∙◌, arith}
 use Prim.Native.Nat.{ℕ, zero, suc, ◌+◌, ◌-◌, ◌%◌, ◌<◌}
 use Rattle.program.specs.Screening.{Screening, clear, found, screen, First}
-use Rattle.program.specs.Laws.Screening.{found≢clear, found_first, first_found}
+use Rattle.program.proofs.Laws.Screening.{found≢clear, found_first, first_found}
 use Rattle.queues.specs.Queues.{max_lines, Job, Lines, queue_at, add_conditions, added_to, add_of, nobody, serves, turn_at, next_line, turn_from, turn_of}
 
 -- ---- a job is added

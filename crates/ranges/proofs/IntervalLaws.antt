@@ -9,19 +9,19 @@ use lib.ListN.{length}
 use borrow.Author.Tests.{lt-ltb, ne_eqb}
 use Rattle.program.specs.Layout.{authority, root}
 use Rattle.program.specs.Screening.{clear, found, screen, unless, none_next, none_end, first_here}
-use Rattle.program.specs.Laws.Screening.{none_clear, first_found, none_unless, found_unless, screen_clear, screen_found}
+use Rattle.program.proofs.Laws.Screening.{none_clear, first_found, none_unless, found_unless, screen_clear, screen_found}
 use Rattle.program.specs.declared.records.Counts.{Counts}
 use Rattle.semantics.specs.Access.{privs}
 use Rattle.semantics.specs.Meaning.{plain}
 use Rattle.semantics.specs.Runs.{eager, Request, sizes, stack, run_conditions, evaluation_over, ran}
 use Rattle.intervals.specs.Pairs.{pairs_ok, over_intervals}
 use Rattle.intervals.specs.Runs.{interval_conditions, interval_run}
-use Rattle.intervals.specs.Theorems.{run_clear, run_found, few_clear}
+use Rattle.intervals.proofs.Theorems.{run_clear, run_found, few_clear}
 use Rattle.stores.specs.declared.values.Out.{Out}
 use Rattle.stores.specs.Words.{payload_of, env_of, out_of}
 use Rattle.access.specs.Access.{ModeIs}
 use Rattle.refinement.specs.Claims.{decided_by, interval_outcome_in, interval_outcome_by, interval_outcome_of, IntervalTable}
-use Rattle.refinement.specs.Theorems.{interval_refined}
+use Rattle.refinement.proofs.Theorems.{interval_refined}
 use Rattle.interp.specs.Answers.{refusal_cause, refusal_place, counts_model, request_of, buffers_of}
 use Rattle.interp.specs.Internal.{Cleared, Admits, StartAccess, root_done, Tallied}
 use Rattle.interp.specs.Laws.{access_authorised, access_is, tallied_at, tallied_after}

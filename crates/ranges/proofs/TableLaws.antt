@@ -11,7 +11,7 @@ use borrow.Author.Tests.{eq-eqb, ne_eqb, eqb-true}
 use Rattle.privileges.specs.Booleans.{and_left, and_right}
 use Rattle.program.specs.Layout.{terms, kind_byte}
 use Rattle.program.specs.Records.{CountsOf}
-use Rattle.program.specs.Laws.Readable.{WellFormed}
+use Rattle.program.proofs.Laws.Readable.{WellFormed}
 use Rattle.program.specs.declared.records.Counts.{Counts}
 use Rattle.intervals.specs.Pairs.{is_number, numbers_below, pairs_ok}
 use Rattle.termtable.specs.Table.{word_kind, TermWords}

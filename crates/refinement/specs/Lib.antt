@@ -1,3 +1,1 @@
 pub mod Claims
-pub mod Laws
-pub mod Theorems

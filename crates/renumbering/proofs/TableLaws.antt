@@ -8,7 +8,7 @@ use native.Mathlib.Omega.{arith}
 use lib.ListN.{length, get_or, set}
 use lib.Seq.{get_or-set_same, get_or-set_other}
 use Rattle.erasure.specs.Kept.{kept_below}
-use Rattle.erasure.specs.Laws.Kept.{kept_none, kept_yes, kept_no}
+use Rattle.erasure.proofs.Laws.Kept.{kept_none, kept_yes, kept_no}
 use Rattle.renumbering.specs.Internal.{Tabulated}
 
 module _ (f : ℕ → ℕ) (l : List ℕ) where

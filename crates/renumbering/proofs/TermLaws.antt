@@ -10,13 +10,13 @@ use lib.ListN.{get_or}
 use borrow.Author.Tests.{eq-eqb, ne_eqb}
 use Rattle.program.specs.Layout.{version, terms, kind_byte, term_at}
 use Rattle.program.specs.Records.{term_at_byte, term_record}
-use Rattle.program.specs.Laws.Records.{term_laid}
+use Rattle.program.proofs.Laws.Records.{term_laid}
 use Rattle.program.specs.declared.records.Counts.{Counts}
 use Rattle.program.specs.declared.records.TermRecord.{TermRecord}
 use Rattle.accessors.specs.Internal.{FormedSheet}
 use Rattle.erasure.specs.Kept.{kept_below}
 use Rattle.erasure.specs.Lean.{is_erased, kept_term, new_term, untested, erasable}
-use Rattle.erasure.specs.Laws.Terms.{idle_kept, idle_gone, idle_child, term_kept, term_idle}
+use Rattle.erasure.proofs.Laws.Terms.{idle_kept, idle_gone, idle_child, term_kept, term_idle}
 use Rattle.renumbering.specs.Internal.{Tabulated}
 
 -- ---- a term whose record is read

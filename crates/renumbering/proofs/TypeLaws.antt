@@ -12,15 +12,15 @@ use Rattle.privileges.specs.Booleans.{bool_ext}
 use Rattle.program.specs.Layout.{types, type_at}
 use Rattle.program.specs.Records.{type_at_byte, type_record}
 use Rattle.program.specs.Screening.{lowest}
-use Rattle.program.specs.Laws.Readable.{WellFormed}
-use Rattle.program.specs.Laws.Records.{type_laid}
+use Rattle.program.proofs.Laws.Readable.{WellFormed}
+use Rattle.program.proofs.Laws.Records.{type_laid}
 use Rattle.program.specs.declared.records.Counts.{Counts}
 use Rattle.program.specs.declared.records.TypeRecord.{TypeRecord}
 use Rattle.accessors.specs.Internal.{FormedSheet}
 use Rattle.erasure.specs.Kept.{kept_below}
 use Rattle.erasure.specs.Lean.{alike, or_self, representatives, representative, kept_type, new_type}
-use Rattle.erasure.specs.Laws.Kept.{kept_strict}
-use Rattle.erasure.specs.Laws.Types.{lower, head_is, heads_head, head_of, head_kept, number_kept, number_merged, number_head}
+use Rattle.erasure.proofs.Laws.Kept.{kept_strict}
+use Rattle.erasure.proofs.Laws.Types.{lower, head_is, heads_head, head_of, head_kept, number_kept, number_merged, number_head}
 use Rattle.renumbering.specs.Internal.{Tabulated, MergingType, MergingPair, TypesReady}
 
 head_number : (s : List ℕ) (a b : ℕ) → representative s a ≡ representative s b → new_type s a ≡ new_type s b

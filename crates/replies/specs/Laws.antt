@@ -5,11 +5,11 @@ use Rattle.std.proofs.Common.{append-nil, sym, ap, ◌∙◌, arith, length-appe
 use Rattle.std.proofs.lemmas.List.{set_at}
 use Rattle.program.specs.Decoding.{decoding}
 use Rattle.program.specs.Answers.{decoded_model, Counted}
-use Rattle.program.specs.Laws.Lists.{copy_more}
+use Rattle.program.proofs.Laws.Lists.{copy_more}
 use Rattle.program.specs.declared.answer.Decoded.{Decoded}
 use Rattle.program.specs.declared.answer.Decoded.TheVariants.{Readable, Refused as NotReadable}
 use Rattle.semantics.specs.Runs.{Request, Buffers, ground_bool, ground_num, ended, stopped, Answer, refused, ran, After, run}
-use Rattle.semantics.specs.Theorems.{counts_few}
+use Rattle.semantics.proofs.Theorems.{counts_few}
 use Rattle.interp.specs.Answers.{run_model, outcome_model, counts_model}
 use Rattle.numbers.specs.Codes.{CodeIs}
 use Rattle.numbers.specs.declared.Code.{Code}

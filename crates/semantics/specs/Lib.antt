@@ -8,6 +8,3 @@ pub mod Recording
 pub mod Claims
 pub mod Blunders
 pub mod DecisionCases
-pub mod Laws
-pub mod Theorems
-pub mod RecordTheorems

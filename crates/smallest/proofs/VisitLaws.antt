@@ -11,9 +11,9 @@ use Rattle.program.specs.Limits.{max_terms}
 use Rattle.program.specs.Layout.{Types, authority, types_of}
 use Rattle.program.specs.Terms.{Term, boolean, number, variable, function, letrec, call, if, check, enable, sign, test, binary, post, tree, size}
 use Rattle.program.specs.declared.records.Counts.{Counts}
-use Rattle.program.specs.Laws.Sizes.{size_most}
+use Rattle.program.proofs.Laws.Sizes.{size_most}
 use Rattle.typing.specs.Places.{Placed, placed, number_of}
-use Rattle.typing.specs.Laws.Places.{tree_number}
+use Rattle.typing.proofs.Laws.Places.{tree_number}
 use Rattle.typing.specs.Checking.{Judgement, typed, fault, infer}
 use Rattle.typing.specs.declared.answer.Inferred.{Inferred}
 use Rattle.typing.specs.declared.answer.Inferred.TheVariants.{Typed}
@@ -24,9 +24,9 @@ use Rattle.places.specs.Internal.{placed_at, ReadyPlace, children_of, children_a
 use Rattle.places.specs.declared.Place.{Place}
 use Rattle.places.specs.declared.Child.{Child}
 use Rattle.subterms.specs.Smallest.{subterms, FaultyTerm, faulty_as, smaller, faulty_at, smallest_of}
-use Rattle.subterms.specs.Laws.Subterms.{subterms_in}
-use Rattle.subterms.specs.Laws.Order.{smaller_one, smaller_none, passed, smallest_append}
-use Rattle.subterms.specs.Laws.Pieces.{listed_count}
+use Rattle.subterms.proofs.Laws.Subterms.{subterms_in}
+use Rattle.subterms.proofs.Laws.Order.{smaller_one, smaller_none, passed, smallest_append}
+use Rattle.subterms.proofs.Laws.Pieces.{listed_count}
 use Rattle.smallest.specs.Internal.{or_own, place_judgement, Judgeable, size_in, VisitedAs, CombinedFrom}
 use Rattle.smallest.specs.declared.candidates.Candidate.TheVariants.{Nothing}
 use Rattle.smallest.specs.declared.visit.Visited.{Visited}

@@ -16,7 +16,7 @@ use Rattle.places.specs.declared.Place.{Place}
 use Rattle.places.specs.declared.Child.{Child}
 use Rattle.subterms.specs.Smallest.{FaultyTerm, smaller, smallest_of, faulty_as}
 use Rattle.subterms.specs.Claims.{judgement_at}
-use Rattle.subterms.specs.Laws.Subterms.{subterms_in}
+use Rattle.subterms.proofs.Laws.Subterms.{subterms_in}
 use Rattle.smallest.specs.declared.candidates.Candidate.{Candidate}
 use Rattle.smallest.specs.declared.candidates.Candidate.TheVariants as candidate
 use Rattle.smallest.specs.declared.candidates.Candidate.TheVariants.{Nothing}

@@ -6,7 +6,7 @@ use Rattle.semantics.specs.Domains.{Domain}
 use Rattle.semantics.specs.Access.{chk}
 use Rattle.semantics.specs.Runs.{Request, Buffers, stack, ground_bool, ground_num, ended, stopped, Answer, refused, ran, AfterOf, After, post_count}
 use Rattle.semantics.specs.Recording.{Recorded}
-use Rattle.semantics.specs.Theorems.{Starts}
+use Rattle.semantics.proofs.Theorems.{Starts}
 
 -- "A stack grants a set if it grants each privilege in it."
 pub record GrantsSet (s : List ℕ) (start : List ℕ) (N : ℕ) : Type 0 where

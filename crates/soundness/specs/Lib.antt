@@ -1,7 +1,6 @@
 pub mod Claims
 pub mod Laws
 pub mod Theorems
-pub mod Records
 pub mod Cases
 pub mod Pages
 pub mod Saturation

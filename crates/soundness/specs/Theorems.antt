@@ -3,12 +3,12 @@ use Rattle.std.specs.Prelude.{true, List, ◌≡◌, refl, ℕ, length}
 use Rattle.std.proofs.Common.{sym, ap, ◌∙◌, subst, subst₂}
 use Rattle.program.specs.Layout.{root}
 use Rattle.program.specs.Screening.{Screening, clear, found, screen}
-use Rattle.program.specs.Laws.Readable.{WellFormed, well_formed}
+use Rattle.program.proofs.Laws.Readable.{WellFormed, well_formed}
 use Rattle.typing.specs.Verdicts.{accepted, verdict}
-use Rattle.typing.specs.Theorems.{acceptance}
+use Rattle.typing.proofs.Theorems.{acceptance}
 use Rattle.semantics.specs.Meaning.{plain}
 use Rattle.semantics.specs.Runs.{Request, Buffers, sizes, frames_ok, run_conditions, evaluation_in, evaluation, After, run}
-use Rattle.semantics.specs.Theorems.{course_clear, course_found, run_course, starts_screened}
+use Rattle.semantics.proofs.Theorems.{course_clear, course_found, run_course, starts_screened}
 use Rattle.soundness.specs.Claims.{GrantsSet, Comparable, TwoRuns, SameRun, Proper}
 use Rattle.soundness.specs.Laws.Runs.{same_conditions, same_evaluation, same_whole, clear_readable, removed}
 

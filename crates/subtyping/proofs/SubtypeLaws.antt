@@ -14,9 +14,9 @@ use Rattle.program.specs.Records.{type_record}
 use Rattle.program.specs.declared.records.Counts.{Counts}
 use Rattle.program.specs.declared.records.TypeRecord.{TypeRecord}
 use Rattle.program.specs.Limits.{max_types}
-use Rattle.program.specs.Laws.Types.{PartsLower, function_type, lower_types}
+use Rattle.program.proofs.Laws.Types.{PartsLower, function_type, lower_types}
 use Rattle.typing.specs.Subtyping.{subtype_in, subtype, wider}
-use Rattle.typing.specs.Laws.Subtyping.{subtype_sound, subtype_complete}
+use Rattle.typing.proofs.Laws.Subtyping.{subtype_sound, subtype_complete}
 use Rattle.accessors.specs.Internal.{FormedSheet}
 use Rattle.subtyping.specs.Known.{knows, with_pair, Known, Answered}
 use Rattle.subtyping.specs.Laws.Records.{TypeParts, function_is, type_parts}

@@ -14,8 +14,8 @@ use Rattle.program.specs.Decoding.{part_ok, format_at, term_ok}
 use Rattle.program.specs.Records.{CountsOf, term_record}
 use Rattle.accessors.specs.Internal.{Laid}
 use Rattle.termrecords.specs.Internal.{part_in, record_ok, kind_shape, shape_if, shape_from, shape_of, shape_at, is_wrong}
-use Rattle.program.specs.Laws.Readable.{fields_ok}
-use Rattle.program.specs.Laws.Records.{term_laid}
+use Rattle.program.proofs.Laws.Readable.{fields_ok}
+use Rattle.program.proofs.Laws.Records.{term_laid}
 use Rattle.program.specs.declared.records.Counts.{Counts}
 use Rattle.program.specs.declared.records.TermRecord.{TermRecord}
 use Rattle.termrecords.specs.declared.Shape.{Shape}

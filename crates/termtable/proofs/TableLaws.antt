@@ -9,8 +9,8 @@ use lib.Seq.{get_or-set_same, get_or-set_other}
 use Rattle.program.specs.Limits.{max_terms}
 use Rattle.program.specs.Layout.{terms}
 use Rattle.program.specs.Records.{CountsOf, no_term, term_record}
-use Rattle.program.specs.Laws.Readable.{WellFormed}
-use Rattle.program.specs.Laws.Records.{term_none}
+use Rattle.program.proofs.Laws.Readable.{WellFormed}
+use Rattle.program.proofs.Laws.Records.{term_none}
 use Rattle.program.specs.declared.records.Counts.{Counts}
 use Rattle.program.specs.declared.records.TermRecord.{TermRecord}
 use Rattle.termtable.specs.Table.{WordOf, TermWords}

@@ -4,7 +4,7 @@
 use Rattle.std.specs.Prelude.{List, ◌≡◌, ℕ, ◌/◌, ◌%◌, length, get_or}
 use Rattle.program.specs.Limits.{max_terms}
 use Rattle.program.specs.Records.{CountsOf, term_record, authority_record, guard_record}
-use Rattle.program.specs.Laws.Readable.{WellFormed}
+use Rattle.program.proofs.Laws.Readable.{WellFormed}
 use Rattle.program.specs.declared.records.Counts.{Counts}
 
 abbrev pub word_kind : ℕ → ℕ

@@ -8,10 +8,10 @@ use Rattle.program.specs.Limits.{max_sheet}
 use Rattle.program.specs.Layout.{root}
 use Rattle.program.specs.Screening.{clear, found, refuse_at, screen, unless}
 use Rattle.program.specs.Decoding.{decoding_conditions, decoding, Readable}
-use Rattle.program.specs.Laws.Screening.{screen_clear}
-use Rattle.program.specs.Laws.Longest.{cut_alike, longer_refused}
+use Rattle.program.proofs.Laws.Screening.{screen_clear}
+use Rattle.program.proofs.Laws.Longest.{cut_alike, longer_refused}
 use Rattle.typing.specs.Verdicts.{Verdict, accepted, rejected, verdict}
-use Rattle.typing.specs.Theorems.{acceptance}
+use Rattle.typing.proofs.Theorems.{acceptance}
 use Rattle.semantics.specs.Runs.{eager, start_ok, buffers_ok, limits_ok, run_conditions, evaluation, settled, course, ground_bool, ground_num}
 use Rattle.semantics.specs.Runs.{Outcome, ended, stopped, RunCounts, Answer, refused, ran, answer_of}
 use Rattle.text.specs.Text.{ascii, digit, hexadecimal, decimal_in, decimal, line, labelled, type_line, acceptance_text, place_text, outcome_text, counts_text, refusal_text}

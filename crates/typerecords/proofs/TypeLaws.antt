@@ -19,8 +19,8 @@ use Rattle.program.specs.Records.{type_at_byte, type_record}
 use Rattle.accessors.specs.Internal.{Laid}
 use Rattle.program.specs.Search.{Passed}
 use Rattle.typerecords.specs.Internal.{le_word, TableAt, Depths, Deep}
-use Rattle.program.specs.Laws.Readable.{FieldsOk, fields_ok}
-use Rattle.program.specs.Laws.Records.{type_laid}
+use Rattle.program.proofs.Laws.Readable.{FieldsOk, fields_ok}
+use Rattle.program.proofs.Laws.Records.{type_laid}
 use Rattle.typerecords.proofs.WordLaws.{eight_differ}
 use Rattle.program.specs.declared.records.Counts.{Counts}
 use Rattle.program.specs.declared.records.TypeRecord.{TypeRecord}

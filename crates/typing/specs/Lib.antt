@@ -5,5 +5,3 @@ pub mod Places
 pub mod Faults
 pub mod Verdicts
 pub mod Answers
-pub mod Laws
-pub mod Theorems

@@ -10,12 +10,12 @@ use Rattle.std.proofs.Math.Path.{refl, ap, subst}
 use borrow.Author.Tests.{eqb-true, eq-eqb}
 use Rattle.program.specs.Layout.{Types}
 use Rattle.program.specs.Terms.{Term, boolean, number, variable, function, letrec, call, if, check, enable, sign, test, binary, post, EveryPost}
-use Rattle.program.specs.Laws.Nesting.{height}
+use Rattle.program.proofs.Laws.Nesting.{height}
 use Rattle.typing.specs.Checking.{Judgement, typed, fault, infer}
 use Rattle.typing.specs.Places.{Placed, placed, children_in, children, Among, among_first, among_later}
 use Rattle.chains.specs.Explaining.{needs, in_latent, is_cause, tests_it, followed, first_needing, or_later, unless_cause, next, chain_from, chain}
 use Rattle.chains.specs.Chains.{Neighbours, side_by_side, further, Last, last_alone, last_later, Cause, check_names, call_holds, letrec_holds, post_guarded, Lowest, lowest_first, lowest_later}
-use Rattle.typing.specs.Laws.Places.{EachOf, each_among}
+use Rattle.typing.proofs.Laws.Places.{EachOf, each_among}
 use Rattle.chains.specs.Laws.Progress.{progress}
 
 false_unless : (b : Bool) → (b ≡ true → ⊥) → b ≡ false

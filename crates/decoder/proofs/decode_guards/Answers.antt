@@ -1,6 +1,6 @@
 -- A guard that is found is refusal 31, since types, terms, places and nesting are right (found_31); with none found the sheet is readable, and the
 -- counts are its own.
-use Rattle.program.specs.Laws.Order.{found_31, none_found_readable}
+use Rattle.program.proofs.Laws.Order.{found_31, none_found_readable}
 use Rattle.decoder.proofs.DecodeLaws.{found_at, found_none}
 use Rattle.decoder.proofs.decode_guards.Goals as goal
 

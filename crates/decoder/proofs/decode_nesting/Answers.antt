@@ -2,9 +2,9 @@
 -- nested deeper than 32 (deep_at). A term found is refusal 8; with none found, that is what `decode_guards` requires, and its answer is the answer.
 use mathlib.Core.Path.{◌∙◌}
 use native.Mathlib.Omega.{arith}
-use Rattle.program.specs.Laws.Readable.{fields_ok}
+use Rattle.program.proofs.Laws.Readable.{fields_ok}
 use Rattle.decoder.proofs.NestingLaws.{rising_at, deep_at}
-use Rattle.program.specs.Laws.Order.{found_8}
+use Rattle.program.proofs.Laws.Order.{found_8}
 use Rattle.decoder.proofs.DecodeLaws.{found_at, found_none}
 use Rattle.decoder.proofs.decode_nesting.Goals as goal
 

@@ -1,6 +1,6 @@
 -- A term that is wrongly placed is refusal 7, since types and terms are right (found_7). Where none is found, that and the list of parents is what
 -- `decode_nesting` requires, and its answer is the answer.
-use Rattle.program.specs.Laws.Order.{found_7}
+use Rattle.program.proofs.Laws.Order.{found_7}
 use Rattle.decoder.proofs.DecodeLaws.{found_at, found_none}
 use Rattle.decoder.proofs.decode_places.Goals as goal
 

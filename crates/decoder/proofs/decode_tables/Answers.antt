@@ -1,6 +1,6 @@
 -- Types are searched before terms: a type at fault is refusal 5, a term at fault, where no type is, refusal 6 (Laws/Order). Where neither is
 -- found, that is what `decode_places` requires, and its answer is the answer.
-use Rattle.program.specs.Laws.Order.{found_5, found_6}
+use Rattle.program.proofs.Laws.Order.{found_5, found_6}
 use Rattle.decoder.proofs.DecodeLaws.{found_at, found_none}
 use Rattle.decoder.proofs.decode_tables.Goals as goal
 

@@ -4,7 +4,7 @@ use native.Mathlib.Omega.{arith}
 use mathlib.Core.Path.{refl, sym, ◌∙◌}
 use Prim.Native.Nat.{◌*◌, ◌+◌}
 use Rattle.program.specs.Layout.{terms as term_count}
-use Rattle.intervals.specs.Laws.Pairs.{counted_below}
+use Rattle.intervals.proofs.Laws.Pairs.{counted_below}
 use Rattle.pairs.proofs.PairLaws.{counted_yes, counted_no, counted_most, laid_none, laid_other, laid_pair, laid_all}
 use Rattle.pairs.proofs.lay_pairs.Goals as goal
 use Rattle.pairs.proofs.lay_pairs.Goals.{then-is_number, else-is_number}

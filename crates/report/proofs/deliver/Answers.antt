@@ -4,7 +4,7 @@
 use mathlib.Core.Path.{refl}
 use native.Mathlib.Omega.{arith}
 use lib.ListN.{length-set}
-use Rattle.program.specs.Laws.Lists.{copy_more}
+use Rattle.program.proofs.Laws.Lists.{copy_more}
 use Rattle.report.proofs.ReportLaws.{too_short, fitting}
 use Rattle.report.proofs.deliver.Goals as goal
 

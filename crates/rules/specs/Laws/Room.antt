@@ -6,9 +6,9 @@ use Rattle.std.proofs.Common.{arith}
 use Rattle.program.specs.Limits.{max_nesting}
 use Rattle.program.specs.Layout.{root, Types, types_of}
 use Rattle.program.specs.Terms.{Term, boolean, number, variable, function, letrec, call, if, check, enable, sign, test, binary, post, program}
-use Rattle.program.specs.Laws.Readable.{WellFormed}
-use Rattle.program.specs.Laws.Trees.{Signed, signed, Standard, program_standard}
-use Rattle.program.specs.Laws.Nesting.{height, program_height}
+use Rattle.program.proofs.Laws.Readable.{WellFormed}
+use Rattle.program.proofs.Laws.Trees.{Signed, signed, Standard, program_standard}
+use Rattle.program.proofs.Laws.Nesting.{height, program_height}
 use Rattle.rules.specs.Inference.{binding_depth, binding_depth_at}
 
 -- a sign has one to spare

@@ -10,17 +10,17 @@ use Rattle.program.specs.Layout.{principals, types, authority, root, types_of}
 use Rattle.program.specs.Terms.{program}
 use Rattle.program.specs.Screening.{clear, screen, unless}
 use Rattle.program.specs.Decoding.{decoding_conditions, decoding, Readable}
-use Rattle.program.specs.Laws.Screening.{clear_none, none_clear, none_append}
-use Rattle.program.specs.Laws.Readable.{WellFormed}
-use Rattle.program.specs.Laws.Trees.{program_signed, program_standard}
+use Rattle.program.proofs.Laws.Screening.{clear_none, none_clear, none_append}
+use Rattle.program.proofs.Laws.Readable.{WellFormed}
+use Rattle.program.proofs.Laws.Trees.{program_signed, program_standard}
 use Rattle.typing.specs.Verdicts.{SheetDerives}
-use Rattle.typing.specs.Laws.Subtyping.{sub_is_fun}
+use Rattle.typing.proofs.Laws.Subtyping.{sub_is_fun}
 use Rattle.semantics.specs.Domains.{Domain, standard}
 use Rattle.semantics.specs.Values.{bool, num, closure, empty, empty_log, Budget, budget, Result, ends, stops}
 use Rattle.semantics.specs.Meaning.{Mode, plain, eval}
 use Rattle.semantics.specs.Access.{privs, rights, eager_control}
 use Rattle.semantics.specs.Runs.{Runner, eager, lazy, Request, Buffers, Sizes, sizes, stack, principals_known, frames_ok, run_conditions, initial, evaluation_in, evaluation, CourseOf, rejected, started, ran, outcome, left, counts, answer_of, in_order, course_posts, buffers_after, AfterOf}
-use Rattle.semantics.specs.Laws.Access.{privs_chk, eager_lazy}
+use Rattle.semantics.proofs.Laws.Access.{privs_chk, eager_lazy}
 use Rattle.soundness.specs.Claims.{GrantsSet, SameLimits, Comparable, posts_of, SameRun, Proper}
 use Rattle.soundness.specs.Laws.Safety.{Base, Safe, SafelyAlike, checks_removed}
 

@@ -11,11 +11,11 @@ use Rattle.privileges.specs.Sets.{has, meet, union, insert, remove, ◌⊆◌}
 use Rattle.privileges.specs.Laws.{⊆_trans, ⊆_union_left, ⊆_union_right, ⊆_meet, ⊆_insert, has_inserted, remove_has, remove_insert}
 use Rattle.program.specs.Layout.{Types}
 use Rattle.program.specs.Terms.{Op, sum, difference, less, Term, sign}
-use Rattle.program.specs.Laws.Trees.{Signed, signed, Standard}
+use Rattle.program.proofs.Laws.Trees.{Signed, signed, Standard}
 use Rattle.typing.specs.Subtyping.{Subtype, sub_same, Wider}
 use Rattle.typing.specs.Rules.{lookup_type, remove_authorised, post_needs, result_type, current, Derives, d_boolean, d_number, d_variable, d_function, d_letrec, d_call, d_if, d_test, d_check, d_enable, d_sign, d_binary, d_post, d_widen}
-use Rattle.typing.specs.Laws.Variants.{guard_needed}
-use Rattle.typing.specs.Laws.Subtyping.{sub_trans, sub_base, sub_is_fun, sub_arg, sub_res, sub_latent, wider_bounds}
+use Rattle.typing.proofs.Laws.Variants.{guard_needed}
+use Rattle.typing.proofs.Laws.Subtyping.{sub_trans, sub_base, sub_is_fun, sub_arg, sub_res, sub_latent, wider_bounds}
 use Rattle.semantics.specs.Domains.{standard}
 use Rattle.semantics.specs.Values.{Value, bool, num, closure, Env, empty, bind, lookup, entered, Budget, budget, Result, ends, stops}
 use Rattle.semantics.specs.Meaning.{plain, ◌then◌, choose, variable_value, branch, operate, compute, append_post, post_value, take_cell, begin_call, too_deep, enter, guard_passes, Evaluation, Application, eval_with, apply, eval}

@@ -5,8 +5,8 @@ use Rattle.program.specs.Layout.{types_of}
 use Rattle.program.specs.Records.{type_record}
 use Rattle.program.specs.declared.records.Counts.{Counts}
 use Rattle.program.specs.declared.records.TypeRecord.{TypeRecord}
-use Rattle.program.specs.Laws.Types.{function_type}
-use Rattle.program.specs.Laws.Records.{type_is}
+use Rattle.program.proofs.Laws.Types.{function_type}
+use Rattle.program.proofs.Laws.Records.{type_is}
 use Rattle.accessors.specs.Internal.{FormedSheet}
 
 -- the record of a function type has the parts that the definitions name

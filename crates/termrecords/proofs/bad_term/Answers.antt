@@ -4,7 +4,7 @@ use mathlib.Core.Path.{sym, ap, ◌∙◌}
 use native.Mathlib.Omega.{arith}
 use Rattle.program.specs.Screening.{lowest}
 use Rattle.program.specs.Decoding.{term_ok}
-use Rattle.program.specs.Laws.Search.{lowest_here, lowest_more, lowest_past, lowest_starts}
+use Rattle.program.proofs.Laws.Search.{lowest_here, lowest_more, lowest_past, lowest_starts}
 use Rattle.termrecords.proofs.TermLaws.{wrong_is, wrong_bad, right_good}
 use Rattle.termrecords.proofs.bad_term.Goals as goal
 

@@ -1,5 +1,5 @@
 -- Since the fields are right, the counts are the sheet's and the record that is read is that of term t, so that its shape is the definition's (shape_is).
-use Rattle.program.specs.Laws.Readable.{fields_ok}
+use Rattle.program.proofs.Laws.Readable.{fields_ok}
 use Rattle.accessors.specs.Internal.{term_inside}
 use Rattle.termrecords.proofs.TermLaws.{shape_is}
 use Rattle.termrecords.proofs.shape_at.Goals as goal

@@ -7,8 +7,8 @@ use lib.ListN.{length-set}
 use Rattle.program.specs.Screening.{lowest}
 use Rattle.program.specs.Decoding.{type_ok}
 use Rattle.typerecords.specs.Internal.{DepthIs}
-use Rattle.program.specs.Laws.Readable.{fields_ok}
-use Rattle.program.specs.Laws.Search.{lowest_here, lowest_more, lowest_past, lowest_starts}
+use Rattle.program.proofs.Laws.Readable.{fields_ok}
+use Rattle.program.proofs.Laws.Search.{lowest_here, lowest_more, lowest_past, lowest_starts}
 use Rattle.typerecords.proofs.TypeLaws.{depths_none, depths_more}
 use Rattle.typerecords.proofs.bad_type.Goals as goal
 

@@ -1,7 +1,7 @@
 -- A law for each way out: types 0 and 1 right or wrong; a function type of a wrong form, equal to one before, nested deeper than 12, or right.
 -- Its argument and result have lower numbers, so that their depths are in the list, and its own is one more than the larger (depth_is).
 use native.Mathlib.Omega.{arith}
-use Rattle.program.specs.Laws.Readable.{fields_ok}
+use Rattle.program.proofs.Laws.Readable.{fields_ok}
 use Rattle.typerecords.proofs.TypeLaws.{table_at, base_good, base_bad, form_bad, seen_bad, arg_lower, res_lower, depth_over, depth_is}
 use Rattle.typerecords.proofs.type_depth.Goals as goal
 

@@ -5,7 +5,7 @@ use native.Mathlib.Omega.{arith}
 use mathlib.Core.Path.{refl, sym, ◌∙◌}
 use Rattle.program.specs.Limits.{max_channels}
 use Rattle.program.specs.Decoding.{guard_ok}
-use Rattle.program.specs.Laws.Search.{lowest_here, lowest_more, lowest_past, lowest_starts}
+use Rattle.program.proofs.Laws.Search.{lowest_here, lowest_more, lowest_past, lowest_starts}
 use Rattle.decoder.proofs.DecodeLaws.{guard_ok_holds}
 use Rattle.decoder.proofs.guards.bad_guard.Goals as goal
 

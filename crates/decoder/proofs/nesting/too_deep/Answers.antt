@@ -5,7 +5,7 @@ use native.Mathlib.Omega.{arith}
 use borrow.Author.Tests.{le-leb, lt-leb}
 use Rattle.program.specs.Limits.{max_nesting}
 use Rattle.decoder.specs.Internal.{shallow_enough}
-use Rattle.program.specs.Laws.Search.{lowest_here, lowest_more, lowest_past, lowest_starts}
+use Rattle.program.proofs.Laws.Search.{lowest_here, lowest_more, lowest_past, lowest_starts}
 use Rattle.decoder.proofs.nesting.too_deep.Goals as goal
 
 pub loop-t-init : goal.loop-t-init

@@ -4,7 +4,7 @@ use mathlib.Core.Path.{sym, ap, ◌∙◌}
 use native.Mathlib.Omega.{arith}
 use Rattle.program.specs.Screening.{lowest}
 use Rattle.program.specs.Decoding.{placed_ok}
-use Rattle.program.specs.Laws.Search.{lowest_here, lowest_more, lowest_past, lowest_starts}
+use Rattle.program.proofs.Laws.Search.{lowest_here, lowest_more, lowest_past, lowest_starts}
 use Rattle.decoder.proofs.places.bad_place.Goals as goal
 
 pub loop-t-init : goal.loop-t-init

@@ -5,7 +5,7 @@ use Prim.Native.Nat.{ℕ}
 use native.Mathlib.Omega.{arith}
 use Rattle.program.specs.Layout.{terms}
 use Rattle.decoder.specs.Internal.{ChildrenBelow, Links}
-use Rattle.program.specs.Laws.Readable.{fields_ok}
+use Rattle.program.proofs.Laws.Readable.{fields_ok}
 use Rattle.decoder.proofs.PlaceLaws.{shape_below, links_none, links_more}
 use Rattle.decoder.proofs.places.parents_of.Goals as goal
 

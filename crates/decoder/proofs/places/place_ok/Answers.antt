@@ -3,7 +3,7 @@
 use mathlib.Core.Bool.{Bool, ◌&&◌}
 use mathlib.Core.Path.{refl, ap, ◌∙◌}
 use native.Mathlib.Omega.{arith}
-use Rattle.program.specs.Laws.Readable.{fields_ok}
+use Rattle.program.proofs.Laws.Readable.{fields_ok}
 use Rattle.decoder.proofs.PlaceLaws.{place_is}
 use Rattle.decoder.proofs.places.place_ok.Goals as goal
 

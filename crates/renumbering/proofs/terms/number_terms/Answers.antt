@@ -8,7 +8,7 @@ use lib.ListN.{length-set}
 use Rattle.program.specs.Layout.{terms}
 use Rattle.erasure.specs.Kept.{kept_below}
 use Rattle.erasure.specs.Lean.{kept_term, new_terms, new_term}
-use Rattle.erasure.specs.Laws.Kept.{kept_most}
+use Rattle.erasure.proofs.Laws.Kept.{kept_most}
 use Rattle.renumbering.proofs.TableLaws.{table_none, table_more, table_whole, count_none, count_yes, count_no, within, through}
 use Rattle.renumbering.proofs.TermLaws.{kept_here, gone_here, inner_below, inner_number, own_number}
 use Rattle.renumbering.proofs.terms.number_terms.Goals as goal

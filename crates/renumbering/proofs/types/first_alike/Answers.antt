@@ -3,7 +3,7 @@
 use native.Mathlib.Omega.{arith}
 use mathlib.Core.Bool.{not}
 use mathlib.Core.Path.{sym, ap, ◌∙◌}
-use Rattle.program.specs.Laws.Search.{lowest_here, lowest_more, lowest_past, lowest_starts}
+use Rattle.program.proofs.Laws.Search.{lowest_here, lowest_more, lowest_past, lowest_starts}
 use Rattle.renumbering.proofs.TypeLaws.{differs, found_head, own_head}
 use Rattle.renumbering.proofs.types.first_alike.Goals as goal
 

@@ -7,7 +7,7 @@ use lib.ListN.{length-set}
 use Rattle.program.specs.Layout.{types}
 use Rattle.erasure.specs.Kept.{kept_below}
 use Rattle.erasure.specs.Lean.{kept_type, new_types, new_type}
-use Rattle.erasure.specs.Laws.Kept.{kept_most}
+use Rattle.erasure.proofs.Laws.Kept.{kept_most}
 use Rattle.renumbering.proofs.TableLaws.{table_none, table_more, table_whole, count_none, count_yes, count_no, through}
 use Rattle.renumbering.proofs.TypeLaws.{merging, head_first, first_number, head_other, head_below, merged_number}
 use Rattle.renumbering.proofs.types.number_types.Goals as goal

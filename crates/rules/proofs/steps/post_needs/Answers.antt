@@ -1,5 +1,5 @@
 -- Without a guard the needs are the number's; else the byte is a privilege, below 32, and is put into them.
-use Rattle.program.specs.Laws.Guards.{guard_privilege}
+use Rattle.program.proofs.Laws.Guards.{guard_privilege}
 use Rattle.rules.proofs.StepLaws.{unguarded_needs, guarded_needs}
 use Rattle.rules.proofs.steps.post_needs.Goals as goal
 
