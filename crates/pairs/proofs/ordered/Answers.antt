@@ -21,7 +21,11 @@ pub loop-i-smaller : goal.loop-i-smaller
 loop-i-smaller c = omega (arith, c.requires)
 
 pub loop-i-preserved : goal.loop-i-preserved
-loop-i-preserved c = record { below = omega arith; in_order_holds = ordered_next c.args.pairs.now c.loop-i.i c.if-pairs-i.false c.loop-i.invariant.in_order_holds }
+loop-i-preserved c = record {
+  below = omega arith;
+  in_order_holds =
+      ordered_next c.args.pairs.now c.loop-i.i c.if-pairs-i.false c.loop-i.invariant.in_order_holds;
+}
 
 pub returns : goal.returns
 returns c =
