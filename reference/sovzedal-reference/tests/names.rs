@@ -248,7 +248,7 @@ fn without_notes(cell: &str) -> String {
     kept
 }
 
-/// A line `use Rattle.crate.specs.File.{names}`.
+/// A line `use Rattle.crate.specs.File.{names}`, or one of proofs.
 struct Import<'a> {
     crate_name: &'a str,
     file: &'a str,
@@ -268,7 +268,9 @@ impl Import<'_> {
 /// toolchain's library or from that which the rows themselves are in.
 fn imports(text: &str) -> impl Iterator<Item = Import<'_>> {
     let lines = text.lines().filter_map(|line| {
-        let (crate_name, rest) = line.strip_prefix("use Rattle.")?.split_once(".specs.")?;
+        let rest = line.strip_prefix("use Rattle.")?;
+        let folders = [".specs.", ".proofs."];
+        let (crate_name, rest) = folders.iter().find_map(|folder| rest.split_once(folder))?;
         let (file, names) = rest.strip_suffix('}')?.split_once(".{")?;
         Some(Import {
             crate_name,
@@ -372,15 +374,18 @@ fn item_exists(path: &str) -> bool {
     texts.any(|text| kinds.iter().any(|kind| has_word(&text, kind)))
 }
 
-/// The texts that a name may stand in: the file of the crate, or every
-/// crate's if none is named.
+/// The texts that a name may stand in: the file of the crate, of definitions
+/// or of laws and theorems, or every crate's if none is named.
 fn sources(crate_name: &str, file: &str) -> Vec<String> {
+    let folders = ["specs", "proofs"];
     if file.is_empty() {
-        return every_source("specs").collect();
+        return folders.into_iter().flat_map(every_source).collect();
     }
-    let path = format!("{crate_name}/specs/{}.antt", file.replace('.', "/"));
-    fs::read_to_string(repository().join("crates").join(path))
+    let file = format!("{}.antt", file.replace('.', "/"));
+    let crate_folder = repository().join("crates").join(crate_name);
+    folders
         .into_iter()
+        .filter_map(|folder| fs::read_to_string(crate_folder.join(folder).join(&file)).ok())
         .map(|text| without_comments(&text))
         .collect()
 }
