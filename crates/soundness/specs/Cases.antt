@@ -217,11 +217,8 @@ largest = record { cells = max_cells; posts = max_posts; frames = frame_numbers 
 pub as_due : (cs : List Case) → map (observed_by largest) cs ≡ map due cs → (b : Buffers) → sizes b ≡ largest → map (observed b) cs ≡ map due cs
 as_due cs h b e = observations b cs ∙ ap (λ (z : Sizes). map (observed_by z) cs) e ∙ h
 
-computed : map (observed_by largest) cases ≡ map due cases
-unfolding cases observed_by verdict decoding screen refuse_at infer subtype subtype_in wider remove_authorised course eval apply eval_with add_authorised has
-    meet union insert remove subset
-computed = refl
-
 -- The starred cases hold of the definitions, with buffers of the largest lengths, whatever they hold.
 pub starred : (b : Buffers) → sizes b ≡ largest → map (observed b) cases ≡ map due cases
-starred = as_due cases computed
+unfolding cases observed_by verdict decoding screen refuse_at infer subtype subtype_in wider remove_authorised course eval apply eval_with add_authorised has
+    meet union insert remove subset
+starred = as_due cases refl

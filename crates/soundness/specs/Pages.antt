@@ -106,11 +106,8 @@ pages =
     ∷ deciding (sheet 2 seven (on 0) (in_place 4 15 0)) (rejected 2 0)
     ∷ deciding (sheet 2 seven (on 0) (in_place 5 15 0)) (rejected 4 0) ∷ []
 
-computed : map (observed_by largest) pages ≡ map due pages
-unfolding pages observed_by verdict decoding screen refuse_at infer subtype subtype_in wider remove_authorised course eval apply eval_with add_authorised has
-    meet union insert remove subset
-computed = refl
-
 -- The rows hold of the definitions, with buffers of the largest lengths, whatever they hold.
 pub guarded_pages : (b : Buffers) → sizes b ≡ largest → map (observed b) pages ≡ map due pages
-guarded_pages = as_due pages computed
+unfolding pages observed_by verdict decoding screen refuse_at infer subtype subtype_in wider remove_authorised course eval apply eval_with add_authorised has
+    meet union insert remove subset
+guarded_pages = as_due pages refl

@@ -89,11 +89,8 @@ sums =
     ∷ both doubled (request_for max_calls) (ran (ended (ground_num 65535)) (saturating 1 1 2)) []
     ++ both doubled (request_for 0) (ran (stopped 20 10) (saturating 0 0 1)) []
 
-computed : map (observed_by largest) sums ≡ map due sums
-unfolding sums observed_by verdict decoding screen refuse_at infer subtype subtype_in wider remove_authorised course eval apply eval_with add_authorised has
-    meet union insert remove subset
-computed = refl
-
 -- The rows hold of the definitions, with buffers of the largest lengths, whatever they hold.
 pub saturated_sums : (b : Buffers) → sizes b ≡ largest → map (observed b) sums ≡ map due sums
-saturated_sums = as_due sums computed
+unfolding sums observed_by verdict decoding screen refuse_at infer subtype subtype_in wider remove_authorised course eval apply eval_with add_authorised has
+    meet union insert remove subset
+saturated_sums = as_due sums refl
