@@ -175,7 +175,7 @@ written_sheet s b n e =
     (lean_sheet_lem s r.old_terms r.type r.needs r.old_accepted r.old_erasable)
 
 -- ---- Theorem 3: the new numbers
--- "Type records that become equal are merged into the first of them, and types and terms keep their old order." `type_bytes_lem s t` is what the record of t
+-- "Type records that become equal are merged into the first of them, and types and terms keep their old order." `type_bytes s t` is what the record of t
 -- becomes, whether it is kept or not. A check or an enable has its inner term's new number, so that this one stands in its place as a child.
 pub record Merging (s : List ℕ) : Type 0 where
   pub merged : (t u : ℕ) → t < types s → u < types s → (type_bytes s t ≡ type_bytes s u) ↔ (new_type s t ≡ new_type s u)

@@ -1,5 +1,5 @@
--- The next place of the chain from the children by their position. All that these proofs ask of which children are followed is in `followed-is`,
--- and for a call in `part-needs` and `no_third`. Assumes nothing.
+-- The next place of the chain from the children by their position. All that these proofs ask of which children are followed is in `followed_is`,
+-- and for a call in `part_needs` and `no_third`. Assumes nothing.
 use mathlib.Core.Bool.{Bool, true, false, cond, ◌||◌, true≢false, false≢true}
 use mathlib.Core.List.{List, [], ◌∷◌}
 use mathlib.Core.Option.{Option, none, some}

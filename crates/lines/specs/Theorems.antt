@@ -499,7 +499,7 @@ abbrev pub job_posts : Job → (place : ℕ) (store : List ℕ) → Buffers → 
 job_posts j at store b = course_posts (course (job_sheet j store) (empty_stack_request j.calls) (sizes (rest_from at b)))
 
 -- "the next job writes from the place where the last one stopped": the place moves by the posts told, they stand in the list from the old place on, and what
--- is behind them is as it was. What is before them: `serve-keeps`.
+-- is behind them is as it was. What is before them: `serve_keeps`.
 pub record Followed (s : LinesOf) (store : List ℕ) (b : Buffers) (j : Job) (k : RunCounts) (r : Served) : Type 0 where
   pub moved : r.state.place ≡ s.place + k.posts
   pub as_many : length (job_posts j s.place store b) ≡ k.posts

@@ -54,7 +54,7 @@ module _ (s : List ℕ) (t : ℕ) where
   unfolding term_judgement
   judged_there r Γ n v = readable_judging r ∙ ap (judged_of (types_of s) (authority s)) (number_stands s (well_formed s r) Γ n t v)
 
-  -- every number below the count of terms is that of a term which stands in the sheet, in one place (`every-term-stands`, `stands-once`) and is judged there
+  -- every number below the count of terms is that of a term which stands in the sheet, in one place (`every_term_stands`, `stands_once`) and is judged there
   pub every_term_judged : Readable s → t < terms s → (Γ : List ℕ) × (n : ℕ) × Stands s Γ n t × (judging s t ≡ judged_as n (term_judgement s Γ n t))
   every_term_judged r l =
       let p = place s (well_formed s r) t l in
