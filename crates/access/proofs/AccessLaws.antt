@@ -2,7 +2,7 @@
 use Rattle.std.proofs.Common.{◌≡◌, ℕ, zero, suc, ◌+◌, ◌-◌, ◌%◌, ◌<◌, ◌≤◌, Bool, true, false, cond, List, length, get_or, set, sym, refl, ◌∙◌, arith, le-leb}
 use borrow.Author.Tests.{lt-leb}
 use Rattle.privileges.specs.Sets.{has, meet, insert}
-use Rattle.access.specs.Access.{packed, low_of, high_of, lazy_mode, walk_grants, frames_grant, granted_of, sign_access, sign_frames, last_of, first_enabled, enable_access, enable_frames, enabled_now, restore_frames}
+use Rattle.access.specs.Access.{packed, low_of, high_of, walk_grants, frames_grant, granted_of, sign_access, sign_frames, last_of, first_enabled, enable_access, enable_frames, enabled_now, restore_frames}
 use Rattle.stores.specs.Returns.{Returned}
 
 -- ---- the walk
@@ -48,72 +48,66 @@ pub record WalkedTo (f : List ℕ) (used p d : ℕ) : Type 0 where
   pub rest_is : walk_grants f d p ≡ walk_grants f used p
 
 -- one less, modulo 2^64
-pub last_of_lem : (n r : ℕ) → r < 18446744073709551616 → n < 18446744073709551616 → (r + 1) % 18446744073709551616 ≡ n → r ≡ last_of n
+pub last_of_lem : (n : ℕ) → n < 18446744073709551616 → (n + 18446744073709551615) % 18446744073709551616 ≡ last_of n
 unfolding last_of
-last_of_lem zero r h g e = omega arith
-last_of_lem (suc d) r h g e = omega arith
+last_of_lem zero h = omega arith
+last_of_lem (suc d) h = omega arith
 
--- ---- by the mode, which the code asks for as b
-module _ (mode access : ℕ) (f : List ℕ) {b : Bool} (q : b ≡ lazy_mode mode) where
-  module _ (lz : b ≡ true) where
-    mode_lazy : lazy_mode mode ≡ true
-    mode_lazy = sym q ∙ lz
-
-    pub granted_lazy : (p : ℕ) {l : ℕ} {r : Bool} → l ≡ low_of access → r ≡ frames_grant f l p → r ≡ granted_of mode access f p
+-- ---- in a lazy run, and in an eager one
+module _ (lazy : Bool) (access : ℕ) (f : List ℕ) where
+  module _ (is : lazy ≡ true) where
+    pub granted_lazy : (p : ℕ) {l : ℕ} {r : Bool} → l ≡ low_of access → r ≡ frames_grant f l p → r ≡ granted_of lazy access f p
     unfolding granted_of
-    granted_lazy p u e = e ∙ rw (u, mode_lazy) refl
+    granted_lazy p u e = e ∙ rw (u, is) refl
 
     pub sign_lazy : (authorised : ℕ) {l : ℕ} {g h : List ℕ} → l ≡ low_of access → g ≡ set f l authorised → h ≡ set g (l + 1) 0
-        → Returned (l + 2) (sign_access mode access authorised) h (sign_frames mode access f authorised)
+        → Returned (l + 2) (sign_access lazy access authorised) h (sign_frames lazy access f authorised)
     unfolding sign_access sign_frames
-    sign_lazy authorised t u v = record { answer_is = rw (t, mode_lazy) refl; store_is = v ∙ rw (u, t, mode_lazy) refl }
+    sign_lazy authorised t u v = record { answer_is = rw (t, is) refl; store_is = v ∙ rw (u, t, is) refl }
 
     -- i is where the first frame has its enabled set
     module _ {i : ℕ} (at : i ≡ first_enabled access) where
       pub enable_lazy : (p : ℕ) {old on : ℕ} {g : List ℕ} → old ≡ get_or f i 0 → on ≡ insert p old → g ≡ set f i on
-          → Returned access (enable_access mode access p) g (enable_frames mode access f p)
+          → Returned access (enable_access lazy access p) g (enable_frames lazy access f p)
       unfolding enable_access enable_frames
-      enable_lazy p u v w = record { answer_is = sym (rw mode_lazy refl); store_is = w ∙ rw (v, u, at, mode_lazy) refl }
+      enable_lazy p u v w = record { answer_is = sym (rw is refl); store_is = w ∙ rw (v, u, at, is) refl }
 
-      pub enabled_lazy : {r : ℕ} → r ≡ get_or f i 0 → r ≡ enabled_now mode access f
+      pub enabled_lazy : {r : ℕ} → r ≡ get_or f i 0 → r ≡ enabled_now lazy access f
       unfolding enabled_now
-      enabled_lazy e = e ∙ rw (at, mode_lazy) refl
+      enabled_lazy e = e ∙ rw (at, is) refl
 
-      pub restore_lazy : (old : ℕ) {g : List ℕ} → g ≡ set f i old → g ≡ restore_frames mode access f old
+      pub restore_lazy : (old : ℕ) {g : List ℕ} → g ≡ set f i old → g ≡ restore_frames lazy access f old
       unfolding restore_frames
-      restore_lazy old e = e ∙ rw (at, mode_lazy) refl
+      restore_lazy old e = e ∙ rw (at, is) refl
 
-  module _ (ez : b ≡ false) where
-    mode_eager : lazy_mode mode ≡ false
-    mode_eager = sym q ∙ ez
-
-    pub granted_eager : (p : ℕ) {h : ℕ} {r : Bool} → h ≡ high_of access → r ≡ has p h → r ≡ granted_of mode access f p
+  module _ (is : lazy ≡ false) where
+    pub granted_eager : (p : ℕ) {h : ℕ} {r : Bool} → h ≡ high_of access → r ≡ has p h → r ≡ granted_of lazy access f p
     unfolding granted_of
-    granted_eager p u e = e ∙ rw (u, mode_eager) refl
+    granted_eager p u e = e ∙ rw (u, is) refl
 
     pub sign_eager : (authorised : ℕ) {h r on : ℕ} → h ≡ high_of access → on ≡ meet h authorised → r ≡ packed authorised on
-        → Returned r (sign_access mode access authorised) f (sign_frames mode access f authorised)
+        → Returned r (sign_access lazy access authorised) f (sign_frames lazy access f authorised)
     unfolding sign_access sign_frames
-    sign_eager authorised t u v = record { answer_is = v ∙ rw (u, t, mode_eager) refl; store_is = sym (rw mode_eager refl) }
+    sign_eager authorised t u v = record { answer_is = v ∙ rw (u, t, is) refl; store_is = sym (rw is refl) }
 
-    frames_stay : (p : ℕ) → f ≡ enable_frames mode access f p
+    frames_stay : (p : ℕ) → f ≡ enable_frames lazy access f p
     unfolding enable_frames
-    frames_stay p = sym (rw mode_eager refl)
+    frames_stay p = sym (rw is refl)
 
     module _ (p : ℕ) {l : ℕ} {a : Bool} (low : l ≡ low_of access) (g : a ≡ has p l) where
       pub enable_yes : {h r on : ℕ} → a ≡ true → h ≡ high_of access → on ≡ insert p h → r ≡ packed l on
-          → Returned r (enable_access mode access p) f (enable_frames mode access f p)
+          → Returned r (enable_access lazy access p) f (enable_frames lazy access f p)
       unfolding enable_access
-      enable_yes y t u v = record { answer_is = v ∙ rw (u, t, mode_eager, ← low, ← g, y) refl; store_is = frames_stay p }
+      enable_yes y t u v = record { answer_is = v ∙ rw (u, t, is, ← low, ← g, y) refl; store_is = frames_stay p }
 
-      pub enable_no : a ≡ false → Returned access (enable_access mode access p) f (enable_frames mode access f p)
+      pub enable_no : a ≡ false → Returned access (enable_access lazy access p) f (enable_frames lazy access f p)
       unfolding enable_access
-      enable_no y = record { answer_is = sym (rw (mode_eager, ← low, ← g, y) refl); store_is = frames_stay p }
+      enable_no y = record { answer_is = sym (rw (is, ← low, ← g, y) refl); store_is = frames_stay p }
 
-    pub enabled_eager : 0 ≡ enabled_now mode access f
+    pub enabled_eager : 0 ≡ enabled_now lazy access f
     unfolding enabled_now
-    enabled_eager = sym (rw mode_eager refl)
+    enabled_eager = sym (rw is refl)
 
-    pub restore_eager : (old : ℕ) → f ≡ restore_frames mode access f old
+    pub restore_eager : (old : ℕ) → f ≡ restore_frames lazy access f old
     unfolding restore_frames
-    restore_eager old = sym (rw mode_eager refl)
+    restore_eager old = sym (rw is refl)

@@ -1,7 +1,8 @@
 -- Access control as one number. An eager run holds a pair: the set that the signing principal may use, and 2^32 times the granted set. A lazy run holds
 -- how many numbers of its frame store are in use, two for each frame: the set that its principal may use, and the enabled set.
-use Rattle.std.specs.Prelude.{◌≡◌, ℕ, zero, suc, ◌+◌, ◌*◌, ◌/◌, ◌%◌, Bool, true, false, cond, List, length, ◌==◌, nat_le, nat_lt, slice_index, slice_set}
+use Rattle.std.specs.Prelude.{ℕ, zero, suc, ◌+◌, ◌*◌, ◌/◌, ◌%◌, Bool, true, false, cond, List, length, nat_le, slice_index, slice_set}
 use Rattle.privileges.specs.Sets.{has, meet, insert}
+use Rattle.access.specs.declared.Mode.{Mode}
 
 abbrev pub packed : (low high : ℕ) → ℕ
 packed low high = low + 4294967296 * high
@@ -12,21 +13,6 @@ low_of access = access % 4294967296
 abbrev pub high_of : ℕ → ℕ
 high_of access = access / 4294967296
 
--- a run's mode: 1 if checks are enforced, 2 more if it is lazy, and 4 more if its numbers are intervals
-abbrev pub enforced : (mode : ℕ) → Bool
-enforced mode = mode % 2 == 1
-
-abbrev pub lazy_mode : (mode : ℕ) → Bool
-lazy_mode mode = mode / 2 == 1
-
-abbrev pub interval_mode : (mode : ℕ) → Bool
-interval_mode mode = nat_lt 3 mode
-
-pub record ModeIs (lazy enforce interval : Bool) (mode : ℕ) : Type 0 where
-  pub lazy_is : lazy_mode mode ≡ lazy
-  pub enforce_is : enforced mode ≡ enforce
-  pub interval_is : interval_mode mode ≡ interval
-
 -- whether the frames in the first numbers grant p, the last of them being the innermost
 unfoldable pub walk_grants : (frames : List ℕ) (used p : ℕ) → Bool
 walk_grants f zero p = false
@@ -36,17 +22,17 @@ walk_grants f (suc (suc d)) p = cond (has p (slice_index f d)) (cond (has p (sli
 unfoldable pub frames_grant : (frames : List ℕ) (used p : ℕ) → Bool
 frames_grant f used p = cond (nat_le used (length f)) (walk_grants f used p) false
 
-unfoldable pub granted_of : (mode access : ℕ) (frames : List ℕ) (p : ℕ) → Bool
-granted_of mode access f p = cond (lazy_mode mode) (frames_grant f (low_of access) p) (has p (high_of access))
+unfoldable pub granted_of : (lazy : Bool) (access : ℕ) (frames : List ℕ) (p : ℕ) → Bool
+granted_of lazy access f p = cond lazy (frames_grant f (low_of access) p) (has p (high_of access))
 
-unfoldable pub allowed_of : (mode access : ℕ) (frames : List ℕ) (p : ℕ) → Bool
-allowed_of mode access f p = cond (enforced mode) (granted_of mode access f p) true
+unfoldable pub allowed_of : Mode → (access : ℕ) (frames : List ℕ) (p : ℕ) → Bool
+allowed_of mode access f p = cond mode.enforce (granted_of mode.lazy access f p) true
 
-unfoldable pub sign_access : (mode access authorised : ℕ) → ℕ
-sign_access mode access authorised = cond (lazy_mode mode) (low_of access + 2) (packed authorised (meet (high_of access) authorised))
+unfoldable pub sign_access : (lazy : Bool) (access authorised : ℕ) → ℕ
+sign_access lazy access authorised = cond lazy (low_of access + 2) (packed authorised (meet (high_of access) authorised))
 
-unfoldable pub sign_frames : (mode access : ℕ) (frames : List ℕ) (authorised : ℕ) → List ℕ
-sign_frames mode access f authorised = cond (lazy_mode mode) (slice_set (slice_set f (low_of access) authorised) (low_of access + 1) 0) f
+unfoldable pub sign_frames : (lazy : Bool) (access : ℕ) (frames : List ℕ) (authorised : ℕ) → List ℕ
+sign_frames lazy access f authorised = cond lazy (slice_set (slice_set f (low_of access) authorised) (low_of access + 1) 0) f
 
 -- the last number of so many: with none, 2^64 - 1, an index that is past every store
 unfoldable pub last_of : ℕ → ℕ
@@ -57,14 +43,14 @@ last_of (suc d) = d
 abbrev pub first_enabled : (access : ℕ) → ℕ
 first_enabled access = last_of (low_of access)
 
-unfoldable pub enable_access : (mode access p : ℕ) → ℕ
-enable_access mode access p = cond (lazy_mode mode) access (cond (has p (low_of access)) (packed (low_of access) (insert p (high_of access))) access)
+unfoldable pub enable_access : (lazy : Bool) (access p : ℕ) → ℕ
+enable_access lazy access p = cond lazy access (cond (has p (low_of access)) (packed (low_of access) (insert p (high_of access))) access)
 
-unfoldable pub enable_frames : (mode access : ℕ) (frames : List ℕ) (p : ℕ) → List ℕ
-enable_frames mode access f p = cond (lazy_mode mode) (slice_set f (first_enabled access) (insert p (slice_index f (first_enabled access)))) f
+unfoldable pub enable_frames : (lazy : Bool) (access : ℕ) (frames : List ℕ) (p : ℕ) → List ℕ
+enable_frames lazy access f p = cond lazy (slice_set f (first_enabled access) (insert p (slice_index f (first_enabled access)))) f
 
-unfoldable pub enabled_now : (mode access : ℕ) (frames : List ℕ) → ℕ
-enabled_now mode access f = cond (lazy_mode mode) (slice_index f (first_enabled access)) 0
+unfoldable pub enabled_now : (lazy : Bool) (access : ℕ) (frames : List ℕ) → ℕ
+enabled_now lazy access f = cond lazy (slice_index f (first_enabled access)) 0
 
-unfoldable pub restore_frames : (mode access : ℕ) (frames : List ℕ) (old : ℕ) → List ℕ
-restore_frames mode access f old = cond (lazy_mode mode) (slice_set f (first_enabled access) old) f
+unfoldable pub restore_frames : (lazy : Bool) (access : ℕ) (frames : List ℕ) (old : ℕ) → List ℕ
+restore_frames lazy access f old = cond lazy (slice_set f (first_enabled access) old) f

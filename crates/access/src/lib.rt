@@ -1,13 +1,21 @@
 // Access control, as one number. An eager run holds a pair: the set that the signing principal may use, and 2^32 times the granted set. A lazy run
-// holds how many numbers of its frame store are in use, two for each frame: the set that its principal may use, and the enabled set. A run's mode is
-// 1 if checks are enforced, 2 more if it is lazy, and 4 more if its numbers are intervals.
+// holds how many numbers of its frame store are in use, two for each frame: the set that its principal may use, and the enabled set.
 #![tactic(auto)]
 
-ghost use Rattle.std.specs.Prelude.{◌≡◌, ◌<◌, true, false, slice_index, slice_set};
+ghost use Rattle.std.specs.Prelude.{◌≡◌, ◌<◌, slice_index, slice_set};
 ghost use Rattle.privileges.specs.Sets.{privilege_count};
-ghost use Rattle.access.specs.Access.{packed, low_of, high_of, enforced, lazy_mode, interval_mode, ModeIs, frames_grant, granted_of, sign_access, sign_frames, first_enabled, enable_access, enable_frames, enabled_now, restore_frames};
+ghost use Rattle.access.specs.Access.{packed, low_of, high_of, frames_grant, granted_of, sign_access, sign_frames, first_enabled, enable_access, enable_frames, enabled_now, restore_frames};
 ghost use Rattle.stores.specs.Cells.{zeros_like};
 ghost use Rattle.stores.specs.Returns.{Returned};
+
+// How a run goes: whether it walks frames or holds a granted set, whether its checks are in force, and whether its numbers are intervals. What a
+// step asks for is handed on as a flag of its own, which stays in a register.
+#[derive(Clone, Copy)]
+pub struct Mode {
+    pub lazy: bool,
+    pub enforce: bool,
+    pub intervals: bool,
+}
 
 fn number_at(f: &[u32], i: usize) -> u32
     ensures { result ≡ slice_index f.now i }
@@ -41,50 +49,8 @@ fn high(access: u64) -> u32
     (access / 4294967296) as u32
 }
 
-pub fn mode_of(lazy: bool, enforce: bool) -> usize
-    ensures { ModeIs lazy enforce false result }
-{
-    if lazy {
-        if enforce {
-            return 3;
-        }
-        return 2;
-    }
-    if enforce {
-        return 1;
-    }
-    0
-}
-
-// The mode of an eager run whose numbers are intervals.
-pub fn mode_over_intervals(enforce: bool) -> usize
-    ensures { ModeIs false enforce true result }
-{
-    if enforce {
-        return 5;
-    }
-    4
-}
-
-pub fn interval_mode(mode: usize) -> bool
-    ensures { result ≡ interval_mode mode }
-{
-    3 < mode
-}
-
-pub fn enforces(mode: usize) -> bool
-    ensures { result ≡ enforced mode }
-{
-    mode % 2 == 1
-}
-
-fn lazy_mode(mode: usize) -> bool
-    ensures { result ≡ lazy_mode mode }
-{
-    mode / 2 == 1
-}
-
-// Whether the frames in the first `used` numbers grant p, the last of them being the innermost. One test stands for all indexes.
+// Whether the frames in the first `used` numbers grant p, the last of them being the innermost. One test stands for all indexes. The index goes down by
+// two by hand, since a range that goes down a frame at a time would leave the last number of an odd count, where the walk leaves the first.
 fn frames_grant(frames: &[u32], used: u32, p: u8) -> bool
     requires { p < privilege_count }
     ensures { result ≡ frames_grant frames.now used p }
@@ -106,11 +72,11 @@ fn frames_grant(frames: &[u32], used: u32, p: u8) -> bool
 }
 
 // Whether p is granted.
-pub fn granted(frames: &mut [u32], mode: usize, access: u64, p: u8) -> bool
+pub fn granted(frames: &mut [u32], lazy: bool, access: u64, p: u8) -> bool
     requires { p < privilege_count }
-    ensures { Returned result (granted_of mode access frames.old p) frames.new frames.old }
+    ensures { Returned result (granted_of lazy access frames.old p) frames.new frames.old }
 {
-    if lazy_mode(mode) {
+    if lazy {
         return frames_grant(frames, low(access), p);
     }
     privileges::contains(p, high(access))
@@ -121,14 +87,14 @@ pub fn granted(frames: &mut [u32], mode: usize, access: u64, p: u8) -> bool
 fn first_enabled(access: u64) -> usize
     ensures { result ≡ first_enabled access }
 {
-    std::num::wrapping_sub_usize(low(access) as usize, 1)
+    (low(access) as usize).wrapping_sub(1)
 }
 
 // What a sign by a principal that may use the set `authorised` makes of the access and of the frames.
-pub fn sign(frames: &mut [u32], mode: usize, access: u64, authorised: u32) -> u64
-    ensures { Returned result (sign_access mode access authorised) frames.new (sign_frames mode access frames.old authorised) }
+pub fn sign(frames: &mut [u32], lazy: bool, access: u64, authorised: u32) -> u64
+    ensures { Returned result (sign_access lazy access authorised) frames.new (sign_frames lazy access frames.old authorised) }
 {
-    if lazy_mode(mode) {
+    if lazy {
         let at = low(access) as usize;
         put_number(frames, at, authorised);
         put_number(frames, at + 1, 0);
@@ -138,11 +104,11 @@ pub fn sign(frames: &mut [u32], mode: usize, access: u64, authorised: u32) -> u6
 }
 
 // What an enable makes of the access and of the frames.
-pub fn enable(frames: &mut [u32], mode: usize, access: u64, p: u8) -> u64
+pub fn enable(frames: &mut [u32], lazy: bool, access: u64, p: u8) -> u64
     requires { p < privilege_count }
-    ensures { Returned result (enable_access mode access p) frames.new (enable_frames mode access frames.old p) }
+    ensures { Returned result (enable_access lazy access p) frames.new (enable_frames lazy access frames.old p) }
 {
-    if lazy_mode(mode) {
+    if lazy {
         let at = first_enabled(access);
         put_number(frames, at, privileges::insert(p, number_at(frames, at)));
         return access;
@@ -155,31 +121,27 @@ pub fn enable(frames: &mut [u32], mode: usize, access: u64, p: u8) -> u64
 }
 
 // The enabled set of the first frame, to be restored when an enable ends.
-pub fn enabled_now(frames: &mut [u32], mode: usize, access: u64) -> u32
-    ensures { Returned result (enabled_now mode access frames.old) frames.new frames.old }
+pub fn enabled_now(frames: &mut [u32], lazy: bool, access: u64) -> u32
+    ensures { Returned result (enabled_now lazy access frames.old) frames.new frames.old }
 {
-    if lazy_mode(mode) {
+    if lazy {
         return number_at(frames, first_enabled(access));
     }
     0
 }
 
 // Restores the first frame's enabled set.
-pub fn restore(frames: &mut [u32], mode: usize, access: u64, old: u32)
-    ensures { frames.new ≡ restore_frames mode access frames.old old }
+pub fn restore(frames: &mut [u32], lazy: bool, access: u64, old: u32)
+    ensures { frames.new ≡ restore_frames lazy access frames.old old }
 {
-    if lazy_mode(mode) {
+    if lazy {
         put_number(frames, first_enabled(access), old);
     }
 }
 
-// All numbers are zero.
+// All numbers are zero. The theorem on what a lazy run leaves in the frames cites this clause.
 pub fn clear_frames(a: &mut [u32])
     ensures { a.new ≡ zeros_like a.old }
 {
-    let mut i = 0;
-    while i < a.len() {
-        a[i] = 0;
-        i += 1;
-    }
+    a.fill(0);
 }

@@ -15,7 +15,7 @@ pub fn be16(s: &[u8], at: usize) -> u16
     requires { at + 2 ≤ length s.now }
     ensures { result ≡ word16 s.now at }
 {
-    (s[at] as u16) * 256 + (s[at + 1] as u16)
+    u16::from_be_bytes([s[at], s[at + 1]])
 }
 
 // The four-byte number at `at`.
@@ -23,7 +23,7 @@ pub fn be32(s: &[u8], at: usize) -> u32
     requires { at + 4 ≤ length s.now }
     ensures { result ≡ word32 s.now at }
 {
-    (be16(s, at) as u32) * 65536 + (be16(s, at + 2) as u32)
+    u32::from_be_bytes([s[at], s[at + 1], s[at + 2], s[at + 3]])
 }
 
 // The record of term t of the table, without a test: the decoder and the type checker know that it is there.

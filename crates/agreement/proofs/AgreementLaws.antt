@@ -3,10 +3,13 @@ use mathlib.Core.Bool.{Bool, true, false}
 use mathlib.Core.List.{List, []}
 use mathlib.Core.Path.{◌≡◌, refl, sym, ap, ◌∙◌, subst, subst₂}
 use Prim.Native.Nat.{ℕ}
+use Rattle.std.specs.Prelude.{Result}
 use lib.ListN.{length}
+use Rattle.std.specs.Prelude.{Option, Result}
 use Rattle.typing.specs.Verdicts.{verdict}
 use Rattle.typing.specs.Answers.{verdict_model}
-use Rattle.typing.specs.declared.answer.Verdict.{Verdict}
+use Rattle.typing.specs.declared.answer.Accepted.{Accepted}
+use Rattle.typing.specs.declared.answer.Rejection.{Rejection}
 use Rattle.semantics.specs.Values.{Budget, budget}
 use Rattle.semantics.specs.Runs.{eager, Request, Buffers, sizes, Course, rejected, started, course, Answer, ran, refused, outcome, left, counts, answer_of, buffers_after, After, run}
 use Rattle.semantics.proofs.Theorems.{Starts, run_course}
@@ -16,9 +19,8 @@ use Rattle.soundness.specs.Theorems.{demand_3}
 use Rattle.irrelevance.specs.Naming.{naming}
 use Rattle.irrelevance.specs.Answers.{named_model}
 use Rattle.irrelevance.proofs.Theorems.{plays_no_part, unnamed_exactly}
-use Rattle.irrelevance.specs.declared.answer.Named.{Named}
-use Rattle.interp.specs.Answers.{run_model, request_of, buffers_of, after}
-use Rattle.interp.specs.declared.answer.Run.{Run}
+use Rattle.irrelevance.specs.declared.answer.NamingRefusal.{NamingRefusal}
+use Rattle.interp.specs.Answers.{run_model, request_of, buffers_of, after, Run}
 use Rattle.agreement.specs.Runners.{runner_of}
 use Rattle.agreement.specs.Agreement.{NotRefused, Agreement, Irrelevance}
 
@@ -30,7 +32,8 @@ starts s q b {a = a} e n = go a.answer refl n
     go (refused cause place) h n = elim n [ ]
     go (ran o k) h n = (o, k, ap (λ (x : After). x.answer) (sym e) ∙ h)
 
-pub agreed : (s start : List ℕ) (calls depth : ℕ) (first second : Bool) (cells posts frames cells' posts' frames' : List ℕ) {v : Verdict} {a b : After}
+pub agreed : (s start : List ℕ) (calls depth : ℕ) (first second : Bool) (cells posts frames cells' posts' frames' : List ℕ)
+    {v : Result Accepted Rejection} {a b : After}
     → verdict_model v ≡ verdict s
     → a ≡ run s (request_of (runner_of first) true start calls depth) (buffers_of cells posts frames)
     → b ≡ run s (request_of (runner_of second) false start calls depth) (buffers_of cells' posts' frames')
@@ -57,7 +60,7 @@ agreed s start calls depth first second cells posts frames cells' posts' frames'
 }
 
 pub alike : (s : List ℕ) (p calls depth : ℕ) (start : List ℕ) (first : Bool) (cells posts frames start' : List ℕ) (second : Bool)
-    (cells' posts' frames' : List ℕ) {n : Named} {a b : After}
+    (cells' posts' frames' : List ℕ) {n : Result (Option ℕ) NamingRefusal} {a b : After}
     → named_model n ≡ naming s p
     → a ≡ run s (request_of (runner_of first) true start calls depth) (buffers_of cells posts frames)
     → b ≡ run s (request_of (runner_of second) true start' calls depth) (buffers_of cells' posts' frames')

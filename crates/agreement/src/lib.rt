@@ -14,19 +14,19 @@ ghost use Rattle.agreement.specs.Runners.{runner_of};
 
 use interp::answer::Run;
 use interp::{run_eager, run_lazy};
-use irrelevance::answer::Named;
-use typing::answer::Verdict;
+use irrelevance::answer::NamingRefusal;
+use typing::answer::{Accepted, Rejection};
 
 #[derive(Clone, Copy)]
 pub struct Compared {
-    pub verdict: Verdict,
+    pub verdict: Result<Accepted, Rejection>,
     pub enforced: Run,
     pub skipped: Run,
 }
 
 #[derive(Clone, Copy)]
 pub struct ComparedStarts {
-    pub named: Named,
+    pub named: Result<Option<u16>, NamingRefusal>,
     pub first: Run,
     pub second: Run,
 }

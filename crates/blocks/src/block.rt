@@ -1,4 +1,4 @@
-// The block by value, what a run puts into it, and the answers of its accesses. specs/Answers.antt gives the paper's number and values of each case.
+// The block by value, what a run puts into it, and why an access is refused. specs/Answers.antt gives the paper's number and values of each case.
 pub const BLOCK_BYTES: usize = 16;
 
 pub const MAX_ADDRESS: u32 = 15;
@@ -18,14 +18,6 @@ pub struct RunRegisters {
     pub place: u16,
 }
 
+// 23: an access to an address above 15.
 #[derive(Clone, Copy)]
-pub enum ReadAnswer {
-    Byte(u8),
-    Refused,
-}
-
-#[derive(Clone, Copy)]
-pub enum WriteAnswer {
-    Done,
-    Refused,
-}
+pub struct NoRegister;

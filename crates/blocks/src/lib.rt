@@ -9,7 +9,7 @@ ghost use Rattle.blocks.specs.Internal.{kept_of};
 pub mod block;
 pub mod update;
 
-use block::{BLOCK_BYTES, Block, MAX_ADDRESS, ReadAnswer};
+use block::{BLOCK_BYTES, Block, MAX_ADDRESS, NoRegister};
 use update::stored;
 
 pub fn new_block() -> Block
@@ -20,14 +20,14 @@ pub fn new_block() -> Block
     }
 }
 
-pub fn read(b: Block, address: u32) -> ReadAnswer
+pub fn read(b: Block, address: u32) -> Result<u8, NoRegister>
     ensures { read_answer_model result ≡ read_of b.bytes address }
 {
     if MAX_ADDRESS < address {
-        return ReadAnswer::Refused;
+        return Err(NoRegister);
     }
     let at = address as usize;
-    ReadAnswer::Byte(b.bytes[at])
+    Ok(b.bytes[at])
 }
 
 // Whether status and mask share a bit.

@@ -28,7 +28,7 @@ pub fn typecheck(sheet: &[u8], answer: &mut [u32]) -> u32
     put(of_verdict(checker::typecheck(sheet)), answer)
 }
 
-// A run that holds the granted set.
+// A run that holds the granted set. It and the next are two functions, since the interface for C has an entry for each.
 pub fn eager(
     sheet: &[u8],
     start: &[u32],

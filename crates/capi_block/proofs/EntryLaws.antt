@@ -11,7 +11,9 @@ use Rattle.blocks.specs.Block.{block_bytes, ReadAnswer, read_of, raised}
 use Rattle.blocks.specs.Answers.{write_answer_model}
 use Rattle.registers.specs.Writes.{write_of}
 use Rattle.registers.specs.Answers.{written_model}
-use Rattle.registers.specs.declared.Written.{Written}
+use Rattle.std.specs.Prelude.{Result}
+use Rattle.blocks.specs.declared.block.Block.{Block}
+use Rattle.blocks.specs.declared.block.NoRegister.{NoRegister}
 use Rattle.replies.specs.Replies.{answer_numbers, unfit, written, not_done, returned_reply}
 use Rattle.replies.specs.Laws.{fit, in_place}
 use Rattle.capi_block.specs.Blocks.{accessed, read_reply, write_reply, block_read, returned_block, after_write, block_write}
@@ -42,14 +44,14 @@ module _ (block answer : List ℕ) where
         ∙ (λ i. cond (sym (fit block_bytes answer_numbers block answer size room) i) (not_done answer)
         (written (read_reply (read_of block a) (raised block)) answer))
 
-    pub write_given : (a v : ℕ) (s : List ℕ) (b : Buffers) (w : Written) {cells posts block' : List ℕ} {r : Bool}
-        → written_model w cells posts ≡ write_of loaded a v s b → block' ≡ w.block.bytes → r ≡ raised w.block.bytes
-        → reply_model x ≡ write_reply (write_answer_model w.answer) r
+    pub write_given : (a v : ℕ) (s : List ℕ) (b : Buffers) (w : Result (Unit {0}) NoRegister) (now : Block) {cells posts block' : List ℕ} {r : Bool}
+        → written_model w now cells posts ≡ write_of loaded a v s b → block' ≡ now.bytes → r ≡ raised now.bytes
+        → reply_model x ≡ write_reply (write_answer_model w) r
         → returned_block status after block' (buffers_of cells posts []) ≡ block_write block a v s b answer
-    write_given a v s b w {cells = cells} {posts = posts} f g h e =
+    write_given a v s b w now {cells = cells} {posts = posts} f g h e =
         (λ i. record {
           reply = in_place answer room
-              (e ∙ ap (write_reply (write_answer_model w.answer)) h) put i;
+              (e ∙ ap (write_reply (write_answer_model w)) h) put i;
           block = g i;
           buffers = buffers_of cells posts [];
         })

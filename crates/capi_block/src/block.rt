@@ -5,7 +5,7 @@ ghost use Rattle.blocks.specs.Answers.{read_answer_model, write_answer_model};
 ghost use Rattle.capi_block.specs.Blocks.{accessed as accessed_of, read_reply, write_reply};
 ghost use Rattle.replies.specs.Internal.{reply_model};
 
-use blocks::block::{BLOCK_BYTES, Block, ReadAnswer, WriteAnswer};
+use blocks::block::{BLOCK_BYTES, Block, NoRegister};
 use replies::Reply;
 
 pub fn load(block: &[u8]) -> Block
@@ -13,24 +13,15 @@ pub fn load(block: &[u8]) -> Block
     ensures { result.bytes ≡ block.now }
 {
     let mut bytes = [0; BLOCK_BYTES];
-    let mut i = 0;
-    while i < BLOCK_BYTES {
-        bytes[i] = block[i];
-        i += 1;
-    }
-    Block { bytes: bytes }
+    bytes.copy_from_slice(block);
+    Block { bytes }
 }
 
 pub fn save(b: Block, block: &mut [u8])
     requires { length block.old ≡ block_bytes }
     ensures { block.new ≡ b.bytes }
 {
-    let bytes = b.bytes;
-    let mut i = 0;
-    while i < BLOCK_BYTES {
-        block[i] = bytes[i];
-        i += 1;
-    }
+    block.copy_from_slice(&b.bytes);
 }
 
 fn accessed(status: u32, cause: u32, raised: bool, byte: u8) -> Reply
@@ -42,20 +33,26 @@ fn accessed(status: u32, cause: u32, raised: bool, byte: u8) -> Reply
     }
 }
 
-pub fn of_read(x: ReadAnswer, raised: bool) -> Reply
-    ensures { reply_model result ≡ read_reply (read_answer_model x) raised }
+fn no_register(raised: bool) -> Reply
+    ensures { reply_model result ≡ accessed_of 2 23 0 raised 0 }
 {
-    match x {
-        ReadAnswer::Byte(n) => accessed(0, 0, raised, n),
-        ReadAnswer::Refused => accessed(2, 23, raised, 0),
+    accessed(2, 23, raised, 0)
+}
+
+pub fn of_read(read: Result<u8, NoRegister>, raised: bool) -> Reply
+    ensures { reply_model result ≡ read_reply (read_answer_model read) raised }
+{
+    match read {
+        Ok(byte) => accessed(0, 0, raised, byte),
+        Err(NoRegister) => no_register(raised),
     }
 }
 
-pub fn of_write(x: WriteAnswer, raised: bool) -> Reply
-    ensures { reply_model result ≡ write_reply (write_answer_model x) raised }
+pub fn of_write(written: Result<(), NoRegister>, raised: bool) -> Reply
+    ensures { reply_model result ≡ write_reply (write_answer_model written) raised }
 {
-    match x {
-        WriteAnswer::Done => accessed(0, 0, raised, 0),
-        WriteAnswer::Refused => accessed(2, 23, raised, 0),
+    match written {
+        Ok(()) => accessed(0, 0, raised, 0),
+        Err(NoRegister) => no_register(raised),
     }
 }

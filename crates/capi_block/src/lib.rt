@@ -23,8 +23,8 @@ pub fn read(block: &[u8], address: u32, answer: &mut [u32]) -> u32
         return 3;
     }
     let b = load(block);
-    let x = blocks::read(b, address);
-    put(of_read(x, blocks::interrupt(b)), answer)
+    let byte = blocks::read(b, address);
+    put(of_read(byte, blocks::interrupt(b)), answer)
 }
 
 // A write to a register; 1 to the command runs the sheet, in the largest buffers.
@@ -47,10 +47,8 @@ pub fn write(
     if answer.len() < ANSWER_NUMBERS {
         return 3;
     }
-    let old = load(block);
-    let w = registers::write(old, address, value, sheet, cells, posts);
-    let b = w.block;
-    let written = w.answer;
+    let mut b = load(block);
+    let written = registers::write(&mut b, address, value, sheet, cells, posts);
     save(b, block);
     put(of_write(written, blocks::interrupt(b)), answer)
 }

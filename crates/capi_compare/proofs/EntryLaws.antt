@@ -11,7 +11,9 @@ use Rattle.traces.proofs.Theorems.{fits_exactly, diverges_exactly}
 use Rattle.traces.proofs.Laws.Records.{trace_length}
 use Rattle.compare.specs.Answers.{comparison_model}
 use Rattle.compare.specs.declared.answer.Comparison.{Comparison}
-use Rattle.compare.specs.declared.answer.Comparison.TheVariants.{Fits, Diverges, Malformed}
+use Rattle.compare.specs.declared.answer.Comparison.TheVariants.{Fits, Diverges}
+use Rattle.compare.specs.declared.answer.Malformed.{Malformed}
+use Rattle.std.specs.Prelude.{Result, Ok, Err}
 use Rattle.replies.specs.Replies.{returned_reply, not_done, replied}
 use Rattle.replies.specs.Internal.{reply_model, Put}
 use Rattle.replies.specs.Laws as replies
@@ -39,11 +41,12 @@ module _ (u o answer : List ℕ) where
     few_numbers l = replies.short_answer answer l (comparison_reply (comparison u o)) ∙ held
 
     -- ---- the number is one of entries
-    pub few_entries : (x : Comparison) → comparison_model x ≡ comparison u o → ComparisonReplyFits x
-    few_entries (Fits m) e = omega (arith, ((fits_exactly u o m).0 (sym e)).1.missing_is, trace_length o)
-    few_entries (Diverges k) e = omega (arith, ((diverges_exactly u o k).0 (sym e)).1.an_entry, trace_length u)
-    few_entries Malformed e = omega arith
+    pub few_entries : (x : Result Comparison Malformed) → comparison_model x ≡ comparison u o → ComparisonReplyFits x
+    few_entries (Ok (Fits m)) e = omega (arith, ((fits_exactly u o m).0 (sym e)).1.missing_is, trace_length o)
+    few_entries (Ok (Diverges k)) e = omega (arith, ((diverges_exactly u o k).0 (sym e)).1.an_entry, trace_length u)
+    few_entries (Err m) e = omega arith
 
-    pub given : 8 ≤ length answer → (x : Comparison) → comparison_model x ≡ comparison u o → {r : Reply} → reply_model r ≡ comparison_reply (comparison_model x)
+    pub given : 8 ≤ length answer → (x : Result Comparison Malformed) → comparison_model x ≡ comparison u o
+        → {r : Reply} → reply_model r ≡ comparison_reply (comparison_model x)
         → {status : ℕ} {after : List ℕ} → Put r answer status after → returned_reply status after ≡ compare_call u o answer
     given l x e f put = replies.given answer l (f ∙ ap comparison_reply e) put ∙ held

@@ -8,7 +8,7 @@ ghost use Rattle.replies.specs.Internal.{reply_model};
 ghost use Rattle.capi_compare.specs.Entries.{compared_reply, comparison_reply, compare_call, max_record};
 ghost use Rattle.capi_compare.specs.Internal.{ComparisonReplyFits};
 
-use compare::answer::Comparison;
+use compare::answer::{Comparison, Malformed};
 use replies::{ANSWER_NUMBERS, Reply, put};
 
 // Bytes of the longest record that is held: a number of its entries fits into 32 bits.
@@ -40,14 +40,14 @@ fn compared_reply(fits: u32, entries: usize) -> Reply
     }
 }
 
-fn of_comparison(x: Comparison) -> Reply
+fn of_comparison(x: Result<Comparison, Malformed>) -> Reply
     requires { ComparisonReplyFits x }
     ensures { reply_model result ≡ comparison_reply (comparison_model x) }
 {
     match x {
-        Comparison::Fits(missing) => compared_reply(1, missing),
-        Comparison::Diverges(entry) => compared_reply(0, entry),
-        Comparison::Malformed => Reply {
+        Ok(Comparison::Fits(missing)) => compared_reply(1, missing),
+        Ok(Comparison::Diverges(entry)) => compared_reply(0, entry),
+        Err(Malformed) => Reply {
             status: 2,
             numbers: [34, 0, 0, 0, 0, 0, 0, 0],
         },

@@ -8,6 +8,7 @@ use native.Mathlib.Omega.{arith}
 use lib.Dec.{leb}
 use lib.ListN.{length, drop, length-map}
 use borrow.Author.Tests.{lt-ltb, le-ltb}
+use Rattle.std.specs.Prelude.{Some, None, Ok, Err}
 use Rattle.privileges.specs.Sets.{has}
 use Rattle.program.specs.Limits.{max_nesting, max_privilege}
 use Rattle.program.specs.Layout.{Types, authority, types_of}
@@ -18,9 +19,8 @@ use Rattle.replies.specs.Laws.{in_place}
 use Rattle.replies.specs.declared.Reply.{Reply}
 use Rattle.typing.specs.Places.{Placed, placed_number, root_of}
 use Rattle.chains.specs.Explaining.{next, chain_from, chain, chain_of, Explained as ExplainedOf, explained_if, explained_in, explained_by, explanation}
-use Rattle.chains.specs.Answers.{explanation_model, chain_terms, padded, chain_length, ExplainedAs}
-use Rattle.chains.specs.declared.answer.Explanation.{Explanation}
-use Rattle.chains.specs.declared.answer.Explanation.TheVariants.{Chain, NotNeeded, Unreadable, Refused, NoPrivilege}
+use Rattle.chains.specs.Answers.{Explanation, explanation_model, chain_terms, padded, chain_length, ExplainedAs}
+use Rattle.chains.specs.declared.answer.ExplanationRefusal.TheVariants.{Rejected, NoPrivilege}
 use Rattle.chains.specs.declared.answer.Explained.{Explained}
 use Rattle.capi_explain.specs.Entries.{chain_reply, explain_reply, chain_after, returned_explain, explain_left, narrow, explain_call}
 use Rattle.capi_explain.specs.Internal.{ExplanationReplyFits, explanation_reply, chain_left}
@@ -64,19 +64,17 @@ listed s p r h = omega (arith, h.length_is, explained_short s p)
 module _ (terms : List ℕ) where
   reply_by : (a : Explanation) → chain_length a ≡ length (chain_terms (explanation_model a terms))
       → explanation_reply a ≡ explain_reply (explanation_model a terms)
-  reply_by (Chain n) h = ap chain_reply h
-  reply_by NotNeeded h = refl
-  reply_by (Unreadable f) h = refl
-  reply_by (Refused f) h = refl
-  reply_by NoPrivilege h = refl
+  reply_by (Ok (Some n)) h = ap chain_reply h
+  reply_by (Ok None) h = refl
+  reply_by (Err (Rejected f)) h = refl
+  reply_by (Err NoPrivilege) h = refl
 
   list_by : (chain : List ℕ) (a : Explanation) → terms ≡ padded (chain_terms (explanation_model a terms))
       → chain_left a terms chain ≡ chain_after (explanation_model a terms) chain
-  list_by chain (Chain n) h = ap (λ (l : List ℕ). l ++ drop max_nesting chain) h
-  list_by chain NotNeeded h = ap (λ (l : List ℕ). l ++ drop max_nesting chain) h
-  list_by chain (Unreadable f) h = refl
-  list_by chain (Refused f) h = refl
-  list_by chain NoPrivilege h = refl
+  list_by chain (Ok (Some n)) h = ap (λ (l : List ℕ). l ++ drop max_nesting chain) h
+  list_by chain (Ok None) h = ap (λ (l : List ℕ). l ++ drop max_nesting chain) h
+  list_by chain (Err (Rejected f)) h = refl
+  list_by chain (Err NoPrivilege) h = refl
 
 -- the list afterwards, by the case that a match found
 pub kept : (terms chain : List ℕ) {x y : Explanation} {now : List ℕ} → x ≡ y → now ≡ chain_left y terms chain → now ≡ chain_left x terms chain

@@ -1,13 +1,14 @@
 // Why a sheet needs a privilege, for C: the chain goes into a lent list. include/sovzedal.h documents each argument.
 #![tactic(auto)]
 
-ghost use Rattle.std.specs.Prelude.{◌++◌, ◌≡◌, ◌≤◌, length, drop};
+ghost use Rattle.std.specs.Prelude.{◌≡◌, ◌≤◌, length};
 ghost use Rattle.program.specs.Limits.{max_nesting};
 ghost use Rattle.replies.specs.Internal.{reply_model};
 ghost use Rattle.capi_explain.specs.Entries.{chain_reply, explain_call, returned_explain};
 ghost use Rattle.capi_explain.specs.Internal.{ExplanationReplyFits, explanation_reply, chain_left};
 
-use chains::answer::Explanation;
+use chains::answer::ExplanationRefusal;
+use numbers::Code;
 use program::limits::NESTING_PLACES;
 use replies::{ANSWER_NUMBERS, Reply, put, refused};
 
@@ -38,16 +39,15 @@ fn counted(terms: usize) -> Reply
     }
 }
 
-fn of_explained(x: Explanation) -> Reply
+fn of_explained(x: Result<Option<usize>, ExplanationRefusal>) -> Reply
     requires { ExplanationReplyFits x }
     ensures { reply_model result ≡ explanation_reply x }
 {
     match x {
-        Explanation::Chain(n) => counted(n),
-        Explanation::NotNeeded => counted(0),
-        Explanation::Unreadable(f) => refused(numbers::of_decoding(f)),
-        Explanation::Refused(f) => refused(numbers::of_fault(f)),
-        Explanation::NoPrivilege => Reply {
+        Ok(Some(n)) => counted(n),
+        Ok(None) => counted(0),
+        Err(ExplanationRefusal::Rejected(f)) => refused(Code::from(f)),
+        Err(ExplanationRefusal::NoPrivilege) => Reply {
             status: 2,
             numbers: [30, 0, 0, 0, 0, 0, 0, 0],
         },
@@ -55,26 +55,15 @@ fn of_explained(x: Explanation) -> Reply
 }
 
 // Writes the terms of a chain, or zeros where there is none. A refusal leaves the list.
-fn keep(x: Explanation, terms: [u16; NESTING_PLACES], chain: &mut [u16])
+fn keep(
+    x: Result<Option<usize>, ExplanationRefusal>,
+    terms: [u16; NESTING_PLACES],
+    chain: &mut [u16],
+)
     requires { max_nesting ≤ length chain.old }
     ensures { chain.new ≡ chain_left x terms chain.old }
 {
-    match x {
-        Explanation::Chain(n) => copy(terms, chain),
-        Explanation::NotNeeded => copy(terms, chain),
-        Explanation::Unreadable(f) => {}
-        Explanation::Refused(f) => {}
-        Explanation::NoPrivilege => {}
-    }
-}
-
-fn copy(terms: [u16; NESTING_PLACES], chain: &mut [u16])
-    requires { max_nesting ≤ length chain.old }
-    ensures { chain.new ≡ terms ++ drop max_nesting chain.old }
-{
-    let mut i = 0;
-    while i < NESTING_PLACES {
-        chain[i] = terms[i];
-        i += 1;
+    if x.is_ok() {
+        chain[..NESTING_PLACES].copy_from_slice(&terms);
     }
 }

@@ -7,7 +7,7 @@ ghost use Rattle.replies.specs.Internal.{reply_model};
 ghost use Rattle.erasure.specs.Answers.{erased_model};
 ghost use Rattle.capi_lean.specs.Entries.{erase_reply, erase_call, returned_erase};
 
-use erasure::answer::Erased;
+use erasure::answer::ErasureRefusal;
 use numbers::Code;
 use replies::{ANSWER_NUMBERS, Reply, put, refused};
 
@@ -22,21 +22,20 @@ pub fn erase(sheet: &[u8], lean: &mut [u8], answer: &mut [u32]) -> u32
 }
 
 // The lean sheet's length, or the refusal.
-fn of_erased(x: Erased) -> Reply
+fn of_erased(x: Result<u16, ErasureRefusal>) -> Reply
     ensures { reply_model result ≡ erase_reply (erased_model x) }
 {
     match x {
-        Erased::Lean { length } => Reply {
+        Ok(length) => Reply {
             status: 0,
             numbers: [0, 0, 0, length as u32, 0, 0, 0, 0],
         },
-        Erased::Unreadable(f) => refused(numbers::of_decoding(f)),
-        Erased::Refused(f) => refused(numbers::of_fault(f)),
-        Erased::NotErasable => refused(Code {
+        Err(ErasureRefusal::Rejected(f)) => refused(Code::from(f)),
+        Err(ErasureRefusal::NotErasable) => refused(Code {
             cause: 32,
             place: 0,
         }),
-        Erased::NoRoom => refused(Code {
+        Err(ErasureRefusal::NoRoom) => refused(Code {
             cause: 33,
             place: 0,
         }),

@@ -1,41 +1,59 @@
 -- The lines' state, from the numbers of a list to the struct, and back.
 use mathlib.Core.Bool.{cond}
-use mathlib.Core.List.{List, [], ◌∷◌, map}
+use mathlib.Core.List.{List, [], ◌∷◌, ◌++◌, map}
 use mathlib.Core.Path.{◌≡◌, refl, sym, ap, ◌∙◌}
-use Prim.Native.Nat.{ℕ, zero, suc, ◌+◌, ◌-◌, ◌*◌, ◌%◌, ◌/◌, ◌<◌, ◌≤◌, min}
+use Prim.Native.Nat.{ℕ, zero, suc, ◌+◌, ◌-◌, ◌*◌, ◌%◌, ◌<◌, ◌≤◌, min}
 use native.Mathlib.Nat.{add-zero}
 use native.Mathlib.Omega.{arith}
-use lib.ListN.{length, get_or, take}
+use lib.ListN.{length, get_or, take, length-map}
 use borrow.Author.Tests.{lt-ltb, le-ltb}
 use Rattle.queues.specs.Queues as queues
-use Rattle.queues.specs.Queues.{max_lines, Lines as LinesOf, queue_at}
-use Rattle.queues.specs.Answers.{no_queue, no_job, job_model, queue_model, lines_model}
-use Rattle.queues.specs.Internal.{SizeIs}
-use Rattle.queues.specs.Laws.{queue_is}
+use Rattle.queues.specs.Queues.{max_lines, max_jobs, Lines as LinesOf, queue_at}
+use Rattle.queues.specs.Answers.{Queue, job_model, queue_model, lines_model}
+use Rattle.queues.specs.Laws.{queue_read_is}
+use Rattle.lines.proofs.ListLaws.{take_least}
+use Rattle.arrayvec.specs.ArrayVec.{array_vec_len}
+use Rattle.std.proofs.lemmas.List.{map-append}
+use Rattle.std.proofs.Common.{length-append}
 use Rattle.queues.specs.declared.state.Job.{Job}
-use Rattle.queues.specs.declared.state.Queue.{Queue}
 use Rattle.queues.specs.declared.state.Lines.{Lines}
-use Rattle.capi_lines.specs.States.{state_numbers, max_allowance, job_read, queue_read, state_read, job_part, job_number, number_at, tabulate, state_written}
+use Rattle.capi_lines.specs.States.{state_numbers, max_allowance, job_read, places_read, queue_read, state_read, job_part, job_number, number_at, tabulate, state_written}
 
 -- ---- reading
 pub job_read_lem : (n : List ℕ) (at : ℕ) {a : ℕ} → a ≡ min (get_or n (at + 2) 0) max_allowance
     → record { offset = get_or n at 0; length = get_or n (at + 1) 0; calls = a } ≡ job_read n at
 job_read_lem n at e = λ i. record { offset = get_or n at 0; length = get_or n (at + 1) 0; calls = e i }
 
-map_take : {A B : Type 0} (f : A → B) (n : ℕ) (l : List A) → map f (take n l) ≡ take n (map f l)
-map_take f zero l = refl
-map_take f (suc n) [] = refl
-map_take f (suc n) (x ∷ l) = ap (λ (r : List _). f x ∷ r) (map_take f n l)
+-- the first k jobs of a line are read
+module _ (n : List ℕ) (l : ℕ) where
+  pub record JobsRead (k : ℕ) (jobs : List Job) : Type 0 where
+    pub as_many : length jobs ≡ k
+    pub read : map job_model jobs ≡ take k (places_read n l)
 
-module _ (n : List ℕ) (l : ℕ) (a b c d e f g h : Job) where
-  pub queue_read_lem : job_model a ≡ job_read n (6 + 24 * l) → job_model b ≡ job_read n (6 + 24 * l + 3) → job_model c ≡ job_read n (6 + 24 * l + 6)
-      → job_model d ≡ job_read n (6 + 24 * l + 9) → job_model e ≡ job_read n (6 + 24 * l + 12) → job_model f ≡ job_read n (6 + 24 * l + 15)
-      → job_model g ≡ job_read n (6 + 24 * l + 18) → job_model h ≡ job_read n (6 + 24 * l + 21)
-      → queue_model (record { jobs = a ∷ b ∷ c ∷ d ∷ e ∷ f ∷ g ∷ h ∷ []; count = get_or n (2 + l) 0 }) ≡ queue_read n l
-  queue_read_lem ea eb ec ed ee ef eg eh =
-      map_take job_model (get_or n (2 + l) 0) (a ∷ b ∷ c ∷ d ∷ e ∷ f ∷ g ∷ h ∷ [])
-      ∙ (λ i. take (get_or n (2 + l) 0)
-      ((ea ∙ ap (job_read n) (sym (add-zero (6 + 24 * l)))) i ∷ eb i ∷ ec i ∷ ed i ∷ ee i ∷ ef i ∷ eg i ∷ eh i ∷ []))
+  next_place : (k : ℕ) → k < max_jobs → take k (places_read n l) ++ (job_read n (6 + 24 * l + 3 * k) ∷ []) ≡ take (suc k) (places_read n l)
+  next_place zero h = refl
+  next_place (suc zero) h = refl
+  next_place (suc (suc zero)) h = refl
+  next_place (suc (suc (suc zero))) h = refl
+  next_place (suc (suc (suc (suc zero)))) h = refl
+  next_place (suc (suc (suc (suc (suc zero))))) h = refl
+  next_place (suc (suc (suc (suc (suc (suc zero)))))) h = refl
+  next_place (suc (suc (suc (suc (suc (suc (suc zero))))))) h = refl
+  next_place (suc (suc (suc (suc (suc (suc (suc (suc k)))))))) h = absurd (omega arith)
+
+  pub job_more : (k : ℕ) → k < max_jobs → (jobs : List Job) → JobsRead k jobs → (j : Job) → job_model j ≡ job_read n (6 + 24 * l + 3 * k)
+      → (more : List Job) → more ≡ jobs ++ (j ∷ []) → JobsRead (k + 1) more
+  job_more k h jobs p j e more grown = record {
+    as_many = ap length grown ∙ length-append jobs (j ∷ []) ∙ ap (λ (m : ℕ). m + 1) p.as_many;
+    read =
+        let step : suc k ≡ k + 1 = omega arith in
+        ap (map job_model) grown ∙ map-append job_model jobs (j ∷ []) ∙ (λ i. p.read i ++ (e i ∷ [])) ∙ next_place k h
+        ∙ ap (λ (m : ℕ). take m (places_read n l)) step;
+  }
+
+  pub queue_read_lem : (k : ℕ) → k ≡ min (get_or n (2 + l) 0) max_jobs → (jobs : List Job) → JobsRead k jobs → map job_model jobs ≡ queue_read n l
+  queue_read_lem k e jobs p =
+      p.read ∙ ap (λ (m : ℕ). take m (places_read n l)) e ∙ take_least (get_or n (2 + l) 0) (places_read n l)
 
 pub state_read_lem : (n : List ℕ) (a b c d : Queue) → queue_model a ≡ queue_read n 0 → queue_model b ≡ queue_read n 1 → queue_model c ≡ queue_read n 2
     → queue_model d ≡ queue_read n 3 → lines_model (record { queues = a ∷ b ∷ c ∷ d ∷ []; turn = get_or n 0 0; place = get_or n 1 0 }) ≡ state_read n
@@ -52,11 +70,6 @@ module _ (q : Lines) where
   abbrev S : LinesOf
   S = lines_model q
 
-  pub job_number_lem : (i : ℕ) {j : Job} {r : ℕ} → job_model j ≡ get_or (queue_model (get_or q.queues (i / 24) no_queue)) (i % 24 / 3) no_job
-      → r ≡ job_part (i % 3) (job_model j) → r ≡ job_number S i
-  job_number_lem i e h =
-      h ∙ ap (job_part (i % 3)) (e ∙ ap (λ (js : List queues.Job). get_or js (i % 24 / 3) no_job) (sym (queue_is q (i / 24))))
-
   pub is_turn : (i : ℕ) → i ≡ 0 → q.turn % max_lines ≡ number_at S i
   is_turn i e = ap (number_at S) (sym e)
 
@@ -72,9 +85,9 @@ module _ (q : Lines) where
         go (suc zero) h g = absurd (g refl)
         go (suc (suc k)) h g = let e : k ≡ suc (suc k) - 2 = omega arith in ap past e
 
-    pub is_count : i < 6 → (n : ℕ) → SizeIs (get_or q.queues (i - 2) no_queue) n → n ≡ number_at S i
-    is_count h n size =
-        size.size_is ∙ ap length (sym (queue_is q (i - 2)))
+    pub is_count : length q.queues ≡ max_lines → i < 6 → (none : Queue) (n : ℕ) → n ≡ array_vec_len (get_or q.queues (i - 2) none) → n ≡ number_at S i
+    is_count four h none n size =
+        size ∙ sym (ap length (queue_read_is q (i - 2) none (omega (arith, four, h))) ∙ length-map (get_or q.queues (i - 2) none).items job_model)
         ∙ (λ k. cond (sym (lt-ltb (i - 2) max_lines (omega arith)) k) (length (queue_at S (i - 2))) (job_number S (i - 2 - 4)))
         ∙ sym past_two
 

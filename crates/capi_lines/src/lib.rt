@@ -9,8 +9,9 @@ ghost use Rattle.capi_lines.specs.Entries.{lines_add, returned_add, lines_serve,
 pub mod reply;
 pub mod state;
 
+use queues::state::Job;
 use replies::{ANSWER_NUMBERS, LONG_ANSWER, put};
-use reply::{of_added, of_served};
+use reply::{line_of, of_added, of_served};
 use state::{STATE_NUMBERS, keep_added, keep_served, load};
 
 // A job for a line.
@@ -32,12 +33,15 @@ pub fn add(
     if answer.len() < ANSWER_NUMBERS {
         return 3;
     }
-    let old = load(state);
-    let r = queues::add(old, line, offset, length, calls, store);
-    let x = r.answer;
-    let q = r.lines;
-    keep_added(x, q, state);
-    put(of_added(x), answer)
+    let mut lines = load(state);
+    let job = Job {
+        offset,
+        length,
+        calls,
+    };
+    let added = lines.add(line, job, store);
+    keep_added(added, &lines, state);
+    put(of_added(added), answer)
 }
 
 // The next job has its turn.
@@ -57,12 +61,10 @@ pub fn serve(
     if answer.len() < LONG_ANSWER {
         return 3;
     }
-    let old = load(state);
-    let r = lines::serve(old, store, cells, posts);
-    let x = r.answer;
-    let q = r.lines;
-    keep_served(x, q, state);
-    let status = put(of_served(x), answer);
-    answer[ANSWER_NUMBERS] = r.line;
+    let mut lines = load(state);
+    let served = lines::serve(&mut lines, store, cells, posts);
+    keep_served(served, &lines, state);
+    let status = put(of_served(served), answer);
+    answer[ANSWER_NUMBERS] = line_of(served);
     status
 }

@@ -6,24 +6,16 @@ ghost use Rattle.capi_lines.specs.States.{state_numbers, max_allowance, job_read
 ghost use Rattle.capi_lines.specs.Entries.{state_after, served_state};
 ghost use Rattle.capi_lines.specs.Internal.{LineAt};
 
-use lines::answer::ServeAnswer;
-use queues::queue::{job_at, size};
-use queues::state::{Addition, Job, Lines, MAX_LINES, Queue};
+use lines::answer::Served;
+use queues::state::{AddRefusal, Job, Lines, MAX_JOBS, MAX_LINES, Queue};
 
 pub const STATE_NUMBERS: usize = 102;
-
-// The largest allowance of 32 bits.
-const MAX_ALLOWANCE: u32 = 4294967295;
 
 // An allowance of more than 32 bits is read as the largest of them.
 fn allowance(x: u64) -> u32
     ensures { result ≡ least x max_allowance }
 {
-    if x < (MAX_ALLOWANCE as u64) {
-        x as u32
-    } else {
-        MAX_ALLOWANCE
-    }
+    u32::try_from(x).unwrap_or(u32::MAX)
 }
 
 fn load_job(state: &[u64], at: usize) -> Job
@@ -41,21 +33,13 @@ fn load_queue(state: &[u64], line: usize) -> Queue
     requires { LineAt state.now line }
     ensures { queue_model result ≡ queue_read state.now line }
 {
-    let count = state[2 + line] as usize;
     let at = 6 + 24 * line;
-    Queue {
-        jobs: [
-            load_job(state, at),
-            load_job(state, at + 3),
-            load_job(state, at + 6),
-            load_job(state, at + 9),
-            load_job(state, at + 12),
-            load_job(state, at + 15),
-            load_job(state, at + 18),
-            load_job(state, at + 21),
-        ],
-        count: count,
+    let count = (state[2 + line] as usize).min(MAX_JOBS);
+    let mut queue = Queue::new();
+    for k in 0..count {
+        queue.push(load_job(state, at + 3 * k));
     }
+    queue
 }
 
 pub fn load(state: &[u64]) -> Lines
@@ -90,66 +74,62 @@ fn part(j: Job, k: usize) -> u64
 }
 
 // One of the 96 numbers of the jobs.
-fn job_number(q: Lines, i: usize) -> u64
+fn job_number(lines: &Lines, i: usize) -> u64
     requires { i < 96 }
-    ensures { result ≡ job_number (lines_model q) i }
+    ensures { result ≡ job_number (lines_model lines.now) i }
 {
-    let line = i / 24;
-    let queue = q.queues[line];
-    part(job_at(queue, i % 24 / 3), i % 3)
+    let queue = &lines.queues[i / 24];
+    let k = i % 24 / 3;
+    if k < queue.len() {
+        part(queue[k], i % 3)
+    } else {
+        0
+    }
 }
 
 // The number at a place of the list.
-fn number_at(q: Lines, i: usize) -> u64
+fn number_at(lines: &Lines, i: usize) -> u64
     requires { i < state_numbers }
-    ensures { result ≡ number_at (lines_model q) i }
+    ensures { result ≡ number_at (lines_model lines.now) i }
 {
     if i == 0 {
-        return (q.turn % MAX_LINES) as u64;
+        return (lines.turn % MAX_LINES) as u64;
     }
     if i == 1 {
-        return q.place as u64;
+        return lines.place as u64;
     }
     if i < 6 {
         let line = i - 2;
-        let queue = q.queues[line];
-        return size(queue) as u64;
+        return lines.queues[line].len() as u64;
     }
-    job_number(q, i - 6)
+    job_number(lines, i - 6)
 }
 
-fn save(q: Lines, state: &mut [u64])
+fn save(lines: &Lines, state: &mut [u64])
     requires { length state.old ≡ state_numbers }
-    ensures { state.new ≡ state_written (lines_model q) }
+    ensures { state.new ≡ state_written (lines_model lines.now) }
 {
-    let mut i = 0;
-    while i < STATE_NUMBERS {
-        state[i] = number_at(q, i);
-        i += 1;
+    for i in 0..STATE_NUMBERS {
+        state[i] = number_at(lines, i);
     }
 }
 
 // An add that is refused leaves the list.
-pub fn keep_added(x: Addition, q: Lines, state: &mut [u64])
+pub fn keep_added(added: Result<(), AddRefusal>, lines: &Lines, state: &mut [u64])
     requires { length state.old ≡ state_numbers }
-    ensures { state.new ≡ state_after (addition_model x) state.old (lines_model q) }
+    ensures { state.new ≡ state_after (addition_model added) state.old (lines_model lines.now) }
 {
-    match x {
-        Addition::Done => save(q, state),
-        Addition::NoLine => {}
-        Addition::Outside => {}
-        Addition::Full => {}
+    if added.is_ok() {
+        save(lines, state);
     }
 }
 
 // With no job the list is left.
-pub fn keep_served(x: ServeAnswer, q: Lines, state: &mut [u64])
+pub fn keep_served(served: Option<Served>, lines: &Lines, state: &mut [u64])
     requires { length state.old ≡ state_numbers }
-    ensures { state.new ≡ served_state (serve_model x) state.old (lines_model q) }
+    ensures { state.new ≡ served_state (serve_model served) state.old (lines_model lines.now) }
 {
-    match x {
-        ServeAnswer::Idle => {}
-        ServeAnswer::Outside => save(q, state),
-        ServeAnswer::Run(r) => save(q, state),
+    if served.is_some() {
+        save(lines, state);
     }
 }

@@ -8,7 +8,8 @@ ghost use Rattle.irrelevance.specs.Naming.{naming};
 ghost use Rattle.irrelevance.specs.Answers.{named_model};
 ghost use Rattle.capi_names.specs.Entries.{names_reply};
 
-use irrelevance::answer::Named;
+use irrelevance::answer::NamingRefusal;
+use numbers::Code;
 use replies::{ANSWER_NUMBERS, Reply, put, refused};
 
 pub fn names(sheet: &[u8], privilege: u32, answer: &mut [u32]) -> u32
@@ -20,20 +21,20 @@ pub fn names(sheet: &[u8], privilege: u32, answer: &mut [u32]) -> u32
     put(of_named(naming::names(sheet, privilege)), answer)
 }
 
-fn of_named(n: Named) -> Reply
+fn of_named(n: Result<Option<u16>, NamingRefusal>) -> Reply
     ensures { reply_model result ≡ names_reply (named_model n) }
 {
     match n {
-        Named::At(t) => Reply {
+        Ok(Some(t)) => Reply {
             status: 0,
             numbers: [0, 0, 1, t as u32, 0, 0, 0, 0],
         },
-        Named::Nowhere => Reply {
+        Ok(None) => Reply {
             status: 0,
             numbers: [0, 0, 0, 0, 0, 0, 0, 0],
         },
-        Named::Unreadable(f) => refused(numbers::of_decoding(f)),
-        Named::NoPrivilege => Reply {
+        Err(NamingRefusal::Unreadable(f)) => refused(Code::from(f)),
+        Err(NamingRefusal::NoPrivilege) => Reply {
             status: 2,
             numbers: [30, 0, 0, 0, 0, 0, 0, 0],
         },

@@ -1,10 +1,9 @@
 -- What the contracts of internal functions say; no reader of the entry's promise needs it.
-use Rattle.std.specs.Prelude.{ℕ, ◌≤◌}
+use Rattle.std.specs.Prelude.{Some, None, Ok, Err, ℕ, ◌≤◌}
 use Rattle.program.specs.Answers.{decoding_cause, decoding_place}
 use Rattle.typing.specs.Answers.{fault_cause}
 use Rattle.replies.specs.Replies.{Reply, refusal}
-use Rattle.subterms.specs.declared.answer.Piece.{Piece}
-use Rattle.subterms.specs.declared.answer.Piece.TheVariants.{Smallest, NoPiece, Unreadable}
+use Rattle.subterms.specs.Answers.{FoundPiece}
 use Rattle.piece.specs.declared.Located.{Located}
 use Rattle.capi_piece.specs.Entries.{located}
 
@@ -14,10 +13,10 @@ pub record PieceReplyFits (x : Located) : Type 0 where
   pub len_most : x.len ≤ 65535
 
 -- what is told of a piece whose record has this place and length
-abbrev pub reply_by : (at length : ℕ) → Piece → Reply
-reply_by a l (Smallest t n f) = located (fault_cause f) t n a l
-reply_by a l NoPiece = located 0 0 0 0 0
-reply_by a l (Unreadable f) = refusal (decoding_cause f) (decoding_place f)
+abbrev pub reply_by : (at length : ℕ) → FoundPiece → Reply
+reply_by a l (Ok (Some x)) = located (fault_cause x.fault) x.term x.count a l
+reply_by a l (Ok None) = located 0 0 0 0 0
+reply_by a l (Err f) = refusal (decoding_cause f) (decoding_place f)
 
 abbrev pub located_reply : Located → Reply
 located_reply x = reply_by x.at x.len x.piece

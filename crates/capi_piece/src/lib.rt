@@ -7,9 +7,10 @@ ghost use Rattle.replies.specs.Internal.{reply_model};
 ghost use Rattle.capi_piece.specs.Entries.{piece_reply};
 ghost use Rattle.capi_piece.specs.Internal.{PieceReplyFits, located_reply};
 
+use numbers::Code;
 use piece::Located;
 use replies::{ANSWER_NUMBERS, Reply, put, refused};
-use subterms::answer::Piece;
+use subterms::answer::Faulty;
 
 pub fn piece(sheet: &[u8], answer: &mut [u32]) -> u32
     ensures { returned_reply result answer.new ≡ replied answer.old (piece_reply sheet.now) }
@@ -25,15 +26,14 @@ fn of_located(x: Located) -> Reply
     requires { PieceReplyFits x }
     ensures { reply_model result ≡ located_reply x }
 {
-    let p = x.piece;
-    match p {
-        Piece::Unreadable(f) => refused(numbers::of_decoding(f)),
-        Piece::NoPiece => Reply {
+    match x.piece {
+        Err(f) => refused(Code::from(f)),
+        Ok(None) => Reply {
             status: 0,
             numbers: [0, 0, 0, 0, 0, 0, 0, 0],
         },
-        Piece::Smallest { term, count, fault } => {
-            let f = numbers::of_fault(fault);
+        Ok(Some(Faulty { term, count, fault })) => {
+            let f = Code::from(fault);
             Reply {
                 status: 0,
                 numbers: [

@@ -1,28 +1,25 @@
 -- What the entry for a run over ranges leaves, from the promises of the functions that it calls.
 use mathlib.Core.Bool.{cond}
 use mathlib.Core.List.{List, [], ◌∷◌}
+use Rattle.std.specs.Prelude.{Ok, Err}
 use mathlib.Core.Path.{◌≡◌, sym, ap, ◌∙◌}
-use Prim.Native.Nat.{ℕ, ◌+◌, ◌*◌, ◌<◌, ◌≤◌}
+use Prim.Native.Nat.{ℕ, ◌<◌, ◌≤◌}
 use lib.ListN.{length}
 use borrow.Author.Tests.{lt-ltb, le-ltb}
-use Rattle.semantics.specs.Runs.{Request, Buffers, ground_bool, ground_num, ended, stopped}
-use Rattle.intervals.specs.Intervals.{interval}
+use Rattle.semantics.specs.Runs.{Request, Buffers, stopped}
 use Rattle.intervals.specs.Runs.{interval_run}
 use Rattle.intervals.proofs.Theorems.{interval_few, interval_uncounted}
 use Rattle.interp.specs.Answers.{counts_model, buffers_of}
 use Rattle.interp.specs.declared.answer.RunCounts.{RunCounts}
 use Rattle.numbers.specs.Codes.{CodeIs}
 use Rattle.numbers.specs.declared.Code.{Code}
-use Rattle.ranges.specs.Answers.{truth_model, interval_outcome_model, interval_run_model, after_intervals}
-use Rattle.ranges.specs.declared.answer.Truth.{Truth}
-use Rattle.ranges.specs.declared.answer.IntervalRun.{IntervalRun}
-use Rattle.ranges.specs.declared.answer.IntervalRun.TheVariants.{Refused, Ran}
+use Rattle.ranges.specs.Answers.{interval_outcome_model, interval_run_model, after_intervals, IntervalRun}
 use Rattle.replies.specs.Replies as replies
 use Rattle.replies.specs.Replies.{returned_run}
 use Rattle.replies.specs.Internal.{reply_model, with_counts, Put}
 use Rattle.replies.specs.Laws.{in_place}
 use Rattle.replies.specs.declared.Reply.{Reply}
-use Rattle.capi_ranges.specs.Entries.{truth_number, interval_finished, interval_reply, interval_left, interval_call}
+use Rattle.capi_ranges.specs.Entries.{interval_finished, interval_reply, interval_left, interval_call}
 use Rattle.capi_ranges.specs.Internal.{Uncounted, IntervalReplyFits}
 
 -- ---- the numbers of an outcome, of which the last is 0
@@ -35,24 +32,16 @@ module _ (m : RunCounts) (h : Uncounted m) where
       → r ≡ interval_finished (stopped cause term) (counts_model m)
   stopped_as cause term e k = e ∙ (λ i. with_counts 1 (k.cause_is i) (k.place_is i) 0 0 m) ∙ uncounted 1 cause term 0 0
 
-  pub ended_truth : {r : replies.Reply} (t : Truth) {n : ℕ} → n ≡ truth_number (truth_model t) → r ≡ with_counts 0 0 0 0 n m
-      → r ≡ interval_finished (ended (ground_bool (truth_model t))) (counts_model m)
-  ended_truth t p e = e ∙ (λ i. with_counts 0 0 0 0 (p i) m) ∙ uncounted 0 0 0 0 (truth_number (truth_model t))
-
-  pub ended_interval : {r : replies.Reply} (lowest highest : ℕ) → r ≡ with_counts 0 0 0 1 (lowest * 65536 + highest) m
-      → r ≡ interval_finished (ended (ground_num (interval lowest highest))) (counts_model m)
-  ended_interval lowest highest e = e ∙ uncounted 0 0 0 1 (lowest * 65536 + highest)
-
 -- ---- the entry
 module _ (s ps : List ℕ) (q : Request) (b : Buffers) where
   pub short_answer : (answer : List ℕ) → length answer < 8 → returned_run 3 answer b ≡ interval_call answer b (interval_run s ps q b)
   short_answer answer h = λ i. cond (sym (lt-ltb (length answer) 8 h) i) (returned_run 3 answer b) (interval_left answer (interval_run s ps q b))
 
   pub reply_fits : (r : IntervalRun) → interval_run_model r ≡ (interval_run s ps q b).answer → IntervalReplyFits r
-  reply_fits (Refused f) e = tt
-  reply_fits (Ran o m) e = record {
-    few = interval_few s ps q b (interval_outcome_model o) (counts_model m) (sym e);
-    none_saturated = interval_uncounted s ps q b (interval_outcome_model o) (counts_model m) (sym e);
+  reply_fits (Err f) e = tt
+  reply_fits (Ok r) e = record {
+    few = interval_few s ps q b (interval_outcome_model r.outcome) (counts_model r.made) (sym e);
+    none_saturated = interval_uncounted s ps q b (interval_outcome_model r.outcome) (counts_model r.made) (sym e);
   }
 
   pub given : (answer : List ℕ) → 8 ≤ length answer → (r : IntervalRun) {cells posts : List ℕ} → after_intervals r cells posts ≡ interval_run s ps q b

@@ -1,10 +1,9 @@
 -- What the contracts of internal functions say; no reader of an entry's promise needs it.
-use Rattle.std.specs.Prelude.{◌≡◌}
+use Rattle.std.specs.Prelude.{◌≡◌, Ok, Err}
 use Rattle.semantics.specs.Claims.{Few}
 use Rattle.interp.specs.Answers.{counts_model}
 use Rattle.interp.specs.declared.answer.RunCounts.{RunCounts}
-use Rattle.ranges.specs.declared.answer.IntervalRun.{IntervalRun}
-use Rattle.ranges.specs.declared.answer.IntervalRun.TheVariants.{Refused, Ran}
+use Rattle.ranges.specs.Answers.{IntervalRun}
 
 -- the counts fit into 32 bits, and no saturated result is among them
 pub record Uncounted (m : RunCounts) : Type 0 where
@@ -12,5 +11,5 @@ pub record Uncounted (m : RunCounts) : Type 0 where
   pub none_saturated : m.saturated ≡ 0
 
 abbrev pub IntervalReplyFits : IntervalRun → Type 0
-IntervalReplyFits (Refused f) = Unit {0}
-IntervalReplyFits (Ran o m) = Uncounted m
+IntervalReplyFits (Err f) = Unit {0}
+IntervalReplyFits (Ok r) = Uncounted r.made

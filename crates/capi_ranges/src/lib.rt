@@ -14,8 +14,9 @@ ghost use Rattle.capi_ranges.specs.Internal.{Uncounted, IntervalReplyFits};
 
 use interp::answer::RunCounts;
 use numbers::Code;
-use ranges::answer::{IntervalGround, IntervalOutcome, IntervalRefusal, IntervalRun, Truth};
+use ranges::answer::{IntervalGround, IntervalRefusal, IntervalRun, Truth};
 use replies::{ANSWER_NUMBERS, Reply, counted, put, refused};
+use stores::values::Stop;
 
 fn truth_number(t: Truth) -> u32
     ensures { result ≡ truth_number (truth_model t) }
@@ -27,23 +28,21 @@ fn truth_number(t: Truth) -> u32
     }
 }
 
-fn of_outcome(o: IntervalOutcome, m: RunCounts) -> Reply
+fn of_outcome(o: Result<IntervalGround, Stop>, m: RunCounts) -> Reply
     requires { Uncounted m }
     ensures { reply_model result ≡ interval_finished (interval_outcome_model o) (counts_model m) }
 {
     let none = Code { cause: 0, place: 0 };
     match o {
-        IntervalOutcome::Stop(x) => counted(1, numbers::of_stop(x), 0, 0, m),
-        IntervalOutcome::End(v) => match v {
-            IntervalGround::Truth(t) => counted(0, none, 0, truth_number(t), m),
-            IntervalGround::Interval { lowest, highest } => counted(
-                0,
-                none,
-                1,
-                (lowest as u32) * 65536 + (highest as u32),
-                m,
-            ),
-        },
+        Err(x) => counted(1, Code::from(x), 0, 0, m),
+        Ok(IntervalGround::Truth(t)) => counted(0, none, 0, truth_number(t), m),
+        Ok(IntervalGround::Interval { lowest, highest }) => counted(
+            0,
+            none,
+            1,
+            (lowest as u32) * 65536 + (highest as u32),
+            m,
+        ),
     }
 }
 
@@ -52,7 +51,7 @@ fn of_refusal(f: IntervalRefusal) -> Code
     ensures { CodeIs (interval_refusal_cause f) (interval_refusal_place f) result }
 {
     match f {
-        IntervalRefusal::Run(x) => numbers::of_refusal(x),
+        IntervalRefusal::Run(x) => Code::from(x),
         IntervalRefusal::Pairs => Code {
             cause: 35,
             place: 0,
@@ -65,8 +64,8 @@ fn of_run(x: IntervalRun) -> Reply
     ensures { reply_model result ≡ interval_reply (interval_run_model x) }
 {
     match x {
-        IntervalRun::Refused(f) => refused(of_refusal(f)),
-        IntervalRun::Ran { outcome, made } => of_outcome(outcome, made),
+        Err(f) => refused(of_refusal(f)),
+        Ok(ran) => of_outcome(ran.outcome, ran.made),
     }
 }
 

@@ -8,8 +8,6 @@ use native.Mathlib.Nat.{le-max_left, le-max_right, eq-or-lt_of_le}
 use native.Mathlib.Omega.{arith}
 use lib.Dec.{eqb}
 use borrow.Author.Tests.{leb-true, ltb-true}
-use denote.Enum.Declared.{tag_of}
-use Rattle.typing.specs.contracts.answer.Inferred.{the_type}
 use Rattle.privileges.specs.Sets.{privilege_count, union, subset}
 use Rattle.program.specs.Limits.{max_channels, max_nesting, max_privilege}
 use Rattle.program.specs.Layout.{principals, term_at, channels, guard_byte, guard_in, guard_of, authority, types_of}
@@ -31,10 +29,10 @@ use Rattle.typing.specs.Verdicts.{term_judgement}
 use Rattle.rules.specs.Inference.{inferred_model, context, binding_depth, binding_depth_at, Ready}
 use Rattle.rules.specs.Steps.{Pushed, leaf_step, check_step, enable_step, sign_step, post_step, test_step, if_step, binary_step, body_step, function_step, letrec_step, call_step, binary_result}
 use Rattle.checker.specs.Internal.{ReadyTerm, ReadyAt}
-use Rattle.typing.specs.declared.answer.Inferred.{Inferred}
-use Rattle.typing.specs.declared.answer.Inferred.TheVariants.{Typed}
+use Rattle.std.specs.Prelude.{Result, Ok, Err}
+use Rattle.typing.specs.declared.answer.Fault.{Fault}
+use Rattle.typing.specs.declared.answer.Typed.{Typed}
 use Rattle.rules.specs.declared.bindings.Bindings.{Bindings}
-use Rattle.rules.proofs.StepLaws.{stop}
 
 up : {m k : ℕ} → (k ≡ m → ⊥) → m ≤ k → suc m ≤ k
 up n h = omega (arith, n)
@@ -50,12 +48,13 @@ three_of m k h g =
     (eq-or-lt_of_le {n = m} {m = k} h)
 
 -- ---- judgements in a row
-module _ (k : ℕ → ℕ → Judgement) {J G : Judgement} (q : G ≡ (J next k)) where
-  stops : (j : Inferred) → inferred_model j ≡ J → tag_of the_type j ≡ 1 → inferred_model j ≡ G
-  stops j p h = stop k j h ∙ ap (λ (z : Judgement). z next k) p ∙ sym q
+module _ (k : ℕ → ℕ → Judgement) {J G : Judgement} (q : G ≡ (J next k)) {j : Result Typed Fault} (p : inferred_model j ≡ J) where
+  -- a fault ends the judgement
+  stops : {f : Fault} {r : Result Typed Fault} → j ≡ Err f → r ≡ Err f → inferred_model r ≡ G
+  stops e g = ap inferred_model g ∙ ap (λ (z : Judgement). z next k) (ap inferred_model (sym e) ∙ p) ∙ sym q
 
-  goes : {j : Inferred} {τ N : ℕ} → j ≡ Typed τ N → inferred_model j ≡ J → G ≡ k τ N
-  goes e p = q ∙ ap (λ (z : Judgement). z next k) (sym p ∙ ap inferred_model e)
+  goes : {y : Typed} → j ≡ Ok y → G ≡ k y.ty y.needs
+  goes e = q ∙ ap (λ (z : Judgement). z next k) (sym p ∙ ap inferred_model e)
 
 ends : (f : Judgement → Judgement) {J G j r : Judgement} → j ≡ J → G ≡ f J → r ≡ f j → r ≡ G
 ends f p q h = h ∙ ap f p ∙ sym q
@@ -331,12 +330,12 @@ module _ {s : List ℕ} {c : Counts} {l : List ℕ} {t : ℕ} {b : Bindings} {n 
     unfolding term_judgement infer test_step
     test_as e = inferred_as Test (named e) Γ n
 
-    pub test_stops : x.kind ≡ 10 → (j : Inferred) → inferred_model j ≡ J x.first → tag_of the_type j ≡ 1 → inferred_model j ≡ J t
-    test_stops e j p h = stops test_rest (test_as e) j p h
+    pub test_stops : x.kind ≡ 10 → {j r : Result Typed Fault} {f : Fault} → inferred_model j ≡ J x.first → j ≡ Err f → r ≡ Err f → inferred_model r ≡ J t
+    test_stops e p h w = stops test_rest (test_as e) p h w
 
-    pub test_is : x.kind ≡ 10 → {j : Inferred} {τ N : ℕ} → j ≡ Typed τ N → inferred_model j ≡ J x.first → {k r : Judgement} → k ≡ J x.second
-        → r ≡ test_step (types_of s) x.small t τ N k → r ≡ J t
-    test_is e {τ = τ} {N = N} h p q r = ends (test_step (types_of s) x.small t τ N) q (goes test_rest (test_as e) h p) r
+    pub test_is : x.kind ≡ 10 → {j : Result Typed Fault} {y : Typed} → inferred_model j ≡ J x.first → j ≡ Ok y → {k r : Judgement} → k ≡ J x.second
+        → r ≡ test_step (types_of s) x.small t y.ty y.needs k → r ≡ J t
+    test_is e {y = y} p h q r = ends (test_step (types_of s) x.small t y.ty y.needs) q (goes test_rest (test_as e) p h) r
 
     abbrev pub call_rest : (φ N : ℕ) → Judgement
     call_rest φ N = call_step (types_of s) t φ N (J x.second)
@@ -345,12 +344,12 @@ module _ {s : List ℕ} {c : Counts} {l : List ℕ} {t : ℕ} {b : Bindings} {n 
     unfolding term_judgement infer call_step
     call_as e = inferred_as Call (named e) Γ n
 
-    pub call_stops : x.kind ≡ 5 → (j : Inferred) → inferred_model j ≡ J x.first → tag_of the_type j ≡ 1 → inferred_model j ≡ J t
-    call_stops e j p h = stops call_rest (call_as e) j p h
+    pub call_stops : x.kind ≡ 5 → {j r : Result Typed Fault} {f : Fault} → inferred_model j ≡ J x.first → j ≡ Err f → r ≡ Err f → inferred_model r ≡ J t
+    call_stops e p h w = stops call_rest (call_as e) p h w
 
-    pub call_is : x.kind ≡ 5 → {j : Inferred} {φ N : ℕ} → j ≡ Typed φ N → inferred_model j ≡ J x.first → {k r : Judgement} → k ≡ J x.second
-        → r ≡ call_step (types_of s) t φ N k → r ≡ J t
-    call_is e {φ = φ} {N = N} h p q r = ends (call_step (types_of s) t φ N) q (goes call_rest (call_as e) h p) r
+    pub call_is : x.kind ≡ 5 → {j : Result Typed Fault} {y : Typed} → inferred_model j ≡ J x.first → j ≡ Ok y → {k r : Judgement} → k ≡ J x.second
+        → r ≡ call_step (types_of s) t y.ty y.needs k → r ≡ J t
+    call_is e {y = y} p h q r = ends (call_step (types_of s) t y.ty y.needs) q (goes call_rest (call_as e) p h) r
 
     abbrev pub binary_rest : (τ N : ℕ) → Judgement
     binary_rest τ N = binary_step (binary_result x.kind) t τ N (J x.second)
@@ -364,14 +363,15 @@ module _ {s : List ℕ} {c : Counts} {l : List ℕ} {t : ℕ} {b : Bindings} {n 
         go (inr (inl e)) = rw e (inferred_as Difference (named e) Γ n)
         go (inr (inr e)) = rw e (inferred_as Less (named e) Γ n)
 
-    pub binary_stops : 11 ≤ x.kind → x.kind < 14 → (j : Inferred) → inferred_model j ≡ J x.first → tag_of the_type j ≡ 1 → inferred_model j ≡ J t
-    binary_stops l u j p h = stops binary_rest (binary_as l u) j p h
+    pub binary_stops : 11 ≤ x.kind → x.kind < 14 → {j r : Result Typed Fault} {f : Fault} → inferred_model j ≡ J x.first → j ≡ Err f → r ≡ Err f
+        → inferred_model r ≡ J t
+    binary_stops l u p h w = stops binary_rest (binary_as l u) p h w
 
-    pub binary_is : 11 ≤ x.kind → x.kind < 14 → {j : Inferred} {τ N : ℕ} → j ≡ Typed τ N → inferred_model j ≡ J x.first → {k r : Judgement} → k
-        ≡ J x.second
-        → {σ : ℕ} → σ ≡ binary_result x.kind → r ≡ binary_step σ t τ N k → r ≡ J t
-    binary_is l u {τ = τ} {N = N} h p {k} q m r =
-        ends (binary_step (binary_result x.kind) t τ N) q (goes binary_rest (binary_as l u) h p) (r ∙ ap (λ (z : ℕ). binary_step z t τ N k) m)
+    pub binary_is : 11 ≤ x.kind → x.kind < 14 → {j : Result Typed Fault} {y : Typed} → inferred_model j ≡ J x.first → j ≡ Ok y → {k r : Judgement}
+        → k ≡ J x.second → {σ : ℕ} → σ ≡ binary_result x.kind → r ≡ binary_step σ t y.ty y.needs k → r ≡ J t
+    binary_is l u {y = y} p h {k} q m r =
+        ends (binary_step (binary_result x.kind) t y.ty y.needs) q (goes binary_rest (binary_as l u) p h)
+        (r ∙ ap (λ (z : ℕ). binary_step z t y.ty y.needs k) m)
 
     -- ---- three children
     abbrev pub branch_rest : (σ N τ M : ℕ) → Judgement
@@ -384,16 +384,17 @@ module _ {s : List ℕ} {c : Counts} {l : List ℕ} {t : ℕ} {b : Bindings} {n 
     unfolding term_judgement infer if_step
     if_as e = inferred_as If (named e) Γ n
 
-    pub if_stops : x.kind ≡ 6 → (i : Inferred) → inferred_model i ≡ J x.first → tag_of the_type i ≡ 1 → inferred_model i ≡ J t
-    if_stops e i p h = stops if_rest (if_as e) i p h
+    pub if_stops : x.kind ≡ 6 → {i r : Result Typed Fault} {f : Fault} → inferred_model i ≡ J x.first → i ≡ Err f → r ≡ Err f → inferred_model r ≡ J t
+    if_stops e p h w = stops if_rest (if_as e) p h w
 
-    module _ (e : x.kind ≡ 6) {i : Inferred} {σ N : ℕ} (h : i ≡ Typed σ N) (p : inferred_model i ≡ J x.first) where
-      pub branch_stops : (j : Inferred) → inferred_model j ≡ J x.second → tag_of the_type j ≡ 1 → inferred_model j ≡ J t
-      branch_stops j q g = stops (branch_rest σ N) (goes if_rest (if_as e) h p) j q g
+    module _ (e : x.kind ≡ 6) {i : Result Typed Fault} {y : Typed} (p : inferred_model i ≡ J x.first) (h : i ≡ Ok y)
+        {j : Result Typed Fault} (q : inferred_model j ≡ J x.second) where
+      pub branch_stops : {f : Fault} {r : Result Typed Fault} → j ≡ Err f → r ≡ Err f → inferred_model r ≡ J t
+      branch_stops g w = stops (branch_rest y.ty y.needs) (goes if_rest (if_as e) p h) q g w
 
-      pub if_is : {j : Inferred} {τ M : ℕ} → j ≡ Typed τ M → inferred_model j ≡ J x.second → {k r : Judgement} → k ≡ J x.third
-          → r ≡ if_step (types_of s) t σ N τ M k → r ≡ J t
-      if_is {τ = τ} {M = M} g q v r = ends (if_step (types_of s) t σ N τ M) v (goes (branch_rest σ N) (goes if_rest (if_as e) h p) g q) r
+      pub if_is : {z : Typed} → j ≡ Ok z → {k r : Judgement} → k ≡ J x.third → r ≡ if_step (types_of s) t y.ty y.needs z.ty z.needs k → r ≡ J t
+      if_is {z = z} g v r =
+          ends (if_step (types_of s) t y.ty y.needs z.ty z.needs) v (goes (branch_rest y.ty y.needs) (goes if_rest (if_as e) p h) q g) r
 
     -- ---- binders; `inner` and `outer` are the bindings of the body and of the rest
     module _ (f : TypeRecord) (hf : f ≡ type_record s c x.first) (same : context b ≡ Γ) where
@@ -449,9 +450,10 @@ module _ {s : List ℕ} {c : Counts} {l : List ℕ} {t : ℕ} {b : Bindings} {n 
         letrec_as : J t ≡ (term_judgement s (context inner) n x.second next letrec_after)
         letrec_as = letrec_step_lem e ∙ λ i. letrec_then (argument_is (first_as Letrec (named e)) pi outer_is i) (sym outer_is i)
 
-        pub letrec_stops : (j : Inferred) → inferred_model j ≡ term_judgement s (context inner) n x.second → tag_of the_type j ≡ 1 → inferred_model j ≡ J t
-        letrec_stops j p h = stops letrec_after letrec_as j p h
+        pub letrec_stops : {j r : Result Typed Fault} {f : Fault} → inferred_model j ≡ term_judgement s (context inner) n x.second → j ≡ Err f → r ≡ Err f
+            → inferred_model r ≡ J t
+        letrec_stops p h w = stops letrec_after letrec_as p h w
 
-        pub letrec_is : {j : Inferred} {τ N : ℕ} → j ≡ Typed τ N → inferred_model j ≡ term_judgement s (context inner) n x.second → {k r : Judgement}
-            → k ≡ term_judgement s (context outer) n x.third → r ≡ letrec_step f t τ N k → r ≡ J t
-        letrec_is {τ = τ} {N = N} h p q r = ends (letrec_step f t τ N) q (goes letrec_after letrec_as h p) r
+        pub letrec_is : {j : Result Typed Fault} {y : Typed} → inferred_model j ≡ term_judgement s (context inner) n x.second → j ≡ Ok y
+            → {k r : Judgement} → k ≡ term_judgement s (context outer) n x.third → r ≡ letrec_step f t y.ty y.needs k → r ≡ J t
+        letrec_is {y = y} p h q r = ends (letrec_step f t y.ty y.needs) q (goes letrec_after letrec_as p h) r

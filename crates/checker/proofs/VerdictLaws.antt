@@ -1,39 +1,22 @@
 -- The verdict on a sheet from the reader's answer and the root's judgement. Assumes nothing.
 use mathlib.Core.List.{List}
-use mathlib.Core.Path.{◌≡◌, refl, sym, ap, ◌∙◌, subst}
-use Prim.Native.Nat.{ℕ, ◌-◌, ◌<◌, ◌≤◌}
+use mathlib.Core.Path.{◌≡◌, sym, ap, ◌∙◌, subst}
+use Prim.Native.Nat.{ℕ, ◌-◌, ◌≤◌}
 use native.Mathlib.Omega.{arith}
-use borrow.Author.Tests.{lt-ltb, le-ltb}
 use Rattle.program.specs.Layout.{terms, root}
 use Rattle.program.specs.Screening.{Screening, clear, unless_found}
 use Rattle.program.specs.Decoding.{decoding}
 use Rattle.program.specs.Answers.{decoding_cause, decoding_place, decoded_model, Counted}
 use Rattle.program.specs.declared.answer.Refusal.{Refusal}
-use Rattle.program.specs.declared.answer.Decoded.{Decoded}
-use Rattle.program.specs.declared.answer.Decoded.TheVariants.{Readable, Refused}
+use Rattle.std.specs.Prelude.{Result, Ok, Err}
 use Rattle.program.specs.declared.records.Counts.{Counts}
 use Rattle.program.proofs.Laws.Readable.{well_formed}
 use Rattle.typing.specs.Checking.{Judgement}
-use Rattle.typing.specs.Verdicts.{term_judgement, Verdict, accepted, rejected, concluded, judgement, verdict}
-use Rattle.typing.specs.Answers.{fault_cause, fault_place}
+use Rattle.typing.specs.Verdicts.{term_judgement, Verdict, rejected, concluded, judgement, verdict}
 use Rattle.accessors.specs.Internal.{FormedSheet, ReadableSheet}
-use Rattle.rules.specs.Inference.{inferred_model, context, last_first, Ready}
+use Rattle.rules.specs.Inference.{context, last_first, Ready}
 use Rattle.rules.specs.Laws.Room.{root_room}
-use Rattle.typing.specs.declared.answer.Fault.{Fault}
-use Rattle.typing.specs.declared.answer.Inferred.{Inferred}
-use Rattle.typing.specs.declared.answer.Inferred.TheVariants.{Typed, Faulty}
 use Rattle.rules.specs.declared.bindings.Bindings.{Bindings}
-
--- ---- the root's judgement
-pub conclude_fault : (n r : ℕ) {j : Inferred} {f : Fault} → j ≡ Faulty f → rejected (fault_cause f) (fault_place f) ≡ concluded n r (inferred_model j)
-conclude_fault n r e = ap (λ (j : Inferred). concluded n r (inferred_model j)) (sym e)
-
-module _ (n r : ℕ) {j : Inferred} {τ N : ℕ} (e : j ≡ Typed τ N) where
-  pub conclude_base : τ < 2 → accepted n τ N ≡ concluded n r (inferred_model j)
-  conclude_base h = rw (e, lt-ltb τ 2 h) refl
-
-  pub conclude_function : 2 ≤ τ → rejected 13 r ≡ concluded n r (inferred_model j)
-  conclude_function h = rw (e, le-ltb τ 2 h) refl
 
 -- ---- a readable sheet
 pub sheet_of : {s : List ℕ} {c : Counts} → ReadableSheet s c → FormedSheet s c
@@ -66,12 +49,12 @@ unfolding verdict
 verdict_is {s} R q = q ∙ ap (λ (x : Screening). unless_found rejected x λ _. concluded (terms s) (root s) (judgement s)) (sym R.readable)
 
 -- ---- the reader's answer
-module _ (s : List ℕ) {d : Decoded} (p : decoded_model d ≡ decoding s) where
-  pub unreadable_is : {f : Refusal} → d ≡ Refused f → rejected (decoding_cause f) (decoding_place f) ≡ verdict s
+module _ (s : List ℕ) {d : Result Counts Refusal} (p : decoded_model d ≡ decoding s) where
+  pub unreadable_is : {f : Refusal} → d ≡ Err f → rejected (decoding_cause f) (decoding_place f) ≡ verdict s
   unfolding verdict
   unreadable_is e = ap (λ (x : Screening). unless_found rejected x λ _. concluded (terms s) (root s) (judgement s)) (sym (ap decoded_model e) ∙ p)
 
-  module _ {c : Counts} (e : d ≡ Readable c) where
+  module _ {c : Counts} (e : d ≡ Ok c) where
     readable : decoding s ≡ clear
     readable = sym p ∙ ap decoded_model e
 

@@ -1,10 +1,11 @@
 -- What the contracts of internal functions say. No reader of the public promise needs this file.
-use Rattle.std.specs.Prelude.{List, ◌≡◌, ℕ, ◌<◌, ◌≤◌}
+use Rattle.std.specs.Prelude.{List, ◌≡◌, ℕ, ◌<◌, ◌≤◌, Result}
 use Rattle.program.specs.Layout.{types_of}
 use Rattle.program.specs.Records.{term_record}
 use Rattle.program.specs.declared.records.Counts.{Counts}
 use Rattle.program.specs.declared.records.TermRecord.{TermRecord}
-use Rattle.typing.specs.declared.answer.Inferred.{Inferred}
+use Rattle.typing.specs.declared.answer.Fault.{Fault}
+use Rattle.typing.specs.declared.answer.Typed.{Typed}
 use Rattle.subtyping.specs.Known.{Known, Answered}
 use Rattle.typing.specs.Verdicts.{term_judgement}
 use Rattle.rules.specs.Inference.{inferred_model, Ready}
@@ -33,5 +34,5 @@ pub record ReadyBinary (s : List ℕ) (c : Counts) (l : List ℕ) (t : ℕ) (b :
   pub kind_most : x.kind < 14
 
 -- a term's judgement, and what is known then
-abbrev pub InferredAs : (s Γ : List ℕ) (n t : ℕ) → Inferred → (l : List ℕ) → Type 0
+abbrev pub InferredAs : (s Γ : List ℕ) (n t : ℕ) → Result Typed Fault → (l : List ℕ) → Type 0
 InferredAs s Γ n t r l = Answered (types_of s) (inferred_model r) (term_judgement s Γ n t) l

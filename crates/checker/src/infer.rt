@@ -7,11 +7,18 @@ use program::records::{Counts, TermRecord};
 use rules::bindings::{Bindings, push};
 use rules::steps;
 use subtyping::known::Known;
-use typing::answer::Inferred;
+use typing::answer::{Fault, Typed};
 
 // The type and needs of term t under the bindings b and the principal n, or its first fault. What is known of the sheet's types is handed on.
 #[cycle(inference)]
-pub fn infer(s: &[u8], c: Counts, known: &mut Known, t: u16, b: Bindings, n: u8) -> Inferred
+pub fn infer(
+    s: &[u8],
+    c: Counts,
+    known: &mut Known,
+    t: u16,
+    b: Bindings,
+    n: u8,
+) -> Result<Typed, Fault>
     requires { ReadyTerm s.now c known.old t b n }
     ensures { InferredAs s.now (context b) n t result known.new }
 {
@@ -41,7 +48,7 @@ fn infer_function(
     x: TermRecord,
     b: Bindings,
     n: u8,
-) -> Inferred
+) -> Result<Typed, Fault>
     requires { ReadyKind s.now c known.old t b n x 3 }
     ensures { InferredAs s.now (context b) n t result known.new }
 {
@@ -60,19 +67,16 @@ fn infer_letrec(
     x: TermRecord,
     b: Bindings,
     n: u8,
-) -> Inferred
+) -> Result<Typed, Fault>
     requires { ReadyKind s.now c known.old t b n x 4 }
     ensures { InferredAs s.now (context b) n t result known.new }
 {
     let f = type_record(s, c, x.first);
     let outer = push(b, x.first);
     let inner = push(outer, f.arg);
-    let j = infer(s, c, known, x.second, inner, n);
-    let Inferred::Typed { ty, needs } = j else {
-        return j;
-    };
-    let k = infer(s, c, known, x.third, outer, n);
-    steps::letrec_of(f, t, ty, needs, k)
+    let body = infer(s, c, known, x.second, inner, n)?;
+    let rest = infer(s, c, known, x.third, outer, n);
+    steps::letrec_of(f, t, body, rest)
 }
 
 #[cycle(inference)]
@@ -84,16 +88,13 @@ fn infer_call(
     x: TermRecord,
     b: Bindings,
     n: u8,
-) -> Inferred
+) -> Result<Typed, Fault>
     requires { ReadyKind s.now c known.old t b n x 5 }
     ensures { InferredAs s.now (context b) n t result known.new }
 {
-    let j = infer(s, c, known, x.first, b, n);
-    let Inferred::Typed { ty, needs } = j else {
-        return j;
-    };
-    let k = infer(s, c, known, x.second, b, n);
-    steps::call_of(s, c, known, t, ty, needs, k)
+    let function = infer(s, c, known, x.first, b, n)?;
+    let argument = infer(s, c, known, x.second, b, n);
+    steps::call_of(s, c, known, t, function, argument)
 }
 
 #[cycle(inference)]
@@ -105,24 +106,14 @@ fn infer_if(
     x: TermRecord,
     b: Bindings,
     n: u8,
-) -> Inferred
+) -> Result<Typed, Fault>
     requires { ReadyKind s.now c known.old t b n x 6 }
     ensures { InferredAs s.now (context b) n t result known.new }
 {
-    let i = infer(s, c, known, x.first, b, n);
-    let Inferred::Typed {
-        ty: cond,
-        needs: cond_needs,
-    } = i
-    else {
-        return i;
-    };
-    let j = infer(s, c, known, x.second, b, n);
-    let Inferred::Typed { ty, needs } = j else {
-        return j;
-    };
-    let k = infer(s, c, known, x.third, b, n);
-    steps::branched(s, c, known, t, cond, cond_needs, ty, needs, k)
+    let condition = infer(s, c, known, x.first, b, n)?;
+    let first = infer(s, c, known, x.second, b, n)?;
+    let second = infer(s, c, known, x.third, b, n);
+    steps::branched(s, c, known, t, condition, first, second)
 }
 
 #[cycle(inference)]
@@ -134,7 +125,7 @@ fn infer_check(
     x: TermRecord,
     b: Bindings,
     n: u8,
-) -> Inferred
+) -> Result<Typed, Fault>
     requires { ReadyKind s.now c known.old t b n x 7 }
     ensures { InferredAs s.now (context b) n t result known.new }
 {
@@ -151,7 +142,7 @@ fn infer_enable(
     x: TermRecord,
     b: Bindings,
     n: u8,
-) -> Inferred
+) -> Result<Typed, Fault>
     requires { ReadyKind s.now c known.old t b n x 8 }
     ensures { InferredAs s.now (context b) n t result known.new }
 {
@@ -170,7 +161,7 @@ fn infer_sign(
     x: TermRecord,
     b: Bindings,
     n: u8,
-) -> Inferred
+) -> Result<Typed, Fault>
     requires { ReadyKind s.now c known.old t b n x 9 }
     ensures { InferredAs s.now (context b) n t result known.new }
 {
@@ -188,16 +179,13 @@ fn infer_test(
     x: TermRecord,
     b: Bindings,
     n: u8,
-) -> Inferred
+) -> Result<Typed, Fault>
     requires { ReadyKind s.now c known.old t b n x 10 }
     ensures { InferredAs s.now (context b) n t result known.new }
 {
-    let j = infer(s, c, known, x.first, b, n);
-    let Inferred::Typed { ty, needs } = j else {
-        return j;
-    };
-    let k = infer(s, c, known, x.second, b, n);
-    steps::tested(s, c, known, x.small, t, ty, needs, k)
+    let first = infer(s, c, known, x.first, b, n)?;
+    let second = infer(s, c, known, x.second, b, n);
+    steps::tested(s, c, known, x.small, t, first, second)
 }
 
 #[cycle(inference)]
@@ -209,17 +197,14 @@ fn infer_binary(
     x: TermRecord,
     b: Bindings,
     n: u8,
-) -> Inferred
+) -> Result<Typed, Fault>
     requires { ReadyBinary s.now c known.old t b n x }
     ensures { InferredAs s.now (context b) n t result known.new }
 {
-    let j = infer(s, c, known, x.first, b, n);
-    let Inferred::Typed { ty, needs } = j else {
-        return j;
-    };
-    let k = infer(s, c, known, x.second, b, n);
+    let first = infer(s, c, known, x.first, b, n)?;
+    let second = infer(s, c, known, x.second, b, n);
     let result = steps::binary_result(x.kind);
-    steps::computed(result, t, ty, needs, k)
+    steps::computed(result, t, first, second)
 }
 
 // The privilege that guards its channel is among the needs.
@@ -232,7 +217,7 @@ fn infer_post(
     x: TermRecord,
     b: Bindings,
     n: u8,
-) -> Inferred
+) -> Result<Typed, Fault>
     requires { ReadyKind s.now c known.old t b n x 14 }
     ensures { InferredAs s.now (context b) n t result known.new }
 {

@@ -10,25 +10,21 @@ ghost use Rattle.rules.specs.Inference.{inferred_model};
 ghost use Rattle.accessors.specs.Internal.{ReadableSheet};
 
 use crate::infer::infer;
-use program::answer::Decoded;
 use program::records::Counts;
 use rules::bindings::none;
 use subtyping::known::{KNOWN_WORDS, Known};
-use typing::answer::{Fault, Inferred, Verdict};
+use typing::answer::{Accepted, Fault, Rejection, Typed};
 
 // 01's judge, on any bytes: the reader's refusals 1 to 8 and 31, then the rules' 9 to 12 and 24 to 26, then 13.
-pub fn typecheck(sheet: &[u8]) -> Verdict
+pub fn typecheck(sheet: &[u8]) -> Result<Accepted, Rejection>
     ensures { verdict_model result ≡ verdict sheet.now }
 {
-    let d = decoder::decode(sheet);
-    match d {
-        Decoded::Refused(f) => Verdict::Unreadable(f),
-        Decoded::Readable(c) => typecheck_readable(sheet, c),
-    }
+    let c = decoder::decode(sheet)?;
+    typecheck_readable(sheet, c)
 }
 
 // The same of a readable sheet with its counts, for those who have decoded it. The root is a sign, so that the principal named here is never looked at.
-pub fn typecheck_readable(s: &[u8], c: Counts) -> Verdict
+pub fn typecheck_readable(s: &[u8], c: Counts) -> Result<Accepted, Rejection>
     requires { ReadableSheet s.now c }
     ensures { verdict_model result ≡ verdict s.now }
 {
@@ -40,20 +36,13 @@ pub fn typecheck_readable(s: &[u8], c: Counts) -> Verdict
 }
 
 // The verdict from the root's judgement: a root has type 0 or 1.
-fn conclude(terms: u16, root: u16, j: Inferred) -> Verdict
+fn conclude(terms: u16, root: u16, j: Result<Typed, Fault>) -> Result<Accepted, Rejection>
     ensures { verdict_model result ≡ concluded terms root (inferred_model j) }
 {
-    match j {
-        Inferred::Faulty(f) => Verdict::Refused(f),
-        Inferred::Typed { ty, needs } => {
-            if ty < 2 {
-                return Verdict::Accepted {
-                    terms: terms,
-                    ty: ty,
-                    needs: needs,
-                };
-            }
-            Verdict::Refused(Fault::RootType(root))
-        }
+    let Typed { ty, needs } = j?;
+    if ty < 2 {
+        Ok(Accepted { terms, ty, needs })
+    } else {
+        Err(Fault::RootType(root).into())
     }
 }

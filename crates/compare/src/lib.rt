@@ -10,26 +10,26 @@ ghost use Rattle.compare.specs.Internal.{TwoEntries, TwoFormed, matched_entries}
 
 pub mod answer;
 
-use answer::Comparison;
+use answer::{Comparison, Malformed};
 
 // Bytes of an entry.
 pub const ENTRY: usize = 4;
 
-pub fn compare(unit: &[u8], office: &[u8]) -> Comparison
+pub fn compare(unit: &[u8], office: &[u8]) -> Result<Comparison, Malformed>
     ensures { comparison_model result ≡ comparison unit.now office.now }
 {
     if !well_formed(unit) {
-        return Comparison::Malformed;
+        return Err(Malformed);
     }
     if !well_formed(office) {
-        return Comparison::Malformed;
+        return Err(Malformed);
     }
     let placed = count_matched(unit, office);
     let entries = unit.len() / ENTRY;
     if placed < entries {
-        return Comparison::Diverges(placed);
+        return Ok(Comparison::Diverges(placed));
     }
-    Comparison::Fits(office.len() / ENTRY - entries)
+    Ok(Comparison::Fits(office.len() / ENTRY - entries))
 }
 
 // Whether a record has whole entries alone, each with 0 or 1 for its decision.
@@ -39,12 +39,10 @@ fn well_formed(s: &[u8]) -> bool
     if s.len() % ENTRY != 0 {
         return false;
     }
-    let mut i = 0;
-    while i < s.len() {
-        if 1 < s[i + 3] {
+    for k in 0..s.len() / ENTRY {
+        if 1 < s[ENTRY * k + 3] {
             return false;
         }
-        i += ENTRY;
     }
     true
 }
@@ -54,18 +52,16 @@ fn count_matched(unit: &[u8], office: &[u8]) -> usize
     requires { TwoFormed unit.now office.now }
     ensures { result ≡ matched_entries unit.now office.now }
 {
-    let mut i = 0;
-    let mut j = 0;
-    while j < office.len() {
-        if i == unit.len() {
-            return i / ENTRY;
+    let mut placed = 0;
+    for j in 0..office.len() / ENTRY {
+        if placed == unit.len() / ENTRY {
+            return placed;
         }
-        if same(unit, i, office, j) {
-            i += ENTRY;
+        if same(unit, ENTRY * placed, office, ENTRY * j) {
+            placed += 1;
         }
-        j += ENTRY;
     }
-    i / ENTRY
+    placed
 }
 
 // Whether the entries at two places are equal: events are if their bytes are.
@@ -73,14 +69,5 @@ fn same(unit: &[u8], i: usize, office: &[u8], j: usize) -> bool
     requires { TwoEntries unit.now i office.now j }
     ensures { result ≡ same_event (event_at unit.now i) (event_at office.now j) }
 {
-    if unit[i] != office[j] {
-        return false;
-    }
-    if unit[i + 1] != office[j + 1] {
-        return false;
-    }
-    if unit[i + 2] != office[j + 2] {
-        return false;
-    }
-    unit[i + 3] == office[j + 3]
+    unit[i..i + ENTRY] == office[j..j + ENTRY]
 }

@@ -1,3 +1,4 @@
+pub mod SearchLaws
 pub mod PlaceLaws
 pub mod NestingLaws
 pub mod DecodeLaws

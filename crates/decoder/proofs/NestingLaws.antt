@@ -2,7 +2,7 @@
 use mathlib.Core.Bool.{Bool, true, false, cond}
 use mathlib.Core.List.{List}
 use mathlib.Core.Path.{◌≡◌, refl, sym, ap, ◌∙◌, subst}
-use Prim.Native.Nat.{ℕ, zero, suc, ◌+◌, ◌-◌, ◌<◌, ◌≤◌}
+use Prim.Native.Nat.{ℕ, zero, suc, ◌+◌, ◌-◌, ◌<◌, ◌≤◌, min}
 use native.Mathlib.Decide.{ℕ_discrete}
 use native.Mathlib.Omega.{arith}
 use lib.Dec.{leb, eqb}
@@ -13,10 +13,11 @@ use Rattle.privileges.specs.Booleans.{and_left, and_right}
 use Rattle.program.specs.Limits.{max_terms, max_nesting}
 use Rattle.program.specs.Tests.{or_else}
 use Rattle.program.specs.Layout.{terms, root}
-use Rattle.program.specs.Screening.{onward, lowest}
+use Rattle.program.specs.Screening.{lowest}
 use Rattle.program.specs.Decoding.{times_below, placed_ok, parent, nested_in}
 use Rattle.decoder.specs.Internal.{TermsOk, link_of, PlacesOk, Rising, nested_by, Nested, shallow_enough}
 use Rattle.program.proofs.Laws.Screening.{lowest_none}
+use Rattle.decoder.proofs.SearchLaws.{same_lowest}
 use Rattle.decoder.proofs.PlaceLaws.{Higher, parent_higher}
 
 -- ---- the list of depths
@@ -64,11 +65,9 @@ module _ (l d : List ℕ) (n t v : ℕ) (w : Nested l d n t) (r : Rising l n) (l
     ];
   }
 
-pub one_more : (d k : ℕ) → leb d k ≡ leb (d + 1) (suc k)
-one_more d k = leb_iff d k (d + 1) (suc k) (λ h. omega arith) (λ h. omega arith)
-
-pub held : (d k : ℕ) → max_nesting < d → k < max_nesting → leb d k ≡ leb (max_nesting + 1) (suc k)
-held d k g h = leb_iff d k (max_nesting + 1) (suc k) (λ f. omega arith) (λ f. omega arith)
+-- one more than d, held
+pub one_more : (d v k : ℕ) → v ≡ min (min (d + 1) 255) (max_nesting + 1) → k < max_nesting → leb d k ≡ leb v (suc k)
+one_more d v k e h = leb_iff d k v (suc k) (λ f. omega arith) (λ f. omega arith)
 
 -- ---- of a sheet whose places are right
 module _ (s l : List ℕ) (T : TermsOk s) (few : terms s ≤ max_terms) (P : PlacesOk s l) where
@@ -104,10 +103,6 @@ module _ (s l : List ℕ) (T : TermsOk s) (few : terms s ≤ max_terms) (P : Pla
           (λ i. or_else (eqb x (root s)) (λ _. (before (get_or l x 0) (rising.inside x u) ∙ ap (nested_in s k) (parent_noted x u)) i))
 
   -- the search in the list of depths is the search for what is nested too deep
-  same_lowest : (f g : ℕ → Bool) (i n : ℕ) → ((x : ℕ) → x < i + n → f x ≡ g x) → lowest f i n ≡ lowest g i n
-  same_lowest f g i zero h = refl
-  same_lowest f g i (suc n) h = λ j. onward (h i (omega arith) j) i (λ _. same_lowest f g (suc i) n (λ x q. h x (omega arith)) j)
-
   pub deep_is : (d : List ℕ) → Nested l d (terms s) 0 → lowest (shallow_enough d) 0 (terms s) ≡ lowest (nested_in s max_nesting) 0 (terms s)
   deep_is d w = same_lowest (shallow_enough d) (nested_in s max_nesting) 0 (terms s)
       (λ x h. sym (w.each x (omega arith) (omega arith) max_nesting (omega arith)) ∙ nested_is max_nesting x (omega arith))

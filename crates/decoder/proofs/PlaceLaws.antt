@@ -9,12 +9,14 @@ use lib.Dec.{eqb}
 use lib.ListN.{get_or, length, set, replicate, get_or-replicate}
 use lib.Seq.{get_or-set_same, get_or-set_other}
 use borrow.Author.Tests.{eqb-true, eqb-false, eq-eqb, ne_eqb}
+use Rattle.std.specs.Prelude.{Some, None}
+use Rattle.std.specs.Bool.{then_some}
 use Rattle.program.specs.Limits.{max_terms}
 use Rattle.program.specs.Layout.{terms, term_at, root, kind_byte, first, second, third}
 use Rattle.program.specs.Formats.{Part, is_child, Kind, Boolean, Number, Variable, Function, Letrec, Call, If, Check, Enable, Sign, Test, Sum, Difference, Less, Post, kind_of, format}
 use Rattle.program.specs.Decoding.{format_at, term_ok, child_count, times_in, times_below, is_sign, signed_body, placed_ok, parent}
 use Rattle.accessors.specs.Internal.{Laid, TermInside, term_inside}
-use Rattle.termrecords.specs.Internal.{kind_shape, shape_if, shape_at}
+use Rattle.termrecords.specs.Internal.{kind_shape, shape_at}
 use Rattle.decoder.specs.Internal.{TermsOk, TableTerm, link_step, Linked, link_times, count_equal, times_in_shape, LinkedAll, ChildrenBelow, link_of, Links, many_parents, TwoBelow}
 use Rattle.program.specs.Records.{term_at_byte, term_record}
 use Rattle.program.proofs.Laws.Screening.{lowest_none}
@@ -24,7 +26,7 @@ use Rattle.program.proofs.Laws.Trees.{Below, below_of}
 use Rattle.program.specs.declared.records.Counts.{Counts}
 use Rattle.program.specs.declared.records.TermRecord.{TermRecord}
 use Rattle.termrecords.specs.declared.Shape.{Shape}
-use Rattle.termrecords.specs.declared.Shape.TheVariants.{Leaf, One, Two, Three, Function as FunctionShape, Letrec as LetrecShape, Wrong}
+use Rattle.termrecords.specs.declared.Shape.TheVariants.{Leaf, One, Two, Three, Function as FunctionShape, Letrec as LetrecShape}
 
 -- ---- one store
 stored : (l : List ℕ) (x v : ℕ) → x < length l → (y : ℕ) → get_or (set l x v) y 0 ≡ cond (eqb x y) v (get_or l y 0)
@@ -77,9 +79,6 @@ module _ (l : List ℕ) (t : ℕ) where
 
   pub links_leaf : {x : Shape} → x ≡ Leaf → LinkedAll l l x t
   links_leaf e = shape_of l e (λ y h. refl)
-
-  pub links_wrong : {x : Shape} → x ≡ Wrong → LinkedAll l l x t
-  links_wrong e = shape_of l e (λ y h. refl)
 
   alone : (l₁ : List ℕ) (a : ℕ) → Linked l l₁ a t → (y : ℕ) → y < length l → get_or l₁ y 0 ≡ link_times (count_equal a y) (get_or l y 0) t
   alone l₁ a w y h = w y h ∙ step (eqb a y) (get_or l y 0) t
@@ -158,18 +157,24 @@ terms_ok : (s : List ℕ) → TermsOk s → (t : ℕ) → t < terms s → term_o
 terms_ok s T t h = lowest_none (term_ok s) 0 (terms s) T.none_found t (omega arith) (omega arith)
 
 -- the shape of a right record
-right_shape : (s : List ℕ) (t : ℕ) → term_ok s t ≡ true → shape_at s t ≡ kind_shape (kind_of (kind_byte s t)) (first s t) (second s t) (third s t)
+right_shape : (s : List ℕ) (t : ℕ) → term_ok s t ≡ true → shape_at s t ≡ Some (kind_shape (kind_of (kind_byte s t)) (first s t) (second s t) (third s t))
 unfolding shape_at
-right_shape s t h = ap (λ (b : Bool). shape_if b (kind_shape (kind_of (kind_byte s t)) (first s t) (second s t) (third s t))) h
+right_shape s t h = ap (λ (b : Bool). then_some b (kind_shape (kind_of (kind_byte s t)) (first s t) (second s t) (third s t))) h
 
-module _ (s : List ℕ) (T : TermsOk s) (few : terms s ≤ max_terms) (t : ℕ) (h : t < terms s) {x : Shape} (e : x ≡ shape_at s t) where
+pub no_shape : (s : List ℕ) → TermsOk s → (t : ℕ) → t < terms s → shape_at s t ≡ None → ⊥
+no_shape s T t h e = let p = right_shape s t (terms_ok s T t h) in cc
+
+module _ (s : List ℕ) (T : TermsOk s) (few : terms s ≤ max_terms) (t : ℕ) (h : t < terms s) {x : Shape} (e : shape_at s t ≡ Some x) where
+  shape_is : x ≡ kind_shape (kind_of (kind_byte s t)) (first s t) (second s t) (third s t)
+  shape_is = let p = right_shape s t (terms_ok s T t h) in cc
+
   pub shape_below : ChildrenBelow x max_terms
   shape_below =
-      subst (λ (z : Shape). ChildrenBelow z max_terms) (sym (e ∙ right_shape s t (terms_ok s T t h)))
+      subst (λ (z : Shape). ChildrenBelow z max_terms) (sym shape_is)
       (children_below (kind_of (kind_byte s t)) t (first s t) (second s t) (third s t) max_terms (below_of s t (terms_ok s T t h)) (omega arith))
 
   among_is : (y : ℕ) → times_in_shape y x ≡ times_in s y t
-  among_is y = ap (times_in_shape y) (e ∙ right_shape s t (terms_ok s T t h)) ∙ among_times (kind_of (kind_byte s t)) y (first s t) (second s t) (third s t)
+  among_is y = ap (times_in_shape y) shape_is ∙ among_times (kind_of (kind_byte s t)) y (first s t) (second s t) (third s t)
 
 -- ---- the parent that is found lies above its child
 not_counted : (p : Part) (v x t : ℕ) → (is_child p ≡ true → v < t) → t ≤ x → child_count p v x ≡ 0
@@ -252,7 +257,7 @@ link_more (suc k) (suc (suc m)) p t hp ht =
     let e : suc (suc (suc k + m)) ≡ suc k + suc (suc m) = omega arith in
     many k t ∙ ap (λ (z : ℕ). link_of z (pick (eqb (suc k) 0) p t)) e
 
-pub links_more : (s : List ℕ) → TermsOk s → terms s ≤ max_terms → (t : ℕ) → t < terms s → {x : Shape} → x ≡ shape_at s t
+pub links_more : (s : List ℕ) → TermsOk s → terms s ≤ max_terms → (t : ℕ) → t < terms s → {x : Shape} → shape_at s t ≡ Some x
     → (l l' : List ℕ) → length l ≡ max_terms
     → Links s l t → LinkedAll l l' x t → Links s l' (t + 1)
 links_more s T few t h {x} e l l' k w v = record {
@@ -359,3 +364,18 @@ module _ (s : List ℕ) (c : Counts) (L : Laid s c) (T : TermsOk s) (t : ℕ) (h
       (λ g. omega (arith, (parent_higher s T t (terms s) (omega arith) g).above))
       (λ g. omega (arith, few, (parent_higher s T t (terms s) (omega arith) g).inside)) in
       λ i. p i && eb i && (not (r i) || es i)
+
+  -- by the tests that the code asks, one after the other
+  abbrev signed_root : Bool
+  signed_root = not (eqb (t + 1) c.terms) || is_sign s t
+
+  module _ {n x : Bool} (en : n ≡ cond (eqb (t + 1) c.terms) (eqb (get_or l t 0) 0) (not (eqb (get_or l t 0) 0) && not (eqb (get_or l t 0) many_parents))) where
+    pub parents_bad : n ≡ false → x ≡ false → x ≡ placed_ok s t
+    parents_bad p e = e ∙ sym (ap (λ (b : Bool). b && signed_body s (format_at s t).second (second s t) && signed_root) p) ∙ place_is en refl refl
+
+    module _ {body : Bool} (eb : body ≡ signed_body s (format_at s t).second (second s t)) (p : n ≡ true) where
+      pub body_bad : body ≡ false → x ≡ false → x ≡ placed_ok s t
+      body_bad q e = e ∙ sym (λ i. p i && q i && signed_root) ∙ place_is en eb refl
+
+      pub sign_left : body ≡ true → x ≡ (not (eqb (t + 1) c.terms) || is_sign s t) → x ≡ placed_ok s t
+      sign_left q e = e ∙ sym (λ i. p i && q i && signed_root) ∙ place_is en eb refl

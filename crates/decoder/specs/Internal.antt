@@ -4,12 +4,17 @@ use Rattle.std.proofs.Math.Option.{none}
 use Rattle.program.specs.Limits.{max_terms, max_nesting}
 use Rattle.program.specs.Layout.{types, terms}
 use Rattle.program.specs.Tests.{or_else}
-use Rattle.program.specs.Screening.{lowest}
-use Rattle.program.specs.Decoding.{type_ok, term_ok, times_below, placed_ok, parent, nested_in}
+use Rattle.program.specs.Screening.{Screening, screen, lowest}
+use Rattle.program.specs.Decoding.{type_ok, term_ok, times_below, placed_ok, parent, nested_in, table_conditions}
 use Rattle.program.specs.declared.records.Counts.{Counts}
 use Rattle.accessors.specs.Internal.{Laid}
 use Rattle.termrecords.specs.declared.Shape.{Shape}
-use Rattle.termrecords.specs.declared.Shape.TheVariants.{Leaf, One, Two, Three, Function as FunctionShape, Letrec as LetrecShape, Wrong}
+use Rattle.termrecords.specs.declared.Shape.TheVariants.{Leaf, One, Two, Three, Function as FunctionShape, Letrec as LetrecShape}
+
+-- what screening the tables finds. It is opened only in the laws that need it: a type's depth and a term's nesting are sought 12 and 32 levels down, so that
+-- all of the conditions, computed as far as they go, are too long to be read.
+unfoldable pub table_screening : List ℕ → Screening
+table_screening s = screen (table_conditions s)
 
 -- ---- what has been sought and not found
 pub record TypesOk (s : List ℕ) : Type 0 where
@@ -57,7 +62,6 @@ times_in_shape y (Two a b) = count_equal a y + count_equal b y
 times_in_shape y (Three a b d) = count_equal a y + count_equal b y + count_equal d y
 times_in_shape y (FunctionShape b) = count_equal b y
 times_in_shape y (LetrecShape b d) = count_equal b y + count_equal d y
-times_in_shape y Wrong = 0
 
 abbrev pub LinkedAll : (old new : List ℕ) → Shape → (t : ℕ) → Type 0
 LinkedAll old new x t = (y : ℕ) → y < length old → get_or new y 0 ≡ link_times (times_in_shape y x) (get_or old y 0) t
@@ -79,7 +83,6 @@ ChildrenBelow (Two a b) n = TwoBelow a b n
 ChildrenBelow (Three a b d) n = ThreeBelow a b d n
 ChildrenBelow (FunctionShape b) n = b < n
 ChildrenBelow (LetrecShape b d) n = TwoBelow b d n
-ChildrenBelow Wrong n = Unit {0}
 
 -- what is noted for a term that stands so often as a child, p being its parent
 abbrev pub link_of : (times p : ℕ) → ℕ

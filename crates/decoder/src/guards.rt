@@ -9,20 +9,15 @@ ghost use Rattle.program.specs.Search.{found_model};
 use accessors::guard;
 use program::limits::{MAX_CHANNELS, MAX_PRIVILEGE, NO_GUARD};
 use program::records::Counts;
-use program::search::Found;
 
 // The lowest channel whose guard is neither a privilege nor none. A sheet of version 1 has no guards, so that none is found.
-pub fn bad_guard(s: &[u8], c: Counts) -> Found
+pub fn bad_guard(s: &[u8], c: Counts) -> Option<u16>
     requires { Laid s.now c }
     ensures { found_model result ≡ lowest (guard_ok s.now) 0 max_channels }
 {
-    let mut channel = 0;
-    while channel < MAX_CHANNELS {
+    let channel = (0..MAX_CHANNELS).find(|&channel| {
         let g = guard(s, c, channel);
-        if !((g <= MAX_PRIVILEGE) | (g == NO_GUARD)) {
-            return Found::At(channel as u16);
-        }
-        channel += 1;
-    }
-    Found::Nothing
+        g > MAX_PRIVILEGE && g != NO_GUARD
+    })?;
+    Some(u16::from(channel))
 }

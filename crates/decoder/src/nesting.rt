@@ -1,12 +1,11 @@
 // Nesting: refusal 8.
-ghost use Rattle.std.specs.Prelude.{◌≡◌, ◌≤◌};
+ghost use Rattle.std.specs.Prelude.{◌≡◌, ◌<◌, ◌≤◌};
 ghost use Rattle.program.specs.Limits.{max_terms};
 ghost use Rattle.program.specs.Screening.{lowest};
 ghost use Rattle.program.specs.Search.{found_model};
 ghost use Rattle.decoder.specs.Internal.{ParentList, Nested, shallow_enough};
 
 use program::limits::{MAX_NESTING, TERM_PLACES};
-use program::search::Found;
 
 // Where a nesting that is too deep is held.
 const TOO_DEEP: u8 = MAX_NESTING + 1;
@@ -17,34 +16,23 @@ pub fn nestings(parents: &[u16; TERM_PLACES], n: u16) -> [u8; TERM_PLACES]
     ensures { Nested parents.now result n 0 }
 {
     let mut deep = [0u8; TERM_PLACES];
-    let mut t = (n - 1) as usize;
-    deep[t] = 1;
-    while 0 < t {
-        t -= 1;
-        let p = parents[t] as usize;
-        let d = deep[p];
-        if d < TOO_DEEP {
-            deep[t] = d + 1;
-        } else {
-            deep[t] = TOO_DEEP;
-        }
+    let root = usize::from(n) - 1;
+    deep[root] = 1;
+    for t in (0..root).rev() {
+        let parent = usize::from(parents[t]);
+        deep[t] = deep[parent].saturating_add(1).min(TOO_DEEP);
     }
     deep
 }
 
 // The lowest term nested too deep.
-pub fn too_deep(deep: &[u8; TERM_PLACES], n: u16) -> Found
+pub fn too_deep(deep: &[u8; TERM_PLACES], n: u16) -> Option<u16>
     requires { n ≤ max_terms }
     ensures { found_model result ≡ lowest (shallow_enough deep.now) 0 n }
 {
-    let mut t = 0;
-    while t < n {
-        let i = t as usize;
-        let d = deep[i];
-        if MAX_NESTING < d {
-            return Found::At(t);
-        }
-        t += 1;
-    }
-    Found::Nothing
+    (0..n).find(
+        |&t|
+            requires { t < max_terms }
+        { MAX_NESTING < deep[usize::from(t)] },
+    )
 }

@@ -9,7 +9,6 @@ ghost use Rattle.decoder.specs.Internal.{Tables, TableTerm, Linked, ChildrenBelo
 use accessors::table_term;
 use program::limits::TERM_PLACES;
 use program::records::Counts;
-use program::search::Found;
 use termrecords::{Shape, shape_at};
 
 // Noted for a term with more than one parent: no term has so high a number.
@@ -50,7 +49,6 @@ fn link_all(parents: &mut [u16], x: Shape, t: u16)
             link(parents, b, t);
             link(parents, d, t);
         }
-        Shape::Wrong => {}
     }
 }
 
@@ -59,13 +57,11 @@ pub fn parents_of(s: &[u8], c: Counts) -> [u16; TERM_PLACES]
     requires { Tables s.now c }
     ensures { Links s.now result (terms s.now) }
 {
-    let mut parents = [0u16; TERM_PLACES];
-    let n = c.terms;
-    let mut t = 0;
-    while t < n {
-        let x = shape_at(s, c, t);
-        link_all(&mut parents, x, t);
-        t += 1;
+    let mut parents = [0; TERM_PLACES];
+    for t in 0..c.terms {
+        if let Some(x) = shape_at(s, c, t) {
+            link_all(&mut parents, x, t);
+        }
     }
     parents
 }
@@ -84,6 +80,7 @@ fn body_signed(s: &[u8], c: Counts, t: u16) -> bool
     ensures { result ≡ signed_body s.now (format_at s.now t).second (second s.now t) }
 {
     let r = table_term(s, c, t);
+    // `|` and not `||`: the test is then one value, of which the laws of a body speak.
     if (r.kind == 3) | (r.kind == 4) {
         return is_sign(s, c, r.second);
     }
@@ -97,7 +94,7 @@ fn parents_ok(p: u16, root: bool) -> bool
     if root {
         p == 0
     } else {
-        (p != 0) & (p != MANY_PARENTS)
+        p != 0 && p != MANY_PARENTS
     }
 }
 
@@ -106,10 +103,7 @@ fn root_signed(s: &[u8], c: Counts, t: u16, root: bool) -> bool
     requires { TableTerm s.now c t }
     ensures { result ≡ (not root || is_sign s.now t) }
 {
-    if root {
-        return is_sign(s, c, t);
-    }
-    true
+    !root || is_sign(s, c, t)
 }
 
 // Whether term t has its parents and its signs.
@@ -120,21 +114,17 @@ fn place_ok(s: &[u8], c: Counts, parents: &[u16; TERM_PLACES], t: u16) -> bool
     let root = t + 1 == c.terms;
     let i = t as usize;
     let p = parents[i];
-    parents_ok(p, root) & body_signed(s, c, t) & root_signed(s, c, t, root)
+    parents_ok(p, root) && body_signed(s, c, t) && root_signed(s, c, t, root)
 }
 
 // The lowest term with a wrong number of parents, whose body is unsigned, or which is the root and unsigned.
-pub fn bad_place(s: &[u8], c: Counts, parents: &[u16; TERM_PLACES]) -> Found
+pub fn bad_place(s: &[u8], c: Counts, parents: &[u16; TERM_PLACES]) -> Option<u16>
     requires { LinkedTables s.now c parents.now }
     ensures { found_model result ≡ lowest (placed_ok s.now) 0 (terms s.now) }
 {
-    let n = c.terms;
-    let mut t = 0;
-    while t < n {
-        if !place_ok(s, c, parents, t) {
-            return Found::At(t);
-        }
-        t += 1;
-    }
-    Found::Nothing
+    (0..c.terms).find(
+        |&t|
+            requires { LinkedTerm s.now c parents.now t }
+        { !place_ok(s, c, parents, t) },
+    )
 }

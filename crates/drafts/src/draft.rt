@@ -1,81 +1,49 @@
-// A text as it grows, by value.
-ghost use Rattle.std.specs.Prelude.{[], ◌∷◌, ◌≡◌, ◌+◌, ◌<◌, ◌≤◌, length};
+// A text as it grows, in fixed memory.
+ghost use Rattle.std.specs.Prelude.{◌≡◌, ◌+◌, ◌<◌, ◌≤◌, length};
+ghost use Rattle.arrayvec.specs.ArrayVec.{array_vec_len};
 ghost use Rattle.text.specs.Text.{digit as digit_of, decimal as decimal_of, hexadecimal as hexadecimal_of};
-ghost use Rattle.drafts.specs.Internal.{Blank, DraftAppended, draft_bytes};
+ghost use Rattle.drafts.specs.Internal.{DraftAppended, draft_bytes};
+
+use arrayvec::ArrayVec;
+use itoa::Buffer;
 
 // Bytes of a draft: they hold the longest text, of which a number takes at most 20.
 pub const DRAFT_BYTES: usize = 224;
 
-#[derive(Clone, Copy)]
-pub struct Draft {
-    pub bytes: [u8; DRAFT_BYTES],
-    pub len: usize,
-}
+pub type Draft = ArrayVec<u8, DRAFT_BYTES>;
 
-pub fn blank() -> Draft
-    ensures { Blank result }
+// The precondition leaves room for all of `s`, so that it is never turned away.
+pub fn word(d: &mut Draft, s: &[u8])
+    requires { array_vec_len d.old + length s.now ≤ draft_bytes }
+    ensures { DraftAppended d.old.items s.now (length s.now) d.new.items }
 {
-    Draft {
-        bytes: [0; DRAFT_BYTES],
-        len: 0,
-    }
+    let _ = d.try_extend_from_slice(s);
 }
 
-// One byte more.
-pub fn put(d: Draft, b: u8) -> Draft
-    requires { d.len < draft_bytes }
-    ensures { DraftAppended d (b ∷ []) 1 result }
-{
-    let mut r = d;
-    let at = d.len;
-    r.bytes[at] = b;
-    r.len = at + 1;
-    r
-}
-
-pub fn word(d: Draft, s: &[u8]) -> Draft
-    requires { d.len + length s.now ≤ draft_bytes }
-    ensures { DraftAppended d s.now (length s.now) result }
-{
-    let mut r = d;
-    let mut i = 0;
-    while i < s.len() {
-        r = put(r, s[i]);
-        i += 1;
-    }
-    r
-}
-
-// A digit's character; letters are capital.
+// A digit's character; letters are capital, of which std's digits have none.
 fn digit(n: u8) -> u8
     requires { n < 16 }
     ensures { result ≡ digit_of n }
 {
-    if n < 10 { 48 + n } else { 55 + n }
+    if n < 10 { b'0' + n } else { b'A' - 10 + n }
 }
 
-// The last `k` hexadecimal digits.
-pub fn hexadecimal(d: Draft, k: usize, n: u32) -> Draft
-    requires { d.len + k ≤ draft_bytes }
-    ensures { DraftAppended d (hexadecimal_of k n) k result }
+// The last `k` hexadecimal digits. Not by `write!`: its contract leaves open whether the text fits, and a failed write would be the caller's to tell.
+pub fn hexadecimal(d: &mut Draft, k: usize, n: u32)
+    requires { array_vec_len d.old + k ≤ draft_bytes }
+    ensures { DraftAppended d.old.items (hexadecimal_of k n) k d.new.items }
 {
-    if k == 0 {
-        return d;
+    if k > 0 {
+        let last = digit((n % 16) as u8);
+        hexadecimal(d, k - 1, n / 16);
+        d.push(last);
     }
-    let front = hexadecimal(d, k - 1, n / 16);
-    let last = digit((n % 16) as u8);
-    put(front, last)
 }
 
-// The last digit, behind those of the tenth if that is not 0.
-pub fn decimal(d: Draft, n: usize) -> Draft
-    requires { d.len + 20 ≤ draft_bytes }
-    ensures { DraftAppended d (decimal_of n) (length (decimal_of n)) result }
+pub fn decimal(d: &mut Draft, n: usize)
+    requires { array_vec_len d.old + 20 ≤ draft_bytes }
+    ensures { DraftAppended d.old.items (decimal_of n) (length (decimal_of n)) d.new.items }
 {
-    let last = digit((n % 10) as u8);
-    if n < 10 {
-        return put(d, last);
-    }
-    let front = decimal(d, n / 10);
-    put(front, last)
+    let mut digits = Buffer::new();
+    word(d, digits.format(n).as_bytes());
 }

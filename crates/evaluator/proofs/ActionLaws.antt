@@ -1,29 +1,28 @@
 -- What evaluating a term of each action is, by the interpreter's clauses, with its children evaluated at their own numbers. Assumes nothing.
 use mathlib.Core.Bool.{Bool, true, false, cond}
-use mathlib.Core.List.{List, [], ◌∷◌}
+use mathlib.Core.List.{List}
 use mathlib.Core.Logic.{inl, inr, ⊎_elim}
 use mathlib.Core.Path.{◌≡◌, refl, sym, ap, ap₂, ◌∙◌, fun_ext, subst}
-use Prim.Native.Nat.{ℕ, zero, suc, ◌+◌, ◌-◌, ◌/◌, ◌<◌, ◌≤◌}
+use Prim.Native.Nat.{ℕ, zero, suc, ◌-◌, ◌/◌, ◌<◌, ◌≤◌}
 use native.Mathlib.Decide.{dec_lt, ℕ_discrete}
 use native.Mathlib.Nat.{eq-or-lt_of_le}
 use native.Mathlib.Numerals.{sub-one}
 use native.Mathlib.Omega.{arith}
 use lib.Dec.{ltb, eqb}
-use lib.ListN.{length, get_or, set}
-use lib.Seq.{get_or-set_other}
+use lib.ListN.{length, get_or}
 use borrow.Author.Tests.{eq-eqb, ne_eqb, le-leb, lt-leb, lt-ltb, le-ltb}
 use Rattle.program.specs.Decoding.{is_guard}
 use Rattle.stores.specs.Words.{boolean_word, interval_word, function_word, stop_word, sort_of, payload_of, env_of, is_stop}
 use Rattle.termtable.specs.Table.{word_kind, word_small, word_first, word_second, word_third, word_guard}
 use Rattle.stores.specs.Cells.{look_of, BindsCell}
 use Rattle.access.specs.Access.{enable_access, enable_frames, enabled_now, restore_frames}
-use Rattle.machine.specs.Steps.{calls_left, cells_made, posts_made, mode_of, saturated_made, operate_saturates, wrapped, counters_saturated, operate_counters, Operated, note_counters, guard_decides, post_cause, post_counters, PostAppended}
+use Rattle.machine.specs.Steps.{operate_counters, Operated, note_counters, post_counters, PostAppended}
 use Rattle.machine.specs.Store.{Store, Done, store_of, done_of, with_frames, and_then, StoreEvaluation, StoreApplication, Action, immediate, call, if, enable, binary, post, action_of, immediate_word, has_room, own_cell, call_s, branch_s, if_s, restored, enable_s, operate_done, binary_s, post_done, post_s, by_action, begin, step, eval_below, apply_at, eval_at}
 use Rattle.machine.specs.Lower.{evaluates_first, evaluates_second, evaluates_third, reads_guard, ChildrenLower}
 use Rattle.machine.specs.Tails.{goes_to, TailSteps}
+use Rattle.machine.specs.declared.counters.Counters.{Counters}
 use Rattle.machine.specs.declared.tail.TailStep.{TailStep}
 use Rattle.stores.proofs.CellLaws.{bound_room}
-use Rattle.machine.proofs.NoteLaws.{note_others}
 use Rattle.evaluator.specs.Promises.{TermTable, Node, Tail, FirstNode, PairNode, pair_end, second_at, OperationKind}
 
 module _ (terms : List ℕ) where
@@ -160,18 +159,19 @@ module _ {terms : List ℕ} {t x : ℕ} (k env access : ℕ) where
 
   module _ (N : Node terms t x enable) (st : Store) where
     pub enable_is : {u s a old : ℕ} {seen l m : List ℕ} {d : Done} → u ≡ word_first x → s ≡ word_small x
-        → old ≡ enabled_now (mode_of st.counters) access st.frames
-        → seen ≡ st.frames → a ≡ enable_access (mode_of st.counters) access s → l ≡ enable_frames (mode_of st.counters) access seen s
-        → d ≡ eval_at terms k u env a (with_frames l st) → m ≡ restore_frames (mode_of st.counters) access d.store.frames old
+        → old ≡ enabled_now st.counters.mode.lazy access st.frames
+        → seen ≡ st.frames → a ≡ enable_access st.counters.mode.lazy access s → l ≡ enable_frames st.counters.mode.lazy access seen s
+        → d ≡ eval_at terms k u env a (with_frames l st) → m ≡ restore_frames st.counters.mode.lazy access d.store.frames old
         → done_of d.out (with_frames m d.store) ≡ eval_at terms k t env access st
     unfolding enable_s
     enable_is {d = d} p s o z a l g m =
         ap (λ (f : List ℕ). done_of d.out (with_frames f d.store)) m
-        ∙ ap₂ (λ (w : ℕ) (z : Done). restored (mode_of st.counters) access w z) o (rw (l, z, a, s) at g)
+        ∙ ap₂ (λ (w : ℕ) (z : Done). restored st.counters.mode.lazy access w z) o (rw (l, z, a, s) at g)
         ∙ sym (top N k env access st ∙ ap (λ (f : StoreEvaluation). enable_s f (word_small x) env access st) (child N k p (first_below N refl p)))
 
 -- ---- a letrec, check, sign or test
-module _ {terms : List ℕ} {t x : ℕ} (T : Tail terms t x) (k env access : ℕ) {n cells frames noted n' cells' frames' noted' : List ℕ}
+module _ {terms : List ℕ} {t x : ℕ} (T : Tail terms t x) (k env access : ℕ) {n : Counters} {cells frames noted : List ℕ}
+    {n' : Counters} {cells' frames' noted' : List ℕ}
     {e : TailStep} (E : TailSteps t x env access n cells frames noted e n' cells' frames' noted') where
   tail_is : (posts : List ℕ) → eval_at terms k t env access (store_of n cells posts frames noted)
       ≡ goes_to e (eval_below terms (apply_at terms k) t) (store_of n' cells' posts frames' noted')
@@ -249,7 +249,8 @@ module _ {terms : List ℕ} {t x : ℕ} (P : PairNode terms t x) where
   unfolding pair_end
   pair_applies k access a b st e z = rw (eq-eqb (word_kind x) 5 (sym e ∙ z)) refl
 
-  pub pair_operates : (k access a b : ℕ) (cells posts frames noted : List ℕ) {o w : ℕ} {n n' : List ℕ} → o ≡ word_kind x → (o ≡ 5 → ⊥) → Operated o t a b n w n'
+  pub pair_operates : (k access a b : ℕ) (cells posts frames noted : List ℕ) {o w : ℕ} {n n' : Counters} → o ≡ word_kind x → (o ≡ 5 → ⊥)
+      → Operated o t a b n w n'
       → done_of w (store_of n' cells posts frames noted) ≡ pair_end terms k t x access a b (store_of n cells posts frames noted)
   unfolding pair_end operate_done
   pair_operates k access a b c p f l e n d =
@@ -365,65 +366,43 @@ module _ (terms : List ℕ) (k t f v access : ℕ) (st : Store) where
           go zero n = absurd (n refl)
           go (suc k) n = simp (eq-eqb (sort_of f) 2 (sym e ∙ z)) (rw sub-one refl)
 
-      pub apply_spent : {r : ℕ} → calls_left st.counters ≡ 0 → r ≡ stop_word 20 t → apply_at terms k t f v access st ≡ done_of r st
+      pub apply_spent : {r : ℕ} → st.counters.calls_left ≡ 0 → r ≡ stop_word 20 t → apply_at terms k t f v access st ≡ done_of r st
       unfolding begin
-      apply_spent h r = apply_begin ∙ simp (eq-eqb (calls_left st.counters) 0 h) (ap (λ (x : ℕ). done_of x st) (sym r))
+      apply_spent h r = apply_begin ∙ simp (eq-eqb st.counters.calls_left 0 h) (ap (λ (x : ℕ). done_of x st) (sym r))
 
-      module _ (calls : calls_left st.counters ≡ 0 → ⊥) where
-        pub apply_full : {r : ℕ} → length st.cells / 8 ≤ cells_made st.counters → r ≡ stop_word 21 t → apply_at terms k t f v access st ≡ done_of r st
+      module _ (calls : st.counters.calls_left ≡ 0 → ⊥) where
+        pub apply_full : {r : ℕ} → length st.cells / 8 ≤ st.counters.cells → r ≡ stop_word 21 t → apply_at terms k t f v access st ≡ done_of r st
         unfolding begin has_room
-        apply_full h r = apply_begin ∙ simp (ne_eqb (calls_left st.counters) 0 calls, le-ltb (cells_made st.counters) (length st.cells / 8) h)
+        apply_full h r = apply_begin ∙ simp (ne_eqb st.counters.calls_left 0 calls, le-ltb st.counters.cells (length st.cells / 8) h)
             (ap (λ (x : ℕ). done_of x st) (sym r))
 
-        pub apply_runs : {b e o m : ℕ} {l : List ℕ} → BindsCell (cells_made st.counters) v e st.cells m l → (m ≡ 0 → ⊥) → b ≡ payload_of f → e ≡ env_of f → o
+        pub apply_runs : {b e o m : ℕ} {l : List ℕ} → BindsCell st.counters.cells v e st.cells m l → (m ≡ 0 → ⊥) → b ≡ payload_of f → e ≡ env_of f → o
             ≡ own_cell st
             → apply_at terms k t f v access st
-            ≡ eval_at terms (k - 1) b o access (store_of (set (set st.counters 0 (calls_left st.counters - 1)) 1 m) l st.posts st.frames st.noted)
+            ≡ eval_at terms (k - 1) b o access
+            (store_of (record st.counters { calls_left = st.counters.calls_left - 1; cells = m }) l st.posts st.frames st.noted)
         unfolding begin has_room
         apply_runs c n b e o =
             let h = bound_room _ _ _ _ c n in
             apply_begin
-            ∙ simp (ne_eqb (calls_left st.counters) 0 calls, lt-ltb (cells_made st.counters) (length st.cells / 8) h.0)
+            ∙ simp (ne_eqb st.counters.calls_left 0 calls, lt-ltb st.counters.cells (length st.cells / 8) h.0)
             (rw (h.1.0, h.1.1, b, e, o) refl)
 
--- ---- the calls left after a cell is counted, after a call is, and after an operation
-same_calls : (n : List ℕ) (m : ℕ) → calls_left (set n 1 m) ≡ calls_left n
-same_calls n m = get_or-set_other n 1 0 m 0 (λ e. omega (arith, e))
+-- ---- the calls left after a call is counted, and after an operation
+pub one_call_less : (n : Counters) (m : ℕ) → (n.calls_left ≡ 0 → ⊥) → (record n { calls_left = n.calls_left - 1; cells = m }).calls_left < n.calls_left
+one_call_less n m h = omega (arith, h)
 
-pub one_call_less : (n : List ℕ) (m : ℕ) → (calls_left n ≡ 0 → ⊥) → calls_left (set (set n 0 (calls_left n - 1)) 1 m) < calls_left n
-one_call_less n m h = go n h
-  where
-    go : (n : List ℕ) → (calls_left n ≡ 0 → ⊥) → calls_left (set (set n 0 (calls_left n - 1)) 1 m) < calls_left n
-    go [] h = absurd (h refl)
-    go (a ∷ l) h = omega (arith, h, same_calls (set (a ∷ l) 0 (a - 1)) m)
-
-pub operate_calls : {k t a b r : ℕ} {n n' : List ℕ} → Operated k t a b n r n' → calls_left n' ≤ calls_left n
+pub operate_calls : {k t a b r : ℕ} {n n' : Counters} → Operated k t a b n r n' → n'.calls_left ≤ n.calls_left
 unfolding operate_counters
-operate_calls {k} {a = a} {b = b} {n = n} d = omega (arith, ap (λ (m : List ℕ). calls_left m) d.counters_are, go (operate_saturates (mode_of n) k a b))
-  where
-    go : (over : Bool) → calls_left (cond over (counters_saturated n) n) ≡ calls_left n
-    go true = get_or-set_other n 4 0 (wrapped (saturated_made n + 1)) 0 (λ e. omega (arith, e))
-    go false = refl
+operate_calls d = omega (arith, ap (λ (m : Counters). m.calls_left) d.counters_are)
 
 -- ---- a post that is appended, or not
-module _ {t x access w : ℕ} {n l f o n' l' f' o' : List ℕ} {r : ℕ} (a : PostAppended t x access w n l f o r n' l' f' o') where
+module _ {t x access w : ℕ} {n : Counters} {l f o : List ℕ} {n' : Counters} {l' f' o' : List ℕ} {r : ℕ}
+    (a : PostAppended t x access w n l f o r n' l' f' o') where
   pub post_done_lem : (c : List ℕ) → done_of r (store_of n' c l' f' o') ≡ post_done t x access w (store_of n c l f o)
   unfolding post_done
   post_done_lem c = λ i. done_of (a.word_is i) (store_of (a.counters_are i) c (a.posts_are i) (a.frames_are i) (a.noted_are i))
 
-  pub post_calls : calls_left n' ≤ calls_left n
-  unfolding post_counters
-  post_calls =
-      omega (
-        arith,
-        ap (λ (m : List ℕ). calls_left m) a.counters_are,
-        go (eqb (post_cause x access w n l f) 0),
-        note_others (guard_decides (mode_of n) x w) n o 0 (λ e. omega (arith, e)),
-      )
-    where
-      noted : List ℕ
-      noted = note_counters (guard_decides (mode_of n) x w) n o
-
-      go : (b : Bool) → calls_left (cond b (set noted 2 (posts_made noted + 1)) noted) ≡ calls_left noted
-      go true = get_or-set_other noted 2 0 (posts_made noted + 1) 0 (λ e. omega (arith, e))
-      go false = refl
+  pub post_calls : n'.calls_left ≤ n.calls_left
+  unfolding post_counters note_counters
+  post_calls = omega (arith, ap (λ (m : Counters). m.calls_left) a.counters_are)

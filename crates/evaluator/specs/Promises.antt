@@ -4,7 +4,7 @@ use Rattle.std.specs.Borrow.{MutBor}
 use Rattle.program.specs.Limits.{max_terms}
 use Rattle.termtable.specs.Table.{word_kind, word_second}
 use Rattle.machine.specs.Lower.{ChildrenLower}
-use Rattle.machine.specs.Steps.{calls_left}
+use Rattle.machine.specs.declared.counters.Counters.{Counters}
 use Rattle.machine.specs.Tails.{TailKind}
 use Rattle.machine.specs.Store.{Store, Done, store_of, done_of, and_then, Action, action_of, operate_done, eval_at, apply_at}
 
@@ -56,18 +56,18 @@ pub record BorrowNames : Type 0 where
 abbrev pub names_of : (cells posts frames noted : MutBor (List ℕ)) → BorrowNames
 names_of c p f o = record { cells = c.ghost_name; posts = p.ghost_name; frames = f.ghost_name; noted = o.ghost_name }
 
-abbrev pub store_now : (n : List ℕ) (cells posts frames noted : MutBor (List ℕ)) → Store
+abbrev pub store_now : Counters → (cells posts frames noted : MutBor (List ℕ)) → Store
 store_now n c p f o = store_of n c.now p.now f.now o.now
 
 -- result, counters and stores are as the interpreter's run gives them, and the calls left did not rise
-pub record Evaluated (run : Store → Done) (n : List ℕ) (cells posts frames noted : MutBor (List ℕ)) (r : ℕ) (n' : List ℕ)
+pub record Evaluated (run : Store → Done) (n : Counters) (cells posts frames noted : MutBor (List ℕ)) (r : ℕ) (n' : Counters)
     (cells' posts' frames' noted' : MutBor (List ℕ)) : Type 0 where
   pub done : done_of r (store_now n' cells' posts' frames' noted') ≡ run (store_now n cells posts frames noted)
-  pub calls : calls_left n' ≤ calls_left n
+  pub calls : n'.calls_left ≤ n.calls_left
   pub names : names_of cells' posts' frames' noted' ≡ names_of cells posts frames noted
 
 -- What falls at each call of the cycle: a call left is worth more than any term's number, which has 16 bits, and a term's number as much as the three
 -- steps down from `eval`: to the function of its action, from there to its second operand, and to an application. 196612 is 3 * 65536 + 4: three for each
 -- number of 16 bits, and room for the steps.
-abbrev pub work_left : (n : List ℕ) (t step : ℕ) → ℕ
-work_left n t step = calls_left n * 196612 + t * 3 + step
+abbrev pub work_left : Counters → (t step : ℕ) → ℕ
+work_left n t step = n.calls_left * 196612 + t * 3 + step

@@ -1,12 +1,13 @@
 // The evaluator of both runners over the words of a readable sheet's terms: evaluating a term and applying a function call each other. Its contracts
-// speak of the store-level interpreter in machine/specs/Store.antt; the crate `refinement` takes that to the meaning. `counters` are the calls left, the
-// cells made, the posts made, the run's mode, the saturated results and the entries of the record, whose bytes are `noted`. The lent stores are handed on
-// as references to the slices, so that no call copies one. What few terms look at comes last among the parameters: the first six are in registers.
+// speak of the store-level interpreter in machine/specs/Store.antt; the crate `refinement` takes that to the meaning. The bytes of the record are `noted`.
+// The lent stores are handed on as references to the slices, so that no call copies one. What few terms look at comes last among the parameters: the
+// first six are in registers.
 #![tactic(auto)]
 
 ghost use Rattle.machine.specs.Store.{enable, eval_at, apply_at};
 ghost use Rattle.evaluator.specs.Promises.{TermTable, Node, Tail, FirstNode, PairNode, second_at, Evaluated};
 
+use machine::counters::Counters;
 use machine::steps::{append, choose, operate};
 use machine::tail::tail_step;
 use program::limits::TERM_PLACES;
@@ -19,7 +20,7 @@ use termtable::{first_of, kind_of, second_of, small_of, third_of, word_at};
 pub fn eval(
     terms: &[u64; TERM_PLACES],
     cells: &mut &mut [u8],
-    counters: &mut [usize; 6],
+    counters: &mut Counters,
     t: u16,
     env: u16,
     access: u64,
@@ -58,7 +59,7 @@ pub fn eval(
 fn eval_tail(
     terms: &[u64; TERM_PLACES],
     cells: &mut &mut [u8],
-    counters: &mut [usize; 6],
+    counters: &mut Counters,
     t: u16,
     env: u16,
     access: u64,
@@ -87,7 +88,7 @@ fn eval_tail(
 fn eval_enable(
     terms: &[u64; TERM_PLACES],
     cells: &mut &mut [u8],
-    counters: &mut [usize; 6],
+    counters: &mut Counters,
     t: u16,
     env: u16,
     access: u64,
@@ -102,9 +103,9 @@ fn eval_enable(
         frames.old
         noted.old result counters.new cells.new posts.new frames.new noted.new }
 {
-    let mode = counters[3];
-    let old = access::enabled_now(*frames, mode, access);
-    let inner = access::enable(*frames, mode, access, small_of(x));
+    let lazy = counters.mode.lazy;
+    let old = access::enabled_now(*frames, lazy, access);
+    let inner = access::enable(*frames, lazy, access, small_of(x));
     let w = eval(
         terms,
         cells,
@@ -117,7 +118,7 @@ fn eval_enable(
         posts,
         noted,
     );
-    access::restore(*frames, mode, access, old);
+    access::restore(*frames, lazy, access, old);
     w
 }
 
@@ -126,7 +127,7 @@ fn eval_enable(
 fn eval_first(
     terms: &[u64; TERM_PLACES],
     cells: &mut &mut [u8],
-    counters: &mut [usize; 6],
+    counters: &mut Counters,
     t: u16,
     env: u16,
     access: u64,
@@ -182,7 +183,7 @@ fn eval_first(
 fn eval_second(
     terms: &[u64; TERM_PLACES],
     cells: &mut &mut [u8],
-    counters: &mut [usize; 6],
+    counters: &mut Counters,
     t: u16,
     env: u16,
     access: u64,
@@ -226,7 +227,7 @@ fn eval_second(
 fn apply(
     terms: &[u64; TERM_PLACES],
     cells: &mut &mut [u8],
-    counters: &mut [usize; 6],
+    counters: &mut Counters,
     t: u16,
     caller: u64,
     f: u64,
@@ -247,17 +248,17 @@ fn apply(
     if depth == 0 {
         return words::stop(19, t);
     }
-    let calls = counters[0];
+    let calls = counters.calls_left;
     if calls == 0 {
         return words::stop(20, t);
     }
-    let k = counters[1];
+    let k = counters.cells;
     let made = bind(*cells, k, v, words::env(f));
     if made == 0 {
         return words::stop(21, t);
     }
-    counters[0] = calls - 1;
-    counters[1] = made;
+    counters.calls_left = calls - 1;
+    counters.cells = made;
     let body = words::payload(f);
     let own = next_cell(k);
     eval(

@@ -3,31 +3,29 @@ use mathlib.Core.Bool.{Bool, true, false, cond}
 use mathlib.Core.List.{List, [], map}
 use mathlib.Core.Path.{◌≡◌, refl, sym, ap, ◌∙◌, subst}
 use Prim.Native.Nat.{ℕ, ◌<◌, ◌≤◌}
+use Rattle.std.specs.Prelude.{Result, Ok, Err}
 use native.Mathlib.Omega.{arith}
 use lib.Dec.{ltb, leb}
 use lib.ListN.{length, replicate}
 use borrow.Author.Tests.{lt-leb, le-leb}
+use Rattle.std.specs.Prelude.{None, Ok, Err}
 use Rattle.privileges.specs.Sets.{has}
 use Rattle.program.specs.Limits.{max_nesting, max_privilege}
 use Rattle.program.specs.Layout.{terms, root, authority, types_of}
 use Rattle.program.specs.Screening.{Screening, clear, found, unless_found}
 use Rattle.program.specs.Decoding.{decoding}
-use Rattle.program.specs.Answers.{decoding_cause, decoding_place}
-use Rattle.program.specs.declared.answer.Refusal.{Refusal}
 use Rattle.program.specs.declared.records.Counts.{Counts}
 use Rattle.typing.specs.Checking.{Judgement, typed, fault}
-use Rattle.typing.specs.Verdicts.{Verdict as VerdictOf, accepted, rejected, concluded, judgement, verdict}
-use Rattle.typing.specs.Answers.{fault_cause, fault_place, verdict_model}
-use Rattle.typing.specs.declared.answer.Fault.{Fault}
-use Rattle.typing.specs.declared.answer.Verdict.{Verdict}
-use Rattle.typing.specs.declared.answer.Verdict.TheVariants as answer
+use Rattle.typing.specs.Verdicts.{Verdict, accepted, rejected, concluded, judgement, verdict}
+use Rattle.typing.specs.Answers.{rejection_cause, rejection_place, verdict_model}
+use Rattle.typing.specs.declared.answer.Accepted.{Accepted}
+use Rattle.typing.specs.declared.answer.Rejection.{Rejection}
 use Rattle.accessors.specs.Internal.{FormedSheet}
 use Rattle.typing.specs.Places.{placed_number, root_of}
 use Rattle.chains.specs.Explaining.{needing, needs, chain_of, Explained as ExplainedOf, explained, not_needed, refused, explained_in, explained_by, explanation}
-use Rattle.chains.specs.Answers.{explanation_model, chain_terms, chain_length, ExplainedAs}
+use Rattle.chains.specs.Answers.{Explanation, explanation_model, chain_terms, chain_length, ExplainedAs}
 use Rattle.following.specs.Internal.{RootNeeds, Followable, without_chain}
-use Rattle.chains.specs.declared.answer.Explanation.{Explanation}
-use Rattle.chains.specs.declared.answer.Explanation.TheVariants.{NotNeeded, Unreadable, Refused, NoPrivilege}
+use Rattle.chains.specs.declared.answer.ExplanationRefusal.TheVariants.{Rejected, NoPrivilege}
 use Rattle.chains.specs.declared.answer.Explained.{Explained}
 
 -- ---- an answer with no chain
@@ -37,26 +35,22 @@ unchained_as : {r : Explained} (a : Explanation) (e : ExplainedOf) → r ≡ wit
 unchained_as a e q h k l = rw q (record { answer_is = h; length_is = l ∙ sym (ap length k); terms_are = rw k })
 
 -- ---- the verdict on the sheet
-by_verdict : (s : List ℕ) (p : ℕ) {r : Explained} (v : VerdictOf) → v ≡ verdict s → ExplainedAs r (explained_by s p v) → ExplainedAs r (explanation s p)
+by_verdict : (s : List ℕ) (p : ℕ) {r : Explained} (v : Verdict) → v ≡ verdict s → ExplainedAs r (explained_by s p v) → ExplainedAs r (explanation s p)
 unfolding explanation
-by_verdict s p {r} v e w = subst (λ (v : VerdictOf). ExplainedAs r (explained_by s p v)) e w
+by_verdict s p {r} v e w = subst (λ (v : Verdict). ExplainedAs r (explained_by s p v)) e w
 
 module _ (s : List ℕ) (p : ℕ) {r : Explained} where
-  pub unreadable_explained : {f : Refusal} → r ≡ without_chain (Unreadable f) → rejected (decoding_cause f) (decoding_place f) ≡ verdict s
+  pub rejected_explained : (f : Rejection) → r ≡ without_chain (Err (Rejected f)) → rejected (rejection_cause f) (rejection_place f) ≡ verdict s
       → ExplainedAs r (explanation s p)
-  unreadable_explained {f} q e = by_verdict s p (rejected (decoding_cause f) (decoding_place f)) e (unchained_as (Unreadable f) _ q refl refl refl)
+  rejected_explained f q e = by_verdict s p (rejected (rejection_cause f) (rejection_place f)) e (unchained_as (Err (Rejected f)) _ q refl refl refl)
 
-  module _ {v : Verdict} (w : verdict_model v ≡ verdict s) where
-    pub refused_unreadable : {f : Refusal} → v ≡ answer.Unreadable f → r ≡ without_chain (Unreadable f) → ExplainedAs r (explanation s p)
-    refused_unreadable e q = unreadable_explained q (ap verdict_model (sym e) ∙ w)
+  module _ {v : Result Accepted Rejection} (w : verdict_model v ≡ verdict s) where
+    pub refused_explained : {f : Rejection} → v ≡ Err f → r ≡ without_chain (Err (Rejected f)) → ExplainedAs r (explanation s p)
+    refused_explained {f} e q = rejected_explained f q (ap verdict_model (sym e) ∙ w)
 
-    pub refused_fault : {f : Fault} → v ≡ answer.Refused f → r ≡ without_chain (Refused f) → ExplainedAs r (explanation s p)
-    refused_fault {f} e q = by_verdict s p (rejected (fault_cause f) (fault_place f)) (ap verdict_model (sym e) ∙ w)
-        (unchained_as (Refused f) _ q refl refl refl)
-
-    pub accepted_explained : {n τ N : ℕ} → v ≡ answer.Accepted n τ N → ExplainedAs r (explained_in s p N (leb p max_privilege))
+    pub accepted_explained : {x : Accepted} → v ≡ Ok x → ExplainedAs r (explained_in s p x.needs (leb p max_privilege))
         → ExplainedAs r (explanation s p)
-    accepted_explained {n} {τ} {N} e t = by_verdict s p (accepted n τ N) (ap verdict_model (sym e) ∙ w) t
+    accepted_explained {x} e t = by_verdict s p (accepted x.terms x.ty x.needs) (ap verdict_model (sym e) ∙ w) t
 
 -- the root's needs are those of the verdict
 conclusion_needs : (p n root m τ N : ℕ) (j : Judgement) → accepted m τ N ≡ concluded n root j → needing p j ≡ has p N
@@ -75,18 +69,18 @@ verdict_needs s p n τ N e = go (decoding s) e
     go clear e = conclusion_needs p (terms s) (root s) n τ N (judgement s) e
     go (found c at) e = let z : ◌≡◌ {A = ℕ} 0 1 = cc in absurd (omega arith)
 
-pub accepted_needs : {s : List ℕ} {c : Counts} → FormedSheet s c → {v : Verdict} {n τ N : ℕ} → verdict_model v ≡ verdict s → v ≡ answer.Accepted n τ N
-    → RootNeeds s c N
-accepted_needs {s} S {n = n} {τ = τ} {N = N} w e = record { sheet = S; needs_are = λ p. verdict_needs s p n τ N (ap verdict_model (sym e) ∙ w) }
+pub accepted_needs : {s : List ℕ} {c : Counts} → FormedSheet s c → {v : Result Accepted Rejection} {x : Accepted} → verdict_model v ≡ verdict s → v ≡ Ok x
+    → RootNeeds s c x.needs
+accepted_needs {s} S {x = x} w e = record { sheet = S; needs_are = λ p. verdict_needs s p x.terms x.ty x.needs (ap verdict_model (sym e) ∙ w) }
 
 -- ---- an accepted sheet with its needs
 module _ (s : List ℕ) (p N : ℕ) {r : Explained} where
-  pub too_high : max_privilege < p → r ≡ without_chain NoPrivilege → ExplainedAs r (explained_in s p N (leb p max_privilege))
-  too_high h q = rw (lt-leb p max_privilege h) (unchained_as NoPrivilege (refused 30 0) q refl refl refl)
+  pub too_high : max_privilege < p → r ≡ without_chain (Err NoPrivilege) → ExplainedAs r (explained_in s p N (leb p max_privilege))
+  too_high h q = rw (lt-leb p max_privilege h) (unchained_as (Err NoPrivilege) (refused 30 0) q refl refl refl)
 
   module _ (h : p ≤ max_privilege) {z : Bool} (e : z ≡ has p N) where
-    pub needed_not : z ≡ false → r ≡ without_chain NotNeeded → ExplainedAs r (explained_in s p N (leb p max_privilege))
-    needed_not f q = rw (le-leb p max_privilege h, sym e ∙ f) (unchained_as NotNeeded not_needed q refl refl refl)
+    pub needed_not : z ≡ false → r ≡ without_chain (Ok None) → ExplainedAs r (explained_in s p N (leb p max_privilege))
+    needed_not f q = rw (le-leb p max_privilege h, sym e ∙ f) (unchained_as (Ok None) not_needed q refl refl refl)
 
     pub needed : z ≡ true → ExplainedAs r (explained (map placed_number (chain_of s p))) → ExplainedAs r (explained_in s p N (leb p max_privilege))
     needed f t = rw (le-leb p max_privilege h, sym e ∙ f) t

@@ -8,21 +8,18 @@ ghost use Rattle.chains.specs.Answers.{ExplainedAs};
 ghost use Rattle.following.specs.Internal.{without_chain, RootNeeds};
 ghost use Rattle.program.specs.Limits.{max_privilege};
 
-use chains::answer::{Explained, Explanation};
+use chains::answer::{Explained, ExplanationRefusal};
 use following::chain::follow;
-use program::answer::Decoded;
 use program::limits::{MAX_PRIVILEGE_NUMBER, NESTING_PLACES};
 use program::records::Counts;
-use typing::answer::Verdict;
 
 // Why the sheet needs a privilege, on any bytes and any number: the type checker's refusals, then 30, then that it is not needed or the chain.
 pub fn explain(sheet: &[u8], privilege: u32) -> Explained
     ensures { ExplainedAs result (explanation sheet.now privilege) }
 {
-    let d = decoder::decode(sheet);
-    match d {
-        Decoded::Refused(f) => without_chain(Explanation::Unreadable(f)),
-        Decoded::Readable(c) => explain_readable(sheet, c, privilege),
+    match decoder::decode(sheet) {
+        Ok(c) => explain_readable(sheet, c, privilege),
+        Err(f) => without_chain(Err(f.into())),
     }
 }
 
@@ -31,15 +28,9 @@ fn explain_readable(s: &[u8], c: Counts, privilege: u32) -> Explained
     requires { ReadableSheet s.now c }
     ensures { ExplainedAs result (explanation s.now privilege) }
 {
-    let v = checker::typecheck_readable(s, c);
-    match v {
-        Verdict::Unreadable(f) => without_chain(Explanation::Unreadable(f)),
-        Verdict::Refused(f) => without_chain(Explanation::Refused(f)),
-        Verdict::Accepted {
-            terms: _,
-            ty: _,
-            needs,
-        } => explain_needs(s, c, needs, privilege),
+    match checker::typecheck_readable(s, c) {
+        Ok(x) => explain_needs(s, c, x.needs, privilege),
+        Err(r) => without_chain(Err(r.into())),
     }
 }
 
@@ -49,16 +40,16 @@ fn explain_needs(s: &[u8], c: Counts, needs: u32, privilege: u32) -> Explained
     ensures { ExplainedAs result (explained_in s.now privilege needs (leb privilege max_privilege)) }
 {
     if MAX_PRIVILEGE_NUMBER < privilege {
-        return without_chain(Explanation::NoPrivilege);
+        return without_chain(Err(ExplanationRefusal::NoPrivilege));
     }
     let p = privilege as u8;
     if privileges::contains(p, needs) {
         return follow(s, c, p);
     }
-    without_chain(Explanation::NotNeeded)
+    without_chain(Ok(None))
 }
 
-fn without_chain(answer: Explanation) -> Explained
+fn without_chain(answer: Result<Option<usize>, ExplanationRefusal>) -> Explained
     ensures { result ≡ without_chain answer }
 {
     Explained {

@@ -5,7 +5,7 @@ use mathlib.Core.Path.{◌≡◌, refl, sym, ap, ◌∙◌}
 use Prim.Native.Nat.{ℕ, ◌<◌}
 use native.Mathlib.Omega.{arith}
 use lib.Dec.{eqb}
-use denote.Enum.Declared.{tag_of}
+use Rattle.std.specs.Prelude.{Result, Ok, Err}
 use Rattle.privileges.specs.Sets.{privilege_count, has}
 use Rattle.program.specs.Layout.{Types, authority, types_of, guard_in}
 use Rattle.program.specs.Terms.{Term, tree, contains}
@@ -15,9 +15,8 @@ use Rattle.program.specs.declared.records.Counts.{Counts}
 use Rattle.program.specs.declared.records.TermRecord.{TermRecord}
 use Rattle.program.specs.declared.records.TypeRecord.{TypeRecord}
 use Rattle.typing.specs.Checking.{Judgement, typed, fault}
-use Rattle.typing.specs.declared.answer.Inferred.{Inferred}
-use Rattle.typing.specs.declared.answer.Inferred.TheVariants.{Typed, Faulty}
-use Rattle.typing.specs.contracts.answer.Inferred.{the_type}
+use Rattle.typing.specs.declared.answer.Fault.{Fault}
+use Rattle.typing.specs.declared.answer.Typed.{Typed}
 use Rattle.accessors.specs.Internal.{FormedSheet}
 use Rattle.subtyping.specs.Laws.Records.{type_parts}
 use Rattle.typing.specs.Verdicts.{term_judgement}
@@ -34,11 +33,6 @@ pub latent_is : {s : List ℕ} {c : Counts} (S : FormedSheet s c) (p ty : ℕ) �
     → f ≡ type_record s c ty → {r : Bool}
     → r ≡ has p f.latent → r ≡ has p ((types_of s).latent ty)
 latent_is S p ty h q g = g ∙ ap (has p) (type_parts S ty h q).latent_is
-
--- a judgement that is no type has no needs
-pub untyped_needs : (p : ℕ) (j : Inferred) → tag_of the_type j ≡ 1 → false ≡ needing p (inferred_model j)
-untyped_needs p (Faulty f) h = refl
-untyped_needs p (Typed τ N) h = absurd (omega (arith, h))
 
 -- a call with needs has passed the test of its function part
 call_function : (T : Types) (p at φ N : ℕ) (j : Judgement) → needing p (call_step T at φ N j) ≡ true → T.is_fun φ ≡ true
@@ -67,23 +61,23 @@ module _ {s : List ℕ} {c : Counts} {t : ℕ} {b : Bindings} {n : ℕ} (R : Rea
   post_cause e l {g} q =
       guard_contains p g l ∙ ap (λ (g : ℕ). contains p (guard_in g)) (post_guard (at_record R h) e q) ∙ ap cause (sym (tree_is R h e))
 
-  module _ (e : x.kind ≡ 5) (j : Inferred) (q : inferred_model j ≡ term_judgement s (context b) n x.first) where
+  module _ (e : x.kind ≡ 5) (j : Result Typed Fault) (q : inferred_model j ≡ term_judgement s (context b) n x.first) where
     call_cause : in_latent (types_of s) p (inferred_model j) ≡ cause (tree s t)
     unfolding is_cause term_judgement
     call_cause = ap (in_latent (types_of s) p) q ∙ ap cause (sym (tree_is R h e))
 
-    pub part_typed : needs (types_of s) (authority s) p (placed (context b) n (tree s t)) ≡ true → tag_of the_type j ≡ 1 → ⊥
+    pub part_typed : needs (types_of s) (authority s) p (placed (context b) n (tree s t)) ≡ true → {a : Fault} → j ≡ Err a → ⊥
     unfolding needs term_judgement
-    part_typed f g = false≢true (untyped_needs p j g ∙ ap (needing p) (call_stops (at_record R h) (context b) e j q g) ∙ f)
+    part_typed f g = false≢true (ap (needing p) (call_stops (at_record R h) (context b) e q g refl) ∙ f)
 
-    module _ {φ N : ℕ} (g : j ≡ Typed φ N) where
-      pub call_typed : {r : Bool} → r ≡ has p ((types_of s).latent φ) → r ≡ cause (tree s t)
-      call_typed f = f ∙ ap (λ (j : Inferred). in_latent (types_of s) p (inferred_model j)) (sym g) ∙ call_cause
+    module _ {y : Typed} (g : j ≡ Ok y) where
+      pub call_typed : {r : Bool} → r ≡ has p ((types_of s).latent y.ty) → r ≡ cause (tree s t)
+      call_typed f = f ∙ ap (λ (j : Result Typed Fault). in_latent (types_of s) p (inferred_model j)) (sym g) ∙ call_cause
 
-      pub part_function : needs (types_of s) (authority s) p (placed (context b) n (tree s t)) ≡ true → (types_of s).is_fun φ ≡ true
+      pub part_function : needs (types_of s) (authority s) p (placed (context b) n (tree s t)) ≡ true → (types_of s).is_fun y.ty ≡ true
       unfolding needs term_judgement
-      part_function f = call_function (types_of s) p t φ N (term_judgement s (context b) n x.second)
-          (ap (needing p) (call_is (at_record R h) (context b) e g q refl refl) ∙ f)
+      part_function f = call_function (types_of s) p t y.ty y.needs (term_judgement s (context b) n x.second)
+          (ap (needing p) (call_is (at_record R h) (context b) e q g refl refl) ∙ f)
 
   other : {k : ℕ} → false ≡ cause (term_of R h k) → x.kind ≡ k → false ≡ cause (tree s t)
   other q e = q ∙ ap cause (sym (tree_is R h e))

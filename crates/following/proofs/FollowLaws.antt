@@ -1,9 +1,8 @@
 -- The list that the loop writes: the first terms of the chain, and zeros after them. Assumes nothing.
-use mathlib.Core.Bool.{true, false}
 use mathlib.Core.List.{List, [], ◌∷◌, ◌++◌, map, append_assoc, append-nil}
 use mathlib.Core.Option.{Option}
-use mathlib.Core.Path.{◌≡◌, refl, sym, ap, ◌∙◌}
-use Prim.Native.Nat.{ℕ, zero, suc, ◌+◌, ◌*◌, ◌-◌, ◌<◌, ◌≤◌}
+use mathlib.Core.Path.{◌≡◌, refl, sym, ap, ◌∙◌, subst}
+use Prim.Native.Nat.{ℕ, zero, suc, ◌+◌, ◌*◌, ◌-◌, ◌<◌}
 use native.Mathlib.Omega.{arith}
 use lib.ListN.{length, take, set, replicate, length-append}
 use lib.Seq.{set-append_seam, take_at}
@@ -15,12 +14,11 @@ use Rattle.typing.specs.Places.{Placed, placed_number, root_of}
 use Rattle.typing.proofs.Laws.Places.{tree_number}
 use Rattle.chains.specs.Explaining.{needs, next, chain_from, chain, chain_of, explained}
 use Rattle.chains.specs.Answers.{ExplainedAs}
-use Rattle.places.specs.Internal.{placed_at, AtRoot}
+use Rattle.places.specs.Internal.{placed_at, AtRoot, Child}
 use Rattle.places.proofs.PlaceLaws.{root_place_ready, root_placed}
 use Rattle.following.specs.Internal.{next_at, Following, Stepped, Followable}
-use Rattle.chains.specs.declared.answer.Explanation.TheVariants.{Chain}
 use Rattle.places.specs.declared.Place.{Place}
-use Rattle.places.specs.declared.Child.{Child}
+use Rattle.std.specs.Prelude.{Some, None, Ok}
 
 -- ---- so many terms are written, and of the chain's numbers those of `rest` follow, of which so many can be written that are left
 abbrev numbers : List Placed → List ℕ
@@ -68,7 +66,7 @@ module _ (s : List ℕ) (p : ℕ) where
 
   -- nothing follows
   along_explained : {terms : List ℕ} {rest : ℕ → List Placed} {len : ℕ} → Along s p terms rest len → ((k : ℕ) → len + k ≡ max_nesting → rest k ≡ [])
-      → ExplainedAs (record { answer = Chain len; terms = terms }) (explained (numbers (chain_of s p)))
+      → ExplainedAs (record { answer = Ok (Some len); terms = terms }) (explained (numbers (chain_of s p)))
   along_explained {terms} {rest} {len} a h = record {
     answer_is = ap explained (ap (take len) a.terms_are ∙ take_at a.done (replicate a.left 0) len (sym a.len_is) ∙ sym all);
     length_is = a.len_is ∙ ap length (sym all);
@@ -87,8 +85,8 @@ pub record FollowedTo (s : List ℕ) (c : Counts) (p : ℕ) (l terms : List ℕ)
   along : Along s p terms (chain_from_lem s p (placed_at s at)) len
 
 -- at the root
-pub root_followed : {s : List ℕ} {c : Counts} {p : ℕ} → Followable s c p → {r : Child} → AtRoot c r → {l terms : List ℕ}
-    → l ≡ replicate (max_types * 8) 0 → terms ≡ replicate max_nesting 0 → FollowedTo s c p l terms r.place 0
+pub root_followed : {s : List ℕ} {c : Counts} {p : ℕ} → Followable s c p → {r : Place} → AtRoot c r → {l terms : List ℕ}
+    → l ≡ replicate (max_types * 8) 0 → terms ≡ replicate max_nesting 0 → FollowedTo s c p l terms r 0
 root_followed {s} {c} {p} w at-root k z = record {
   following = record {
     ready = root_place_ready w.sheet at-root;
@@ -105,17 +103,18 @@ module _ {s : List ℕ} {c : Counts} {p : ℕ} {l terms : List ℕ} {at : Place}
     written : Along s p (set terms len at.term) (onward_from s p (next_at s p at)) (len + 1)
     written = along_more s p (placed_at s at) w.along h (tree_number s at.term)
 
-    pub place_more : y.present ≡ true → FollowedTo s c p k (set terms len at.term) y.place (len + 1)
-    place_more e = record { following = n.following e; along = rw (rw e at (sym n.is)) at written }
+    pub place_more : {x : Place} → y ≡ Some x → FollowedTo s c p k (set terms len at.term) x (len + 1)
+    place_more e = record { following = rw e at n.following; along = rw (rw e at (sym n.is)) at written }
 
-    pub place_last : y.present ≡ false
-        → ExplainedAs (record { answer = Chain (len + 1); terms = set terms len at.term }) (explained (numbers (chain_of s p)))
+    pub place_last : y ≡ None → ExplainedAs (record { answer = Ok (Some (len + 1)); terms = set terms len at.term }) (explained (numbers (chain_of s p)))
     place_last e = along_explained s p written λ m _. ap (λ (o : Option Placed). onward_from s p o m) (rw e at (sym n.is))
 
   -- no place is left
-  pub place_none : max_nesting ≤ len → ExplainedAs (record { answer = Chain len; terms = terms }) (explained (numbers (chain_of s p)))
+  pub place_none : len ≡ max_nesting → ExplainedAs (record { answer = Ok (Some max_nesting); terms = terms }) (explained (numbers (chain_of s p)))
   unfolding chain
-  place_none h = along_explained s p w.along λ m e. none_of m (omega arith)
+  place_none h =
+      subst (λ (n : ℕ). ExplainedAs (record { answer = Ok (Some n); terms = terms }) (explained (numbers (chain_of s p)))) h
+      (along_explained s p w.along λ m e. none_of m (omega arith))
     where
       none_of : (m : ℕ) → m ≡ 0 → chain_from_lem s p (placed_at s at) m ≡ []
       none_of zero e = refl

@@ -1,6 +1,6 @@
 -- The next place of the chain from the children by their position. All that these proofs ask of which children are followed is in `followed_is`,
 -- and for a call in `part_needs` and `no_third`. Assumes nothing.
-use mathlib.Core.Bool.{Bool, true, false, cond, ◌||◌, true≢false, false≢true}
+use mathlib.Core.Bool.{Bool, true, false, cond, not, true≢false, false≢true}
 use mathlib.Core.List.{List, [], ◌∷◌}
 use mathlib.Core.Option.{Option, none, some}
 use mathlib.Core.Path.{◌≡◌, refl, sym, ap, ◌∙◌, subst}
@@ -8,16 +8,15 @@ use Prim.Native.Nat.{ℕ, ◌<◌}
 use native.Mathlib.Omega.{arith}
 use lib.Dec.{eqb}
 use borrow.Author.Tests.{eq-eqb, ne_eqb}
-use denote.Enum.Declared.{tag_of}
+use Rattle.std.specs.Prelude.{Result, Ok, Err}
 use Rattle.privileges.specs.Sets.{privilege_count, has}
 use Rattle.program.specs.Layout.{Types, authority, types_of}
 use Rattle.program.specs.Terms.{Term, boolean, number, variable, function, letrec, call, if, check, enable, sign, test, binary, post, tree}
 use Rattle.program.specs.Records.{term_record}
 use Rattle.program.specs.declared.records.Counts.{Counts}
 use Rattle.program.specs.declared.records.TermRecord.{TermRecord}
-use Rattle.typing.specs.declared.answer.Inferred.{Inferred}
-use Rattle.typing.specs.declared.answer.Inferred.TheVariants.{Typed}
-use Rattle.typing.specs.contracts.answer.Inferred.{the_type}
+use Rattle.typing.specs.declared.answer.Fault.{Fault}
+use Rattle.typing.specs.declared.answer.Typed.{Typed}
 use Rattle.subtyping.specs.Known.{Known, Answered}
 use Rattle.typing.specs.Verdicts.{term_judgement}
 use Rattle.rules.specs.Inference.{inferred_model, context, Ready}
@@ -25,14 +24,14 @@ use Rattle.rules.specs.declared.bindings.Bindings.{Bindings}
 use Rattle.checker.specs.Internal.{InferredAs}
 use Rattle.typing.specs.Places.{Placed, placed, Among, among_first, among_later}
 use Rattle.chains.specs.Explaining.{needing, needs, tests_it, followed, first_needing, next}
-use Rattle.places.specs.Internal.{placed_at, ReadyPlace, Children, children_of, children_at, child_at, Reached}
+use Rattle.places.specs.Internal.{placed_at, ReadyPlace, Children, children_of, children_at, Child, child_at, ReadyChild, Reached}
 use Rattle.chains.specs.Laws.Progress.{SomeNeeds, progress}
 use Rattle.following.specs.Internal.{FunctionTypePrivilege, followed_of, followed_at, needs_at, cause_at, next_at, needed_by, Following, FollowingCall, FollowingOther, Stepped}
 use Rattle.places.specs.declared.Place.{Place}
-use Rattle.places.specs.declared.Child.{Child}
+use Rattle.std.specs.Prelude.{Some, None, IfSome, is_some}
 use Rattle.places.proofs.PlaceLaws as each
-use Rattle.places.proofs.PlaceLaws.{◌and◌, all, most, term_of, tree_is, not_there}
-use Rattle.following.proofs.CauseLaws.{untyped_needs, call_typed, part_typed, part_function}
+use Rattle.places.proofs.PlaceLaws.{◌and◌, all, most, term_of, tree_is}
+use Rattle.following.proofs.CauseLaws.{call_typed, part_typed, part_function}
 
 -- ---- the children that are followed, in order
 abbrev listed : Option Placed → List Placed → List Placed
@@ -74,12 +73,8 @@ module _ {s : List ℕ} {c : Counts} {t : ℕ} {b : Bindings} {n : ℕ} (R : Rea
   abbrev first_of : Bool → Option Placed
   first_of z = cond z none (children_of (types_of s) (placed (context b) n (tree s t))).first
 
-  pub yes_branch : x.kind ≡ 10 → x.small ≡ p → {r : Child} → r.present ≡ false → Reached s c t r (first_of (tests (tree s t)))
-  yes_branch e q f = record {
-    is = rw f (ap first_of (sym (ap tests (tree_is R h e) ∙ eq-eqb x.small p q)));
-    lower = λ g. absurd (true≢false (sym g ∙ f));
-    ready = λ g. absurd (true≢false (sym g ∙ f));
-  }
+  pub yes_branch : x.kind ≡ 10 → x.small ≡ p → Reached s c t None (first_of (tests (tree s t)))
+  yes_branch e q = record { is = ap first_of (sym (ap tests (tree_is R h e) ∙ eq-eqb x.small p q)); lower = tt; ready = tt }
 
   first_kept : tests (tree s t) ≡ false → {r : Child} → Reached s c t r (first_of false) → Reached s c t r (first_of (tests (tree s t)))
   first_kept q w = record { is = w.is ∙ ap first_of (sym q); lower = w.lower; ready = w.ready }
@@ -96,21 +91,18 @@ module _ {s : List ℕ} {c : Counts} {t : ℕ} {b : Bindings} {n : ℕ} (R : Rea
       and (λ e. absurd (n10 e)) and other refl and other refl and other refl and other refl and all)
       x.kind (omega arith) (omega (arith, most R h)) refl) w
 
--- ---- whether a child needs the privilege
-pub absent_needs : (s : List ℕ) (p : ℕ) (y : Child) → y.present ≡ false → false ≡ needed_by s p (child_at s y)
-absent_needs s p y e = rw e
-
-module _ (s : List ℕ) (p : ℕ) (y : Child) (here : y.present ≡ true) (j : Inferred)
-    (q : inferred_model j ≡ term_judgement s (context y.place.bindings) y.place.principal y.place.term) where
-  present_needs : needing p (inferred_model j) ≡ needed_by s p (child_at s y)
+-- ---- whether a child that is there needs the privilege
+module _ (s : List ℕ) (p : ℕ) (y : Place) (j : Result Typed Fault)
+    (q : inferred_model j ≡ term_judgement s (context y.bindings) y.principal y.term) where
+  present_needs : needing p (inferred_model j) ≡ needed_by s p (child_at s (Some y))
   unfolding term_judgement needs
-  present_needs = rw here (ap (needing p) q)
+  present_needs = ap (needing p) q
 
-  pub typed_needs : {τ N : ℕ} → j ≡ Typed τ N → {r : Bool} → r ≡ has p N → r ≡ needed_by s p (child_at s y)
-  typed_needs e f = f ∙ ap (λ (j : Inferred). needing p (inferred_model j)) (sym e) ∙ present_needs
+  pub typed_needs : {x : Typed} → j ≡ Ok x → {r : Bool} → r ≡ has p x.needs → r ≡ needed_by s p (child_at s (Some y))
+  typed_needs e f = f ∙ ap (λ (j : Result Typed Fault). needing p (inferred_model j)) (sym e) ∙ present_needs
 
-  pub fault_needs : tag_of the_type j ≡ 1 → false ≡ needed_by s p (child_at s y)
-  fault_needs e = untyped_needs p j e ∙ present_needs
+  pub fault_needs : {a : Fault} → j ≡ Err a → false ≡ needed_by s p (child_at s (Some y))
+  fault_needs e = ap (λ (j : Result Typed Fault). needing p (inferred_model j)) (sym e) ∙ present_needs
 
 -- ---- the first of them that does
 module _ (s : List ℕ) (p : ℕ) where
@@ -131,10 +123,10 @@ pub record ChildrenLeft (s : List ℕ) (p : ℕ) (due : Option Placed) (os : Lis
   someone : SomeNeeds (types_of s) (authority s) p (those os)
 
 -- a cause ends the chain
-pub cause_ends : {s : List ℕ} {c : Counts} (p : ℕ) (at : Place) {l : List ℕ} {z : Bool} {r : Child} → z ≡ cause_at s p at → z ≡ true
-    → r.present ≡ false → Stepped s c p r (next_at s p at) l
+pub cause_ends : {s : List ℕ} {c : Counts} (p : ℕ) (at : Place) {l : List ℕ} {z : Bool} → z ≡ cause_at s p at → z ≡ true
+    → Stepped s c p None (next_at s p at) l
 unfolding next
-cause_ends p at a e f = record { is = rw (f, sym a ∙ e); following = λ g. absurd (true≢false (sym g ∙ f)) }
+cause_ends p at a e = record { is = rw (sym a ∙ e); following = tt }
 
 -- else one of the children is the next
 pub all_left : (s : List ℕ) (p : ℕ) (at : Place) {z : Bool} → needs_at s p at ≡ true → z ≡ cause_at s p at → z ≡ false
@@ -179,10 +171,11 @@ passed_by {s} {p} {o} {os} q e = record {
 module _ {s : List ℕ} {c : Counts} {p t : ℕ} {o : Option Placed} {os : List (Option Placed)} {due : Option Placed} {y : Child} {l : List ℕ}
     (q : ChildrenLeft s p due (o ∷ os)) (w : Reached s c t y o) where
   next_is : p < privilege_count → Known (types_of s) l → needed_by s p o ≡ true → Stepped s c p y due l
-  next_is small k e = record {
-    is = w.is ∙ taken s p o (those os) e ∙ sym q.due_is;
-    following = λ g. record { ready = w.ready g; known = k; privilege = small; needing = rw g at (ap (needed_by s p) w.is ∙ e) };
-  }
+  next_is small k e = record { is = w.is ∙ taken s p o (those os) e ∙ sym q.due_is; following = follows y w.ready (ap (needed_by s p) w.is ∙ e) }
+    where
+      follows : (y : Child) → ReadyChild s c y → needed_by s p (child_at s y) ≡ true → IfSome y (Following s c l p)
+      follows None r f = tt
+      follows (Some x) r f = record { ready = r; known = k; privilege = small; needing = f }
 
   -- the last that is there is the next
   pub last_next : p < privilege_count → Known (types_of s) l → those os ≡ [] → Stepped s c p y due l
@@ -200,13 +193,13 @@ module _ {s : List ℕ} {c : Counts} {p t : ℕ} {o : Option Placed} {os : List 
     child_next small e = next_is small a.known (needed_is ∙ e)
 
 -- ---- a child that is not there
-module _ {s : List ℕ} {c : Counts} {t : ℕ} {y : Child} {o : Option Placed} (w : Reached s c t y o) (e : y.present ≡ false) where
-  pub not_listed : (l : List Placed) → listed o l ≡ l
-  not_listed l = ap (λ (o : Option Placed). listed o l) (sym w.is ∙ not_there s y e)
+nothing_at : (s : List ℕ) (y : Child) {z : Bool} → is_some y ≡ not z → z ≡ true → child_at s y ≡ none
+nothing_at s None e f = refl
+nothing_at s (Some x) e f = absurd (true≢false (e ∙ ap not f))
 
-pub neither : (a b : Bool) → (a || b) ≡ false → (a ≡ false) × (b ≡ false)
-neither true b e = absurd (true≢false e)
-neither false b e = (refl, e)
+pub not_listed : {s : List ℕ} {c : Counts} {t : ℕ} {y : Child} {o : Option Placed} → Reached s c t y o → {z : Bool} → is_some y ≡ not z → z ≡ true
+    → (l : List Placed) → listed o l ≡ l
+not_listed {s} {y = y} w e f l = ap (λ (o : Option Placed). listed o l) (sym w.is ∙ nothing_at s y e f)
 
 -- ---- a place by its term's kind, once the record has been read
 module _ {s : List ℕ} {c : Counts} {l : List ℕ} {p : ℕ} {at : Place} (F : Following s c l p at) {x : TermRecord} (h : x ≡ term_record s c at.term) where
@@ -233,40 +226,40 @@ module _ {s : List ℕ} {c : Counts} {k : List ℕ} {p : ℕ} {at : Place} (F : 
   no_third : listed (followed_at s p at).third [] ≡ []
   no_third = ap (λ (z : Term). listed (parts z).third []) (tree_is ready h kind_is)
 
-  module _ {l : List ℕ} (j : Inferred) (a : InferredAs s (context at.bindings) at.principal x.first j l) where
+  module _ {l : List ℕ} (j : Result Typed Fault) (a : InferredAs s (context at.bindings) at.principal x.first j l) where
     part_needs : needing p (inferred_model j) ≡ needed_by s p (followed_at s p at).first
     unfolding needs term_judgement
     part_needs = ap (needing p) a.is ∙ ap (λ (z : Term). needed_by s p (parts z).first) (sym (tree_is ready h kind_is))
 
     -- the call needs the privilege, so that its function part has no fault
-    pub part_faulty : tag_of the_type j ≡ 1 → {r : Child} → Stepped s c p r (next_at s p at) l
+    pub part_faulty : {f : Fault} → j ≡ Err f → {r : Child} → Stepped s c p r (next_at s p at) l
     part_faulty g = absurd (part_typed ready h p kind_is j a.is F.following.needing g)
 
-    module _ {φ N : ℕ} (g : j ≡ Typed φ N) where
-      pub part_type : FunctionTypePrivilege s c φ p
+    module _ {y : Typed} (g : j ≡ Ok y) where
+      pub part_type : FunctionTypePrivilege s c y.ty p
       part_type = record {
         sheet = ready.sheet;
         is_function = part_function ready h p kind_is j a.is g F.following.needing;
         privilege = F.following.privilege;
       }
 
-      module _ {z : Bool} (f : z ≡ has p ((types_of s).latent φ)) where
+      module _ {z : Bool} (f : z ≡ has p ((types_of s).latent y.ty)) where
         call_is_cause : z ≡ cause_at s p at
         call_is_cause = call_typed ready h p kind_is j a.is g f
 
-        pub call_ends : z ≡ true → {r : Child} → r.present ≡ false → Stepped s c p r (next_at s p at) l
-        call_ends e d = cause_ends p at call_is_cause e d
+        pub call_ends : z ≡ true → Stepped s c p None (next_at s p at) l
+        call_ends e = cause_ends p at call_is_cause e
 
-        module _ (e : z ≡ false) {v : Bool} (d : v ≡ has p N) where
+        module _ (e : z ≡ false) {v : Bool} (d : v ≡ has p y.needs) where
           both_left : ChildrenLeft s p (next_at s p at) (in_order_holds (followed_at s p at))
           both_left = all_left s p at F.following.needing call_is_cause e
 
           part_needed : needed_by s p (followed_at s p at).first ≡ v
-          part_needed = sym (d ∙ ap (λ (j : Inferred). needing p (inferred_model j)) (sym g) ∙ part_needs)
+          part_needed = sym (d ∙ ap (λ (j : Result Typed Fault). needing p (inferred_model j)) (sym g) ∙ part_needs)
 
-          pub function_next : v ≡ true → {y : Child} → Reached s c at.term y (children_at s at).first → Stepped s c p y (next_at s p at) l
+          pub function_next : v ≡ true → {r : Child} → Reached s c at.term r (children_at s at).first → Stepped s c p r (next_at s p at) l
           function_next i w = next_is both_left (no_test ready h p (λ ten. omega (arith, ten, kind_is)) w) F.following.privilege a.known
               (part_needed ∙ i)
 
-          pub argument_next : v ≡ false → {y : Child} → Reached s c at.term y (children_at s at).second → Stepped s c p y (next_at s p at) l
+          pub argument_next : v ≡ false → {r : Child} → Reached s c at.term r (children_at s at).second → Stepped s c p r (next_at s p at) l
           argument_next i w = last_next (passed_by both_left (part_needed ∙ i)) w F.following.privilege a.known no_third

@@ -1,5 +1,5 @@
 -- What the contracts of internal functions say. No reader of the public promise needs this file.
-use Rattle.std.specs.Prelude.{Bool, true, false, cond, List, ◌≡◌, ℕ, ◌<◌, replicate}
+use Rattle.std.specs.Prelude.{IfSome, Bool, true, false, cond, List, ◌≡◌, ℕ, ◌<◌, replicate}
 use Rattle.std.proofs.Math.Option.{Option, none, some}
 use Rattle.privileges.specs.Sets.{privilege_count, has}
 use Rattle.program.specs.Limits.{max_nesting}
@@ -10,11 +10,10 @@ use Rattle.accessors.specs.Internal.{FormedSheet}
 use Rattle.subtyping.specs.Known.{Known}
 use Rattle.typing.specs.Places.{Placed, placed, root_of}
 use Rattle.chains.specs.Explaining.{needs, is_cause, tests_it, next}
-use Rattle.chains.specs.declared.answer.Explanation.{Explanation}
+use Rattle.chains.specs.Answers.{Explanation}
 use Rattle.chains.specs.declared.answer.Explained.{Explained}
-use Rattle.places.specs.Internal.{placed_at, ReadyPlace, Children, children_of, child_at, ReadyChild}
+use Rattle.places.specs.Internal.{placed_at, ReadyPlace, Children, children_of, Child, child_at, ReadyChild}
 use Rattle.places.specs.declared.Place.{Place}
-use Rattle.places.specs.declared.Child.{Child}
 
 -- a function type of a readable sheet, and a privilege
 pub record FunctionTypePrivilege (s : List ℕ) (c : Counts) (t p : ℕ) : Type 0 where
@@ -78,7 +77,7 @@ pub record JudgeableChild (s : List ℕ) (c : Counts) (l : List ℕ) (p : ℕ) (
 -- the next place as it is due
 pub record Stepped (s : List ℕ) (c : Counts) (p : ℕ) (r : Child) (due : Option Placed) (l : List ℕ) : Type 0 where
   pub is : child_at s r ≡ due
-  pub following : r.present ≡ true → Following s c l p r.place
+  pub following : IfSome r (Following s c l p)
 
 -- a readable sheet whose root needs p
 pub record Followable (s : List ℕ) (c : Counts) (p : ℕ) : Type 0 where

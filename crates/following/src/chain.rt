@@ -10,60 +10,53 @@ ghost use Rattle.following.specs.Internal.{followed_at, needed_by, next_at, Judg
 
 use crate::causes::{has_latent, is_cause};
 use accessors::term;
-use chains::answer::{Explained, Explanation};
+use chains::answer::Explained;
 use checker::infer::infer;
-use places::{Child, Place, absent, first_child, root, second_child, third_child};
+use places::{Place, first_child, root, second_child, third_child};
 use program::limits::NESTING_PLACES;
 use program::records::Counts;
 use subtyping::known::{KNOWN_WORDS, Known};
-use typing::answer::Inferred;
 
 // Whether there is a child that needs privilege p.
-fn child_needs(s: &[u8], c: Counts, known: &mut Known, y: Child, p: u8) -> bool
+fn child_needs(s: &[u8], c: Counts, known: &mut Known, y: Option<Place>, p: u8) -> bool
     requires { JudgeableChild s.now c known.old p y }
     ensures { Answered (types_of s.now) result (needed_by s.now p (child_at s.now y)) known.new }
 {
-    if !y.present {
-        return false;
-    }
-    let at = y.place;
-    let j = infer(s, c, known, at.term, at.bindings, at.principal);
-    let Inferred::Typed { ty: _, needs } = j else {
+    let Some(at) = y else {
         return false;
     };
-    privileges::contains(p, needs)
+    match infer(s, c, known, at.term, at.bindings, at.principal) {
+        Ok(x) => privileges::contains(p, x.needs),
+        Err(_) => false,
+    }
 }
 
 // The first child, to look for privilege p. That of a test of p is the yes-branch, which is not followed.
-fn first_followed(s: &[u8], c: Counts, at: Place, p: u8) -> Child
+fn first_followed(s: &[u8], c: Counts, at: Place, p: u8) -> Option<Place>
     requires { ReadyPlace s.now c at }
     ensures { Reached s.now c at.term result (followed_at s.now p at).first }
 {
     let x = term(s, c, at.term);
-    if x.kind == 10 {
-        if x.small == p {
-            return absent(at);
-        }
-        return first_child(s, c, at);
+    if x.kind == 10 && x.small == p {
+        return None;
     }
     first_child(s, c, at)
 }
 
 // The next place after a call: none if its function's latent set has privilege p, else the function part if that needs p, else the argument. The function
 // part is judged once for both.
-fn after_call(s: &[u8], c: Counts, known: &mut Known, at: Place, p: u8) -> Child
+fn after_call(s: &[u8], c: Counts, known: &mut Known, at: Place, p: u8) -> Option<Place>
     requires { FollowingCall s.now c known.old p at }
     ensures { Stepped s.now c p result (next_at s.now p at) known.new }
 {
     let x = term(s, c, at.term);
-    let j = infer(s, c, known, x.first, at.bindings, at.principal);
-    let Inferred::Typed { ty, needs } = j else {
-        return absent(at);
+    let Ok(function) = infer(s, c, known, x.first, at.bindings, at.principal) else {
+        return None;
     };
-    if has_latent(s, c, ty, p) {
-        return absent(at);
+    if has_latent(s, c, function.ty, p) {
+        return None;
     }
-    if privileges::contains(p, needs) {
+    if privileges::contains(p, function.needs) {
         return first_child(s, c, at);
     }
     second_child(s, c, at)
@@ -71,23 +64,23 @@ fn after_call(s: &[u8], c: Counts, known: &mut Known, at: Place, p: u8) -> Child
 
 // The next place after any other term: none after a cause, else the child at the lowest position that needs privilege p. One of them does, so that the
 // last one is not judged.
-fn after_other(s: &[u8], c: Counts, known: &mut Known, at: Place, p: u8) -> Child
+fn after_other(s: &[u8], c: Counts, known: &mut Known, at: Place, p: u8) -> Option<Place>
     requires { FollowingOther s.now c known.old p at }
     ensures { Stepped s.now c p result (next_at s.now p at) known.new }
 {
     if is_cause(s, c, at, p) {
-        return absent(at);
+        return None;
     }
     let first = first_followed(s, c, at, p);
     let second = second_child(s, c, at);
     let third = third_child(s, c, at);
-    if !(second.present | third.present) {
+    if second.is_none() && third.is_none() {
         return first;
     }
     if child_needs(s, c, known, first, p) {
         return first;
     }
-    if !third.present {
+    if third.is_none() {
         return second;
     }
     if child_needs(s, c, known, second, p) {
@@ -97,7 +90,7 @@ fn after_other(s: &[u8], c: Counts, known: &mut Known, at: Place, p: u8) -> Chil
 }
 
 // The next place of the chain. A call goes its own way, since its function part tells whether it is a cause.
-fn next_place(s: &[u8], c: Counts, known: &mut Known, at: Place, p: u8) -> Child
+fn next_place(s: &[u8], c: Counts, known: &mut Known, at: Place, p: u8) -> Option<Place>
     requires { Following s.now c known.old p at }
     ensures { Stepped s.now c p result (next_at s.now p at) known.new }
 {
@@ -115,23 +108,19 @@ pub fn follow(s: &[u8], c: Counts, p: u8) -> Explained
 {
     let mut known: Known = [0; KNOWN_WORDS];
     let mut terms = [0u16; NESTING_PLACES];
-    let top = root(c);
-    let mut at = top.place;
-    let mut len: usize = 0;
-    while len < NESTING_PLACES {
+    let mut at = root(c);
+    for len in 0..NESTING_PLACES {
         terms[len] = at.term;
-        len += 1;
-        let y = next_place(s, c, &mut known, at, p);
-        if !y.present {
+        let Some(next) = next_place(s, c, &mut known, at, p) else {
             return Explained {
-                answer: Explanation::Chain(len),
-                terms: terms,
+                answer: Ok(Some(len + 1)),
+                terms,
             };
-        }
-        at = y.place;
+        };
+        at = next;
     }
     Explained {
-        answer: Explanation::Chain(len),
-        terms: terms,
+        answer: Ok(Some(NESTING_PLACES)),
+        terms,
     }
 }

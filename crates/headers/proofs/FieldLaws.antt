@@ -14,16 +14,10 @@ use Rattle.program.specs.Layout.{version, has_guards, type_field, types, term_fi
 use Rattle.program.specs.Screening.{Condition, First, first_here, first_later, None, none_end, none_next, unless}
 use Rattle.program.specs.Decoding.{holds, field, field_conditions}
 use Rattle.program.proofs.Laws.Screening.{first_left, first_right, append_none, none_unless, found_unless}
-use Rattle.program.specs.Answers.{decoding_cause, decoding_place}
 use Rattle.accessors.specs.Internal.{Laid}
-use Rattle.headers.specs.Internal.{FieldHolds, FieldIs, version_conditions, VersionHolds, VersionIs, end_at, end_conditions, AfterTerms, EndIs}
+use Rattle.headers.specs.Internal.{FieldHolds, version_conditions, VersionHolds, end_at, end_conditions, AfterTerms, EndIs}
 use Rattle.program.specs.declared.answer.Refusal.{Refusal}
-use Rattle.headers.specs.declared.Field.{Field}
-use Rattle.headers.specs.declared.Field.TheVariants.{Records, Fault}
-use Rattle.headers.specs.declared.Version.{Version}
-use Rattle.headers.specs.declared.Version.TheVariants.{Channels, Fault as VersionFault}
-use Rattle.headers.specs.declared.End.{End}
-use Rattle.headers.specs.declared.End.TheVariants.{Whole, Fault as EndFault}
+use Rattle.std.specs.Prelude.{Result, Ok, Err}
 
 -- ---- one field
 module _ (s : List ℕ) (at tag size least most : ℕ) where
@@ -64,15 +58,6 @@ module _ (s : List ℕ) (at tag size least most : ℕ) where
                   (none_next (none_unless 4 (sized ∙ f)) (none_next (none_unless 1 (le-leb (at + 3 + word16 s (at + 1)) (length s) (omega arith))) none_end)));
             }
 
--- ---- a field's answer, by its cases
-pub is_fault : (s : List ℕ) (at tag size least most : ℕ) {r : Field} {f : Refusal} → r ≡ Fault f → FieldIs s at tag size least most r
-    → First (decoding_cause f) (decoding_place f) (field s at tag (holds size least most))
-is_fault s at tag size least most e h = subst (FieldIs s at tag size least most) e h
-
-pub is_records : (s : List ℕ) (at tag size least most : ℕ) {r : Field} {n : ℕ} → r ≡ Records n → FieldIs s at tag size least most r
-    → FieldHolds s at tag size least most n
-is_records s at tag size least most e h = subst (FieldIs s at tag size least most) e h
-
 -- ---- the first field and its version
 abbrev known : (version : ℕ) → Bool
 known v = eqb v 1 || eqb v 2
@@ -102,13 +87,10 @@ module _ (s : List ℕ) (at : ℕ) where
   pub is_end : at ≡ length s → None (end_at s at)
   is_end h = none_next (none_unless 2 (eq-eqb at (length s) h)) none_end
 
--- an end's answer, by its cases, and after conditions that are not found
-pub end_as : (cs : List Condition) {r q : End} → r ≡ q → EndIs cs r → EndIs cs q
-end_as cs e h = subst (EndIs cs) e h
-
-end_after : {cs : List Condition} (ds : List Condition) (r : End) → None cs → EndIs ds r → EndIs (cs ++ ds) r
-end_after ds Whole n h = append_none n h
-end_after ds (EndFault f) n h = first_right n h
+-- an end's answer, after conditions that are not found
+end_after : {cs : List Condition} (ds : List Condition) (r : Result (Unit {0}) Refusal) → None cs → EndIs ds r → EndIs (cs ++ ds) r
+end_after ds (Ok u) n h = append_none n h
+end_after ds (Err f) n h = first_right n h
 
 -- the number of channels tells whether there are guards
 one_channel : (b : Bool) → cond b max_channels 1 ≡ 1 → b ≡ false
@@ -123,7 +105,7 @@ abbrev end_for : List ℕ → (guards : Bool) → (at : ℕ) → List Condition
 end_for s b at = cond b (field s at 5 (holds max_channels 1 1)) [] ++ end_at s (cond b (at + 3 + max_channels) at)
 
 module _ (s : List ℕ) {at n : ℕ} (place : at ≡ guard_field s) (k : n ≡ channels s) where
-  pub plain_end : n ≡ 1 → (r : End) → EndIs (end_at s at) r → EndIs (end_conditions s) r
+  pub plain_end : n ≡ 1 → (r : Result (Unit {0}) Refusal) → EndIs (end_at s at) r → EndIs (end_conditions s) r
   plain_end e r h =
       let none : has_guards s ≡ false = one_channel (has_guards s) (sym k ∙ e) in
       subst (λ (cs : List Condition). EndIs cs r) (λ i. end_for s (sym none i) (place i)) h
@@ -135,17 +117,14 @@ module _ (s : List ℕ) {at n : ℕ} (place : at ≡ guard_field s) (k : n ≡ c
     pub fault_5 : {c p : ℕ} → First c p (field s at 5 (holds max_channels 1 1)) → First c p (end_conditions s)
     fault_5 {c} {p} f = subst (First c p) (λ i. end_for s (sym guarded i) (place i)) (first_left (end_at s (at + 3 + max_channels)) f)
 
-    pub guards_end : None (field s at 5 (holds max_channels 1 1)) → (r : End) → EndIs (end_at s (at + 3 + max_channels)) r → EndIs (end_conditions s) r
+    pub guards_end : None (field s at 5 (holds max_channels 1 1)) → (r : Result (Unit {0}) Refusal) → EndIs (end_at s (at + 3 + max_channels)) r
+        → EndIs (end_conditions s) r
     guards_end n₅ r h =
         subst (λ (cs : List Condition). EndIs cs r) (λ i. end_for s (sym guarded i) (place i)) (end_after (end_at s (at + 3 + max_channels)) r n₅ h)
 
 -- ---- the fields, one after the other
-pub version_fault : (s : List ℕ) {r : Version} {f : Refusal} → r ≡ VersionFault f → VersionIs s r
-    → First (decoding_cause f) (decoding_place f) (field_conditions s)
-version_fault s e h = first_left _ (subst (VersionIs s) e h)
-
-pub is_version : (s : List ℕ) {r : Version} {n : ℕ} → r ≡ Channels n → VersionIs s r → VersionHolds s n
-is_version s e h = subst (VersionIs s) e h
+pub version_fault : (s : List ℕ) {c p : ℕ} → First c p (version_conditions s) → First c p (field_conditions s)
+version_fault s f = first_left _ f
 
 module _ (s : List ℕ) {k : ℕ} (h₁ : VersionHolds s k) where
   pub fault_2 : {c p : ℕ} → First c p (field s 5 2 (holds 4 1 max_principals)) → First c p (field_conditions s)

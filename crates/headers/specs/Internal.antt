@@ -1,5 +1,5 @@
 -- What the contracts of the functions that look at fields for the decoder say. No reader of the public promise needs this file.
-use Rattle.std.specs.Prelude.{◌||◌, List, [], ◌∷◌, ◌++◌, ◌≡◌, ℕ, ◌+◌, ◌*◌, ◌/◌, ◌<◌, ◌≤◌, eqb, length}
+use Rattle.std.specs.Prelude.{◌||◌, List, [], ◌∷◌, ◌++◌, ◌≡◌, ℕ, ◌+◌, ◌*◌, ◌/◌, ◌<◌, ◌≤◌, eqb, length, Result, Ok, Err}
 use Rattle.program.specs.Limits.{max_sheet}
 use Rattle.program.specs.Bytes.{word16}
 use Rattle.program.specs.Layout.{version, guard_field, sheet_end, channels}
@@ -7,14 +7,8 @@ use Rattle.program.specs.Screening.{Condition, First, None, unless}
 use Rattle.program.specs.Decoding.{holds, field, guard_conditions, field_conditions}
 use Rattle.program.specs.Answers.{decoding_cause, decoding_place}
 use Rattle.accessors.specs.Internal.{Laid}
-use Rattle.headers.specs.declared.Field.{Field}
-use Rattle.headers.specs.declared.Field.TheVariants.{Records, Fault as FieldFault}
-use Rattle.headers.specs.declared.Version.{Version}
-use Rattle.headers.specs.declared.Version.TheVariants.{Channels, Fault as VersionFault}
-use Rattle.headers.specs.declared.End.{End}
-use Rattle.headers.specs.declared.End.TheVariants.{Whole, Fault as EndFault}
-use Rattle.headers.specs.declared.Header.{Header}
-use Rattle.headers.specs.declared.Header.TheVariants.{Laid as HeaderLaid, Fault as HeaderFault}
+use Rattle.program.specs.declared.answer.Refusal.{Refusal}
+use Rattle.program.specs.declared.records.Counts.{Counts}
 
 -- a field of records of this size can be sought here: no index is too large, since a field begins before the end of the longest sheet, and a length can be
 -- divided by the size
@@ -29,9 +23,9 @@ pub record FieldHolds (s : List ℕ) (at tag size least most n : ℕ) : Type 0 w
   pub inside : at + 3 + n * size ≤ length s
   pub none_found : None (field s at tag (holds size least most))
 
-abbrev pub FieldIs : List ℕ → (at tag size least most : ℕ) → Field → Type 0
-FieldIs s at tag size least most (Records n) = FieldHolds s at tag size least most n
-FieldIs s at tag size least most (FieldFault f) = First (decoding_cause f) (decoding_place f) (field s at tag (holds size least most))
+abbrev pub FieldIs : List ℕ → (at tag size least most : ℕ) → Result ℕ Refusal → Type 0
+FieldIs s at tag size least most (Ok n) = FieldHolds s at tag size least most n
+FieldIs s at tag size least most (Err f) = First (decoding_cause f) (decoding_place f) (field s at tag (holds size least most))
 
 -- the conditions of the fields before those of the second field, and after those of the fourth
 abbrev pub version_conditions : List ℕ → List Condition
@@ -47,9 +41,9 @@ pub record VersionHolds (s : List ℕ) (n : ℕ) : Type 0 where
   pub channels_are : n ≡ channels s
   pub none_found : None (version_conditions s)
 
-abbrev pub VersionIs : List ℕ → Version → Type 0
-VersionIs s (Channels n) = VersionHolds s n
-VersionIs s (VersionFault f) = First (decoding_cause f) (decoding_place f) (version_conditions s)
+abbrev pub VersionIs : List ℕ → Result ℕ Refusal → Type 0
+VersionIs s (Ok n) = VersionHolds s n
+VersionIs s (Err f) = First (decoding_cause f) (decoding_place f) (version_conditions s)
 
 -- what the fifth field is sought from: where the terms end, and the sheet's channels
 pub record AfterTerms (s : List ℕ) (at n : ℕ) : Type 0 where
@@ -57,10 +51,10 @@ pub record AfterTerms (s : List ℕ) (at n : ℕ) : Type 0 where
   pub place : at ≡ guard_field s
   pub channels_are : n ≡ channels s
 
-abbrev pub EndIs : List Condition → End → Type 0
-EndIs cs Whole = None cs
-EndIs cs (EndFault f) = First (decoding_cause f) (decoding_place f) cs
+abbrev pub EndIs : List Condition → Result (Unit {0}) Refusal → Type 0
+EndIs cs (Ok u) = None cs
+EndIs cs (Err f) = First (decoding_cause f) (decoding_place f) cs
 
-abbrev pub HeaderIs : List ℕ → Header → Type 0
-HeaderIs s (HeaderLaid c) = Laid s c
-HeaderIs s (HeaderFault f) = First (decoding_cause f) (decoding_place f) (field_conditions s)
+abbrev pub HeaderIs : List ℕ → Result Counts Refusal → Type 0
+HeaderIs s (Ok c) = Laid s c
+HeaderIs s (Err f) = First (decoding_cause f) (decoding_place f) (field_conditions s)

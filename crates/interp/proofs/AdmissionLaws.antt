@@ -17,8 +17,7 @@ use Rattle.program.specs.Answers.{decoding_cause, decoding_place, decoded_model,
 use Rattle.program.proofs.Laws.Screening.{screen_clear, screen_found}
 use Rattle.program.proofs.Laws.Readable.{well_formed}
 use Rattle.program.specs.declared.answer.Refusal.{Refusal}
-use Rattle.program.specs.declared.answer.Decoded.{Decoded}
-use Rattle.program.specs.declared.answer.Decoded.TheVariants.{Readable as IsReadable, Refused as NotReadable}
+use Rattle.std.specs.Prelude.{Result, Ok, Err}
 use Rattle.program.specs.declared.records.Counts.{Counts}
 use Rattle.interp.specs.Internal.{conditions, Cleared}
 
@@ -31,15 +30,15 @@ module _ (s start : List ℕ) (cells posts : ℕ) (frames : Bool) (calls depth :
   outcome = screen (conditions s start cells posts frames calls depth)
 
   -- ---- a sheet that cannot be read
-  module _ {d : Decoded} (p : decoded_model d ≡ decoding s) where
-    pub unreadable : {f : Refusal} → d ≡ NotReadable f → outcome ≡ found (decoding_cause f) (decoding_place f)
+  module _ {d : Result Counts Refusal} (p : decoded_model d ≡ decoding s) where
+    pub unreadable : {f : Refusal} → d ≡ Err f → outcome ≡ found (decoding_cause f) (decoding_place f)
     unfolding decoding
     unreadable {f = f} e = screen_found (decoding_conditions s) _ (decoding_cause f) (decoding_place f) (sym p ∙ ap decoded_model e)
 
-    pub readable : {c : Counts} → d ≡ IsReadable c → Readable s
+    pub readable : {c : Counts} → d ≡ Ok c → Readable s
     readable e = sym p ∙ ap decoded_model e
 
-  pub counted : {d : Decoded} {c : Counts} → d ≡ IsReadable c → Counted s d → CountsOf s c
+  pub counted : {d : Result Counts Refusal} {c : Counts} → d ≡ Ok c → Counted s d → CountsOf s c
   counted e k = subst (Counted s) e k
 
   -- ---- a readable one

@@ -1,7 +1,8 @@
 -- From what the interpreter comes to, to the whole run: the refinement theorem at the start that each runner makes.
 use mathlib.Core.Bool.{Bool, true, false}
 use mathlib.Core.List.{List, [], ◌∷◌, ◌++◌}
-use mathlib.Core.Path.{◌≡◌, refl, sym, ap, ◌∙◌, subst}
+use Rattle.std.specs.Prelude.{Result, Ok, Err}
+use mathlib.Core.Path.{◌≡◌, refl, sym, ap, ◌∙◌}
 use Prim.Native.Nat.{ℕ, ◌-◌, ◌*◌, ◌/◌, ◌%◌}
 use native.Mathlib.Omega.{arith}
 use lib.Dec.{eqb, ltb}
@@ -22,42 +23,44 @@ use Rattle.semantics.specs.Recording.{decided_in, decisions_made, decisions, Rec
 use Rattle.semantics.proofs.RecordTheorems.{traced_clear, refused_unrecorded}
 use Rattle.semantics.proofs.Theorems.{course_clear, course_found, run_course, counts_few}
 use Rattle.traces.specs.Traces.{Event, recorded}
-use Rattle.stores.specs.declared.values.Out.{Out}
+use Rattle.stores.specs.declared.values.Value.{Value}
+use Rattle.stores.specs.declared.values.Stop.{Stop}
 use Rattle.stores.specs.Words.{out_of}
 use Rattle.stores.specs.Cells.{zeros_like}
-use Rattle.access.specs.Access.{ModeIs}
-use Rattle.machine.specs.Steps.{calls_left, cells_made, posts_made, saturated_made, entries_made}
-use Rattle.machine.specs.Store.{Done, store_of, done_of}
-use Rattle.refinement.specs.Claims.{outcome_of, run_counts, laid_out, Refined}
+use Rattle.access.specs.declared.Mode.{Mode}
+use Rattle.machine.specs.Store.{Done}
+use Rattle.refinement.specs.Claims.{outcome_of, laid_out, Refined}
 use Rattle.refinement.proofs.Theorems.{eager_refined, lazy_refined}
-use Rattle.interp.specs.Answers.{refusal_cause, refusal_place, outcome_model, counts_model, run_model, request_of, buffers_of, after, after_recording}
-use Rattle.interp.specs.Internal.{Cleared, Admits, StartAccess, refused_recording, root_done, Tallied, RootEvaluated}
+use Rattle.interp.specs.Answers.{refusal_cause, refusal_place, outcome_model, counts_model, Run, run_model, request_of, buffers_of, after, run_of, after_recording}
+use Rattle.interp.specs.Internal.{Cleared, Admits, StartAccess, root_done, Tallied, RootEvaluated}
 use Rattle.interp.specs.Laws.{access_authorised, access_is, tallied_at, tallied_after}
 use Rattle.interp.specs.declared.answer.RunRefusal.{RunRefusal}
-use Rattle.interp.specs.declared.answer.Run.TheVariants.{Refused, Ran as IsRan}
 use Rattle.interp.specs.declared.answer.RecordedRun.{RecordedRun}
 use Rattle.interp.specs.declared.answer.Tally.{Tally}
-use Rattle.interp.specs.declared.answer.Outcome.{Outcome}
-use Rattle.interp.specs.declared.answer.Admission.{Admission}
-use Rattle.interp.specs.declared.answer.Admission.TheVariants.{Admitted, Refused as NotAdmitted}
+use Rattle.interp.specs.declared.answer.Ground.{Ground}
 use Rattle.interp.proofs.StartLaws.{laid_length}
 
 -- ---- a run that is turned back
-pub refused_after : (s : List ℕ) (q : Request) (cells posts frames noted : List ℕ) (f : RunRefusal) {r : RecordedRun} → r ≡ refused_recording f
+pub refused_after : (s : List ℕ) (q : Request) (cells posts frames noted : List ℕ) (f : RunRefusal)
     → screen (run_conditions s q (sizes (buffers_of cells posts frames))) ≡ found (refusal_cause f) (refusal_place f)
-    → after_recording r cells posts frames noted ≡ recording s q (buffers_of cells posts frames) noted
-refused_after s q cells posts frames noted f t e =
+    → after_recording (Err f) cells posts frames noted ≡ recording s q (buffers_of cells posts frames) noted
+refused_after s q cells posts frames noted f e =
     let b = buffers_of cells posts frames in
-    let is : run s q b ≡ after (Refused f) cells posts frames = run_course s q b _ (course_found s q b (refusal_cause f) (refusal_place f) e) in
-    ap (λ (r : RecordedRun). after_recording r cells posts frames noted) t
-    ∙ (λ i. record { after = sym is i; entries = 0; noted = noted })
+    let is : run s q b ≡ after (Err f) cells posts frames = run_course s q b _ (course_found s q b (refusal_cause f) (refusal_place f) e) in
+    (λ i. record { after = sym is i; entries = 0; noted = noted })
     ∙ sym (refused_unrecorded s q b noted (refusal_cause f) (refusal_place f) (ap (λ (a : After). a.answer) is))
 
 -- ---- without a record
-pub plain_after : (s : List ℕ) (q : Request) (b : Buffers) (t : List ℕ) (r : RecordedRun) {cells posts frames noted : List ℕ}
-    → after_recording r cells posts frames noted ≡ recording s q b t → after r.run cells posts frames ≡ run s q b
+pub plain_after : (s : List ℕ) (q : Request) (b : Buffers) (t : List ℕ) (r : Result RecordedRun RunRefusal) {cells posts frames noted : List ℕ}
+    → after_recording r cells posts frames noted ≡ recording s q b t → after (run_of r) cells posts frames ≡ run s q b
 unfolding recording
 plain_after s q b t r h = ap (λ (x : Recorded). x.after) h
+
+-- at the exit of a `?`: r is the refusal that is handed on
+pub plain_refused : (s : List ℕ) (q : Request) (b : Buffers) (t : List ℕ) {r : Run} {x f : RunRefusal} → r ≡ Err x → x ≡ f
+    → {cells posts frames noted : List ℕ} → after_recording (Err f) cells posts frames noted ≡ recording s q b t → after r cells posts frames ≡ run s q b
+plain_refused s q b t {f = f} e same {cells} {posts} {frames} h =
+    ap (λ (y : Run). after y cells posts frames) (e ∙ ap (λ (y : RunRefusal). Err y) same) ∙ plain_after s q b t (Err f) h
 
 -- ---- a run that starts: `store` is what the frame store holds when evaluation begins
 module _ (s : List ℕ) (q : Request) (cells posts frames store noted : List ℕ) where
@@ -72,14 +75,14 @@ module _ (s : List ℕ) (q : Request) (cells posts frames store noted : List ℕ
   record Answers (d : Done) (r : RecordedRun) (b : Buffers) (noted' : List ℕ) : Type 0 where
     tally : Tally
     tallied : Tallied q.calls d tally b noted'
-    answer_is : run_model r.run ≡ ran (outcome_of (root s) (out_of tally.word)) (counts_model tally.made)
+    answer_is : run_model (Ok r.ran) ≡ ran (outcome_of (root s) (out_of tally.word)) (counts_model tally.made)
     entries_are : r.entries ≡ tally.entries
 
   ran_after : screen (run_conditions s q z) ≡ clear → {d : Done} {r : RecordedRun} {cells' posts' frames' last noted' : List ℕ}
       → Answers d r (buffers_of cells' posts' frames') noted'
       → Refined (root s) q (buffers_of cells posts store) noted d (evaluation q.runner s q z) listed
       → last ≡ cleared_frames q.runner frames
-      → after_recording r cells' posts' last noted' ≡ recording s q (buffers_of cells posts frames) noted
+      → after_recording (Ok r) cells' posts' last noted' ≡ recording s q (buffers_of cells posts frames) noted
   unfolding recording
   ran_after e {cells' = cells'} {posts' = posts'} {last = last} v R l =
       let b = buffers_of cells posts frames in
@@ -96,33 +99,9 @@ module _ (s : List ℕ) (q : Request) (cells posts frames store noted : List ℕ
       }
 
 -- ---- evaluation
--- the frames are back as the list that they were given back as
-pub frames_back : {w : ℕ} {n c p f z o : List ℕ} {d : Done} → z ≡ f → done_of w (store_of n c p f o) ≡ d → done_of w (store_of n c p z o) ≡ d
-frames_back {w} {n} {c} {p} {o = o} q e = ap (λ (l : List ℕ). done_of w (store_of n c p l o)) q ∙ e
 
-pub outcome_same : (root₀ : ℕ) {o : Out} (p : Out) → o ≡ p → outcome_of root₀ p ≡ outcome_of root₀ o
-outcome_same root₀ p e = ap (outcome_of root₀) (sym e)
-
--- the tally from what the evaluator gives back
-pub tallied_by : (calls : ℕ) {w : ℕ} {n cells posts frames noted cells' : List ℕ} {d : Done} → done_of w (store_of n cells posts frames noted) ≡ d
-    → cells' ≡ zeros_like cells
-    → Tallied calls d (record {
-      word = w;
-      made = record { calls = calls - calls_left n; cells = cells_made n; posts = posts_made n; saturated = saturated_made n };
-      entries = entries_made n;
-    }) (buffers_of cells' posts frames) noted
-tallied_by calls e z = record {
-  word_is = ap (λ (d : Done). d.out) e;
-  made_is = ap (λ (d : Done). run_counts calls d.store.counters) e;
-  entries_are = ap (λ (d : Done). entries_made d.store.counters) e;
-  cells_are = z ∙ ap (λ (d : Done). zeros_like d.store.cells) e;
-  posts_are = ap (λ (d : Done). d.store.posts) e;
-  frames_are = ap (λ (d : Done). d.store.frames) e;
-  noted_is = ap (λ (d : Done). d.store.noted) e;
-}
-
-pub answered_by : (root₀ : ℕ) (t : Tally) {x : Out} (o : Outcome) → x ≡ out_of t.word → outcome_model o ≡ outcome_of root₀ x
-    → run_model (IsRan o t.made) ≡ ran (outcome_of root₀ (out_of t.word)) (counts_model t.made)
+pub answered_by : (root₀ : ℕ) (t : Tally) {x : Result Value Stop} (o : Result Ground Stop) → x ≡ out_of t.word → outcome_model o ≡ outcome_of root₀ x
+    → run_model (Ok (record { outcome = o; made = t.made })) ≡ ran (outcome_of root₀ (out_of t.word)) (counts_model t.made)
 answered_by root₀ t o p q = λ i. ran ((q ∙ ap (outcome_of root₀) p) i) (counts_model t.made)
 
 -- ---- the start
@@ -141,7 +120,7 @@ same_laid s w (f ∷ fs) h =
 
 module _ (s start : List ℕ) (e : Bool) (cells posts noted : List ℕ) (calls depth : ℕ) {c : Counts} where
   -- the answer with the root by its number in the sheet, and a in the place of the number that it is
-  answers_at : (runner : Runner) (frames store : List ℕ) {mode access a : ℕ} {r : RecordedRun} {b : Buffers} {t : List ℕ} → CountsOf s c → access ≡ a
+  answers_at : (runner : Runner) (frames store : List ℕ) {mode : Mode} {access a : ℕ} {r : RecordedRun} {b : Buffers} {t : List ℕ} → CountsOf s c → access ≡ a
       → (v : RootEvaluated s c mode access calls depth (buffers_of cells posts store) noted r b t)
       → Answers s (request_of runner e start calls depth) cells posts frames store noted
       (root_done v.terms (root s) mode a calls depth (buffers_of cells posts store) noted) r b t
@@ -152,25 +131,27 @@ module _ (s start : List ℕ) (e : Bool) (cells posts noted : List ℕ) (calls d
     entries_are = v.entries_are;
   }
 
-  pub eager_after : (store : List ℕ) {mode access : ℕ} {r : RecordedRun} {cells' posts' frames' noted' : List ℕ}
-      → Cleared s start (length cells) (length posts) true calls depth c → StartAccess s start access → ModeIs false e false mode
-      → RootEvaluated s c mode access calls depth (buffers_of cells posts store) noted r (buffers_of cells' posts' frames') noted'
-      → after_recording r cells' posts' [] noted' ≡ recording s (request_of eager e start calls depth) (buffers_of cells posts []) noted
-  eager_after store {mode = mode} K a is v =
+  pub eager_after : (store : List ℕ) {access : ℕ} {r : RecordedRun} {cells' posts' frames' noted' : List ℕ}
+      → Cleared s start (length cells) (length posts) true calls depth c → StartAccess s start access
+      → RootEvaluated s c (record { lazy = false; enforce = e; intervals = false }) access calls depth (buffers_of cells posts store) noted r
+      (buffers_of cells' posts' frames') noted'
+      → after_recording (Ok r) cells' posts' [] noted' ≡ recording s (request_of eager e start calls depth) (buffers_of cells posts []) noted
+  eager_after store K a v =
       let q = request_of eager e start calls depth in
       let w = K.well_formed in
       ran_after s q cells posts [] store noted K.none_found (answers_at eager [] store K.counts (access_is w a K.all_known) v)
-      (eager_refined s w c K.counts v.terms v.table q (buffers_of cells posts store) noted K.depth_most K.cells_most mode is.enforce_is
-      is.interval_is a.authorised (privs (authority s) (stack start)) is.lazy_is a.authorised_small (access_authorised w a))
+      (eager_refined s w c K.counts v.terms v.table q (buffers_of cells posts store) noted K.depth_most K.cells_most _ refl
+      refl a.authorised (privs (authority s) (stack start)) refl a.authorised_small (access_authorised w a))
       refl
 
-  pub lazy_after : (frames : List ℕ) {store : List ℕ} {mode access : ℕ} {r : RecordedRun} {cells' posts' frames' last noted' : List ℕ}
+  pub lazy_after : (frames : List ℕ) {store : List ℕ} {access : ℕ} {r : RecordedRun} {cells' posts' frames' last noted' : List ℕ}
       → Cleared s start (length cells) (length posts) (eqb (length frames) frame_numbers) calls depth c
-      → store ≡ laid_out (authority_record s) (stack start) ++ drop (length start) frames → access ≡ length start → ModeIs true e false mode
-      → RootEvaluated s c mode access calls depth (buffers_of cells posts store) noted r (buffers_of cells' posts' frames') noted'
+      → store ≡ laid_out (authority_record s) (stack start) ++ drop (length start) frames → access ≡ length start
+      → RootEvaluated s c (record { lazy = true; enforce = e; intervals = false }) access calls depth (buffers_of cells posts store) noted r
+      (buffers_of cells' posts' frames') noted'
       → last ≡ zeros_like frames'
-      → after_recording r cells' posts' last noted' ≡ recording s (request_of lazy e start calls depth) (buffers_of cells posts frames) noted
-  lazy_after frames {store = store} {mode = mode} {access = access} K g a is v l =
+      → after_recording (Ok r) cells' posts' last noted' ≡ recording s (request_of lazy e start calls depth) (buffers_of cells posts frames) noted
+  lazy_after frames {store = store} {access = access} K g a v l =
       let q = request_of lazy e start calls depth in
       let w = K.well_formed in
       let two : length start ≡ length (stack start) * 2 = omega (arith, stack_length start K.whole.even, K.whole.even) in
@@ -181,28 +162,20 @@ module _ (s start : List ℕ) (e : Bool) (cells posts noted : List ℕ) (calls d
       ap (λ (x : List ℕ). length x) g ∙ length-append (laid_out (authority_record s) (stack start)) _
       ∙ omega (arith, laid_length (authority_record s) start K.whole.even, length-drop (length start) frames, long, K.whole.few) in
       let refined =
-      lazy_refined s w c K.counts v.terms v.table q (buffers_of cells posts store) noted K.depth_most K.cells_most mode is.enforce_is
-      is.interval_is is.lazy_is (stack start) (drop (length start) frames)
+      lazy_refined s w c K.counts v.terms v.table q (buffers_of cells posts store) noted K.depth_most K.cells_most _ refl
+      refl refl (stack start) (drop (length start) frames)
       (omega (arith, two, K.whole.few)) laid (kept ∙ long) in
       let at-end = answers_at lazy frames store K.counts (a ∙ two) v in
       ran_after s q cells posts frames store noted K.none_found at-end refined
       (l ∙ ap zeros_like at-end.tallied.frames_are ∙ ap (λ (z : Sizes). replicate z.frames 0) refined.same_sizes ∙ ap (λ (n : ℕ). replicate n 0) kept)
 
-  pub is_admitted : {a : Admission} (frames : Bool) → a ≡ Admitted c → Admits s start (length cells) (length posts) frames calls depth a
-      → Cleared s start (length cells) (length posts) frames calls depth c
-  is_admitted frames p h = subst (Admits s start (length cells) (length posts) frames calls depth) p h
-
 -- ---- each runner turned back
 module _ (s start : List ℕ) (e : Bool) (cells posts noted : List ℕ) (calls depth : ℕ) where
-  pub eager_refused : {a : Admission} {f : RunRefusal} {r : RecordedRun} → a ≡ NotAdmitted f → Admits s start (length cells) (length posts) true calls depth a
-      → r ≡ refused_recording f → after_recording r cells posts [] noted ≡ recording s (request_of eager e start calls depth) (buffers_of cells posts []) noted
-  eager_refused {f = f} p h t =
-      refused_after s (request_of eager e start calls depth) cells posts [] noted f t
-      (subst (Admits s start (length cells) (length posts) true calls depth) p h)
+  pub eager_refused : (f : RunRefusal) → Admits s start (length cells) (length posts) true calls depth (Err f)
+      → after_recording (Err f) cells posts [] noted ≡ recording s (request_of eager e start calls depth) (buffers_of cells posts []) noted
+  eager_refused f h = refused_after s (request_of eager e start calls depth) cells posts [] noted f h
 
-  pub lazy_refused : (frames : List ℕ) {a : Admission} {f : RunRefusal} {r : RecordedRun} → a ≡ NotAdmitted f
-      → Admits s start (length cells) (length posts) (eqb (length frames) frame_numbers) calls depth a → r ≡ refused_recording f
-      → after_recording r cells posts frames noted ≡ recording s (request_of lazy e start calls depth) (buffers_of cells posts frames) noted
-  lazy_refused frames {f = f} p h t =
-      refused_after s (request_of lazy e start calls depth) cells posts frames noted f t
-      (subst (Admits s start (length cells) (length posts) (eqb (length frames) frame_numbers) calls depth) p h)
+  pub lazy_refused : (frames : List ℕ) (f : RunRefusal)
+      → Admits s start (length cells) (length posts) (eqb (length frames) frame_numbers) calls depth (Err f)
+      → after_recording (Err f) cells posts frames noted ≡ recording s (request_of lazy e start calls depth) (buffers_of cells posts frames) noted
+  lazy_refused frames f h = refused_after s (request_of lazy e start calls depth) cells posts frames noted f h

@@ -1,14 +1,13 @@
--- The start stack by its numbers, from a place on: what each of the three loops over it keeps.
-use mathlib.Core.Bool.{true, false}
+-- The start stack by its numbers, from a place on.
+use mathlib.Core.Bool.{false}
 use mathlib.Core.List.{List, [], ◌∷◌, ◌++◌}
 use mathlib.Core.Path.{◌≡◌, refl, sym, ap, ◌∙◌}
-use Prim.Native.Nat.{ℕ, zero, suc, ◌+◌, ◌-◌, ◌%◌, ◌<◌, ◌≤◌}
+use Prim.Native.Nat.{ℕ, zero, suc, ◌+◌, ◌-◌, ◌*◌, ◌/◌, ◌%◌, ◌<◌, ◌≤◌}
 use native.Mathlib.Omega.{arith}
 use native.Mathlib.Numerals.{unary_clauses}
-use lib.ListN.{length, get_or, set, drop, drop_of_length-le, length-append, length-drop}
+use lib.ListN.{length, get_or, set, drop, length-append, length-drop, length-set}
 use borrow.Author.Tests.{lt-ltb, le-ltb, lt-leb, le-leb, eq-eqb, ne_eqb}
-use Rattle.privileges.specs.Sets.{meet, union}
-use Rattle.semantics.specs.Access.{Frame, frame, privs}
+use Rattle.semantics.specs.Access.{Frame, frame}
 use Rattle.semantics.specs.Runs.{stack, principals_known, stack_ok}
 use Rattle.refinement.specs.Claims.{laid_out}
 use Rattle.program.specs.Limits.{max_start}
@@ -23,16 +22,7 @@ stack_frame (x ∷ []) zero h = absurd (omega (arith, h))
 stack_frame (x ∷ y ∷ l) zero h = refl
 stack_frame (x ∷ l) (suc i) h = simp unary_clauses (simp unary_clauses at (stack_frame l i (omega (arith, h))))
 
-pub stack_end : (l : List ℕ) (i : ℕ) → length l ≤ i → stack (drop i l) ≡ []
-stack_end l i h = ap stack (drop_of_length-le l {i = i} h)
-
 -- ---- known principals
--- the principals of the frames before place i are known, so that the frames from i on decide as the whole stack
-pub record KnownBefore (count : ℕ) (l : List ℕ) (i : ℕ) : Type 0 where
-  pub even : i % 2 ≡ 0
-  pub below : i ≤ length l
-  pub rest_is : principals_known count (stack l) ≡ principals_known count (stack (drop i l))
-
 module _ (count : ℕ) (l : List ℕ) (i : ℕ) where
   pub unknown_here : i + 1 < length l → count ≤ at l i → false ≡ principals_known count (stack (drop i l))
   unknown_here h u = rw (stack_frame l i h, le-ltb (at l i) count u) refl
@@ -40,37 +30,17 @@ module _ (count : ℕ) (l : List ℕ) (i : ℕ) where
   pub known_here : i + 1 < length l → at l i < count → principals_known count (stack (drop i l)) ≡ principals_known count (stack (drop (i + 2) l))
   known_here h u = rw (stack_frame l i h, lt-ltb (at l i) count u) refl
 
-  pub known_end : length l ≤ i → true ≡ principals_known count (stack (drop i l))
-  known_end h = ap (principals_known count) (sym (stack_end l i h))
-
 -- ---- backwards: the frame before a place
 pub stack_before : (l : List ℕ) (j : ℕ) → 2 ≤ j → j ≤ length l → stack (drop (j - 2) l) ≡ frame (at l (j - 2)) (at l (j - 2 + 1)) ∷ stack (drop j l)
 stack_before l j h k =
     let e : j - 2 + 2 ≡ j = omega (arith, h) in
     stack_frame l (j - 2) (omega (arith, h, k)) ∙ ap (λ (n : ℕ). frame (at l (j - 2)) (at l (j - 2 + 1)) ∷ stack (drop n l)) e
 
--- ---- the granted set
--- the set is what the frames from place i on grant
-pub record GrantedFrom (A : ℕ → ℕ) (l : List ℕ) (set i : ℕ) : Type 0 where
-  pub even : i % 2 ≡ 0
-  pub below : i ≤ length l
-  pub set_is : set ≡ privs A (stack (drop i l))
-
-module _ (A : ℕ → ℕ) (l : List ℕ) where
-  pub grants_none : 0 ≡ privs A (stack (drop (length l) l))
-  grants_none = ap (privs A) (sym (stack_end l (length l) (omega arith)))
-
-  pub grants_more : {g : ℕ} (j : ℕ) → 2 ≤ j → j ≤ length l → g ≡ privs A (stack (drop j l))
-      → meet (A (at l (j - 2))) (union (at l (j - 2 + 1)) g) ≡ privs A (stack (drop (j - 2) l))
-  grants_more j h k e = ap (λ (x : ℕ). meet (A (at l (j - 2))) (union (at l (j - 2 + 1)) x)) e ∙ sym (ap (privs A) (stack_before l j h k))
-
 -- ---- the frame store
--- the frames from place i on are laid into the store f, before place n; g is the store then
-pub record LaidFrom (A : ℕ → ℕ) (l f g : List ℕ) (n i : ℕ) : Type 0 where
-  pub even : i % 2 ≡ 0
-  pub place : i + n ≡ length l
+-- the frames of the last n numbers are laid into the store f, before place n; g is the store then
+pub record LaidFrom (A : ℕ → ℕ) (l f g : List ℕ) (n : ℕ) : Type 0 where
   pub room : length g ≡ length f
-  pub laid : g ≡ laid_out A (stack (drop i l)) ++ drop n f
+  pub laid : g ≡ laid_out A (stack (drop (length l - n) l)) ++ drop n f
 
 two_set : (L f : List ℕ) (n a b : ℕ) → length L ≡ n → n + 2 ≤ length f → set (set (L ++ drop n f) n a) (n + 1) b ≡ (L ++ (a ∷ b ∷ [])) ++ drop (n + 2) f
 two_set L [] n a b e h = absurd (omega (arith, h))
@@ -88,9 +58,6 @@ laid_length A (x ∷ []) e = absurd (omega (arith, e))
 laid_length A (x ∷ y ∷ l) e = length-append (laid_out A (stack l)) _ ∙ omega (arith, laid_length A l (omega (arith, e)))
 
 module _ (A : ℕ → ℕ) (l f : List ℕ) where
-  pub lay_none : f ≡ laid_out A (stack (drop (length l) l)) ++ drop 0 f
-  lay_none = ap (λ (x : List Frame). laid_out A x ++ f) (sym (stack_end l (length l) (omega arith)))
-
   -- the two numbers of one frame more
   pub lay_more : {g : List ℕ} {m : ℕ} (j n : ℕ) → j % 2 ≡ 0 → 2 ≤ j → j + n ≡ length l → length l % 2 ≡ 0 → length l ≤ length f → m ≡ A (at l (j - 2))
       → g ≡ laid_out A (stack (drop j l)) ++ drop n f
@@ -106,18 +73,20 @@ module _ (A : ℕ → ℕ) (l f : List ℕ) where
       long : length (laid_out A (stack (drop j l))) ≡ n
       long = laid_length A (drop j l) (omega (arith, behind, e, k, w)) ∙ behind
 
--- from the first place on it is the whole
-pub all_laid : (A : ℕ → ℕ) (l f : List ℕ) {g : List ℕ} (i n : ℕ) → i ≤ 0 → i + n ≡ length l → g ≡ laid_out A (stack (drop i l)) ++ drop n f
-    → g ≡ laid_out A (stack l) ++ drop (length l) f
-all_laid A l f i n h e q =
-    let z : i ≡ 0 = omega (arith, h) in
-    let w : n ≡ length l = omega (arith, h, e) in
-    q ∙ (λ j. laid_out A (stack (drop (z j) l)) ++ drop (w j) f)
-
-pub all_granted : (A : ℕ → ℕ) (l : List ℕ) {g : ℕ} (i : ℕ) → i ≤ 0 → g ≡ privs A (stack (drop i l)) → g ≡ privs A (stack l)
-all_granted A l i h q =
-    let z : i ≡ 0 = omega (arith, h) in
-    q ∙ (λ j. privs A (stack (drop (z j) l)))
+  -- the outermost frame of those that are left
+  pub laid_next : {g : List ℕ} {m : ℕ} (i : ℕ) → LaidFrom A l f g (2 * i) → i < length l / 2 → length l % 2 ≡ 0 → length l ≤ length f
+      → m ≡ A (at l (length l - 2 * (i + 1)))
+      → LaidFrom A l f (set (set g (2 * i) m) (2 * i + 1) (at l (length l - 2 * (i + 1) + 1))) (2 * (i + 1))
+  laid_next {g} {m} i D h w r p =
+      let back : length l - 2 * (i + 1) ≡ length l - 2 * i - 2 = omega arith in
+      let on : 2 * (i + 1) ≡ 2 * i + 2 = omega arith in
+      record {
+        room = simp length-set D.room;
+        laid = ap (λ (k : ℕ). set (set g (2 * i) m) (2 * i + 1) (at l (k + 1))) back
+            ∙ lay_more (length l - 2 * i) (2 * i) (omega (arith, w)) (omega (arith, h, w)) (omega (arith, h, w)) w r
+            (p ∙ ap (λ (k : ℕ). A (at l k)) back) D.laid
+            ∙ (λ x. laid_out A (stack (drop (sym back x) l)) ++ drop (sym on x) f);
+      }
 
 -- ---- 14, test by test
 module _ (count : ℕ) (l : List ℕ) where

@@ -15,6 +15,7 @@ use Rattle.semantics.specs.Domains.{Domain}
 use Rattle.semantics.specs.Values.{Budget, budget, ResultOf}
 use Rattle.semantics.specs.Access.{Frame, privs}
 use Rattle.semantics.specs.Runs.{Request, Buffers, Sizes, sizes, stack, principals_known, started, RunCounts, OutcomeOf, ran, left, counts, AfterOf, answer_of, cleared_frames, buffers_after}
+use Rattle.access.specs.declared.Mode.{Mode}
 use Rattle.access.specs.Access.{packed}
 use Rattle.termtable.specs.Table.{Empty}
 use Rattle.machine.specs.Steps.{wrapped}
@@ -50,8 +51,8 @@ module _ {s start : List ℕ} {access : ℕ} (w : WellFormed s) (a : StartAccess
   access_is h = a.access_is ∙ ap (packed a.authorised) (a.granted_is ∙ same_privs s w (stack start) h)
 
 -- ---- the root by its number in the sheet, and another number in the place of the access that it is
-pub tallied_at : {s : List ℕ} {c : Counts} → CountsOf s c → (terms : List ℕ) (mode calls depth : ℕ) {access a : ℕ} (b : Buffers) (noted : List ℕ) {t : Tally}
-    {b' : Buffers} {noted' : List ℕ} → access ≡ a → Tallied calls (root_done terms (c.terms - 1) mode access calls depth b noted) t b' noted'
+pub tallied_at : {s : List ℕ} {c : Counts} → CountsOf s c → (terms : List ℕ) (mode : Mode) (calls depth : ℕ) {access a : ℕ} (b : Buffers) (noted : List ℕ)
+    {t : Tally} {b' : Buffers} {noted' : List ℕ} → access ≡ a → Tallied calls (root_done terms (c.terms - 1) mode access calls depth b noted) t b' noted'
     → Tallied calls (root_done terms (root s) mode a calls depth b noted) t b' noted'
 tallied_at {s} k terms mode calls depth {access} b noted {t} {b'} {noted'} e v =
     subst (λ x. Tallied calls (root_done terms (root s) mode x calls depth b noted) t b' noted') e

@@ -4,9 +4,8 @@ ghost use Rattle.program.specs.Limits.{max_cells, max_posts, max_calls, max_dept
 ghost use Rattle.interp.specs.Internal.{Admits};
 ghost use Rattle.accessors.specs.Internal.{ReadableSheet};
 
-use crate::answer::{Admission, RunRefusal};
+use crate::answer::RunRefusal;
 use crate::start::stack_ok;
-use program::answer::Decoded;
 use program::limits::{MAX_CALLS, MAX_CELLS, MAX_DEPTH, MAX_POSTS};
 use program::records::Counts;
 
@@ -32,20 +31,20 @@ fn admit_readable(
     frames: bool,
     calls: u32,
     depth: u32,
-) -> Admission
+) -> Result<Counts, RunRefusal>
     requires { ReadableSheet s.now c }
     ensures { Admits s.now start.now cells posts frames calls depth result }
 {
     if !stack_ok(start, c.principals) {
-        return Admission::Refused(RunRefusal::Start);
+        return Err(RunRefusal::Start);
     }
     if !buffers_ok(cells, posts, frames) {
-        return Admission::Refused(RunRefusal::Buffers);
+        return Err(RunRefusal::Buffers);
     }
     if !limits_ok(calls, depth) {
-        return Admission::Refused(RunRefusal::Allowance);
+        return Err(RunRefusal::Allowance);
     }
-    Admission::Admitted(c)
+    Ok(c)
 }
 
 pub fn admit(
@@ -56,12 +55,9 @@ pub fn admit(
     frames: bool,
     calls: u32,
     depth: u32,
-) -> Admission
+) -> Result<Counts, RunRefusal>
     ensures { Admits s.now start.now cells posts frames calls depth result }
 {
-    let d = decoder::decode(s);
-    match d {
-        Decoded::Refused(f) => Admission::Refused(RunRefusal::Unreadable(f)),
-        Decoded::Readable(c) => admit_readable(s, c, start, cells, posts, frames, calls, depth),
-    }
+    let c = decoder::decode(s)?;
+    admit_readable(s, c, start, cells, posts, frames, calls, depth)
 }

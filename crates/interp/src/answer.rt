@@ -1,33 +1,31 @@
 // The answer of a run. specs/Answers.antt gives the paper's number and values of each case.
-use program::records::Counts;
+ghost use Rattle.std.specs.Prelude.{◌≡◌};
+ghost use Rattle.interp.specs.declared.answer.RunRefusal.TheVariants.{Unreadable};
+
+use program::answer::Refusal;
 use stores::values::Stop;
 
 // 1 to 8 and 31 are the reader's; 14 to 16 follow in this order.
 #[derive(Clone, Copy)]
 pub enum RunRefusal {
-    Unreadable(program::answer::Refusal),
+    Unreadable(Refusal),
     Start,
     Buffers,
     Allowance,
 }
 
-// Whether a run may start, on a readable sheet with these counts.
-#[derive(Clone, Copy)]
-pub enum Admission {
-    Admitted(Counts),
-    Refused(RunRefusal),
+impl From<Refusal> for RunRefusal {
+    ghost from_gives = { λ f r. r ≡ Unreadable f };
+
+    fn from(f: Refusal) -> RunRefusal {
+        RunRefusal::Unreadable(f)
+    }
 }
 
 #[derive(Clone, Copy)]
 pub enum Ground {
     Bool(bool),
     Num(u16),
-}
-
-#[derive(Clone, Copy)]
-pub enum Outcome {
-    End(Ground),
-    Stop(Stop),
 }
 
 // Calls, cells and posts made, and the sums and differences that were saturated.
@@ -39,16 +37,19 @@ pub struct RunCounts {
     pub saturated: usize,
 }
 
+// A run that was not refused: its end or its stop, and what it made.
 #[derive(Clone, Copy)]
-pub enum Run {
-    Refused(RunRefusal),
-    Ran { outcome: Outcome, made: RunCounts },
+pub struct Ran {
+    pub outcome: Result<Ground, Stop>,
+    pub made: RunCounts,
 }
+
+pub type Run = Result<Ran, RunRefusal>;
 
 // A run with a record: what it tells without one, and the number of entries.
 #[derive(Clone, Copy)]
 pub struct RecordedRun {
-    pub run: Run,
+    pub ran: Ran,
     pub entries: usize,
 }
 

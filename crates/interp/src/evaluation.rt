@@ -4,6 +4,8 @@ ghost use Rattle.interp.specs.Answers.{buffers_of};
 ghost use Rattle.interp.specs.Internal.{root_done, Tallied};
 
 use crate::answer::{RunCounts, Tally};
+use access::Mode;
+use machine::counters::Counters;
 use program::limits::TERM_PLACES;
 
 // Evaluates the root in the empty environment and clears the cells.
@@ -14,7 +16,7 @@ pub fn evaluate_words(
     posts: &mut [u32],
     frames: &mut [u32],
     noted: &mut [u8],
-    mode: usize,
+    mode: Mode,
     access: u64,
     calls: u32,
     depth: u32,
@@ -25,30 +27,35 @@ pub fn evaluate_words(
         (buffers_of cells.new posts.new frames.new) noted.new }
 {
     let allowed = calls as usize;
-    let mut n = [allowed, 0, 0, mode, 0, 0];
-    let mut word = 0;
-    lending::run(
+    let mut counters = Counters {
+        calls_left: allowed,
+        cells: 0,
+        posts: 0,
+        mode,
+        saturated: 0,
+        entries: 0,
+    };
+    let word = lending::run(
         terms,
         cells,
         posts,
         frames,
         noted,
-        &mut n,
+        &mut counters,
         root,
         access,
         depth as usize,
-        &mut word,
     );
     stores::cells::clear(cells);
     let made = RunCounts {
-        calls: allowed - n[0],
-        cells: n[1],
-        posts: n[2],
-        saturated: n[4],
+        calls: allowed - counters.calls_left,
+        cells: counters.cells,
+        posts: counters.posts,
+        saturated: counters.saturated,
     };
     Tally {
-        word: word,
-        made: made,
-        entries: n[5],
+        word,
+        made,
+        entries: counters.entries,
     }
 }

@@ -1,51 +1,39 @@
 // The two runners on any bytes, start stack, limits and buffers, each with a record of what it decides or without one.
 #![tactic(auto)]
 
-ghost use Rattle.std.specs.Prelude.{true, [], ◌≡◌, eqb, length};
+ghost use Rattle.std.specs.Prelude.{true, [], Ok, ◌≡◌, eqb, length};
 ghost use Rattle.semantics.specs.Runs.{eager as eager_runner, lazy as lazy_runner, run};
 ghost use Rattle.semantics.specs.Recording.{recording};
 ghost use Rattle.program.specs.Limits.{frame_numbers};
 ghost use Rattle.accessors.specs.Internal.{FormedSheet};
 ghost use Rattle.refinement.specs.Claims.{outcome_of};
 ghost use Rattle.interp.specs.Answers.{outcome_model, request_of, buffers_of, after, after_recording};
-ghost use Rattle.interp.specs.Internal.{Cleared, refused_recording, RootEvaluated};
+ghost use Rattle.interp.specs.Internal.{Cleared, RootEvaluated};
 
 pub mod admission;
 pub mod answer;
 pub mod evaluation;
 pub mod start;
 
-use access::{clear_frames, mode_of};
+use access::{Mode, clear_frames};
 use admission::admit;
-use answer::{Admission, Outcome, RecordedRun, Run, RunRefusal};
+use answer::{Ground, Ran, RecordedRun, Run, RunRefusal};
 use evaluation::evaluate_words;
 use program::limits::{FRAME_NUMBERS, TERM_PLACES};
 use program::records::Counts;
 use start::{lay_frames, start_access};
-use stores::values::{Out, Stop};
+use stores::values::{Stop, Value};
 use stores::words::out_of;
 use termtable::decode_terms;
 
 // A root that gives a function is stuck.
-fn outcome_of(root: u16, out: Out) -> Outcome
+fn outcome_of(root: u16, out: Result<Value, Stop>) -> Result<Ground, Stop>
     ensures { outcome_model result ≡ outcome_of root out }
 {
-    match out {
-        Out::Stop(x) => Outcome::Stop(x),
-        Out::Val(v) => match v {
-            stores::values::Value::Bool(b) => Outcome::End(answer::Ground::Bool(b)),
-            stores::values::Value::Num(n) => Outcome::End(answer::Ground::Num(n)),
-            stores::values::Value::Fun { body, env } => Outcome::Stop(Stop::Stuck(root)),
-        },
-    }
-}
-
-fn rejected_run(f: RunRefusal) -> RecordedRun
-    ensures { result ≡ refused_recording f }
-{
-    RecordedRun {
-        run: Run::Refused(f),
-        entries: 0,
+    match out? {
+        Value::Bool(b) => Ok(Ground::Bool(b)),
+        Value::Num(n) => Ok(Ground::Num(n)),
+        Value::Fun { .. } => Err(Stop::Stuck(root)),
     }
 }
 
@@ -57,7 +45,7 @@ fn evaluate(
     posts: &mut [u32],
     frames: &mut [u32],
     noted: &mut [u8],
-    mode: usize,
+    mode: Mode,
     access: u64,
     calls: u32,
     depth: u32,
@@ -72,14 +60,12 @@ fn evaluate(
     let t = evaluate_words(
         &terms, root, cells, posts, frames, noted, mode, access, calls, depth,
     );
-    let made = t.made;
     let outcome = outcome_of(root, out_of(t.word));
-    let run = Run::Ran {
-        outcome: outcome,
-        made: made,
-    };
     RecordedRun {
-        run: run,
+        ran: Ran {
+            outcome,
+            made: t.made,
+        },
         entries: t.entries,
     }
 }
@@ -97,11 +83,16 @@ fn eager(
     noted: &mut [u8],
 ) -> RecordedRun
     requires { Cleared s.now start.now (length cells.old) (length posts.old) true calls depth c }
-    ensures { after_recording result cells.new posts.new [] noted.new
+    ensures { after_recording (Ok result) cells.new posts.new [] noted.new
         ≡ recording s.now (request_of eager_runner enforce start.now calls depth)
         (buffers_of cells.old posts.old []) noted.old }
 {
     let access = start_access(s, start);
+    let mode = Mode {
+        lazy: false,
+        enforce: enforce,
+        intervals: false,
+    };
     let mut frames = [0; 1];
     evaluate(
         s,
@@ -110,7 +101,7 @@ fn eager(
         posts,
         &mut frames,
         noted,
-        mode_of(false, enforce),
+        mode,
         access,
         calls,
         depth,
@@ -131,11 +122,16 @@ fn lazy(
     noted: &mut [u8],
 ) -> RecordedRun
     requires { Cleared s.now start.now (length cells.old) (length posts.old) (eqb (length frames.old) frame_numbers) calls depth c }
-    ensures { after_recording result cells.new posts.new frames.new noted.new
+    ensures { after_recording (Ok result) cells.new posts.new frames.new noted.new
         ≡ recording s.now (request_of lazy_runner enforce start.now calls depth)
         (buffers_of cells.old posts.old frames.old) noted.old }
 {
     lay_frames(s, start, frames);
+    let mode = Mode {
+        lazy: true,
+        enforce: enforce,
+        intervals: false,
+    };
     let r = evaluate(
         s,
         c,
@@ -143,7 +139,7 @@ fn lazy(
         posts,
         frames,
         noted,
-        mode_of(true, enforce),
+        mode,
         start.len() as u64,
         calls,
         depth,
@@ -162,18 +158,13 @@ pub fn record_eager(
     cells: &mut [u8],
     posts: &mut [u32],
     noted: &mut [u8],
-) -> RecordedRun
+) -> Result<RecordedRun, RunRefusal>
     ensures { after_recording result cells.new posts.new [] noted.new
         ≡ recording sheet.now (request_of eager_runner enforce start.now calls depth)
         (buffers_of cells.old posts.old []) noted.old }
 {
-    let a = admit(sheet, start, cells.len(), posts.len(), true, calls, depth);
-    match a {
-        Admission::Refused(f) => rejected_run(f),
-        Admission::Admitted(c) => eager(
-            sheet, c, start, calls, depth, enforce, cells, posts, noted,
-        ),
-    }
+    let c = admit(sheet, start, cells.len(), posts.len(), true, calls, depth)?;
+    Ok(eager(sheet, c, start, calls, depth, enforce, cells, posts, noted))
 }
 
 // A run that walks the frames of a store of 6,496 numbers, and notes what it decides.
@@ -187,12 +178,12 @@ pub fn record_lazy(
     posts: &mut [u32],
     frames: &mut [u32],
     noted: &mut [u8],
-) -> RecordedRun
+) -> Result<RecordedRun, RunRefusal>
     ensures { after_recording result cells.new posts.new frames.new noted.new
         ≡ recording sheet.now (request_of lazy_runner enforce start.now calls depth)
         (buffers_of cells.old posts.old frames.old) noted.old }
 {
-    let a = admit(
+    let c = admit(
         sheet,
         start,
         cells.len(),
@@ -200,13 +191,10 @@ pub fn record_lazy(
         frames.len() == FRAME_NUMBERS,
         calls,
         depth,
-    );
-    match a {
-        Admission::Refused(f) => rejected_run(f),
-        Admission::Admitted(c) => lazy(
-            sheet, c, start, calls, depth, enforce, cells, posts, frames, noted,
-        ),
-    }
+    )?;
+    Ok(lazy(
+        sheet, c, start, calls, depth, enforce, cells, posts, frames, noted,
+    ))
 }
 
 // A run that holds the granted set, without a record.
@@ -223,8 +211,8 @@ pub fn run_eager(
         ≡ run sheet.now (request_of eager_runner enforce start.now calls depth) (buffers_of cells.old posts.old []) }
 {
     let mut none = [0; 0];
-    let r = record_eager(sheet, start, calls, depth, enforce, cells, posts, &mut none);
-    r.run
+    let r = record_eager(sheet, start, calls, depth, enforce, cells, posts, &mut none)?;
+    Ok(r.ran)
 }
 
 // A run that walks the frames of a store of 6,496 numbers, without a record.
@@ -245,6 +233,6 @@ pub fn run_lazy(
     let mut none = [0; 0];
     let r = record_lazy(
         sheet, start, calls, depth, enforce, cells, posts, frames, &mut none,
-    );
-    r.run
+    )?;
+    Ok(r.ran)
 }

@@ -14,12 +14,10 @@ fn principals_known(start: &[u32], count: u8) -> bool
     requires { Whole start.now }
     ensures { result ≡ principals_known count (stack start.now) }
 {
-    let mut i = 0;
-    while i < start.len() {
-        if (count as u32) <= start[i] {
+    for i in 0..start.len() / 2 {
+        if (count as u32) <= start[2 * i] {
             return false;
         }
-        i += 2;
     }
     true
 }
@@ -43,11 +41,9 @@ pub fn start_grants(s: &[u8], start: &[u32]) -> u32
     ensures { result ≡ privs (authority_record s.now) (stack start.now) }
 {
     let mut set = 0;
-    let mut i = start.len();
-    while 0 < i {
-        i -= 2;
-        let authorised = accessors::authority(s, start[i]);
-        set = privileges::meet(authorised, privileges::union(start[i + 1], set));
+    for i in (0..start.len() / 2).rev() {
+        let authorised = accessors::authority(s, start[2 * i]);
+        set = privileges::meet(authorised, privileges::union(start[2 * i + 1], set));
     }
     set
 }
@@ -66,12 +62,9 @@ pub fn lay_frames(s: &[u8], start: &[u32], frames: &mut [u32])
     ensures { frames.new ≡ laid_out (authority_record s.now) (stack start.now)
         ++ drop (length start.now) frames.old }
 {
-    let mut at = 0;
-    let mut i = start.len();
-    while 0 < i {
-        i -= 2;
-        frames[at] = accessors::authority(s, start[i]);
-        frames[at + 1] = start[i + 1];
-        at += 2;
+    for i in 0..start.len() / 2 {
+        let from = start.len() - 2 * (i + 1);
+        frames[2 * i] = accessors::authority(s, start[from]);
+        frames[2 * i + 1] = start[from + 1];
     }
 }

@@ -12,9 +12,9 @@ use Rattle.program.specs.declared.records.Counts.{Counts}
 use Rattle.typing.specs.Places.{Placed, placed, number_of}
 use Rattle.typing.proofs.Laws.Places.{tree_number}
 use Rattle.rules.specs.Inference.{context}
-use Rattle.places.specs.Internal.{placed_at, children_of, children_at, child_at, Reached, ReadyChild}
-use Rattle.places.specs.declared.Child.{Child}
-use Rattle.places.proofs.PlaceLaws.{there, not_there}
+use Rattle.places.specs.Internal.{placed_at, ReadyPlace, children_of, children_at, Child, child_at, Reached}
+use Rattle.places.specs.declared.Place.{Place}
+use Rattle.std.specs.Prelude.{Some, None, is_some}
 use Rattle.subterms.specs.Smallest.{subterms}
 use Rattle.subterms.specs.Judging.{with_number}
 use Rattle.subterms.proofs.Laws.Subterms.{subterms_in}
@@ -63,18 +63,17 @@ module _ (T : Types) (t : ℕ) where
   number_in Γ n (post at ch g c) = own_or (placed Γ n (post at ch g c)) at (alone (subterms T Γ n c))
 
 -- ---- a child that is not there
-pub nothing_found : (s : List ℕ) {c : Counts} (t : ℕ) (y : Child) → y.present ≡ false → FoundAs s c t (child_at s y) y
+pub nothing_found : (s : List ℕ) {c : Counts} (t : ℕ) → FoundAs s c t none None
 unfolding with_number
-nothing_found s t y e = record {
-  is = not_there s y e ∙ ap (λ (o : Option Placed). with_number t (subterms_in (types_of s) o)) (sym (not_there s y e));
-  ready = λ f. absurd (true≢false (sym f ∙ e));
-}
+nothing_found s t = record { is = refl; ready = tt }
 
-first_there : (s : List ℕ) (i : Child) (x : Option Placed) → i.present ≡ true → child_at s i ≡ first_of (child_at s i) x
-first_there s i x p = there s i p ∙ ap (λ (o : Option Placed). first_of o x) (sym (there s i p))
+first_there : (s : List ℕ) (i : Child) (x : Option Placed) → is_some i ≡ true → child_at s i ≡ first_of (child_at s i) x
+first_there s None x p = absurd (true≢false (sym p))
+first_there s (Some i) x p = refl
 
-first_absent : (s : List ℕ) (i : Child) (x : Option Placed) → i.present ≡ false → x ≡ first_of (child_at s i) x
-first_absent s i x p = ap (λ (o : Option Placed). first_of o x) (sym (not_there s i p))
+first_absent : (s : List ℕ) (i : Child) (x : Option Placed) → is_some i ≡ false → x ≡ first_of (child_at s i) x
+first_absent s None x p = refl
+first_absent s (Some i) x p = absurd (true≢false p)
 
 -- what is found in a child
 from : {s : List ℕ} {c : Counts} {t k : ℕ} {z i : Child} {due : Option Placed} → Reached s c k z due → FoundAs s c t (child_at s z) i
@@ -82,51 +81,48 @@ from : {s : List ℕ} {c : Counts} {t k : ℕ} {z i : Child} {due : Option Place
 from {s} {t = t} r f = f.is ∙ ap (λ (o : Option Placed). with_number t (subterms_in (types_of s) o)) r.is
 
 -- ---- a term that is there
-module _ (s : List ℕ) (t : ℕ) (y : Child) (e : y.present ≡ true) where
+module _ (s : List ℕ) (t : ℕ) (y : Place) where
   abbrev Γ : List ℕ
-  Γ = context y.place.bindings
+  Γ = context y.bindings
 
   abbrev n : ℕ
-  n = y.place.principal
+  n = y.principal
 
   abbrev here : Term
-  here = tree s y.place.term
+  here = tree s y.term
 
-  number_is : (b : Bool) → eqb y.place.term t ≡ b
-      → with_number t (subterms_in (types_of s) (child_at s y)) ≡ cond b (some (placed_at s y.place)) (below (types_of s) t Γ n here)
+  abbrev there : Option Placed
+  there = some (placed_at s y)
+
+  number_is : (b : Bool) → eqb y.term t ≡ b → with_number t (subterms_in (types_of s) there) ≡ cond b there (below (types_of s) t Γ n here)
   number_is b q =
-      ap (λ (o : Option Placed). with_number t (subterms_in (types_of s) o)) (there s y e) ∙ number_in (types_of s) t Γ n here
-      ∙ λ i. cond ((ap (λ (k : ℕ). eqb k t) (tree_number s y.place.term) ∙ q) i) (some (placed_at s y.place)) (below (types_of s) t Γ n here)
+      number_in (types_of s) t Γ n here
+      ∙ λ i. cond ((ap (λ (k : ℕ). eqb k t) (tree_number s y.term) ∙ q) i) there (below (types_of s) t Γ n here)
 
   -- what is sought has a higher number
-  pub found_above : {c : Counts} {r : Child} → ReadyChild s c y → y.place.term < t → r.present ≡ false → FoundAs s c t (child_at s y) r
-  found_above {r = r} h l a = record {
-    is = not_there s r a
-        ∙ sym (ap (λ (o : Option Placed). with_number t (subterms_in (types_of s) o)) (there s y e)
-        ∙ number_above s (h e).sheet.well_formed Γ n y.place.term t (h e).inside l);
-    ready = λ f. absurd (true≢false (sym f ∙ a));
-  }
+  pub found_above : {c : Counts} → ReadyPlace s c y → y.term < t → FoundAs s c t there None
+  found_above h l = record { is = sym (number_above s h.sheet.well_formed Γ n y.term t h.inside l); ready = tt }
 
-  pub found_here : {c : Counts} → ReadyChild s c y → y.place.term ≡ t → FoundAs s c t (child_at s y) y
-  found_here h q = record { is = there s y e ∙ sym (number_is true (eq-eqb y.place.term t q)); ready = h }
+  pub found_here : {c : Counts} → ReadyPlace s c y → y.term ≡ t → FoundAs s c t there (Some y)
+  found_here h q = record { is = sym (number_is true (eq-eqb y.term t q)); ready = h }
 
-  module _ (other : y.place.term ≡ t → ⊥) where
-    below_is : with_number t (subterms_in (types_of s) (child_at s y)) ≡ below (types_of s) t Γ n here
-    below_is = number_is false (ne_eqb y.place.term t other)
+  module _ (other : y.term ≡ t → ⊥) where
+    below_is : with_number t (subterms_in (types_of s) there) ≡ below (types_of s) t Γ n here
+    below_is = number_is false (ne_eqb y.term t other)
 
     abbrev third : Option Placed
-    third = in_child (types_of s) t (children_at s y.place).third
+    third = in_child (types_of s) t (children_at s y).third
 
     abbrev second_or_third : Option Placed
-    second_or_third = first_of (in_child (types_of s) t (children_at s y.place).second) third
+    second_or_third = first_of (in_child (types_of s) t (children_at s y).second) third
 
-    module _ {c : Counts} {z₁ i : Child} (r₁ : Reached s c y.place.term z₁ (children_at s y.place).first) (f₁ : FoundAs s c t (child_at s z₁) i) where
-      pub found_first : i.present ≡ true → FoundAs s c t (child_at s y) i
+    module _ {c : Counts} {z₁ i : Child} (r₁ : Reached s c y.term z₁ (children_at s y).first) (f₁ : FoundAs s c t (child_at s z₁) i) where
+      pub found_first : is_some i ≡ true → FoundAs s c t there i
       found_first p = record { is = first_there s i second_or_third p ∙ (λ k. first_of (from r₁ f₁ k) second_or_third) ∙ sym below_is; ready = f₁.ready }
 
-      module _ (absent₁ : i.present ≡ false) {z₂ j : Child} (r₂ : Reached s c y.place.term z₂ (children_at s y.place).second)
+      module _ (absent₁ : is_some i ≡ false) {z₂ j : Child} (r₂ : Reached s c y.term z₂ (children_at s y).second)
           (f₂ : FoundAs s c t (child_at s z₂) j) where
-        pub found_second : j.present ≡ true → FoundAs s c t (child_at s y) j
+        pub found_second : is_some j ≡ true → FoundAs s c t there j
         found_second p = record {
           is = first_there s j third p ∙ first_absent s i (first_of (child_at s j) third) absent₁
               ∙ (λ k. first_of (from r₁ f₁ k) (first_of (from r₂ f₂ k) third))
@@ -134,8 +130,8 @@ module _ (s : List ℕ) (t : ℕ) (y : Child) (e : y.present ≡ true) where
           ready = f₂.ready;
         }
 
-        pub found_third : j.present ≡ false → {z₃ k : Child} → Reached s c y.place.term z₃ (children_at s y.place).third
-            → FoundAs s c t (child_at s z₃) k → FoundAs s c t (child_at s y) k
+        pub found_third : is_some j ≡ false → {z₃ k : Child} → Reached s c y.term z₃ (children_at s y).third
+            → FoundAs s c t (child_at s z₃) k → FoundAs s c t there k
         found_third absent₂ {k = k} r₃ f₃ = record {
           is = first_absent s j (child_at s k) absent₂ ∙ first_absent s i _ absent₁
               ∙ (λ q. first_of (from r₁ f₁ q) (first_of (from r₂ f₂ q) (from r₃ f₃ q)))

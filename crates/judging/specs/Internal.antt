@@ -5,9 +5,8 @@ use Rattle.program.specs.Layout.{authority, types_of}
 use Rattle.program.specs.Terms.{program}
 use Rattle.program.specs.declared.records.Counts.{Counts}
 use Rattle.typing.specs.Places.{Placed}
-use Rattle.places.specs.Internal.{placed_at, child_at, ReadyChild}
+use Rattle.places.specs.Internal.{placed_at, Child, child_at, ReadyChild}
 use Rattle.places.specs.declared.Place.{Place}
-use Rattle.places.specs.declared.Child.{Child}
 use Rattle.subterms.specs.Smallest.{subterms}
 use Rattle.subterms.specs.Judging.{with_number, JudgedTerm, judged_of}
 use Rattle.subterms.proofs.Laws.Subterms.{subterms_in}

@@ -2,34 +2,31 @@
 ghost use Rattle.places.specs.Internal.{child_at, ReadyChild};
 ghost use Rattle.judging.specs.Internal.{FoundAs};
 
-use places::{Child, absent, first_child, second_child, third_child};
+use places::{Place, first_child, second_child, third_child};
 use program::records::Counts;
 
 // Term t, if it is the child y or stands in it.
-pub fn find(s: &[u8], c: Counts, y: Child, t: u32) -> Child
+pub fn find(s: &[u8], c: Counts, y: Option<Place>, t: u32) -> Option<Place>
     requires { ReadyChild s.now c y }
     ensures { FoundAs s.now c t (child_at s.now y) result }
 {
-    if !y.present {
-        return y;
-    }
-    let at = y.place;
+    let at = y?;
     let n = at.term as u32;
     if n == t {
         return y;
     }
     // What stands in a term has a lower number.
     if n < t {
-        return absent(at);
+        return None;
     }
     let first = first_child(s, c, at);
     let i = find(s, c, first, t);
-    if i.present {
+    if i.is_some() {
         return i;
     }
     let second = second_child(s, c, at);
     let j = find(s, c, second, t);
-    if j.present {
+    if j.is_some() {
         return j;
     }
     let third = third_child(s, c, at);

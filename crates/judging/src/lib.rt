@@ -13,22 +13,18 @@ ghost use Rattle.judging.specs.Internal.{judged_in, judged_at};
 use crate::find::find;
 use checker::infer::infer;
 use places::{Place, root};
-use program::answer::Decoded;
 use program::records::Counts;
-use subterms::answer::Judged;
+use subterms::answer::{Judged, JudgingRefusal, TermJudgement};
 use subtyping::known::{KNOWN_WORDS, Known};
-use typing::answer::Inferred;
+use typing::answer::Typed;
 
 // The type and needs of the term with a number and the principal that it stands under, on any bytes; or its first fault; no such term; or the reader's
 // refusal.
 pub fn judgement(sheet: &[u8], term: u32) -> Judged
     ensures { judged_model result ≡ judging sheet.now term }
 {
-    let d = decoder::decode(sheet);
-    match d {
-        Decoded::Refused(f) => Judged::Unreadable(f),
-        Decoded::Readable(c) => judgement_readable(sheet, c, term),
-    }
+    let c = decoder::decode(sheet)?;
+    judgement_readable(sheet, c, term)
 }
 
 // The same of a readable sheet with its counts.
@@ -36,11 +32,7 @@ fn judgement_readable(s: &[u8], c: Counts, term: u32) -> Judged
     requires { FormedSheet s.now c }
     ensures { judged_model result ≡ judged_in s.now term }
 {
-    let found = find(s, c, root(c), term);
-    if !found.present {
-        return Judged::NoTerm;
-    }
-    let at = found.place;
+    let at = find(s, c, Some(root(c)), term).ok_or(JudgingRefusal::NoTerm)?;
     judgement_at(s, c, at)
 }
 
@@ -50,13 +42,10 @@ fn judgement_at(s: &[u8], c: Counts, at: Place) -> Judged
     ensures { judged_model result ≡ judged_at s.now at }
 {
     let mut known: Known = [0; KNOWN_WORDS];
-    let j = infer(s, c, &mut known, at.term, at.bindings, at.principal);
-    match j {
-        Inferred::Typed { ty, needs } => Judged::Typed {
-            principal: at.principal,
-            ty: ty,
-            needs: needs,
-        },
-        Inferred::Faulty(f) => Judged::Faulty(f),
-    }
+    let Typed { ty, needs } = infer(s, c, &mut known, at.term, at.bindings, at.principal)?;
+    Ok(TermJudgement {
+        principal: at.principal,
+        ty,
+        needs,
+    })
 }

@@ -6,7 +6,6 @@ ghost use Rattle.interp.specs.Answers.{buffers_of, after, empty_stack_request};
 ghost use Rattle.largest.specs.Largest.{largest_run};
 
 use interp::answer::{Run, RunRefusal};
-use program::answer::Decoded;
 use program::limits::MAX_DEPTH;
 
 // Runs the sheet eagerly, checks in force, on an empty stack, with 100 open calls. The caller says whether the buffers have the lengths asked for.
@@ -23,9 +22,6 @@ pub fn run_largest(
     if right {
         return interp::run_eager(sheet, &[], calls, MAX_DEPTH, true, cells, posts);
     }
-    let d = decoder::decode(sheet);
-    match d {
-        Decoded::Refused(f) => Run::Refused(RunRefusal::Unreadable(f)),
-        Decoded::Readable(c) => Run::Refused(RunRefusal::Buffers),
-    }
+    decoder::decode(sheet)?;
+    Err(RunRefusal::Buffers)
 }

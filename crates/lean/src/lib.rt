@@ -8,61 +8,49 @@ ghost use Rattle.erasure.specs.Erasure.{if_erasable, erasure};
 ghost use Rattle.lean.specs.Answers.{after_erasure};
 
 use accessors::be16;
-use erasure::answer::Erased;
+use erasure::answer::ErasureRefusal;
 use leanwriting::write::put_sheet;
-use program::answer::Decoded;
 use program::records::Counts;
 use renumbering::terms::{number_terms, untested};
 use renumbering::types::number_types;
-use typing::answer::Verdict;
 
 // The lean sheet of any bytes, written to the front of the buffer, and its length: the type checker's refusals, then 32, then 33. Each of them
 // leaves the buffer as it was.
-pub fn erase(sheet: &[u8], buffer: &mut [u8]) -> Erased
+pub fn erase(sheet: &[u8], buffer: &mut [u8]) -> Result<u16, ErasureRefusal>
     ensures { after_erasure result buffer.new ≡ erasure sheet.now buffer.old }
 {
-    let d = decoder::decode(sheet);
-    match d {
-        Decoded::Refused(f) => Erased::Unreadable(f),
-        Decoded::Readable(c) => erase_readable(sheet, c, buffer),
-    }
+    let c = decoder::decode(sheet)?;
+    erase_readable(sheet, c, buffer)
 }
 
 // The same of a readable sheet with its counts.
-fn erase_readable(s: &[u8], c: Counts, buffer: &mut [u8]) -> Erased
+#[tactic(auto, unfolding(erasure::specs::Erasure::erasure))]
+fn erase_readable(s: &[u8], c: Counts, buffer: &mut [u8]) -> Result<u16, ErasureRefusal>
     requires { ReadableSheet s.now c }
     ensures { after_erasure result buffer.new ≡ erasure s.now buffer.old }
 {
-    let v = checker::typecheck_readable(s, c);
-    match v {
-        Verdict::Unreadable(f) => Erased::Unreadable(f),
-        Verdict::Refused(f) => Erased::Refused(f),
-        Verdict::Accepted {
-            terms: _,
-            ty: _,
-            needs: _,
-        } => erase_accepted(s, c, buffer),
-    }
+    checker::typecheck_readable(s, c)?;
+    erase_accepted(s, c, buffer)
 }
 
 // Of an accepted sheet. The length comes first and the bytes after it, so that nothing is written where there is no room for all.
-fn erase_accepted(s: &[u8], c: Counts, buffer: &mut [u8]) -> Erased
+fn erase_accepted(s: &[u8], c: Counts, buffer: &mut [u8]) -> Result<u16, ErasureRefusal>
     requires { FormedSheet s.now c }
     ensures { after_erasure result buffer.new
         ≡ if_erasable (erasable_of s.now) (leb (length (lean_sheet s.now)) (length buffer.old)) (lean_sheet s.now)
         buffer.old }
 {
     if !erasable(s, c) {
-        return Erased::NotErasable;
+        return Err(ErasureRefusal::NotErasable);
     }
     let y = number_types(s, c);
     let m = number_terms(s, c);
     let size = 14 + 4 * (c.principals as u16) + 10 * y.count + 8 * m.count;
     if buffer.len() < (size as usize) {
-        return Erased::NoRoom;
+        return Err(ErasureRefusal::NoRoom);
     }
     put_sheet(s, c, y, m, buffer);
-    Erased::Lean { length: size }
+    Ok(size)
 }
 
 // Whether the sheet is of version 1 and has no test, reachable or not.

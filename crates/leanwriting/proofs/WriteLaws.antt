@@ -4,10 +4,9 @@ use mathlib.Core.List.{List, [], ◌∷◌, ◌++◌, append_assoc}
 use mathlib.Core.Path.{◌≡◌, refl, sym, ap, ◌∙◌}
 use Prim.Native.Nat.{ℕ, suc, ◌+◌, ◌*◌, ◌<◌, ◌≤◌}
 use native.Mathlib.Nat.{mul-le-mul_left}
-use native.Mathlib.Numerals.{add-one}
 use native.Mathlib.Omega.{arith}
-use lib.ListN.{length, take, drop, get_or, set, length-append, length-drop}
-use lib.Seq.{paste, paste-zero, paste-suc, length-paste, length-take-le, take_all, take_at, drop-append-add, drop-drop}
+use lib.ListN.{length, take, drop, length-append, length-drop}
+use lib.Seq.{paste-zero, length-take-le, take_at, drop-append-add, drop-drop}
 use Rattle.program.specs.Bytes.{overwrite}
 use Rattle.program.specs.Layout.{type_field, types, terms}
 use Rattle.program.specs.declared.records.Counts.{Counts}
@@ -18,8 +17,7 @@ use Rattle.erasure.proofs.Laws.Bytes.{lean_size}
 use Rattle.erasure.proofs.Laws.Types.{new_types_most}
 use Rattle.erasure.proofs.Laws.Terms.{new_terms_most}
 use Rattle.leanwriting.specs.Internal.{SheetReady}
-use Rattle.renumbering.specs.declared.types.TypeNumbers.{TypeNumbers}
-use Rattle.renumbering.specs.declared.terms.TermNumbers.{TermNumbers}
+use Rattle.renumbering.specs.declared.numbers.Numbers.{Numbers}
 use Rattle.renumbering.proofs.TableLaws.{count_none, count_yes, count_no}
 
 -- ---- one part after another
@@ -48,29 +46,6 @@ module _ (b : List ℕ) (at : ℕ) where
         ∙ (λ i. take_at (take at b ++ xs) (drop (at + length xs) b) (at + length xs) front_length i ++ ys ++ behind ys i)
         ∙ (λ i. append_assoc (take at b) xs ys i ++ drop (both i) b)
 
-pub paste_over : (b : List ℕ) (at : ℕ) (xs : List ℕ) (n : ℕ) → n ≤ length xs → paste b at xs n ≡ overwrite b at (take n xs)
-paste_over b at xs n h = ap (λ (k : ℕ). take at b ++ take n xs ++ drop (at + k) b) (sym (length-take-le n xs h))
-
--- ---- n bytes that are copied one by one, the first i already
-pub record Pasted (b : List ℕ) (at : ℕ) (from : List ℕ) (n i : ℕ) (x : List ℕ) : Type 0 where
-  pub below : i ≤ n
-  pub list_is : x ≡ paste b at from i
-
-module _ (b : List ℕ) (at : ℕ) (from : List ℕ) (n : ℕ) (room : at + n ≤ length b) (enough : n ≤ length from) (i : ℕ) {x : List ℕ}
-    (P : Pasted b at from n i x) where
-  pub pasted_length : length x ≡ length b
-  pasted_length = ap length P.list_is ∙ length-paste b at from i (omega (arith, P.below)) (omega (arith, P.below))
-
-  pub pasted_more : i < n → Pasted b at from n (i + 1) (set x (at + i) (get_or from i 0))
-  pasted_more h = record {
-    below = omega arith;
-    list_is = ap (λ (y : List ℕ). set y (at + i) (get_or from i 0)) P.list_is ∙ paste-suc b at from i 0 (omega arith) (omega arith)
-        ∙ ap (paste b at from) (sym (add-one i));
-  }
-
-  pub pasted_all : n ≤ i → x ≡ paste b at from n
-  pasted_all h = let done : i ≡ n = omega (arith, P.below) in P.list_is ∙ ap (paste b at from) done
-
 -- ---- the records of those that are kept, of one width
 -- a place for all of them
 pub record Gathering (keep : ℕ → Bool) (bytes : ℕ → List ℕ) (w : ℕ) (b : List ℕ) (at n : ℕ) : Type 0 where
@@ -89,12 +64,6 @@ term_gathering s b at h = record { wide = λ t. refl; room = h }
 pub record Gathered (keep : ℕ → Bool) (bytes : ℕ → List ℕ) (b : List ℕ) (at t count : ℕ) (x : List ℕ) : Type 0 where
   pub count_is : count ≡ kept_below keep t
   pub list_is : x ≡ overwrite b at (gather keep bytes t)
-
--- the same of the first `next` of all n records
-pub record WrittenBelow (keep : ℕ → Bool) (bytes : ℕ → List ℕ) (all : ℕ) (b : List ℕ) (at n next count : ℕ) (x : List ℕ) : Type 0 where
-  pub below : next ≤ n
-  pub all_are : n ≡ all
-  pub gathered : Gathered keep bytes b at next count x
 
 pub gathered_none : (keep : ℕ → Bool) (bytes : ℕ → List ℕ) (b : List ℕ) (at : ℕ) → Gathered keep bytes b at 0 0 b
 unfolding gather
@@ -126,26 +95,23 @@ module _ {keep : ℕ → Bool} {bytes : ℕ → List ℕ} {w : ℕ} {b : List �
         let same : w * count ≡ w * kept_below keep t = ap (λ (z : ℕ). w * z) D.count_is in
         omega (arith, gathered_length (omega arith), G.room)
 
-    pub gathered_yes : {x' r : List ℕ} → x' ≡ paste x (at + w * count) r w → r ≡ bytes t → Gathered keep bytes b at (t + 1) (count + 1) x'
-    gathered_yes e q = record {
-      count_is = count_yes keep t D.count_is k;
-      list_is = e ∙ ap (λ (r : List ℕ). paste x (at + w * count) r w) q
-          ∙ paste_over x (at + w * count) (bytes t) w (omega (arith, G.wide t))
-          ∙ ap (overwrite x (at + w * count)) (take_all w (bytes t) (omega (arith, G.wide t)))
+    pub gathered_yes : {x' r : List ℕ} {count' : ℕ} → x' ≡ overwrite x (at + w * count) r → r ≡ bytes t → count' ≡ count + 1
+        → Gathered keep bytes b at (t + 1) count' x'
+    gathered_yes e q more = record {
+      count_is = more ∙ count_yes keep t D.count_is k;
+      list_is = e ∙ ap (overwrite x (at + w * count)) q
           ∙ over_more b at (gather keep bytes t) (inside (omega arith)) (bytes t) (at + w * count) D.list_is
           (ap (λ (z : ℕ). at + w * z) D.count_is ∙ ap (λ (z : ℕ). at + z) (sym (gather_length keep bytes w G.wide t)))
           ∙ ap (overwrite b at) (sym (gather_yes keep bytes w G.wide t k)) ∙ ap (λ (z : ℕ). overwrite b at (gather keep bytes z)) (sym next);
     }
 
   -- one is not
-  pub gathered_no : keep t ≡ false → Gathered keep bytes b at (t + 1) count x
-  gathered_no k = record {
-    count_is = count_no keep t D.count_is k;
-    list_is = D.list_is ∙ ap (overwrite b at) (sym (gather_no keep bytes w G.wide t k)) ∙ ap (λ (z : ℕ). overwrite b at (gather keep bytes z)) (sym next);
+  pub gathered_no : {x' : List ℕ} {count' : ℕ} → keep t ≡ false → x' ≡ x → count' ≡ count → Gathered keep bytes b at (t + 1) count' x'
+  gathered_no k same none = record {
+    count_is = none ∙ count_no keep t D.count_is k;
+    list_is = same ∙ D.list_is ∙ ap (overwrite b at) (sym (gather_no keep bytes w G.wide t k))
+        ∙ ap (λ (z : ℕ). overwrite b at (gather keep bytes z)) (sym next);
   }
-
-  pub gathered_all : {m : ℕ} → t ≡ m → x ≡ overwrite b at (gather keep bytes m)
-  gathered_all q = D.list_is ∙ ap (λ (z : ℕ). overwrite b at (gather keep bytes z)) q
 
 -- ---- the whole sheet
 module _ (b A B C D E : List ℕ) (room : length (A ++ (B ++ C ++ (D ++ E))) ≤ length b) where
@@ -171,7 +137,7 @@ module _ (b A B C D E : List ℕ) (room : length (A ++ (B ++ C ++ (D ++ E))) ≤
       f₅ ∙ ap (overwrite b 0) same ∙ start (A ++ (B ++ C ++ (D ++ E)))
 
 -- its parts' places
-module _ {s : List ℕ} {c : Counts} {y : TypeNumbers} {m : TermNumbers} (R : SheetReady s c y m) where
+module _ {s : List ℕ} {c : Counts} {y : Numbers 256} {m : Numbers 1024} (R : SheetReady s c y m) where
   pub size_is : 14 + 4 * c.principals + 10 * y.count + 8 * m.count ≡ length (lean_sheet s)
   size_is =
       omega (
@@ -215,7 +181,7 @@ module _ {s : List ℕ} {c : Counts} {y : TypeNumbers} {m : TermNumbers} (R : Sh
     at_types : 8 + 4 * c.principals ≡ type_field s
     at_types = omega (arith, R.sheet.counts.principals_are)
 
-    pub sheet_put : {b₁ b₂ b₃ b₄ b₅ : List ℕ} → b₁ ≡ paste b 0 s (8 + 4 * c.principals)
+    pub sheet_put : {b₁ b₂ b₃ b₄ b₅ : List ℕ} → b₁ ≡ overwrite b 0 (take (8 + 4 * c.principals) s)
         → b₂ ≡ overwrite b₁ (8 + 4 * c.principals) (3 ∷ bytes16 (10 * y.count))
         → b₃ ≡ overwrite b₂ (8 + 4 * c.principals + 3) (gather (kept_type s) (type_bytes s) (types s))
         → b₄ ≡ overwrite b₃ (8 + 4 * c.principals + 3 + 10 * y.count) (4 ∷ bytes16 (8 * m.count))
@@ -226,7 +192,7 @@ module _ {s : List ℕ} {c : Counts} {y : TypeNumbers} {m : TermNumbers} (R : Sh
         in_turn b (take (type_field s) s) (3 ∷ bytes16 (10 * new_types s)) (gather (kept_type s) (type_bytes s) (types s)) (4 ∷ bytes16 (8 * new_terms s))
         (gather (kept_term s) (term_bytes s) (terms s)) room
         (8 + 4 * c.principals) (8 + 4 * c.principals + 3) (8 + 4 * c.principals + 3 + 10 * y.count) (8 + 4 * c.principals + 3 + 10 * y.count + 3)
-        (e₁ ∙ ap (paste b 0 s) at_types ∙ paste_over b 0 s (type_field s) (omega (arith, R.sheet.well_formed.terms_inside)))
+        (e₁ ∙ ap (λ (z : ℕ). overwrite b 0 (take z s)) at_types)
         (e₂ ∙ ap (λ (z : ℕ). overwrite b₁ (8 + 4 * c.principals) (3 ∷ bytes16 (10 * z))) R.types_numbered.count_is) e₃
         (e₄ ∙ ap (λ (z : ℕ). overwrite b₃ (8 + 4 * c.principals + 3 + 10 * y.count) (4 ∷ bytes16 (8 * z))) R.terms_numbered.count_is) e₅
         (at_types ∙ sym prefix_length) refl (omega (arith, R.types_numbered.count_is, types_length)) refl

@@ -5,8 +5,7 @@ use Rattle.program.specs.declared.records.Counts.{Counts}
 use Rattle.accessors.specs.Internal.{FormedSheet}
 use Rattle.erasure.specs.Lean.{new_types, new_terms, lean_sheet}
 use Rattle.renumbering.specs.Internal.{TypesNumbered, TermsNumbered, TypesReady, TermsReady}
-use Rattle.renumbering.specs.declared.types.TypeNumbers.{TypeNumbers}
-use Rattle.renumbering.specs.declared.terms.TermNumbers.{TermNumbers}
+use Rattle.renumbering.specs.declared.numbers.Numbers.{Numbers}
 
 -- ---- what writing a record asks
 pub record NumberedType (s : List ℕ) (c : Counts) (y : List ℕ) (t : ℕ) : Type 0 where
@@ -17,17 +16,12 @@ pub record NumberedTerm (s : List ℕ) (c : Counts) (y m : List ℕ) (t : ℕ) :
   pub ready : TermsReady s c y m
   pub inside : t < terms s
 
-pub record SheetReady (s : List ℕ) (c : Counts) (y : TypeNumbers) (m : TermNumbers) : Type 0 where
+pub record SheetReady (s : List ℕ) (c : Counts) (y : Numbers 256) (m : Numbers 1024) : Type 0 where
   pub sheet : FormedSheet s c
   pub types_numbered : TypesNumbered s y
   pub terms_numbered : TermsNumbered s m
 
 -- ---- what writing to a place of the buffer asks
--- the first n bytes of a list
-pub record Puttable (buffer : List ℕ) (at : ℕ) (from : List ℕ) (n : ℕ) : Type 0 where
-  pub room : at + n ≤ length buffer
-  pub enough : n ≤ length from
-
 -- the records of the types that are kept, ten bytes each
 pub record TypesPuttable (s : List ℕ) (c : Counts) (y buffer : List ℕ) (at : ℕ) : Type 0 where
   pub ready : TypesReady s c y
@@ -39,7 +33,7 @@ pub record TermsPuttable (s : List ℕ) (c : Counts) (y m buffer : List ℕ) (at
   pub room : at + 8 * new_terms s ≤ length buffer
 
 -- the whole sheet, at the front
-pub record SheetPuttable (s : List ℕ) (c : Counts) (y : TypeNumbers) (m : TermNumbers) (buffer : List ℕ) : Type 0 where
+pub record SheetPuttable (s : List ℕ) (c : Counts) (y : Numbers 256) (m : Numbers 1024) (buffer : List ℕ) : Type 0 where
   pub ready : SheetReady s c y m
   pub room : length (lean_sheet s) ≤ length buffer
 

@@ -1,5 +1,5 @@
 // The records of the lean sheet, byte by byte.
-ghost use Rattle.std.specs.Prelude.{◌∷◌, ◌++◌, ◌≡◌, ◌/◌, ◌%◌};
+ghost use Rattle.std.specs.Prelude.{[], ◌∷◌, ◌++◌, ◌≡◌};
 ghost use Rattle.erasure.specs.Lean.{bytes16, type_bytes, term_bytes};
 ghost use Rattle.leanwriting.specs.Internal.{NumberedType, NumberedTerm};
 
@@ -7,38 +7,23 @@ use accessors::{term, type_record};
 use program::limits::{TERM_PLACES, TYPE_PLACES};
 use program::records::Counts;
 
-// A type's record from its parts.
-fn ten(kind: u8, a: u16, b: u16, latent: u32) -> [u8; 10]
-    ensures { result ≡ kind ∷ 0 ∷ bytes16 a ++ bytes16 b ++ bytes16 (latent / 65536) ++ bytes16 (latent % 65536) }
+// A type's record from its parts, with an empty latent set.
+fn ten(kind: u8, a: u16, b: u16) -> [u8; 10]
+    ensures { result ≡ kind ∷ 0 ∷ bytes16 a ++ bytes16 b ++ 0 ∷ 0 ∷ 0 ∷ 0 ∷ [] }
 {
-    [
-        kind,
-        0,
-        (a / 256) as u8,
-        (a % 256) as u8,
-        (b / 256) as u8,
-        (b % 256) as u8,
-        (latent / 65536 / 256) as u8,
-        (latent / 65536 % 256) as u8,
-        (latent % 65536 / 256) as u8,
-        (latent % 65536 % 256) as u8,
-    ]
+    let [a_high, a_low] = a.to_be_bytes();
+    let [b_high, b_low] = b.to_be_bytes();
+    [kind, 0, a_high, a_low, b_high, b_low, 0, 0, 0, 0]
 }
 
 // A term's record from its parts.
 fn eight(kind: u8, small: u8, a: u16, b: u16, d: u16) -> [u8; 8]
     ensures { result ≡ kind ∷ small ∷ bytes16 a ++ bytes16 b ++ bytes16 d }
 {
-    [
-        kind,
-        small,
-        (a / 256) as u8,
-        (a % 256) as u8,
-        (b / 256) as u8,
-        (b % 256) as u8,
-        (d / 256) as u8,
-        (d % 256) as u8,
-    ]
+    let [a_high, a_low] = a.to_be_bytes();
+    let [b_high, b_low] = b.to_be_bytes();
+    let [d_high, d_low] = d.to_be_bytes();
+    [kind, small, a_high, a_low, b_high, b_low, d_high, d_low]
 }
 
 // The new record of type t: its parts have their new numbers, and its latent set is empty.
@@ -49,7 +34,7 @@ pub fn type_bytes(s: &[u8], c: Counts, types: &[u16; TYPE_PLACES], t: u16) -> [u
     let x = type_record(s, c, t);
     let a = x.arg as usize;
     let b = x.res as usize;
-    ten(x.kind, types[a], types[b], 0)
+    ten(x.kind, types[a], types[b])
 }
 
 // The new record of term t: a function's type and the children have their new numbers, and every other part stays.

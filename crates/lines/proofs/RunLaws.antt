@@ -7,8 +7,7 @@ use lib.Dec.{eqb}
 use lib.ListN.{length, take, drop, length-drop, drop_of_length-le}
 use lib.Seq.{take_all}
 use Rattle.program.specs.Limits.{max_cells}
-use Rattle.interp.specs.Answers.{buffers_of, after, empty_stack_request}
-use Rattle.interp.specs.declared.answer.Run.{Run}
+use Rattle.interp.specs.Answers.{buffers_of, after, empty_stack_request, Run}
 use Rattle.largest.specs.Largest.{largest_run}
 use Rattle.queues.specs.Queues.{Job, job_sheet}
 use Rattle.lines.specs.Serving.{behind, job_run}

@@ -1,6 +1,5 @@
 pub mod Serving
 pub mod Answers
-pub mod Internal
 pub mod Sessions
 pub mod Theorems
 pub mod Cases

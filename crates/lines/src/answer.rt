@@ -1,19 +1,13 @@
-// The answer of a serve. specs/Answers.antt gives the paper's number and values of each case.
+// What a serve tells. specs/Answers.antt gives the paper's number and values of each case.
 use interp::answer::Run;
-use queues::state::Lines;
 
-// No job; 28 when a job is served; or its run's answer.
+// 28: the part of the job that is served does not lie in the store.
 #[derive(Clone, Copy)]
-pub enum ServeAnswer {
-    Idle,
-    Outside,
-    Run(Run),
-}
+pub struct Outside;
 
-// The answer, the line that was served (0 if none was), and the queues afterwards.
+// The line that was served, and its job's run, if there was one.
 #[derive(Clone, Copy)]
 pub struct Served {
-    pub answer: ServeAnswer,
     pub line: u32,
-    pub lines: Lines,
+    pub answer: Result<Run, Outside>,
 }

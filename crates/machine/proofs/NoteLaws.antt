@@ -1,8 +1,9 @@
 -- What an entry of the record leaves: its four bytes, the counters, and what a full record leaves as it is. Assumes nothing.
-use Rattle.std.proofs.Common.{◌≡◌, ℕ, zero, suc, ◌+◌, ◌*◌, ◌/◌, ◌%◌, ◌<◌, ◌≤◌, Bool, true, false, cond, List, [], ◌∷◌, ◌++◌, length, get_or, take, drop, set, sym, refl, ap, ◌∙◌, append_assoc, arith, get_or-set_other, le-ltb, lt-ltb}
+use Rattle.std.proofs.Common.{◌≡◌, ℕ, zero, suc, ◌+◌, ◌*◌, ◌/◌, ◌%◌, ◌<◌, ◌≤◌, Bool, List, [], ◌∷◌, ◌++◌, length, take, drop, set, sym, refl, ap, ◌∙◌, append_assoc, arith, le-ltb, lt-ltb}
 use Rattle.program.specs.Bytes.{overwrite, bit}
 use Rattle.traces.specs.Traces.{Event, event_bytes}
-use Rattle.machine.specs.Steps.{entries_made, decided_event, makes_entry, note_counters, note_bytes, Noted}
+use Rattle.machine.specs.declared.counters.Counters.{Counters}
+use Rattle.machine.specs.Steps.{decided_event, note_counters, note_bytes, Noted}
 
 -- four numbers that are set one after another
 four_set : (l : List ℕ) (i a b c d : ℕ) → i + 4 ≤ length l
@@ -26,27 +27,18 @@ module _ (l : List ℕ) (i t p : ℕ) (b : Bool) {y : ℕ} where
       ∙ sym (append_assoc (take i l) (event_bytes (decided_event t p b)) (drop (suc (suc (suc (suc i)))) l))
       ∙ ap (λ (j : ℕ). take i l ++ event_bytes (decided_event t p b) ++ drop j l) e₄
 
-module _ (e : Event) (n l : List ℕ) where
-  pub note_made : {l' : List ℕ} → entries_made n < length l / 4 → l' ≡ overwrite l (4 * entries_made n) (event_bytes e)
-      → Noted e n l (set n 5 (entries_made n + 1)) l'
+module _ (e : Event) (n : Counters) (l : List ℕ) where
+  pub note_made : {l' : List ℕ} → n.entries < length l / 4 → l' ≡ overwrite l (4 * n.entries) (event_bytes e)
+      → Noted e n l (record n { entries = n.entries + 1 }) l'
   unfolding note_counters note_bytes
   note_made h q = record {
-    counters_are = sym (simp (lt-ltb (entries_made n) (length l / 4) h));
-    bytes_are = q ∙ sym (simp (lt-ltb (entries_made n) (length l / 4) h));
+    counters_are = sym (simp (lt-ltb n.entries (length l / 4) h));
+    bytes_are = q ∙ sym (simp (lt-ltb n.entries (length l / 4) h));
   }
 
-  pub note_full : length l / 4 ≤ entries_made n → Noted e n l n l
+  pub note_full : length l / 4 ≤ n.entries → Noted e n l n l
   unfolding note_counters note_bytes
   note_full h = record {
-    counters_are = sym (simp (le-ltb (entries_made n) (length l / 4) h));
-    bytes_are = sym (simp (le-ltb (entries_made n) (length l / 4) h));
+    counters_are = sym (simp (le-ltb n.entries (length l / 4) h));
+    bytes_are = sym (simp (le-ltb n.entries (length l / 4) h));
   }
-
--- the other counters stay
-pub note_others : (d : Bool) (n l : List ℕ) (j : ℕ) → (j ≡ 5 → ⊥) → get_or (note_counters d n l) j 0 ≡ get_or n j 0
-unfolding note_counters
-note_others d n l j h = go (makes_entry d n l)
-  where
-    go : (m : Bool) → get_or (cond m (set n 5 (entries_made n + 1)) n) j 0 ≡ get_or n j 0
-    go true = get_or-set_other n 5 j (entries_made n + 1) 0 h
-    go false = refl

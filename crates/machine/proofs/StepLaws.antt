@@ -1,13 +1,13 @@
 -- What the operations and a post give, a law for each way that they end. Assumes nothing.
-use Rattle.std.proofs.Common.{◌≡◌, ℕ, ◌+◌, ◌-◌, ◌<◌, ◌≤◌, min, Bool, true, false, cond, eqb, ltb, List, length, get_or, set, sym, refl, ap, ◌∙◌, ap₂, arith, ltb-true, le-ltb, lt-ltb, eq-eqb, ne_eqb, le-leb}
+use Rattle.std.proofs.Common.{◌≡◌, ℕ, ◌+◌, ◌-◌, ◌<◌, ◌≤◌, min, Bool, true, false, cond, eqb, ltb, List, length, set, sym, refl, ap, ◌∙◌, ap₂, arith, ltb-true, le-ltb, lt-ltb, eq-eqb, ne_eqb, le-leb}
 use native.Mathlib.Nat.{min-eq_left, min-eq_right}
 use borrow.Author.Tests.{lt-leb}
 use Rattle.program.specs.Limits.{no_guard, max_number}
 use Rattle.stores.specs.Words.{boolean_word, number_word, interval_word, undecided_word, stop_word, sort_of, payload_of, env_of}
-use Rattle.access.specs.Access.{enforced, interval_mode, granted_of, allowed_of}
+use Rattle.access.specs.Access.{granted_of, allowed_of}
 use Rattle.termtable.specs.Table.{word_small, word_guard}
-use Rattle.machine.specs.Steps.{posts_made, mode_of, result_word, less_word, interval_result, numbers_result, operate_of, saturates_of, operate_saturates, counters_saturated, operate_counters, Operated, decided_event, note_counters, note_bytes, Noted, guard_passed, number_decides, Guarded, cause_of, entry_of, listed_as, post_cause, post_word, post_counters, post_list, PostAppended}
-use Rattle.machine.proofs.NoteLaws.{note_others}
+use Rattle.machine.specs.declared.counters.Counters.{Counters}
+use Rattle.machine.specs.Steps.{result_word, less_word, interval_result, numbers_result, operate_of, saturates_of, operate_saturates, wrapped, counters_saturated, operate_counters, Operated, decided_event, note_counters, note_bytes, Noted, guard_passed, Guarded, cause_of, entry_of, listed_as, post_cause, post_word, post_counters, post_list, PostAppended}
 
 -- ---- what two numbers give, by the kind
 sum_is : {k : ℕ} (x y : ℕ) → k ≡ 11 → result_word k x y ≡ number_word (min (x + y) max_number)
@@ -66,7 +66,7 @@ module _ (k a b : ℕ) {x x' y y' r : ℕ} (u : x ≡ payload_of a) (u' : x' ≡
   interval_less n m q = interval_of (q ∙ sym (simp (ne_eqb k 11 n, ne_eqb k 12 m)))
 
 -- ---- two words
-module _ (k t a b : ℕ) (n : List ℕ) {r : ℕ} where
+module _ (k t a b : ℕ) (n : Counters) {r : ℕ} where
   pub operate_left : (sort_of a ≡ 1 → ⊥) → r ≡ stop_word 18 t → Operated k t a b n r n
   unfolding operate_of operate_saturates operate_counters
   operate_left h q = record { word_is = q ∙ sym (simp (ne_eqb (sort_of a) 1 h)); counters_are = sym (simp (ne_eqb (sort_of a) 1 h)) }
@@ -79,26 +79,26 @@ module _ (k t a b : ℕ) (n : List ℕ) {r : ℕ} where
       counters_are = sym (simp (eq-eqb (sort_of a) 1 p, ne_eqb (sort_of b) 1 h));
     }
 
-    module _ (q : sort_of b ≡ 1) {m : Bool} (known : m ≡ interval_mode (mode_of n)) where
-      pub operate_intervals : m ≡ true → r ≡ interval_result k (payload_of a) (env_of a) (payload_of b) (env_of b) → Operated k t a b n r n
+    module _ (q : sort_of b ≡ 1) where
+      pub operate_intervals : n.mode.intervals ≡ true → r ≡ interval_result k (payload_of a) (env_of a) (payload_of b) (env_of b) → Operated k t a b n r n
       unfolding numbers_result operate_of operate_saturates operate_counters
       operate_intervals on e = record {
-        word_is = e ∙ sym (simp (eq-eqb (sort_of a) 1 p, eq-eqb (sort_of b) 1 q, sym known ∙ on));
-        counters_are = sym (simp (eq-eqb (sort_of a) 1 p, eq-eqb (sort_of b) 1 q, sym known ∙ on));
+        word_is = e ∙ sym (simp (eq-eqb (sort_of a) 1 p, eq-eqb (sort_of b) 1 q, on));
+        counters_are = sym (simp (eq-eqb (sort_of a) 1 p, eq-eqb (sort_of b) 1 q, on));
       }
 
-      module _ (plain : m ≡ false) {x y : ℕ} (u : x ≡ payload_of a) (v : y ≡ payload_of b) where
-        operate_both : {n' : List ℕ} (over : Bool) → r ≡ result_word k x y → over ≡ saturates_of k x y → n' ≡ cond over (counters_saturated n) n
-            → Operated k t a b n r n'
+      module _ (plain : n.mode.intervals ≡ false) {x y : ℕ} (u : x ≡ payload_of a) (v : y ≡ payload_of b) where
+        operate_both : {n' : Counters} (over : Bool) → r ≡ result_word k x y → over ≡ saturates_of k x y
+            → n' ≡ record n { saturated = cond over (wrapped (n.saturated + 1)) n.saturated } → Operated k t a b n r n'
         unfolding numbers_result operate_of operate_saturates operate_counters
         operate_both over e s c = record {
-          word_is = e ∙ (λ i. result_word k (u i) (v i)) ∙ sym (simp (eq-eqb (sort_of a) 1 p, eq-eqb (sort_of b) 1 q, sym known ∙ plain));
+          word_is = e ∙ (λ i. result_word k (u i) (v i)) ∙ sym (simp (eq-eqb (sort_of a) 1 p, eq-eqb (sort_of b) 1 q, plain));
           counters_are =
-              c ∙ ap counters (s ∙ (λ i. saturates_of k (u i) (v i))) ∙ sym (simp (eq-eqb (sort_of a) 1 p, eq-eqb (sort_of b) 1 q, sym known ∙ plain));
+              c ∙ ap counters (s ∙ (λ i. saturates_of k (u i) (v i))) ∙ sym (simp (eq-eqb (sort_of a) 1 p, eq-eqb (sort_of b) 1 q, plain));
         }
           where
-            counters : Bool → List ℕ
-            counters o = cond o (counters_saturated n) n
+            counters : Bool → Counters
+            counters o = record n { saturated = cond o (wrapped (n.saturated + 1)) n.saturated }
 
         module _ (sum : k ≡ 11) where
           pub sum_fits : y ≤ max_number - x → x ≤ max_number → r ≡ number_word (x + y) → Operated k t a b n r n
@@ -107,7 +107,8 @@ module _ (k t a b : ℕ) (n : List ℕ) {r : ℕ} where
               operate_both false (e ∙ ap number_word (add_fits h g) ∙ sym (sum_is x y sum))
               (sym (sum_saturates x y sum ∙ le-ltb max_number (x + y) l)) refl
 
-          pub sum_over : {n' : List ℕ} → max_number - x < y → x ≤ max_number → r ≡ number_word max_number → n' ≡ counters_saturated n → Operated k t a b n r n'
+          pub sum_over : {n' : Counters} → max_number - x < y → x ≤ max_number → r ≡ number_word max_number → n' ≡ counters_saturated n
+              → Operated k t a b n r n'
           sum_over h g e c =
               let l : max_number < x + y = omega arith in
               operate_both true (e ∙ ap number_word (add_over h g) ∙ sym (sum_is x y sum))
@@ -118,7 +119,7 @@ module _ (k t a b : ℕ) (n : List ℕ) {r : ℕ} where
           difference_fits h e =
               operate_both false (e ∙ sym (difference_is x y no-sum difference)) (sym (difference_saturates x y no-sum difference ∙ le-ltb x y h)) refl
 
-          pub difference_under : {n' : List ℕ} → x < y → r ≡ number_word 0 → n' ≡ counters_saturated n → Operated k t a b n r n'
+          pub difference_under : {n' : Counters} → x < y → r ≡ number_word 0 → n' ≡ counters_saturated n → Operated k t a b n r n'
           difference_under h e c =
               let z : 0 ≡ x - y = omega arith in
               operate_both true (e ∙ ap number_word z ∙ sym (difference_is x y no-sum difference))
@@ -130,7 +131,7 @@ module _ (k t a b : ℕ) (n : List ℕ) {r : ℕ} where
 
 -- ---- a post
 -- the three ways of a guard: there is none, checks are passed over, or it is decided
-module _ (t x access : ℕ) (n f noted : List ℕ) {g : ℕ} (e : g ≡ word_guard x) where
+module _ (t x access : ℕ) (n : Counters) (f noted : List ℕ) {g : ℕ} (e : g ≡ word_guard x) where
   pub guard_none : g ≡ no_guard → Guarded t x access n f noted true n f noted
   unfolding guard_passed note_counters note_bytes
   guard_none h = record {
@@ -140,39 +141,39 @@ module _ (t x access : ℕ) (n f noted : List ℕ) {g : ℕ} (e : g ≡ word_gua
     noted_are = sym (simp (eq-eqb (word_guard x) no_guard (sym e ∙ h)));
   }
 
-  module _ (some : g ≡ no_guard → ⊥) {b : Bool} (m : b ≡ enforced (mode_of n)) where
+  module _ (some : g ≡ no_guard → ⊥) where
     there_is : eqb (word_guard x) no_guard ≡ false
     there_is = ne_eqb (word_guard x) no_guard (λ z. some (e ∙ z))
 
-    pub guard_passed_lem : b ≡ false → Guarded t x access n f noted true n f noted
+    pub guard_passed_lem : n.mode.enforce ≡ false → Guarded t x access n f noted true n f noted
     unfolding guard_passed allowed_of note_counters note_bytes
     guard_passed_lem off = record {
-      answer_is = sym (rw (there_is, ← m, off) refl);
-      counters_are = sym (rw (there_is, ← m, off) refl);
+      answer_is = sym (rw (there_is, off) refl);
+      counters_are = sym (rw (there_is, off) refl);
       frames_are = refl;
-      noted_are = sym (rw (there_is, ← m, off) refl);
+      noted_are = sym (rw (there_is, off) refl);
     }
 
-    pub guard_decided : {a : Bool} {n' f' noted' : List ℕ} → b ≡ true → a ≡ granted_of (mode_of n) access f g → f' ≡ f
+    pub guard_decided : {a : Bool} {n' : Counters} {f' noted' : List ℕ} → n.mode.enforce ≡ true → a ≡ granted_of n.mode.lazy access f g → f' ≡ f
         → Noted (decided_event t g a) n noted n' noted'
         → Guarded t x access n f noted a n' f' noted'
     unfolding guard_passed allowed_of
     guard_decided on q same d = record {
-      answer_is = q ∙ sym (rw (there_is, ← m, on, e) refl);
-      counters_are = d.counters_are ∙ sym (rw (there_is, ← m, on) refl);
+      answer_is = q ∙ sym (rw (there_is, on, e) refl);
+      counters_are = d.counters_are ∙ sym (rw (there_is, on) refl);
       frames_are = same;
-      noted_are = d.bytes_are ∙ sym (rw (there_is, ← m, on, ← e, ← q) refl);
+      noted_are = d.bytes_are ∙ sym (rw (there_is, on, ← e, ← q) refl);
     }
 
 -- how a post is listed
-module _ (mode x w : ℕ) {b : Bool} (e : b ≡ interval_mode mode) {h l r : ℕ} (q : r ≡ entry_of h l) where
-  pub listed_interval : b ≡ true → h ≡ payload_of w → l ≡ env_of w → r ≡ listed_as mode x w
+module _ (intervals : Bool) (x w : ℕ) {h l r : ℕ} (q : r ≡ entry_of h l) where
+  pub listed_interval : intervals ≡ true → h ≡ payload_of w → l ≡ env_of w → r ≡ listed_as intervals x w
   unfolding listed_as
-  listed_interval on u v = q ∙ ap₂ entry_of u v ∙ sym (simp (sym e ∙ on))
+  listed_interval on u v = q ∙ ap₂ entry_of u v ∙ sym (simp on)
 
-  pub listed_plain : b ≡ false → h ≡ word_small x → l ≡ payload_of w → r ≡ listed_as mode x w
+  pub listed_plain : intervals ≡ false → h ≡ word_small x → l ≡ payload_of w → r ≡ listed_as intervals x w
   unfolding listed_as
-  listed_plain off u v = q ∙ ap₂ entry_of u v ∙ sym (simp (sym e ∙ off))
+  listed_plain off u v = q ∙ ap₂ entry_of u v ∙ sym (simp off)
 
 cause_low : (a b : Bool) → cause_of true a b < 256
 unfolding cause_of
@@ -193,7 +194,7 @@ module _ (a : Bool) {c : ℕ} where
   pub cause_room : (m k : ℕ) → c ≡ cause_of true a (ltb m k) → c ≡ 0 → m < k
   cause_room m k q e = ltb-true m k (room_known a (ltb m k) (sym q ∙ e))
 
-module _ (t x access w : ℕ) (n l f noted : List ℕ) {s : ℕ} (e : s ≡ sort_of w) where
+module _ (t x access w : ℕ) (n : Counters) (l f noted : List ℕ) {s : ℕ} (e : s ≡ sort_of w) where
   -- what is no number is stuck, before its guard is looked at
   pub post_stuck : {r : ℕ} → (s ≡ 1 → ⊥) → r ≡ stop_word 18 t → PostAppended t x access w n l f noted r n l f noted
   unfolding post_cause cause_of post_word post_counters post_list note_counters note_bytes
@@ -205,14 +206,14 @@ module _ (t x access w : ℕ) (n l f noted : List ℕ) {s : ℕ} (e : s ≡ sort
     noted_are = sym (rw q refl);
   }
 
-  module _ (number : s ≡ 1) {b : Bool} {n' f' noted' : List ℕ} (g : Guarded t x access n f noted b n' f' noted') {c : ℕ}
-      (q : c ≡ cause_of true b (ltb (posts_made n) (length l))) where
+  module _ (number : s ≡ 1) {b : Bool} {n' : Counters} {f' noted' : List ℕ} (g : Guarded t x access n f noted b n' f' noted') {c : ℕ}
+      (q : c ≡ cause_of true b (ltb n.posts (length l))) where
     is_number : eqb (sort_of w) 1 ≡ true
     is_number = eq-eqb (sort_of w) 1 (sym e ∙ number)
 
     cause_is : c ≡ post_cause x access w n l f
     unfolding post_cause
-    cause_is = q ∙ (λ i. cause_of (sym is_number i) (g.answer_is i) (ltb (posts_made n) (length l)))
+    cause_is = q ∙ (λ i. cause_of (sym is_number i) (g.answer_is i) (ltb n.posts (length l)))
 
     pub post_stopped : {r : ℕ} → (c ≡ 0 → ⊥) → r ≡ stop_word c t → PostAppended t x access w n l f noted r n' l f' noted'
     unfolding post_word post_counters post_list
@@ -224,22 +225,13 @@ module _ (t x access w : ℕ) (n l f noted : List ℕ) {s : ℕ} (e : s ≡ sort
       noted_are = rw is_number g.noted_are;
     }
 
-    pub post_done_lem : {y : ℕ} → c ≡ 0 → y ≡ listed_as (mode_of n') x w
-        → PostAppended t x access w n l f noted w (set n' 2 (posts_made n + 1)) (set l (posts_made n) y) f' noted'
-    unfolding post_word post_counters post_list
+    pub post_done_lem : {y : ℕ} → c ≡ 0 → y ≡ listed_as n'.mode.intervals x w
+        → PostAppended t x access w n l f noted w (record n' { posts = n.posts + 1 }) (set l n.posts y) f' noted'
+    unfolding post_word post_counters post_list note_counters
     post_done_lem h y = record {
       word_is = rw (← cause_is) (simp (eq-eqb c 0 h));
-      counters_are = rw (← cause_is, is_number) (counted ∙ sym (simp (eq-eqb c 0 h)));
-      posts_are = rw (← cause_is) (simp (eq-eqb c 0 h, y ∙ ap (λ (m : ℕ). listed_as m x w) (kept 3 (λ e. omega (arith, e)))));
+      counters_are = rw (← cause_is, is_number) ((λ i. record (g.counters_are i) { posts = n.posts + 1 }) ∙ sym (simp (eq-eqb c 0 h)));
+      posts_are = rw (← cause_is) (simp (eq-eqb c 0 h, y ∙ ap (λ (m : Counters). listed_as m.mode.intervals x w) g.counters_are));
       frames_are = g.frames_are;
       noted_are = rw is_number g.noted_are;
     }
-      where
-        after : List ℕ
-        after = note_counters (number_decides (mode_of n) x) n noted
-
-        kept : (j : ℕ) → (j ≡ 5 → ⊥) → get_or n' j 0 ≡ get_or n j 0
-        kept j e = ap (λ (m : List ℕ). get_or m j 0) g.counters_are ∙ note_others (number_decides (mode_of n) x) n noted j e
-
-        counted : set n' 2 (posts_made n + 1) ≡ set after 2 (posts_made after + 1)
-        counted = λ i. set (g.counters_are i) 2 (sym (note_others (number_decides (mode_of n) x) n noted 2 (λ e. omega (arith, e))) i + 1)

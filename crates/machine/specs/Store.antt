@@ -1,15 +1,17 @@
 -- The store-level interpreter: terms as words by their numbers, cells as bytes, frames as numbers. It mirrors the code, and no reader of a public
 -- promise needs it: the crate `refinement` proves that it is the meaning.
-use Rattle.std.specs.Prelude.{ℕ, zero, suc, ◌+◌, ◌-◌, ◌/◌, Bool, true, cond, List, length, ◌==◌, nat_le, nat_lt, slice_index, slice_set}
+use Rattle.std.specs.Prelude.{ℕ, zero, suc, ◌+◌, ◌-◌, ◌/◌, Bool, true, cond, List, length, ◌==◌, nat_le, nat_lt, slice_index}
 use Rattle.stores.specs.Words.{boolean_word, interval_word, function_word, stop_word, sort_of, payload_of, env_of, is_stop}
 use Rattle.termtable.specs.Table.{word_kind, word_small, word_first, word_second, word_third, word_authority, word_guard}
 use Rattle.stores.specs.Cells.{look_of, cell_set, next_cell}
-use Rattle.access.specs.Access.{enforced, granted_of, allowed_of, sign_access, sign_frames, enable_access, enable_frames, enabled_now, restore_frames}
-use Rattle.machine.specs.Steps.{calls_left, cells_made, mode_of, operate_of, operate_counters, decided_event, note_counters, note_bytes, guard_decides, post_cause, post_word, post_counters, post_list}
+use Rattle.access.specs.declared.Mode.{Mode}
+use Rattle.access.specs.Access.{granted_of, allowed_of, sign_access, sign_frames, enable_access, enable_frames, enabled_now, restore_frames}
+use Rattle.machine.specs.declared.counters.Counters.{Counters}
+use Rattle.machine.specs.Steps.{operate_of, operate_counters, decided_event, note_counters, note_bytes, guard_decides, post_cause, post_word, post_counters, post_list}
 
 -- ---- the state of a run between two steps: its counters, the lent stores and the bytes of its record
 pub record Store : Type 0 where
-  pub counters : List ℕ
+  pub counters : Counters
   pub cells : List ℕ
   pub posts : List ℕ
   pub frames : List ℕ
@@ -19,7 +21,11 @@ pub record Done : Type 0 where
   pub out : ℕ
   pub store : Store
 
-abbrev pub store_of : (n cells posts frames noted : List ℕ) → Store
+-- with so many calls to make, and nothing made
+abbrev pub counters_at_start : (calls : ℕ) → Mode → Counters
+counters_at_start calls mode = record { calls_left = calls; cells = 0; posts = 0; mode = mode; saturated = 0; entries = 0 }
+
+abbrev pub store_of : Counters → (cells posts frames noted : List ℕ) → Store
 store_of n c p f l = record { counters = n; cells = c; posts = p; frames = f; noted = l }
 
 abbrev pub done_of : (word : ℕ) → Store → Done
@@ -32,7 +38,7 @@ with_frames f st = store_of st.counters st.cells st.posts f st.noted
 abbrev pub with_entry : (decides : Bool) (t p access : ℕ) → Store → Store
 with_entry d t p access st =
     store_of (note_counters d st.counters st.noted) st.cells st.posts st.frames
-    (note_bytes d (decided_event t p (granted_of (mode_of st.counters) access st.frames p)) st.counters st.noted)
+    (note_bytes d (decided_event t p (granted_of st.counters.mode.lazy access st.frames p)) st.counters st.noted)
 
 -- what follows a value; a stop stays
 unfoldable pub and_then : Done → (ℕ → Store → Done) → Done
@@ -61,20 +67,20 @@ immediate_word cells t x env =
 
 -- a new cell: whether there is one, its number, and the store with it
 unfoldable pub has_room : Store → Bool
-has_room st = nat_lt (cells_made st.counters) (length st.cells / 8)
+has_room st = nat_lt st.counters.cells (length st.cells / 8)
 
 abbrev pub own_cell : Store → ℕ
-own_cell st = next_cell (cells_made st.counters)
+own_cell st = next_cell st.counters.cells
 
 abbrev pub cell_bound : (word behind : ℕ) → Store → Store
 cell_bound w behind st =
-    store_of (slice_set st.counters 1 (cells_made st.counters + 1)) (cell_set st.cells (cells_made st.counters) w behind) st.posts st.frames st.noted
+    store_of (record st.counters { cells = st.counters.cells + 1 }) (cell_set st.cells st.counters.cells w behind) st.posts st.frames st.noted
 
 -- the same at a call, with one call less
 abbrev pub call_bound : (word behind : ℕ) → Store → Store
 call_bound w behind st =
-    store_of (slice_set (slice_set st.counters 0 (calls_left st.counters - 1)) 1 (cells_made st.counters + 1))
-    (cell_set st.cells (cells_made st.counters) w behind) st.posts
+    store_of (record st.counters { calls_left = st.counters.calls_left - 1; cells = st.counters.cells + 1 })
+    (cell_set st.cells st.counters.cells w behind) st.posts
     st.frames st.noted
 
 -- ---- the kinds of terms
@@ -94,39 +100,39 @@ if_s p q r t env access st = and_then (p env access st) (λ w st₁. branch_s t 
 
 -- a check that is passed over decides nothing
 abbrev pub checked : (t p access : ℕ) → Store → Store
-checked t p access st = with_entry (enforced (mode_of st.counters)) t p access st
+checked t p access st = with_entry st.counters.mode.enforce t p access st
 
 unfoldable pub check_s : StoreEvaluation → (p t : ℕ) → StoreEvaluation
 check_s r p t env access st =
-    cond (allowed_of (mode_of st.counters) access st.frames p) (r env access (checked t p access st)) (done_of (stop_word 17 t) (checked t p access st))
+    cond (allowed_of st.counters.mode access st.frames p) (r env access (checked t p access st)) (done_of (stop_word 17 t) (checked t p access st))
 
 unfoldable pub test_s : StoreEvaluation → StoreEvaluation → (p t : ℕ) → StoreEvaluation
 test_s r q p t env access st =
-    cond (granted_of (mode_of st.counters) access st.frames p) (r env access (with_entry true t p access st)) (q env access (with_entry true t p access st))
+    cond (granted_of st.counters.mode.lazy access st.frames p) (r env access (with_entry true t p access st)) (q env access (with_entry true t p access st))
 
 unfoldable pub sign_s : StoreEvaluation → (authorised : ℕ) → StoreEvaluation
 sign_s r authorised env access st =
-    r env (sign_access (mode_of st.counters) access authorised) (with_frames (sign_frames (mode_of st.counters) access st.frames authorised) st)
+    r env (sign_access st.counters.mode.lazy access authorised) (with_frames (sign_frames st.counters.mode.lazy access st.frames authorised) st)
 
 -- the first frame is restored when the term ends
-abbrev pub restored : (mode access old : ℕ) → Done → Done
-restored mode access old d = done_of d.out (with_frames (restore_frames mode access d.store.frames old) d.store)
+abbrev pub restored : (lazy : Bool) (access old : ℕ) → Done → Done
+restored lazy access old d = done_of d.out (with_frames (restore_frames lazy access d.store.frames old) d.store)
 
 unfoldable pub enable_s : StoreEvaluation → (p : ℕ) → StoreEvaluation
 enable_s r p env access st =
-    restored (mode_of st.counters) access (enabled_now (mode_of st.counters) access st.frames)
-    (r env (enable_access (mode_of st.counters) access p) (with_frames (enable_frames (mode_of st.counters) access st.frames p) st))
+    restored st.counters.mode.lazy access (enabled_now st.counters.mode.lazy access st.frames)
+    (r env (enable_access st.counters.mode.lazy access p) (with_frames (enable_frames st.counters.mode.lazy access st.frames p) st))
 
 unfoldable pub operate_done : (kind t a b : ℕ) → Store → Done
 operate_done kind t a b st =
-    done_of (operate_of (mode_of st.counters) kind t a b) (store_of (operate_counters kind a b st.counters) st.cells st.posts st.frames st.noted)
+    done_of (operate_of st.counters.mode.intervals kind t a b) (store_of (operate_counters kind a b st.counters) st.cells st.posts st.frames st.noted)
 
 unfoldable pub binary_s : StoreEvaluation → StoreEvaluation → (kind t : ℕ) → StoreEvaluation
 binary_s p q kind t env access st = and_then (p env access st) (λ a st₁. and_then (q env access st₁) (λ b st₂. operate_done kind t a b st₂))
 
 -- the word of the post's term says its channel and its guard, which is decided in the access of the post
 abbrev pub guarded : (t x access word : ℕ) → Store → Store
-guarded t x access w st = with_entry (guard_decides (mode_of st.counters) x w) t (word_guard x) access st
+guarded t x access w st = with_entry (guard_decides st.counters.mode.enforce x w) t (word_guard x) access st
 
 unfoldable pub post_done : (t x access word : ℕ) → Store → Done
 post_done t x access w st =
@@ -153,7 +159,7 @@ by_action post ev ap t x env access st = post_s (ev (word_first x)) t x env acce
 -- a body begins: 20, then 21, or its argument is bound, with one call less
 unfoldable pub begin : (ℕ → StoreEvaluation) → (t fun arg access : ℕ) → Store → Done
 begin ev t f v access st =
-    cond (calls_left st.counters == 0) (done_of (stop_word 20 t) st)
+    cond (st.counters.calls_left == 0) (done_of (stop_word 20 t) st)
     (cond (has_room st) (ev (payload_of f) (own_cell st) access (call_bound v (env_of f) st)) (done_of (stop_word 21 t) st))
 
 module _ (terms : List ℕ) where

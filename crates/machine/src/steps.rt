@@ -1,20 +1,18 @@
 // The steps of a run that evaluate no other term.
-ghost use Rattle.std.specs.Prelude.{◌≡◌, ◌+◌, ◌-◌, min, true, if◌then◌else◌};
+ghost use Rattle.std.specs.Prelude.{◌≡◌, ◌+◌, ◌-◌, true, if◌then◌else◌};
 ghost use Rattle.program.specs.Decoding.{is_guard};
 ghost use Rattle.stores.specs.Words.{number_word, payload_of, env_of};
-ghost use Rattle.stores.specs.Returns.{Returned};
 ghost use Rattle.machine.specs.Steps.{counters_saturated, less_word, interval_result, Operated, Guarded, cause_of, entry_of, listed_as, PostAppended};
 ghost use Rattle.termtable.specs.Table.{word_guard};
-ghost use Rattle.program.specs.Limits.{max_number};
 
+use crate::counters::Counters;
 use crate::notes::note;
-use access::{enforces, granted, interval_mode};
+use access::granted;
 use program::limits::{MAX_NUMBER, NO_GUARD};
-use std::num::wrapping_add_usize;
 use stores::words;
 use termtable::{guard_of, small_of};
 
-// One of two numbers.
+// One of two numbers. It is a function of its own, since what a join of two branches gives is lost to the proof of the call behind it.
 pub fn choose(yes: bool, a: u16, b: u16) -> u16
     ensures { result ≡ (if yes then a else b) }
 {
@@ -22,29 +20,12 @@ pub fn choose(yes: bool, a: u16, b: u16) -> u16
 }
 
 // A limit in the place of a result past it, which is counted.
-fn saturate(counters: &mut [usize; 6], limit: u16) -> u64
-    ensures { Returned result (number_word limit) counters.new (counters_saturated counters.old) }
+fn saturate(counters: &mut Counters, limit: u16) -> u64
+    ensures answer_is { result ≡ number_word limit }
+    ensures counters_are { counters.new ≡ counters_saturated counters.old }
 {
-    counters[4] = wrapping_add_usize(counters[4], 1);
+    counters.saturated = counters.saturated.wrapping_add(1);
     words::number(limit)
-}
-
-fn add(x: u16, y: u16) -> u16
-    ensures { result ≡ min (x + y) max_number }
-{
-    if y <= MAX_NUMBER - x {
-        return x + y;
-    }
-    MAX_NUMBER
-}
-
-fn subtract(x: u16, y: u16) -> u16
-    ensures { result ≡ x - y }
-{
-    if y <= x {
-        return x - y;
-    }
-    0
 }
 
 // Less of two intervals: decided where all their numbers agree.
@@ -69,16 +50,16 @@ fn operate_intervals(kind: u8, a: u64, b: u64) -> u64
     let y = words::payload(b);
     let y_most = words::env(b);
     if kind == 11 {
-        return words::interval(add(x, y), add(x_most, y_most));
+        return words::interval(x.saturating_add(y), x_most.saturating_add(y_most));
     }
     if kind == 12 {
-        return words::interval(subtract(x, y_most), subtract(x_most, y));
+        return words::interval(x.saturating_sub(y_most), x_most.saturating_sub(y));
     }
     less(x, x_most, y, y_most)
 }
 
 // Sum, difference or less of two words.
-pub fn operate(counters: &mut [usize; 6], kind: u8, t: u16, a: u64, b: u64) -> u64
+pub fn operate(counters: &mut Counters, kind: u8, t: u16, a: u64, b: u64) -> u64
     ensures { Operated kind t a b counters.old result counters.new }
 {
     if words::sort(a) != 1 {
@@ -87,7 +68,7 @@ pub fn operate(counters: &mut [usize; 6], kind: u8, t: u16, a: u64, b: u64) -> u
     if words::sort(b) != 1 {
         return words::stop(18, t);
     }
-    if interval_mode(counters[3]) {
+    if counters.mode.intervals {
         return operate_intervals(kind, a, b);
     }
     let x = words::payload(a);
@@ -111,7 +92,7 @@ pub fn operate(counters: &mut [usize; 6], kind: u8, t: u16, a: u64, b: u64) -> u
 fn guard_passes(
     frames: &mut [u32],
     noted: &mut [u8],
-    counters: &mut [usize; 6],
+    counters: &mut Counters,
     t: u16,
     x: u64,
     access: u64,
@@ -124,16 +105,16 @@ fn guard_passes(
     if guard == NO_GUARD {
         return true;
     }
-    let mode = counters[3];
-    if !enforces(mode) {
+    let enforce = counters.mode.enforce;
+    if !enforce {
         return true;
     }
-    let yes = granted(frames, mode, access, guard);
+    let yes = granted(frames, counters.mode.lazy, access, guard);
     note(noted, counters, t, guard, yes);
     yes
 }
 
-// Why a number is not posted: the guard, then 22. It is 0 if the number is posted.
+// Why a number is not posted: the guard, then 22. It is 0 if the number is posted, as in the definition that the promises of a post cite.
 fn cause_of(passes: bool, room: bool) -> u16
     ensures { result ≡ cause_of true passes room }
 {
@@ -148,10 +129,10 @@ fn entry(high: u16, low: u16) -> u32
 }
 
 // A post of the word w, by the word x of its term: its channel and number, or the interval.
-fn listed(mode: usize, x: u64, w: u64) -> u32
-    ensures { result ≡ listed_as mode x w }
+fn listed(intervals: bool, x: u64, w: u64) -> u32
+    ensures { result ≡ listed_as intervals x w }
 {
-    if interval_mode(mode) {
+    if intervals {
         return entry(words::payload(w), words::env(w));
     }
     entry(small_of(x) as u16, words::payload(w))
@@ -162,7 +143,7 @@ pub fn append(
     posts: &mut [u32],
     frames: &mut [u32],
     noted: &mut [u8],
-    counters: &mut [usize; 6],
+    counters: &mut Counters,
     t: u16,
     x: u64,
     access: u64,
@@ -175,13 +156,13 @@ pub fn append(
     if words::sort(w) != 1 {
         return words::stop(18, t);
     }
-    let at = counters[2];
+    let at = counters.posts;
     let passes = guard_passes(frames, noted, counters, t, x, access);
     let cause = cause_of(passes, at < posts.len());
     if cause != 0 {
         return words::stop(cause as u8, t);
     }
-    posts[at] = listed(counters[3], x, w);
-    counters[2] = at + 1;
+    posts[at] = listed(counters.mode.intervals, x, w);
+    counters.posts = at + 1;
     w
 }

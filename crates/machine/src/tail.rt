@@ -2,9 +2,10 @@
 ghost use Rattle.std.specs.Prelude.{◌≡◌};
 ghost use Rattle.machine.specs.Tails.{TailWord, going, halting, TailSteps};
 
+use crate::counters::Counters;
 use crate::notes::note;
 use crate::steps::choose;
-use access::{enforces, granted, sign};
+use access::{granted, sign};
 use stores::cells::{bind, next_cell};
 use stores::words;
 use termtable::{authority_of, first_of, kind_of, second_of, small_of, third_of};
@@ -44,7 +45,7 @@ pub fn tail_step(
     cells: &mut [u8],
     frames: &mut [u32],
     noted: &mut [u8],
-    counters: &mut [usize; 6],
+    counters: &mut Counters,
     t: u16,
     x: u64,
     env: u16,
@@ -56,29 +57,28 @@ pub fn tail_step(
 {
     let kind = kind_of(x);
     if kind == 4 {
-        let k = counters[1];
+        let k = counters.cells;
         let own = next_cell(k);
         let made = bind(cells, k, words::function(second_of(x), own), env);
         if made == 0 {
             return halts(words::stop(21, t), third_of(x));
         }
-        counters[1] = made;
+        counters.cells = made;
         return goes(third_of(x), own, access);
     }
-    let mode = counters[3];
     if kind == 9 {
         return goes(
             first_of(x),
             env,
-            sign(frames, mode, access, authority_of(x)),
+            sign(frames, counters.mode.lazy, access, authority_of(x)),
         );
     }
     // A check that is skipped decides nothing; any other decides and notes as a test does.
-    if (kind == 7) & !enforces(mode) {
+    if (kind == 7) & !counters.mode.enforce {
         return goes(first_of(x), env, access);
     }
     let p = small_of(x);
-    let yes = granted(frames, mode, access, p);
+    let yes = granted(frames, counters.mode.lazy, access, p);
     note(noted, counters, t, p, yes);
     if kind == 10 {
         return goes(choose(yes, first_of(x), second_of(x)), env, access);

@@ -22,8 +22,7 @@ use Rattle.program.proofs.Laws.Records.{term_is, guard_is}
 use Rattle.program.proofs.Laws.Trees.{parts, tree_node}
 use Rattle.program.proofs.Laws.Guards.{channel_below, guard_contains}
 use Rattle.program.specs.declared.answer.Refusal.{Refusal}
-use Rattle.program.specs.declared.answer.Decoded.{Decoded}
-use Rattle.program.specs.declared.answer.Decoded.TheVariants.{Readable, Refused}
+use Rattle.std.specs.Prelude.{Result, Ok, Err}
 use Rattle.program.specs.declared.records.Counts.{Counts}
 use Rattle.program.specs.declared.records.TermRecord.{TermRecord}
 use Rattle.semantics.specs.Names.{named_by, names}
@@ -109,15 +108,15 @@ module _ (s : List ℕ) (p : ℕ) where
   not_above h e = e ∙ λ i. readable_answer (sym (le-leb p max_privilege h) i)
 
   -- ---- the decoder's answer
-  module _ {d : Decoded} (m : decoded_model d ≡ decoding s) where
-    pub unreadable_naming : {f : Refusal} → d ≡ Refused f → refused (decoding_cause f) (decoding_place f) ≡ naming s p
+  module _ {d : Result Counts Refusal} (m : decoded_model d ≡ decoding s) where
+    pub unreadable_naming : {f : Refusal} → d ≡ Err f → refused (decoding_cause f) (decoding_place f) ≡ naming s p
     unfolding naming decoding
     unreadable_naming {f} e = λ i.
         unless_found refused
         (sym (screen_found (decoding_conditions s) (unless 30 (leb p max_privilege) ∷ []) (decoding_cause f) (decoding_place f) (sym m ∙ ap decoded_model e)) i)
         (λ _. naming_of (lowest_naming s p))
 
-    pub readable_naming : {c : Counts} → d ≡ Readable c → {a : Naming} → a ≡ readable_answer (leb p max_privilege) → a ≡ naming s p
+    pub readable_naming : {c : Counts} → d ≡ Ok c → {a : Naming} → a ≡ readable_answer (leb p max_privilege) → a ≡ naming s p
     unfolding naming decoding
     readable_naming e h = h ∙ λ i.
         unless_found refused (sym (screen_clear (decoding_conditions s) (unless 30 (leb p max_privilege) ∷ []) (sym m ∙ ap decoded_model e)) i) (λ _. naming_of
@@ -134,12 +133,6 @@ module _ (s : List ℕ) (p : ℕ) where
   -- the search from t on finds what the whole search finds
   abbrev pub Seeking : (t : ℕ) → Type 0
   Seeking t = lowest_naming s p ≡ lowest other t (terms s - t)
-
-  -- none of the first t of all n terms names it
-  pub record NotNamedBelow (n t : ℕ) : Type 0 where
-    pub below : t ≤ n
-    pub all_are : n ≡ terms s
-    pub seeking : Seeking t
 
   pub seek_start : Seeking 0
   seek_start = lowest_starts other (terms s)

@@ -1,7 +1,7 @@
 // Whether a sheet names a privilege in a check, a test or the guard of a post, and where first.
 #![tactic(auto)]
 
-ghost use Rattle.std.specs.Prelude.{[], ◌∷◌, ◌≡◌, leb};
+ghost use Rattle.std.specs.Prelude.{[], ◌∷◌, ◌≡◌, leb, Ok};
 ghost use Rattle.program.specs.Limits.{max_privilege};
 ghost use Rattle.program.specs.Screening.{screen, unless_found, unless};
 ghost use Rattle.accessors.specs.Internal.{FormedSheet};
@@ -11,48 +11,41 @@ ghost use Rattle.irrelevance.specs.Answers.{named_model};
 ghost use Rattle.naming.specs.Internal.{NamingSheet, NamingTerm};
 
 use accessors::{guard, term};
-use irrelevance::answer::Named;
-use program::answer::Decoded;
+use irrelevance::answer::NamingRefusal;
 use program::limits::MAX_PRIVILEGE_NUMBER;
 use program::records::Counts;
 
 // Whether the sheet names a privilege, on any bytes and any number: the decoder's refusals, then 30, then the lowest term that names it, or none.
-pub fn names(sheet: &[u8], privilege: u32) -> Named
+pub fn names(sheet: &[u8], privilege: u32) -> Result<Option<u16>, NamingRefusal>
     ensures { named_model result ≡ naming sheet.now privilege }
 {
-    let d = decoder::decode(sheet);
-    match d {
-        Decoded::Refused(f) => Named::Unreadable(f),
-        Decoded::Readable(c) => names_readable(sheet, c, privilege),
-    }
+    let c = decoder::decode(sheet)?;
+    names_readable(sheet, c, privilege)
 }
 
 // The same of a readable sheet with its counts.
-fn names_readable(s: &[u8], c: Counts, privilege: u32) -> Named
+fn names_readable(s: &[u8], c: Counts, privilege: u32) -> Result<Option<u16>, NamingRefusal>
     requires { FormedSheet s.now c }
     ensures { named_model result ≡ unless_found refused (screen (unless 30 (leb privilege max_privilege) ∷ []))
         (λ _. naming_of (lowest_naming s.now privilege)) }
 {
     if MAX_PRIVILEGE_NUMBER < privilege {
-        return Named::NoPrivilege;
+        return Err(NamingRefusal::NoPrivilege);
     }
-    lowest_naming(s, c, privilege as u8)
+    Ok(lowest_naming(s, c, privilege as u8))
 }
 
 // The lowest term that names p.
-fn lowest_naming(s: &[u8], c: Counts, p: u8) -> Named
+fn lowest_naming(s: &[u8], c: Counts, p: u8) -> Option<u16>
     requires { NamingSheet s.now c p }
-    ensures { named_model result ≡ naming_of (lowest_naming s.now p) }
+    ensures { named_model (Ok result) ≡ naming_of (lowest_naming s.now p) }
 {
-    let n = c.terms;
-    let mut t = 0;
-    while t < n {
+    for t in 0..c.terms {
         if term_names(s, c, t, p) {
-            return Named::At(t);
+            return Some(t);
         }
-        t += 1;
     }
-    Named::Nowhere
+    None
 }
 
 // Whether term t names p. An enable does not: it asks nothing.

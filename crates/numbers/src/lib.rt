@@ -2,13 +2,15 @@
 #![tactic(auto)]
 
 ghost use Rattle.program.specs.Answers.{decoding_cause, decoding_place};
-ghost use Rattle.typing.specs.Answers.{fault_cause, fault_place};
+ghost use Rattle.typing.specs.Answers.{fault_cause, fault_place, rejection_cause, rejection_place};
 ghost use Rattle.stores.specs.Stops.{stop_cause, stop_place};
 ghost use Rattle.interp.specs.Answers.{refusal_cause, refusal_place};
 ghost use Rattle.numbers.specs.Codes.{CodeIs};
 
+use interp::answer::RunRefusal;
+use program::answer::Refusal;
 use stores::values::Stop;
-use typing::answer::Fault;
+use typing::answer::{Fault, Rejection};
 
 #[derive(Clone, Copy)]
 pub struct Code {
@@ -16,116 +18,90 @@ pub struct Code {
     pub place: u16,
 }
 
+impl Code {
+    fn new(cause: u8, place: u16) -> Code
+        ensures { CodeIs cause place result }
+    {
+        Code { cause, place }
+    }
+}
+
 // 1 to 8, and 31.
-pub fn of_decoding(f: program::answer::Refusal) -> Code
-    ensures { CodeIs (decoding_cause f) (decoding_place f) result }
-{
-    match f {
-        program::answer::Refusal::CutShort => Code { cause: 1, place: 0 },
-        program::answer::Refusal::Tag => Code { cause: 2, place: 0 },
-        program::answer::Refusal::Version => Code { cause: 3, place: 0 },
-        program::answer::Refusal::Length => Code { cause: 4, place: 0 },
-        program::answer::Refusal::BadType(t) => Code { cause: 5, place: t },
-        program::answer::Refusal::BadTerm(t) => Code { cause: 6, place: t },
-        program::answer::Refusal::BadPlace(t) => Code { cause: 7, place: t },
-        program::answer::Refusal::TooDeep(t) => Code { cause: 8, place: t },
-        program::answer::Refusal::BadGuard(t) => Code {
-            cause: 31,
-            place: t,
-        },
+impl From<Refusal> for Code {
+    ghost from_gives = { λ f r. CodeIs (decoding_cause f) (decoding_place f) r };
+
+    fn from(f: Refusal) -> Code {
+        match f {
+            Refusal::CutShort => Code::new(1, 0),
+            Refusal::Tag => Code::new(2, 0),
+            Refusal::Version => Code::new(3, 0),
+            Refusal::Length => Code::new(4, 0),
+            Refusal::BadType(t) => Code::new(5, t),
+            Refusal::BadTerm(t) => Code::new(6, t),
+            Refusal::BadPlace(t) => Code::new(7, t),
+            Refusal::TooDeep(t) => Code::new(8, t),
+            Refusal::BadGuard(t) => Code::new(31, t),
+        }
     }
 }
 
 // 9 to 13, and 24 to 26.
-pub fn of_fault(f: Fault) -> Code
-    ensures { CodeIs (fault_cause f) (fault_place f) result }
-{
-    match f {
-        Fault::Variable(t) => Code { cause: 9, place: t },
-        Fault::Type(t) => Code {
-            cause: 10,
-            place: t,
-        },
-        Fault::SignNeeds(t) => Code {
-            cause: 11,
-            place: t,
-        },
-        Fault::BodyNeeds(t) => Code {
-            cause: 12,
-            place: t,
-        },
-        Fault::RootType(t) => Code {
-            cause: 13,
-            place: t,
-        },
-        Fault::NotFunction(t) => Code {
-            cause: 24,
-            place: t,
-        },
-        Fault::Argument(t) => Code {
-            cause: 25,
-            place: t,
-        },
-        Fault::Branches(t) => Code {
-            cause: 26,
-            place: t,
-        },
+impl From<Fault> for Code {
+    ghost from_gives = { λ f r. CodeIs (fault_cause f) (fault_place f) r };
+
+    fn from(f: Fault) -> Code {
+        match f {
+            Fault::Variable(t) => Code::new(9, t),
+            Fault::Type(t) => Code::new(10, t),
+            Fault::SignNeeds(t) => Code::new(11, t),
+            Fault::BodyNeeds(t) => Code::new(12, t),
+            Fault::RootType(t) => Code::new(13, t),
+            Fault::NotFunction(t) => Code::new(24, t),
+            Fault::Argument(t) => Code::new(25, t),
+            Fault::Branches(t) => Code::new(26, t),
+        }
+    }
+}
+
+// 1 to 13, 24 to 26, and 31.
+impl From<Rejection> for Code {
+    ghost from_gives = { λ f r. CodeIs (rejection_cause f) (rejection_place f) r };
+
+    fn from(f: Rejection) -> Code {
+        match f {
+            Rejection::Unreadable(x) => Code::from(x),
+            Rejection::Refused(x) => Code::from(x),
+        }
     }
 }
 
 // 1 to 8, 31, and 14 to 16.
-pub fn of_refusal(f: interp::answer::RunRefusal) -> Code
-    ensures { CodeIs (refusal_cause f) (refusal_place f) result }
-{
-    match f {
-        interp::answer::RunRefusal::Unreadable(x) => of_decoding(x),
-        interp::answer::RunRefusal::Start => Code {
-            cause: 14,
-            place: 0,
-        },
-        interp::answer::RunRefusal::Buffers => Code {
-            cause: 15,
-            place: 0,
-        },
-        interp::answer::RunRefusal::Allowance => Code {
-            cause: 16,
-            place: 0,
-        },
+impl From<RunRefusal> for Code {
+    ghost from_gives = { λ f r. CodeIs (refusal_cause f) (refusal_place f) r };
+
+    fn from(f: RunRefusal) -> Code {
+        match f {
+            RunRefusal::Unreadable(x) => Code::from(x),
+            RunRefusal::Start => Code::new(14, 0),
+            RunRefusal::Buffers => Code::new(15, 0),
+            RunRefusal::Allowance => Code::new(16, 0),
+        }
     }
 }
 
 // 17 to 22, and 36.
-pub fn of_stop(x: Stop) -> Code
-    ensures { CodeIs (stop_cause x) (stop_place x) result }
-{
-    match x {
-        Stop::Check(t) => Code {
-            cause: 17,
-            place: t,
-        },
-        Stop::Stuck(t) => Code {
-            cause: 18,
-            place: t,
-        },
-        Stop::OpenCalls(t) => Code {
-            cause: 19,
-            place: t,
-        },
-        Stop::Calls(t) => Code {
-            cause: 20,
-            place: t,
-        },
-        Stop::Cells(t) => Code {
-            cause: 21,
-            place: t,
-        },
-        Stop::Posts(t) => Code {
-            cause: 22,
-            place: t,
-        },
-        Stop::Undecided(t) => Code {
-            cause: 36,
-            place: t,
-        },
+impl From<Stop> for Code {
+    ghost from_gives = { λ x r. CodeIs (stop_cause x) (stop_place x) r };
+
+    fn from(x: Stop) -> Code {
+        match x {
+            Stop::Check(t) => Code::new(17, t),
+            Stop::Stuck(t) => Code::new(18, t),
+            Stop::OpenCalls(t) => Code::new(19, t),
+            Stop::Calls(t) => Code::new(20, t),
+            Stop::Cells(t) => Code::new(21, t),
+            Stop::Posts(t) => Code::new(22, t),
+            Stop::Undecided(t) => Code::new(36, t),
+        }
     }
 }

@@ -8,7 +8,7 @@ use native.Mathlib.Omega.{arith}
 use lib.Dec.{eqb}
 use lib.ListN.{length, get_or, set, length-set}
 use lib.Seq.{get_or-set_same, get_or-set_other}
-use borrow.Author.Tests.{le-leb, eq-eqb, ne_eqb}
+use borrow.Author.Tests.{eq-eqb, ne_eqb}
 use Rattle.program.specs.Layout.{version, terms}
 use Rattle.program.specs.Records.{term_record}
 use Rattle.program.proofs.Laws.Records.{term_is}
@@ -39,9 +39,6 @@ counted_yes s t e f h = h ∙ omega arith ∙ counted_next s t e f
 pub counted_no : (s : List ℕ) (t : ℕ) {n m : ℕ} → n ≡ numbers_below s t → false ≡ is_number s t → m ≡ n → m ≡ numbers_below s (t + 1)
 counted_no s t e f h = h ∙ omega arith ∙ counted_next s t e f
 
-pub counted_all : (s : List ℕ) (t m : ℕ) {n : ℕ} → n ≡ numbers_below s t → t ≡ m → n ≡ numbers_below s m
-counted_all s t m e q = e ∙ ap (numbers_below s) q
-
 one_most : (b : Bool) → cond b 1 0 ≤ 1
 one_most true = omega arith
 one_most false = omega arith
@@ -55,14 +52,6 @@ counted_most s (suc t) = omega (arith, one_most (is_number s t), counted_most s 
 pub record OrderedBelow (ps : List ℕ) (n i : ℕ) : Type 0 where
   pub below : i ≤ n
   pub in_order_holds : ordered ps i ≡ true
-
-pub ordered_next : (ps : List ℕ) (i : ℕ) → get_or ps (2 * i) 0 ≤ get_or ps (2 * i + 1) 0 → ordered ps i ≡ true → ordered ps (i + 1) ≡ true
-ordered_next ps i h e =
-    ap (ordered ps) {x = i + 1} {y = suc i} (omega arith)
-    ∙ (λ j. le-leb (get_or ps (2 * i) 0) (get_or ps (2 * i + 1) 0) (omega (arith, h)) j && e j)
-
-pub ordered_all : (ps : List ℕ) (i n : ℕ) → ordered ps i ≡ true → i ≡ n → true ≡ ordered ps n
-ordered_all ps i n e q = sym e ∙ ap (ordered ps) q
 
 pub ordered_not : (ps : List ℕ) (i n : ℕ) → i < n → get_or ps (2 * i + 1) 0 < get_or ps (2 * i) 0 → ordered ps n ≡ false
 ordered_not ps i n h l = go (ordered ps n) refl
@@ -103,12 +92,6 @@ pub record LaidBelow (s ps old new : List ℕ) (count n t : ℕ) : Type 0 where
   pub below : t ≤ count
   pub count_is : n ≡ numbers_below s t
   pub laid : PairsLaid s ps t old new
-
-pub laid_none : (s ps l : List ℕ) → PairsLaid s ps 0 l l
-laid_none s ps l = record { long = refl; numbers = λ u h. absurd (omega arith); others = λ u h. refl }
-
-pub laid_all : (s ps old new : List ℕ) (t n : ℕ) → PairsLaid s ps t old new → t ≡ n → PairsLaid s ps n old new
-laid_all s ps old new t n h q = subst (λ k. PairsLaid s ps k old new) q h
 
 module _ {s ps old new : List ℕ} {t : ℕ} (h : PairsLaid s ps t old new) where
   pub laid_other : {new' : List ℕ} → false ≡ is_number s t → new' ≡ new → PairsLaid s ps (t + 1) old new'

@@ -24,14 +24,11 @@ fn count_numbers(s: &[u8], c: Counts) -> u16
     requires { FormedSheet s.now c }
     ensures { result ≡ numbers_below s.now (term_count s.now) }
 {
-    let count = c.terms;
     let mut n = 0;
-    let mut t = 0;
-    while t < count {
+    for t in 0..c.terms {
         if is_number(s, c, t) {
             n += 1;
         }
-        t += 1;
     }
     n
 }
@@ -41,13 +38,10 @@ fn ordered(pairs: &[u16], count: u16) -> bool
     requires { 2 * count ≤ length pairs.now }
     ensures { result ≡ ordered_pairs pairs.now count }
 {
-    let n = count as usize;
-    let mut i = 0;
-    while i < n {
+    for i in 0..count as usize {
         if pairs[2 * i + 1] < pairs[2 * i] {
             return false;
         }
-        i += 1;
     }
     true
 }
@@ -72,16 +66,13 @@ pub fn lay_pairs(s: &[u8], c: Counts, pairs: &[u16], terms: &mut [u64; TERM_PLAC
     requires { PairsFit s.now c pairs.now terms.old }
     ensures { PairsLaid s.now pairs.now (term_count s.now) terms.old terms.new }
 {
-    let count = c.terms;
     let mut n = 0;
-    let mut t = 0;
-    while t < count {
+    for t in 0..c.terms {
         if is_number(s, c, t) {
             let lowest = pairs[2 * n];
             let highest = pairs[2 * n + 1];
             terms[t as usize] = interval(lowest, highest);
             n += 1;
         }
-        t += 1;
     }
 }

@@ -9,14 +9,13 @@ ghost use Rattle.piece.specs.Answers.{LocatedAs};
 ghost use Rattle.piece.specs.Internal.{piece_in};
 
 use places::root;
-use program::answer::Decoded;
 use program::records::Counts;
-use smallest::candidates::Candidate;
 use smallest::visit::visit;
 use subterms::answer::Piece;
 use subtyping::known::{KNOWN_WORDS, Known};
 
-// A piece, and where its record begins in the sheet and how many bytes it has; 0 and 0 if there is none.
+// A piece, and where its record begins in the sheet and how many bytes it has; 0 and 0 if there is none, as the numbers of the entry for C have it
+// (LocatedAs).
 #[derive(Clone, Copy)]
 pub struct Located {
     pub piece: Piece,
@@ -28,8 +27,7 @@ pub struct Located {
 pub fn piece(sheet: &[u8]) -> Piece
     ensures { piece_model result ≡ piece_of sheet.now }
 {
-    let x = locate(sheet);
-    x.piece
+    locate(sheet).piece
 }
 
 // The eight bytes of the sheet that are the record of its smallest faulty piece; none if there is no piece.
@@ -46,10 +44,9 @@ pub fn record_of(sheet: &[u8]) -> &[u8]
 pub fn locate(sheet: &[u8]) -> Located
     ensures { LocatedAs sheet.now (piece_of sheet.now) result }
 {
-    let d = decoder::decode(sheet);
-    match d {
-        Decoded::Refused(f) => nowhere(Piece::Unreadable(f)),
-        Decoded::Readable(c) => locate_readable(sheet, c),
+    match decoder::decode(sheet) {
+        Ok(c) => locate_readable(sheet, c),
+        Err(f) => nowhere(Err(f)),
     }
 }
 
@@ -57,7 +54,7 @@ fn nowhere(piece: Piece) -> Located
     ensures { result ≡ record { piece = piece; at = 0; len = 0 } }
 {
     Located {
-        piece: piece,
+        piece,
         at: 0,
         len: 0,
     }
@@ -69,18 +66,13 @@ fn locate_readable(s: &[u8], c: Counts) -> Located
     ensures { LocatedAs s.now (piece_in s.now) result }
 {
     let mut known: Known = [0; KNOWN_WORDS];
-    let found = visit(s, c, &mut known, root(c));
-    let x = found.smallest;
-    match x {
-        Candidate::Nothing => nowhere(Piece::NoPiece),
-        Candidate::Faulty { term, count, fault } => Located {
-            piece: Piece::Smallest {
-                term: term,
-                count: count,
-                fault: fault,
-            },
-            at: 14 + 4 * (c.principals as usize) + 10 * (c.types as usize) + 8 * (term as usize),
-            len: 8,
-        },
+    let found = visit(s, c, &mut known, Some(root(c)));
+    let Some(x) = found.smallest else {
+        return nowhere(Ok(None));
+    };
+    Located {
+        piece: Ok(Some(x)),
+        at: 14 + 4 * (c.principals as usize) + 10 * (c.types as usize) + 8 * (x.term as usize),
+        len: 8,
     }
 }

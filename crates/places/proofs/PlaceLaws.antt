@@ -1,5 +1,5 @@
 -- The children of a term, from its record: which there are, where each stands, and what judging it asks; each has a lower number. Assumes nothing.
-use mathlib.Core.Bool.{Bool, true, false, cond, true≢false}
+use mathlib.Core.Bool.{true}
 use mathlib.Core.List.{List, [], ◌∷◌}
 use mathlib.Core.Logic.{⊎_elim}
 use mathlib.Core.Option.{Option, none, some}
@@ -29,8 +29,9 @@ use Rattle.checker.specs.Internal.{ReadyAt}
 use Rattle.checker.proofs.VerdictLaws.{root_ready}
 use Rattle.checker.proofs.TermLaws.{ChildReady, kind_most, check_child, enable_child, sign_child, post_child, call_first, call_second, test_first, test_second, binary_first, binary_second, if_first, if_second, if_third, function_room, function_child, letrec_room, letrec_body, letrec_rest}
 use Rattle.typing.specs.Places.{Placed, placed}
-use Rattle.places.specs.Internal.{placed_at, ReadyPlace, present, AtRoot, Children, children_of, given, child_at, Reached}
-use Rattle.places.specs.declared.Child.{Child}
+use Rattle.std.specs.Prelude.{Some, None}
+use Rattle.places.specs.Internal.{placed_at, ReadyPlace, place_of, Child, AtRoot, Children, children_of, Reached}
+use Rattle.places.specs.declared.Place.{Place}
 use Rattle.accessors.specs.Internal.{FormedSheet}
 
 -- ---- what holds at each of the numbers from m on holds at every number among them
@@ -107,12 +108,12 @@ module _ {s : List ℕ} {c : Counts} {t : ℕ} {b : Bindings} {n : ℕ} (R : Rea
     due_is : {k : ℕ} → x.kind ≡ k → child_of k ≡ due
     due_is e = ap (λ (z : Term). position (children_of (types_of s) (placed (context b) n z))) (sym (tree_is e))
 
-    gone : {r : Child} {k : ℕ} → r.present ≡ false → none ≡ child_of k → x.kind ≡ k → Reached s c t r due
-    gone f q e = record { is = rw f (q ∙ due_is e); lower = λ g. absurd (true≢false (sym g ∙ f)); ready = λ g. absurd (true≢false (sym g ∙ f)) }
+    gone : {k : ℕ} → none ≡ child_of k → x.kind ≡ k → Reached s c t None due
+    gone q e = record { is = q ∙ due_is e; lower = tt; ready = tt }
 
-    here : {y m k : ℕ} {d : Bindings} {r : Child} → r ≡ present y d m → some (placed (context d) m (tree s y)) ≡ child_of k
-        → (x.kind ≡ k → ChildReady s c t y d m) → x.kind ≡ k → Reached s c t r due
-    here g q w e = record { is = rw g (q ∙ due_is e); lower = λ _. rw g (w e).lower; ready = λ _. rw g (w e).ready }
+    here : {y m k : ℕ} {d : Bindings} {r : Place} → r ≡ place_of y d m → some (placed (context d) m (tree s y)) ≡ child_of k
+        → (x.kind ≡ k → ChildReady s c t y d m) → x.kind ≡ k → Reached s c t (Some r) due
+    here g q w e = rw g (record { is = q ∙ due_is e; lower = (w e).lower; ready = (w e).ready })
 
     -- by the kind's number, among several
     abbrev KindCase : Child → (k : ℕ) → Type 0
@@ -122,14 +123,14 @@ module _ {s : List ℕ} {c : Counts} {t : ℕ} {b : Bindings} {n : ℕ} (R : Rea
     cases m count a l u = among a x.kind l u refl
 
   -- ---- the first
-  pub no_first : {r : Child} → r.present ≡ false → x.kind < 5 → Reached s c t r (due first)
-  no_first f l = cases first 0 5 (gone first f refl and gone first f refl and gone first f refl and gone first f refl and gone first f refl and all)
+  pub no_first : x.kind < 5 → Reached s c t None (due first)
+  no_first l = cases first 0 5 (gone first refl and gone first refl and gone first refl and gone first refl and gone first refl and all)
       (omega arith) l
 
-  pub first_signed : {r : Child} → x.kind ≡ 9 → r ≡ present x.first b x.small → Reached s c t r (due first)
+  pub first_signed : {r : Place} → x.kind ≡ 9 → r ≡ place_of x.first b x.small → Reached s c t (Some r) (due first)
   first_signed e g = here first g refl (sign_child at_record) e
 
-  pub first_same : {r : Child} → 5 ≤ x.kind → (x.kind ≡ 9 → ⊥) → r ≡ present x.first b n → Reached s c t r (due first)
+  pub first_same : {r : Place} → 5 ≤ x.kind → (x.kind ≡ 9 → ⊥) → r ≡ place_of x.first b n → Reached s c t (Some r) (due first)
   first_same l n9 g = cases first 5 10
       (here first g refl (call_first at_record)
       and here first g refl (if_first at_record)
@@ -144,20 +145,20 @@ module _ {s : List ℕ} {c : Counts} {t : ℕ} {b : Bindings} {n : ℕ} (R : Rea
       l (omega (arith, most))
 
   -- ---- the second
-  pub no_second_leaf : {r : Child} → r.present ≡ false → x.kind < 3 → Reached s c t r (due second)
-  no_second_leaf f l = cases second 0 3 (gone second f refl and gone second f refl and gone second f refl and all) (omega arith) l
+  pub no_second_leaf : x.kind < 3 → Reached s c t None (due second)
+  no_second_leaf l = cases second 0 3 (gone second refl and gone second refl and gone second refl and all) (omega arith) l
 
-  pub no_second_one : {r : Child} → r.present ≡ false → 7 ≤ x.kind → x.kind < 10 → Reached s c t r (due second)
-  no_second_one f l u = cases second 7 3 (gone second f refl and gone second f refl and gone second f refl and all) l u
+  pub no_second_one : 7 ≤ x.kind → x.kind < 10 → Reached s c t None (due second)
+  no_second_one l u = cases second 7 3 (gone second refl and gone second refl and gone second refl and all) l u
 
-  pub no_second_post : {r : Child} → r.present ≡ false → 14 ≤ x.kind → Reached s c t r (due second)
-  no_second_post f l = cases second 14 1 (gone second f refl and all) l (omega (arith, most))
+  pub no_second_post : 14 ≤ x.kind → Reached s c t None (due second)
+  no_second_post l = cases second 14 1 (gone second refl and all) l (omega (arith, most))
 
-  pub second_call : {r : Child} → r ≡ present x.second b n → 5 ≤ x.kind → x.kind < 7 → Reached s c t r (due second)
+  pub second_call : {r : Place} → r ≡ place_of x.second b n → 5 ≤ x.kind → x.kind < 7 → Reached s c t (Some r) (due second)
   second_call g l u = cases second 5 2
       (here second g refl (call_second at_record) and here second g refl (if_second at_record) and all) l u
 
-  pub second_same : {r : Child} → r ≡ present x.second b n → 10 ≤ x.kind → x.kind < 14 → Reached s c t r (due second)
+  pub second_same : {r : Place} → r ≡ place_of x.second b n → 10 ≤ x.kind → x.kind < 14 → Reached s c t (Some r) (due second)
   second_same g l u = cases second 10 4
       (here second g refl (test_second at_record)
       and here second g refl (λ e. binary_second at_record (omega arith) (omega arith))
@@ -165,64 +166,50 @@ module _ {s : List ℕ} {c : Counts} {t : ℕ} {b : Bindings} {n : ℕ} (R : Rea
       and here second g refl (λ e. binary_second at_record (omega arith) (omega arith)) and all)
       l u
 
-  pub second_function : {r : Child} {f : TypeRecord} {d : Bindings} → x.kind ≡ 3 → f ≡ type_record s c x.first → Pushed b f.arg d
-      → r ≡ present x.second d n → Reached s c t r (due second)
+  pub second_function : {r : Place} {f : TypeRecord} {d : Bindings} → x.kind ≡ 3 → f ≡ type_record s c x.first → Pushed b f.arg d
+      → r ≡ place_of x.second d n → Reached s c t (Some r) (due second)
   second_function e q v g = here second g (λ i. some (placed ((v.context_is ∙ λ j. argument_is e refl q j ∷ context b) i) n (tree s x.second)))
       (λ e. function_child at_record e v) e
 
-  module _ (e : x.kind ≡ 4) {r : Child} {d : Bindings} (v : Pushed b x.first d) where
-    pub second_letrec : {f : TypeRecord} {g : Bindings} → f ≡ type_record s c x.first → Pushed d f.arg g → r ≡ present x.second g n
-        → Reached s c t r (due second)
+  module _ (e : x.kind ≡ 4) {r : Place} {d : Bindings} (v : Pushed b x.first d) where
+    pub second_letrec : {f : TypeRecord} {g : Bindings} → f ≡ type_record s c x.first → Pushed d f.arg g → r ≡ place_of x.second g n
+        → Reached s c t (Some r) (due second)
     second_letrec q w h = here second h
         (λ i. some (placed ((w.context_is ∙ λ j. argument_is e refl q j ∷ v.context_is j) i) n (tree s x.second))) (λ e. letrec_body at_record e v w) e
 
-    pub third_letrec : r ≡ present x.third d n → Reached s c t r (due third)
+    pub third_letrec : r ≡ place_of x.third d n → Reached s c t (Some r) (due third)
     third_letrec h = here third h (λ i. some (placed (v.context_is i) n (tree s x.third))) (λ e. letrec_rest at_record e v) e
 
   -- ---- the third
-  pub third_if : {r : Child} → x.kind ≡ 6 → r ≡ present x.third b n → Reached s c t r (due third)
+  pub third_if : {r : Place} → x.kind ≡ 6 → r ≡ place_of x.third b n → Reached s c t (Some r) (due third)
   third_if e g = here third g refl (if_third at_record) e
 
-  pub no_third : {r : Child} → r.present ≡ false → (x.kind ≡ 4 → ⊥) → (x.kind ≡ 6 → ⊥) → Reached s c t r (due third)
-  no_third f n4 n6 = cases third 0 15
-      (gone third f refl and gone third f refl and gone third f refl and gone third f refl and (λ e. absurd (n4 e)) and gone third f refl
-      and (λ e. absurd (n6 e)) and gone third f refl and gone third f refl and gone third f refl and gone third f refl and gone third f refl
-      and gone third f refl and gone third f refl and gone third f refl and all)
+  pub no_third : (x.kind ≡ 4 → ⊥) → (x.kind ≡ 6 → ⊥) → Reached s c t None (due third)
+  no_third n4 n6 = cases third 0 15
+      (gone third refl and gone third refl and gone third refl and gone third refl and (λ e. absurd (n4 e)) and gone third refl
+      and (λ e. absurd (n6 e)) and gone third refl and gone third refl and gone third refl and gone third refl and gone third refl
+      and gone third refl and gone third refl and gone third refl and all)
       (omega arith) (omega (arith, most))
 
 -- ---- what falls: the number of a term that is there
 abbrev pub fuel : Child → ℕ
-fuel y = cond y.present (suc y.place.term) 0
+fuel None = 0
+fuel (Some x) = suc x.term
 
-pub child_falls : {s : List ℕ} {c : Counts} (x y : Child) {due : Option Placed} → x.present ≡ true → Reached s c x.place.term y due → fuel y < fuel x
-child_falls {s} {c} x y {due} e r = go y.present refl
-  where
-    there : fuel x ≡ suc x.place.term
-    there = ap (λ (b : Bool). cond b (suc x.place.term) 0) e
-
-    go : (b : Bool) → y.present ≡ b → cond b (suc y.place.term) 0 < fuel x
-    go true f = omega (arith, there, r.lower f)
-    go false f = omega (arith, there)
-
--- ---- a child that is there, or not
-pub there : (s : List ℕ) (y : Child) → y.present ≡ true → child_at s y ≡ some (placed_at s y.place)
-there s y e = rw e refl
-
-pub not_there : (s : List ℕ) (y : Child) → y.present ≡ false → child_at s y ≡ none
-not_there s y e = rw e refl
+pub child_falls : {s : List ℕ} {c : Counts} {x : Child} {at : Place} (y : Child) {due : Option Placed} → x ≡ Some at → Reached s c at.term y due
+    → fuel y < fuel x
+child_falls None e r = rw e (omega arith)
+child_falls (Some y) e r = rw e (omega (arith, r.lower))
 
 -- ---- the root
-pub root_at : {c : Counts} {b : Bindings} → b.len ≡ 0 → {r : Child} → r ≡ present (c.terms - 1) b 0 → AtRoot c r
-root_at e q = rw q (record { is_present = refl; term_is = refl; no_bindings = e; principal_is = refl })
+pub root_at : {c : Counts} {b : Bindings} → b.len ≡ 0 → {r : Place} → r ≡ place_of (c.terms - 1) b 0 → AtRoot c r
+root_at e q = rw q (record { term_is = refl; no_bindings = e; principal_is = refl })
 
-module _ {s : List ℕ} {c : Counts} (S : FormedSheet s c) {r : Child} (h : AtRoot c r) where
-  pub root_place_ready : ReadyPlace s c r.place
-  root_place_ready = rw (h.term_is, h.principal_is) (root_ready S r.place.bindings h.no_bindings)
+module _ {s : List ℕ} {c : Counts} (S : FormedSheet s c) {r : Place} (h : AtRoot c r) where
+  pub root_place_ready : ReadyPlace s c r
+  root_place_ready = rw (h.term_is, h.principal_is) (root_ready S r.bindings h.no_bindings)
 
-  pub root_placed : placed_at s r.place ≡ placed [] 0 (program s)
+  pub root_placed : placed_at s r ≡ placed [] 0 (program s)
   root_placed = λ i.
-      placed (last_first r.place.bindings.types (h.no_bindings i)) (h.principal_is i)
+      placed (last_first r.bindings.types (h.no_bindings i)) (h.principal_is i)
       (tree s ((h.term_is ∙ ap (λ (n : ℕ). n - 1) S.counts.terms_are) i))
-
-  pub root_child : child_at s r ≡ some (placed [] 0 (program s))
-  root_child = λ i. given (h.is_present i) (root_placed i)

@@ -1,5 +1,5 @@
 -- What the contracts of this crate's functions say. No reader of a public promise needs this file.
-use Rattle.std.specs.Prelude.{Bool, true, false, List, ◌∷◌, ◌≡◌, ℕ, ◌-◌, ◌<◌}
+use Rattle.std.specs.Prelude.{Option as Maybe, Some, None, IfSome, List, ◌∷◌, ◌≡◌, ℕ, ◌-◌, ◌<◌}
 use Rattle.std.proofs.Math.Option.{Option, none, some}
 use Rattle.program.specs.Layout.{Types, types_of}
 use Rattle.program.specs.Terms.{boolean, number, variable, function, letrec, call, if, check, enable, sign, test, binary, post, tree}
@@ -8,7 +8,6 @@ use Rattle.typing.specs.Places.{Placed, placed}
 use Rattle.rules.specs.Inference.{context, Ready}
 use Rattle.rules.specs.declared.bindings.Bindings.{Bindings}
 use Rattle.places.specs.declared.Place.{Place}
-use Rattle.places.specs.declared.Child.{Child}
 
 -- the term that stands at a place
 abbrev pub placed_at : List ℕ → Place → Placed
@@ -18,15 +17,21 @@ placed_at s x = placed (context x.bindings) x.principal (tree s x.term)
 abbrev pub ReadyPlace : List ℕ → Counts → Place → Type 0
 ReadyPlace s c x = Ready s c x.term x.bindings x.principal
 
-abbrev pub present : (t : ℕ) → Bindings → (n : ℕ) → Child
-present t b n = record { present = true; place = record { term = t; bindings = b; principal = n } }
+abbrev pub place_of : (t : ℕ) → Bindings → (n : ℕ) → Place
+place_of t b n = record { term = t; bindings = b; principal = n }
 
 -- the root, where it stands
-pub record AtRoot (c : Counts) (r : Child) : Type 0 where
-  pub is_present : r.present ≡ true
-  pub term_is : r.place.term ≡ c.terms - 1
-  pub no_bindings : r.place.bindings.len ≡ 0
-  pub principal_is : r.place.principal ≡ 0
+pub record AtRoot (c : Counts) (r : Place) : Type 0 where
+  pub term_is : r.term ≡ c.terms - 1
+  pub no_bindings : r.bindings.len ≡ 0
+  pub principal_is : r.principal ≡ 0
+
+-- a child where it stands, or none
+abbrev pub Child : Type 0
+Child = Maybe Place
+
+abbrev pub present : (t : ℕ) → Bindings → (n : ℕ) → Child
+present t b n = Some (place_of t b n)
 
 -- ---- children by their position
 pub record Children : Type 0 where
@@ -55,19 +60,16 @@ children_of T (placed Γ n (post at ch g c)) = children (some (placed Γ n c)) n
 abbrev pub children_at : List ℕ → Place → Children
 children_at s x = children_of (types_of s) (placed_at s x)
 
-abbrev pub given : Bool → Placed → Option Placed
-given true x = some x
-given false x = none
-
 abbrev pub child_at : List ℕ → Child → Option Placed
-child_at s r = given r.present (placed_at s r.place)
+child_at s None = none
+child_at s (Some x) = some (placed_at s x)
 
 -- a child that is there may be judged
 abbrev pub ReadyChild : List ℕ → Counts → Child → Type 0
-ReadyChild s c y = y.present ≡ true → ReadyPlace s c y.place
+ReadyChild s c y = IfSome y (ReadyPlace s c)
 
 -- a child of term t as it is due; a place that is there is lower and may be judged
 pub record Reached (s : List ℕ) (c : Counts) (t : ℕ) (r : Child) (due : Option Placed) : Type 0 where
   pub is : child_at s r ≡ due
-  pub lower : r.present ≡ true → r.place.term < t
+  pub lower : IfSome r (λ x. x.term < t)
   pub ready : ReadyChild s c r

@@ -1,11 +1,10 @@
 -- 01's number and place for each case of the decoder's answer: "Who can cause which refusal"; and 02's 31 (W8).
-use Rattle.std.specs.Prelude.{List, ℕ}
+use Rattle.std.specs.Prelude.{List, ℕ, Result, Ok, Err}
 use Rattle.program.specs.Screening.{Screening, clear, found}
 use Rattle.program.specs.Records.{CountsOf}
 use Rattle.program.specs.declared.answer.Refusal.{Refusal}
 use Rattle.program.specs.declared.answer.Refusal.TheVariants.{CutShort, Tag, Version, Length, BadType, BadTerm, BadPlace, TooDeep, BadGuard}
-use Rattle.program.specs.declared.answer.Decoded.{Decoded}
-use Rattle.program.specs.declared.answer.Decoded.TheVariants.{Readable, Refused}
+use Rattle.program.specs.declared.records.Counts.{Counts}
 
 abbrev pub decoding_cause : Refusal → ℕ
 decoding_cause CutShort = 1
@@ -30,11 +29,11 @@ decoding_place (BadPlace t) = t
 decoding_place (TooDeep t) = t
 decoding_place (BadGuard c) = c
 
-abbrev pub decoded_model : Decoded → Screening
-decoded_model (Readable c) = clear
-decoded_model (Refused f) = found (decoding_cause f) (decoding_place f)
+abbrev pub decoded_model : Result Counts Refusal → Screening
+decoded_model (Ok c) = clear
+decoded_model (Err f) = found (decoding_cause f) (decoding_place f)
 
 -- a readable sheet comes with its counts
-abbrev pub Counted : List ℕ → Decoded → Type 0
-Counted s (Readable c) = CountsOf s c
-Counted s (Refused f) = Unit {0}
+abbrev pub Counted : List ℕ → Result Counts Refusal → Type 0
+Counted s (Ok c) = CountsOf s c
+Counted s (Err f) = Unit {0}

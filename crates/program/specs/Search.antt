@@ -1,13 +1,11 @@
 -- What a search finds, and what the loop of a search over a table keeps.
-use Rattle.std.specs.Prelude.{Bool, ◌≡◌, ℕ, ◌-◌, ◌≤◌}
-use Rattle.std.proofs.Math.Option.{Option, none, some}
+use Rattle.std.specs.Prelude.{Bool, ◌≡◌, ℕ, ◌-◌, ◌≤◌, Option, Some, None}
+use Rattle.std.proofs.Math.Option.{Option as Maybe, none, some}
 use Rattle.program.specs.Screening.{lowest}
-use Rattle.program.specs.declared.search.Found.{Found}
-use Rattle.program.specs.declared.search.Found.TheVariants.{At, Nothing}
 
-abbrev pub found_model : Found → Option ℕ
-found_model (At x) = some x
-found_model Nothing = none
+abbrev pub found_model : Option ℕ → Maybe ℕ
+found_model (Some x) = some x
+found_model None = none
 
 -- records 0 to t - 1 of a table of so many are right, so that from t on the search finds what the whole search finds
 pub record Passed (ok : ℕ → Bool) (count n t : ℕ) : Type 0 where

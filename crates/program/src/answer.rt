@@ -1,5 +1,4 @@
-// What the decoder answers.
-use crate::records::Counts;
+// Why the decoder refuses a sheet.
 
 // A cause for each of the paper's numbers 1 to 8, in this order, and 31; the number held is that of the record or channel at fault.
 #[derive(Clone, Copy)]
@@ -13,10 +12,4 @@ pub enum Refusal {
     BadPlace(u16),
     TooDeep(u16),
     BadGuard(u16),
-}
-
-#[derive(Clone, Copy)]
-pub enum Decoded {
-    Readable(Counts),
-    Refused(Refusal),
 }

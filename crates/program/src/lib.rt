@@ -4,4 +4,3 @@
 pub mod answer;
 pub mod limits;
 pub mod records;
-pub mod search;

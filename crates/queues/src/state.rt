@@ -1,42 +1,33 @@
-// The queues by value, and the answer of an add. specs/Answers.antt gives the paper's number of each case.
+// The queues by value, and why an add is refused. specs/Answers.antt gives the paper's number of each case.
+use arrayvec::ArrayVec;
+
 pub const MAX_LINES: usize = 4;
 
 pub const MAX_JOBS: usize = 8;
 
 // A part of the store of sheets, and the calls allowance of its run.
-#[derive(Clone, Copy)]
+#[derive(Clone, Copy, Default)]
 pub struct Job {
     pub offset: usize,
     pub length: usize,
     pub calls: u32,
 }
 
-// The first `count` jobs wait, the oldest first.
-#[derive(Clone, Copy)]
-pub struct Queue {
-    pub jobs: [Job; MAX_JOBS],
-    pub count: usize,
-}
+// The jobs that wait on a line, the oldest first.
+pub type Queue = ArrayVec<Job, MAX_JOBS>;
 
 // The queues of lines 0 to 3, the line whose turn it is, and the place in the list of posts where the last job stopped.
-#[derive(Clone, Copy)]
+#[derive(Drop)]
 pub struct Lines {
     pub queues: [Queue; MAX_LINES],
     pub turn: usize,
     pub place: usize,
 }
 
-// 27 to 29 are the last three.
+// 27 to 29, in this order.
 #[derive(Clone, Copy)]
-pub enum Addition {
-    Done,
+pub enum AddRefusal {
     NoLine,
     Outside,
     Full,
-}
-
-#[derive(Clone, Copy)]
-pub struct Added {
-    pub answer: Addition,
-    pub lines: Lines,
 }

@@ -1,7 +1,7 @@
 // An eager run whose number terms are known within limits, on any bytes, pairs, start stack, limits and buffers.
 #![tactic(auto)]
 
-ghost use Rattle.std.specs.Prelude.{true, [], ◌≡◌, length};
+ghost use Rattle.std.specs.Prelude.{true, [], Ok, ◌≡◌, length};
 ghost use Rattle.semantics.specs.Runs.{eager as eager_runner};
 ghost use Rattle.intervals.specs.Runs.{interval_run};
 ghost use Rattle.refinement.specs.Claims.{decided_by, interval_outcome_of};
@@ -12,16 +12,15 @@ ghost use Rattle.ranges.specs.Internal.{PairedRun};
 
 pub mod answer;
 
-use access::mode_over_intervals;
-use answer::{IntervalGround, IntervalOutcome, IntervalRefusal, IntervalRun, Truth};
+use access::Mode;
+use answer::{IntervalGround, IntervalRan, IntervalRefusal, IntervalRun, Truth};
 use interp::admission::admit;
-use interp::answer::Admission;
 use interp::evaluation::evaluate_words;
 use interp::start::start_access;
 use pairs::{lay_pairs, pairs_ok};
 use program::limits::TERM_PLACES;
 use program::records::Counts;
-use stores::values::{Out, Stop};
+use stores::values::{Stop, Value};
 use stores::words::{env, out_of, payload};
 use termtable::decode_terms;
 
@@ -39,22 +38,17 @@ fn truth_of(payload: u16) -> Truth
 }
 
 // A root that gives a function is stuck.
-fn outcome_of(root: u16, word: u64) -> IntervalOutcome
+#[tactic(auto, unfolding(refinement::specs::Claims::interval_outcome_by))]
+fn outcome_of(root: u16, word: u64) -> Result<IntervalGround, Stop>
     ensures { interval_outcome_model result ≡ interval_outcome_of root word }
 {
-    let out = out_of(word);
-    match out {
-        Out::Stop(x) => IntervalOutcome::Stop(x),
-        Out::Val(v) => match v {
-            stores::values::Value::Bool(b) => {
-                IntervalOutcome::End(IntervalGround::Truth(truth_of(payload(word))))
-            }
-            stores::values::Value::Num(n) => IntervalOutcome::End(IntervalGround::Interval {
-                lowest: payload(word),
-                highest: env(word),
-            }),
-            stores::values::Value::Fun { body, env } => IntervalOutcome::Stop(Stop::Stuck(root)),
-        },
+    match out_of(word)? {
+        Value::Bool(_) => Ok(IntervalGround::Truth(truth_of(payload(word)))),
+        Value::Num(_) => Ok(IntervalGround::Interval {
+            lowest: payload(word),
+            highest: env(word),
+        }),
+        Value::Fun { .. } => Err(Stop::Stuck(root)),
     }
 }
 
@@ -69,9 +63,9 @@ fn evaluate(
     enforce: bool,
     cells: &mut [u8],
     posts: &mut [u32],
-) -> IntervalRun
+) -> IntervalRan
     requires { PairedRun s.now pairs.now start.now (length cells.old) (length posts.old) calls depth c }
-    ensures { after_intervals result cells.new posts.new
+    ensures { after_intervals (Ok result) cells.new posts.new
         ≡ interval_run s.now pairs.now (request_of eager_runner enforce start.now calls depth)
         (buffers_of cells.old posts.old []) }
 {
@@ -79,6 +73,11 @@ fn evaluate(
     let mut terms = [0; TERM_PLACES];
     decode_terms(s, c, &mut terms);
     lay_pairs(s, c, pairs, &mut terms);
+    let mode = Mode {
+        lazy: false,
+        enforce: enforce,
+        intervals: true,
+    };
     let access = start_access(s, start);
     let mut frames = [0; 1];
     let mut none = [0; 0];
@@ -89,15 +88,14 @@ fn evaluate(
         posts,
         &mut frames,
         &mut none,
-        mode_over_intervals(enforce),
+        mode,
         access,
         calls,
         depth,
     );
-    let made = t.made;
-    IntervalRun::Ran {
+    IntervalRan {
         outcome: outcome_of(root, t.word),
-        made: made,
+        made: t.made,
     }
 }
 
@@ -119,9 +117,9 @@ fn run_admitted(
         (buffers_of cells.old posts.old []) }
 {
     if !pairs_ok(s, c, pairs) {
-        return IntervalRun::Refused(IntervalRefusal::Pairs);
+        return Err(IntervalRefusal::Pairs);
     }
-    evaluate(s, c, pairs, start, calls, depth, enforce, cells, posts)
+    Ok(evaluate(s, c, pairs, start, calls, depth, enforce, cells, posts))
 }
 
 // A run over ranges: a pair of numbers, lowest and highest, for each number term of a version 1 sheet, in term order.
@@ -139,11 +137,6 @@ pub fn run(
         ≡ interval_run sheet.now pairs.now (request_of eager_runner enforce start.now calls depth)
         (buffers_of cells.old posts.old []) }
 {
-    let a = admit(sheet, start, cells.len(), posts.len(), true, calls, depth);
-    match a {
-        Admission::Refused(f) => IntervalRun::Refused(IntervalRefusal::Run(f)),
-        Admission::Admitted(c) => run_admitted(
-            sheet, c, pairs, start, calls, depth, enforce, cells, posts,
-        ),
-    }
+    let c = admit(sheet, start, cells.len(), posts.len(), true, calls, depth)?;
+    run_admitted(sheet, c, pairs, start, calls, depth, enforce, cells, posts)
 }

@@ -1,6 +1,7 @@
 -- Runs, from what a run in the largest buffers promises to the promises of the block.
 use mathlib.Core.Bool.{Bool, true, false, cond}
 use mathlib.Core.List.{List, []}
+use Rattle.std.specs.Prelude.{Result, Ok, Err}
 use mathlib.Core.Path.{◌≡◌, refl, sym, ap, ◌∙◌}
 use Prim.Native.Nat.{ℕ, ◌≤◌}
 use lib.Dec.{eqb}
@@ -9,14 +10,10 @@ use mir.Val.{bool_byte}
 use borrow.Author.Tests.{eq-eqb, ne_eqb}
 use Rattle.program.specs.Bytes.{byte}
 use Rattle.semantics.specs.Runs.{Buffers, are_largest, ran, After}
-use Rattle.interp.specs.Answers.{refusal_cause, refusal_place, run_model, outcome_model, counts_model, buffers_of, after, empty_stack_request}
-use Rattle.interp.specs.declared.answer.Run.{Run}
-use Rattle.interp.specs.declared.answer.Run.TheVariants.{Refused, Ran}
+use Rattle.interp.specs.Answers.{refusal_cause, refusal_place, run_model, outcome_model, counts_model, buffers_of, after, empty_stack_request, Run}
 use Rattle.interp.specs.declared.answer.RunRefusal as refusals
 use Rattle.interp.specs.declared.answer.Ground.{Ground}
 use Rattle.interp.specs.declared.answer.Ground.TheVariants.{Bool as VBool, Num}
-use Rattle.interp.specs.declared.answer.Outcome.{Outcome}
-use Rattle.interp.specs.declared.answer.Outcome.TheVariants.{End, Stop as Stopped}
 use Rattle.interp.specs.declared.answer.RunCounts.{RunCounts}
 use Rattle.stores.specs.Stops.{stop_cause, stop_place}
 use Rattle.stores.specs.declared.values.Stop.{Stop}
@@ -33,35 +30,35 @@ use Rattle.registers.specs.Internal.{end_registers, FewCalls}
 -- its calls
 pub few_calls : (s : List ℕ) (calls : ℕ) (cells posts : List ℕ) (right : Bool) (x : Run) (cells' posts' : List ℕ)
     → after x cells' posts' [] ≡ largest_run right s (empty_stack_request calls) (buffers_of cells posts []) → FewCalls x
-few_calls s calls cells posts right (Refused f) cells' posts' e = tt
-few_calls s calls cells posts right (Ran o m) cells' posts' e =
-    (largest_few s (empty_stack_request calls) (buffers_of cells posts []) right (outcome_model o) (counts_model m)
+few_calls s calls cells posts right (Err f) cells' posts' e = tt
+few_calls s calls cells posts right (Ok r) cells' posts' e =
+    (largest_few s (empty_stack_request calls) (buffers_of cells posts []) right (outcome_model r.outcome) (counts_model r.made)
     (sym (ap (λ (a : After). a.answer) e))).calls_most
 
 -- ---- what its answer puts into the registers
 module _ (m : RunCounts) where
-  pub stop_registers : {o : Outcome} {x : Stop} {c : Code} → o ≡ Stopped x → CodeIs (stop_cause x) (stop_place x) c
+  pub stop_registers : {o : Result Ground Stop} {x : Stop} {c : Code} → o ≡ Err x → CodeIs (stop_cause x) (stop_place x) c
       → record { flag = 2; cause = c.cause; value = 0; calls = m.calls; place = c.place } ≡ registers_of (ran (outcome_model o) (counts_model m))
   stop_registers e k =
       (λ i. record { flag = 2; cause = k.cause_is i; value = 0; calls = m.calls; place = k.place_is i })
-      ∙ sym (ap (λ (o : Outcome). registers_of (ran (outcome_model o) (counts_model m))) e)
+      ∙ sym (ap (λ (o : Result Ground Stop). registers_of (ran (outcome_model o) (counts_model m))) e)
 
   abbrev ends_in : Ground → RunRegisters
-  ends_in v = registers_of (ran (outcome_model (End v)) (counts_model m))
+  ends_in v = registers_of (ran (outcome_model (Ok v)) (counts_model m))
 
   by_bool : (b : Bool) → end_registers (bool_byte b) m.calls ≡ ends_in (VBool b)
   by_bool true = refl
   by_bool false = refl
 
-  pub bool_registers : {o : Outcome} {b : Bool} {t : RunRegisters} → o ≡ End (VBool b) → t ≡ end_registers (bool_byte b) m.calls
+  pub bool_registers : {o : Result Ground Stop} {b : Bool} {t : RunRegisters} → o ≡ Ok (VBool b) → t ≡ end_registers (bool_byte b) m.calls
       → t ≡ registers_of (ran (outcome_model o) (counts_model m))
-  bool_registers {b = b} e h = h ∙ by_bool b ∙ sym (ap (λ (o : Outcome). registers_of (ran (outcome_model o) (counts_model m))) e)
+  bool_registers {b = b} e h = h ∙ by_bool b ∙ sym (ap (λ (o : Result Ground Stop). registers_of (ran (outcome_model o) (counts_model m))) e)
 
-  pub num_registers : {o : Outcome} {n : ℕ} {t : RunRegisters} → o ≡ End (Num n) → t ≡ end_registers n m.calls → t
+  pub num_registers : {o : Result Ground Stop} {n : ℕ} {t : RunRegisters} → o ≡ Ok (Num n) → t ≡ end_registers n m.calls → t
       ≡ registers_of (ran (outcome_model o) (counts_model m))
-  num_registers e h = h ∙ sym (ap (λ (o : Outcome). registers_of (ran (outcome_model o) (counts_model m))) e)
+  num_registers e h = h ∙ sym (ap (λ (o : Result Ground Stop). registers_of (ran (outcome_model o) (counts_model m))) e)
 
-pub refusal_registers : {x : Run} {f : refusals.RunRefusal} {c : Code} → x ≡ Refused f → CodeIs (refusal_cause f) (refusal_place f) c
+pub refusal_registers : {x : Run} {f : refusals.RunRefusal} {c : Code} → x ≡ Err f → CodeIs (refusal_cause f) (refusal_place f) c
     → record { flag = 4; cause = c.cause; value = 0; calls = 0; place = c.place } ≡ registers_of (run_model x)
 refusal_registers e k =
     (λ i. record { flag = 4; cause = k.cause_is i; value = 0; calls = 0; place = k.place_is i }) ∙ sym (ap (λ (r : Run). registers_of (run_model r)) e)

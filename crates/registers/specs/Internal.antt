@@ -1,8 +1,7 @@
 -- What the contracts of internal functions say. No reader of the public promises needs this file.
-use Rattle.std.specs.Prelude.{ℕ, ◌≤◌}
+use Rattle.std.specs.Prelude.{ℕ, ◌≤◌, Ok, Err}
 use Rattle.program.specs.Limits.{max_calls}
-use Rattle.interp.specs.declared.answer.Run.{Run}
-use Rattle.interp.specs.declared.answer.Run.TheVariants.{Refused, Ran}
+use Rattle.interp.specs.Answers.{Run}
 use Rattle.blocks.specs.Block.{RunRegisters}
 
 abbrev pub end_registers : (value calls : ℕ) → RunRegisters
@@ -10,5 +9,5 @@ end_registers v n = record { flag = 1; cause = 0; value = v; calls = n; place = 
 
 -- the calls of a run that was not refused fit into a pair of bytes
 abbrev pub FewCalls : Run → Type 0
-FewCalls (Refused f) = Unit {0}
-FewCalls (Ran o m) = m.calls ≤ max_calls
+FewCalls (Err f) = Unit {0}
+FewCalls (Ok r) = r.made.calls ≤ max_calls

@@ -8,7 +8,9 @@ ghost use Rattle.blocks.specs.Internal.{registers_model};
 ghost use Rattle.registers.specs.Internal.{end_registers, FewCalls};
 
 use blocks::block::RunRegisters;
-use interp::answer::{Ground, Outcome, Run, RunCounts};
+use interp::answer::{Ground, Run, RunCounts};
+use numbers::Code;
+use stores::values::Stop;
 
 fn ended(value: u16, calls: u16) -> RunRegisters
     ensures { registers_model result ≡ end_registers value calls }
@@ -22,14 +24,14 @@ fn ended(value: u16, calls: u16) -> RunRegisters
     }
 }
 
-fn of_outcome(o: Outcome, m: RunCounts) -> RunRegisters
+fn of_outcome(o: Result<Ground, Stop>, m: RunCounts) -> RunRegisters
     requires { m.calls ≤ max_calls }
     ensures { registers_model result ≡ registers_of (ran (outcome_model o) (counts_model m)) }
 {
     let calls = m.calls as u16;
     match o {
-        Outcome::Stop(x) => {
-            let c = numbers::of_stop(x);
+        Err(x) => {
+            let c = Code::from(x);
             RunRegisters {
                 flag: 2,
                 cause: c.cause,
@@ -38,10 +40,8 @@ fn of_outcome(o: Outcome, m: RunCounts) -> RunRegisters
                 place: c.place,
             }
         }
-        Outcome::End(v) => match v {
-            Ground::Bool(b) => ended(b as u16, calls),
-            Ground::Num(n) => ended(n, calls),
-        },
+        Ok(Ground::Bool(b)) => ended(b as u16, calls),
+        Ok(Ground::Num(n)) => ended(n, calls),
     }
 }
 
@@ -50,8 +50,8 @@ pub fn of_run(x: Run) -> RunRegisters
     ensures { registers_model result ≡ registers_of (run_model x) }
 {
     match x {
-        Run::Refused(f) => {
-            let c = numbers::of_refusal(f);
+        Err(f) => {
+            let c = Code::from(f);
             RunRegisters {
                 flag: 4,
                 cause: c.cause,
@@ -60,6 +60,6 @@ pub fn of_run(x: Run) -> RunRegisters
                 place: c.place,
             }
         }
-        Run::Ran { outcome, made } => of_outcome(outcome, made),
+        Ok(ran) => of_outcome(ran.outcome, ran.made),
     }
 }

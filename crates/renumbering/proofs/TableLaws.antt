@@ -5,7 +5,7 @@ use mathlib.Core.Path.{◌≡◌, sym, ap, ◌∙◌}
 use Prim.Native.Nat.{ℕ, suc, ◌+◌, ◌<◌, ◌≤◌}
 use native.Mathlib.Decide.{ℕ_discrete}
 use native.Mathlib.Omega.{arith}
-use lib.ListN.{length, get_or, set}
+use lib.ListN.{length, get_or, set, length-set}
 use lib.Seq.{get_or-set_same, get_or-set_other}
 use Rattle.erasure.specs.Kept.{kept_below}
 use Rattle.erasure.proofs.Laws.Kept.{kept_none, kept_yes, kept_no}
@@ -42,19 +42,33 @@ pub count_none : (keep : ℕ → Bool) → 0 ≡ kept_below keep 0
 count_none keep = sym (kept_none keep)
 
 -- ---- a loop over a table
--- it has room for so many entries, and has the new numbers of the first t of all n; count of these are kept
-pub record NumberedBelow (keep : ℕ → Bool) (new : ℕ → ℕ) (all places : ℕ) (l : List ℕ) (n count t : ℕ) : Type 0 where
-  pub below : t ≤ n
-  pub all_are : n ≡ all
+-- it has room for so many entries, and has the new numbers of the first t; count of these are kept
+pub record NumberedBelow (keep : ℕ → Bool) (new : ℕ → ℕ) (places : ℕ) (l : List ℕ) (count t : ℕ) : Type 0 where
   pub room : length l ≡ places
   pub count_is : count ≡ kept_below keep t
   pub table : Tabulated new l t
+
+module _ {keep : ℕ → Bool} {new : ℕ → ℕ} {places count t : ℕ} {l : List ℕ} (N : NumberedBelow keep new places l count t) (inside : t < places) where
+  -- one that is kept has the count as its number
+  pub numbered_kept : {l' : List ℕ} {count' : ℕ} → keep t ≡ true → count ≡ new t → l' ≡ set l t count → count' ≡ count + 1
+      → NumberedBelow keep new places l' count' (t + 1)
+  numbered_kept k e same more = rw (same, more) record {
+    room = length-set l t count ∙ N.room;
+    count_is = count_yes keep t N.count_is k;
+    table = table_more new l t count (omega (arith, N.room)) e N.table;
+  }
+
+  -- any other has that of another
+  pub numbered_gone : {l' : List ℕ} {count' v : ℕ} → keep t ≡ false → v ≡ new t → l' ≡ set l t v → count' ≡ count
+      → NumberedBelow keep new places l' count' (t + 1)
+  numbered_gone {l'} {count'} {v} k e same none = rw (same, none) record {
+    room = length-set l t v ∙ N.room;
+    count_is = count_no keep t N.count_is k;
+    table = table_more new l t v (omega (arith, N.room)) e N.table;
+  }
 
 pub within : {t n m : ℕ} → t < n → n ≡ m → t < m
 within h e = omega arith
 
 pub through : {t n m : ℕ} → t ≤ n → n ≤ t → n ≡ m → t ≡ m
 through h k e = omega arith
-
-pub up_to : {t n m : ℕ} → t ≤ n → n ≡ m → t ≤ m
-up_to h e = omega arith

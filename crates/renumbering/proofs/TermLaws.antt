@@ -2,7 +2,7 @@
 use mathlib.Core.Bool.{Bool, true, false, not, ◌&&◌}
 use mathlib.Core.List.{List}
 use mathlib.Core.Path.{◌≡◌, refl, sym, ap, ◌∙◌}
-use Prim.Native.Nat.{ℕ, zero, suc, ◌+◌, ◌<◌, ◌≤◌}
+use Prim.Native.Nat.{ℕ, zero, suc, ◌+◌, ◌<◌}
 use native.Mathlib.Decide.{dec_lt}
 use native.Mathlib.Omega.{arith}
 use lib.Dec.{leb, eqb}
@@ -50,12 +50,6 @@ module _ {s : List ℕ} {c : Counts} (S : FormedSheet s c) {t : ℕ} (l : t < te
     own_number h k = k ∙ sym (term_kept s S.well_formed t (kept_here h))
 
 -- ---- tests
--- of the first t of all n terms none is a test
-pub record NoTestBelow (s : List ℕ) (n t : ℕ) : Type 0 where
-  pub below : t ≤ n
-  pub all_are : n ≡ terms s
-  pub none_yet : untested s t ≡ true
-
 module _ (s : List ℕ) where
   pub untested_none : untested s 0 ≡ true
   unfolding untested

@@ -4,8 +4,7 @@ use Rattle.program.specs.Layout.{types, terms}
 use Rattle.program.specs.declared.records.Counts.{Counts}
 use Rattle.accessors.specs.Internal.{FormedSheet}
 use Rattle.erasure.specs.Lean.{new_types, new_type, new_terms, new_term}
-use Rattle.renumbering.specs.declared.types.TypeNumbers.{TypeNumbers}
-use Rattle.renumbering.specs.declared.terms.TermNumbers.{TermNumbers}
+use Rattle.renumbering.specs.declared.numbers.Numbers.{Numbers}
 
 -- the first so many entries of a list are the values of a function
 pub record Tabulated (f : ℕ → ℕ) (l : List ℕ) (count : ℕ) : Type 0 where
@@ -22,11 +21,11 @@ pub record MergingPair (s : List ℕ) (c : Counts) (l : List ℕ) (t u : ℕ) : 
   pub merging : MergingType s c l t
   pub below : u < t
 
-pub record TypesNumbered (s : List ℕ) (y : TypeNumbers) : Type 0 where
+pub record TypesNumbered (s : List ℕ) (y : Numbers 256) : Type 0 where
   pub table : Tabulated (new_type s) y.numbers (types s)
   pub count_is : y.count ≡ new_types s
 
-pub record TermsNumbered (s : List ℕ) (m : TermNumbers) : Type 0 where
+pub record TermsNumbered (s : List ℕ) (m : Numbers 1024) : Type 0 where
   pub table : Tabulated (new_term s) m.numbers (terms s)
   pub count_is : m.count ≡ new_terms s
 

@@ -5,16 +5,10 @@ ghost use Rattle.accessors.specs.Internal.{FormedSheet};
 ghost use Rattle.erasure.specs.Lean.{untested as untested_below};
 ghost use Rattle.renumbering.specs.Internal.{TermsNumbered};
 
+use crate::numbers::Numbers;
 use accessors::term;
 use program::limits::TERM_PLACES;
 use program::records::Counts;
-
-// Each term's new number, and how many terms are kept.
-#[derive(Clone, Copy)]
-pub struct TermNumbers {
-    pub numbers: [u16; TERM_PLACES],
-    pub count: u16,
-}
 
 // Whether a kind is that of checks or of enables.
 pub fn is_erased(kind: u8) -> bool
@@ -24,19 +18,16 @@ pub fn is_erased(kind: u8) -> bool
 }
 
 // The new numbers. A check or an enable has that of its inner term, which is lower, so that one pass gives all of them.
-pub fn number_terms(s: &[u8], c: Counts) -> TermNumbers
+pub fn number_terms(s: &[u8], c: Counts) -> Numbers<TERM_PLACES>
     requires { FormedSheet s.now c }
     ensures { TermsNumbered s.now result }
 {
     let mut numbers = [0u16; TERM_PLACES];
-    let n = c.terms;
     let mut count = 0;
-    let mut t = 0;
-    while t < n {
+    for t in 0..c.terms {
         let i = t as usize;
         let x = term(s, c, t);
         let inner = x.first as usize;
-        t += 1;
         if is_erased(x.kind) {
             numbers[i] = numbers[inner];
         } else {
@@ -44,10 +35,7 @@ pub fn number_terms(s: &[u8], c: Counts) -> TermNumbers
             count += 1;
         }
     }
-    TermNumbers {
-        numbers: numbers,
-        count: count,
-    }
+    Numbers { numbers, count }
 }
 
 // Whether no term is a test.
@@ -55,14 +43,11 @@ pub fn untested(s: &[u8], c: Counts) -> bool
     requires { FormedSheet s.now c }
     ensures { result ≡ untested_below s.now (term_count s.now) }
 {
-    let n = c.terms;
-    let mut t = 0;
-    while t < n {
+    for t in 0..c.terms {
         let x = term(s, c, t);
         if x.kind == 10 {
             return false;
         }
-        t += 1;
     }
     true
 }

@@ -4,16 +4,10 @@ ghost use Rattle.accessors.specs.Internal.{FormedSheet};
 ghost use Rattle.erasure.specs.Lean.{alike as alike_of, representatives, representative};
 ghost use Rattle.renumbering.specs.Internal.{MergingType, MergingPair, TypesNumbered};
 
+use crate::numbers::Numbers;
 use accessors::type_record;
 use program::limits::TYPE_PLACES;
 use program::records::Counts;
-
-// Each type's new number, and how many types are kept.
-#[derive(Clone, Copy)]
-pub struct TypeNumbers {
-    pub numbers: [u16; TYPE_PLACES],
-    pub count: u16,
-}
 
 // Whether the records of t and of the lower type u become equal. `numbers` has the new numbers of the types below t: two of them are equal where the
 // types are merged.
@@ -35,29 +29,24 @@ fn first_alike(s: &[u8], c: Counts, numbers: &[u16; TYPE_PLACES], t: u16) -> u16
     requires { MergingType s.now c numbers.now t }
     ensures { result ≡ representative s.now t }
 {
-    let mut u = 0;
-    while u < t {
+    for u in 0..t {
         if alike(s, c, numbers, t, u) {
             return u;
         }
-        u += 1;
     }
     t
 }
 
 // The new numbers. A type that is merged has that of a lower one, so that one pass gives all of them.
-pub fn number_types(s: &[u8], c: Counts) -> TypeNumbers
+pub fn number_types(s: &[u8], c: Counts) -> Numbers<TYPE_PLACES>
     requires { FormedSheet s.now c }
     ensures { TypesNumbered s.now result }
 {
     let mut numbers = [0u16; TYPE_PLACES];
-    let n = c.types;
     let mut count = 0;
-    let mut t = 0;
-    while t < n {
+    for t in 0..c.types {
         let i = t as usize;
         let h = first_alike(s, c, &numbers, t) as usize;
-        t += 1;
         if h == i {
             numbers[i] = count;
             count += 1;
@@ -65,8 +54,5 @@ pub fn number_types(s: &[u8], c: Counts) -> TypeNumbers
             numbers[i] = numbers[h];
         }
     }
-    TypeNumbers {
-        numbers: numbers,
-        count: count,
-    }
+    Numbers { numbers, count }
 }

@@ -1,13 +1,11 @@
 -- What the contracts of internal functions say; no reader of an entry's promise needs it.
-use Rattle.std.specs.Prelude.{List, [], ◌∷◌, ◌++◌, ◌≡◌, ℕ, drop}
+use Rattle.std.specs.Prelude.{List, [], ◌∷◌, ◌++◌, ◌≡◌, ℕ, drop, Result, Ok, Err}
 use Rattle.program.specs.Answers.{decoding_cause, decoding_place}
-use Rattle.program.specs.declared.answer.Decoded.{Decoded}
-use Rattle.program.specs.declared.answer.Decoded.TheVariants.{Readable, Refused as NotReadable}
+use Rattle.program.specs.declared.answer.Refusal.{Refusal}
+use Rattle.program.specs.declared.records.Counts.{Counts}
 use Rattle.semantics.specs.Claims.{Few}
-use Rattle.interp.specs.Answers.{counts_model}
+use Rattle.interp.specs.Answers.{counts_model, Run}
 use Rattle.interp.specs.declared.answer.RunCounts.{RunCounts}
-use Rattle.interp.specs.declared.answer.Run.{Run}
-use Rattle.interp.specs.declared.answer.Run.TheVariants.{Refused, Ran}
 use Rattle.replies.specs.Replies as replies
 use Rattle.replies.specs.Replies.{refusal}
 use Rattle.replies.specs.declared.Reply.{Reply}
@@ -16,9 +14,9 @@ use Rattle.replies.specs.declared.Reply.{Reply}
 abbrev pub reply_model : Reply → replies.Reply
 reply_model r = record { status = r.status; numbers = r.numbers }
 
-abbrev pub of_decoded : Decoded → replies.Reply
-of_decoded (Readable c) = record { status = 0; numbers = 0 ∷ 0 ∷ 0 ∷ c.terms ∷ c.principals ∷ c.types ∷ 0 ∷ 0 ∷ [] }
-of_decoded (NotReadable f) = refusal (decoding_cause f) (decoding_place f)
+abbrev pub of_decoded : Result Counts Refusal → replies.Reply
+of_decoded (Ok c) = record { status = 0; numbers = 0 ∷ 0 ∷ 0 ∷ c.terms ∷ c.principals ∷ c.types ∷ 0 ∷ 0 ∷ [] }
+of_decoded (Err f) = refusal (decoding_cause f) (decoding_place f)
 
 -- what is told with the counts of a run
 abbrev pub with_counts : (status cause place sort value : ℕ) → RunCounts → replies.Reply
@@ -26,8 +24,8 @@ with_counts status c p k v m = record { status = status; numbers = c ∷ p ∷ k
 
 -- the counts of a run that was not refused fit into 32 bits
 abbrev pub RunReplyFits : Run → Type 0
-RunReplyFits (Refused f) = Unit {0}
-RunReplyFits (Ran o m) = Few (counts_model m)
+RunReplyFits (Err f) = Unit {0}
+RunReplyFits (Ok r) = Few (counts_model r.made)
 
 -- the status is the reply's, its eight numbers stand at the front of the list, and the rest of the list is as it was
 pub record Put (x : Reply) (before : List ℕ) (status : ℕ) (after : List ℕ) : Type 0 where

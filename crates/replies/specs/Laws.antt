@@ -1,20 +1,18 @@
 -- From the promises of the functions that an entry for C calls to what it leaves: the list is too short, or holds the reply. For the proofs of the
 -- crates above; nothing here has to be believed.
-use Rattle.std.specs.Prelude.{Bool, true, false, not, cond, ◌||◌, List, [], ◌∷◌, ◌++◌, ◌≡◌, refl, ℕ, zero, suc, ◌+◌, ◌<◌, ◌≤◌, length, get_or, set, take, drop, ltb}
+use Rattle.std.specs.Prelude.{Bool, true, false, not, cond, ◌||◌, List, [], ◌∷◌, ◌++◌, ◌≡◌, refl, ℕ, zero, suc, ◌+◌, ◌<◌, ◌≤◌, length, get_or, set, take, drop, ltb, Result, Ok, Err}
 use Rattle.std.proofs.Common.{append-nil, sym, ap, ◌∙◌, arith, length-append, length-take, length-drop, drop_of_length-le, drop-cons, lt-ltb, le-ltb, eq-eqb, ne_eqb}
 use Rattle.std.proofs.lemmas.List.{set_at}
 use Rattle.program.specs.Decoding.{decoding}
 use Rattle.program.specs.Answers.{decoded_model, Counted}
 use Rattle.program.proofs.Laws.Lists.{copy_more}
-use Rattle.program.specs.declared.answer.Decoded.{Decoded}
-use Rattle.program.specs.declared.answer.Decoded.TheVariants.{Readable, Refused as NotReadable}
+use Rattle.program.specs.declared.answer.Refusal.{Refusal}
+use Rattle.program.specs.declared.records.Counts.{Counts}
 use Rattle.semantics.specs.Runs.{Request, Buffers, ground_bool, ground_num, ended, stopped, Answer, refused, ran, After, run}
 use Rattle.semantics.proofs.Theorems.{counts_few}
-use Rattle.interp.specs.Answers.{run_model, outcome_model, counts_model}
+use Rattle.interp.specs.Answers.{run_model, outcome_model, counts_model, Run}
 use Rattle.numbers.specs.Codes.{CodeIs}
 use Rattle.numbers.specs.declared.Code.{Code}
-use Rattle.interp.specs.declared.answer.Run.{Run}
-use Rattle.interp.specs.declared.answer.Run.TheVariants.{Refused, Ran}
 use Rattle.replies.specs.Replies as replies
 use Rattle.replies.specs.Replies.{refusal, screened, decode_reply, unfit, run_reply, written, written_nine, not_done, replied, Called, called, returned_reply, returned_run}
 use Rattle.replies.specs.Internal.{reply_model, of_decoded, RunReplyFits, Put}
@@ -115,12 +113,12 @@ module _ (answer : List ℕ) (room : 9 ≤ length answer) (R : replies.Reply) (e
       (λ i. returned_reply (first i).status (set (first i).numbers 8 n)) ∙ ap (returned_reply R.status) nine
 
 -- ---- the reader's answer
-pub decoded_as : (s : List ℕ) (d : Decoded) → decoded_model d ≡ decoding s → Counted s d → of_decoded d ≡ decode_reply s
-decoded_as s (NotReadable f) e k = λ i. screened s (e i)
-decoded_as s (Readable c) e k =
+pub decoded_as : (s : List ℕ) (d : Result Counts Refusal) → decoded_model d ≡ decoding s → Counted s d → of_decoded d ≡ decode_reply s
+decoded_as s (Err f) e k = λ i. screened s (e i)
+decoded_as s (Ok c) e k =
     (λ i. record { status = 0; numbers = 0 ∷ 0 ∷ 0 ∷ k.terms_are i ∷ k.principals_are i ∷ k.types_are i ∷ 0 ∷ 0 ∷ [] }) ∙ (λ i. screened s (e i))
 
 -- ---- a run's counts are small
 pub small : (s : List ℕ) (q : Request) (b : Buffers) (r : Run) → run_model r ≡ (run s q b).answer → RunReplyFits r
-small s q b (Refused f) e = tt
-small s q b (Ran o m) e = counts_few s q b (outcome_model o) (counts_model m) (sym e)
+small s q b (Err f) e = tt
+small s q b (Ok r) e = counts_few s q b (outcome_model r.outcome) (counts_model r.made) (sym e)

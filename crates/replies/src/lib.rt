@@ -8,10 +8,12 @@ ghost use Rattle.semantics.specs.Claims.{Few};
 ghost use Rattle.replies.specs.Replies.{answer_numbers, refusal, verdict_reply, finished, run_reply};
 ghost use Rattle.replies.specs.Internal.{reply_model, of_decoded, with_counts, RunReplyFits, Put};
 
-use interp::answer::{Ground, Outcome, Run, RunCounts};
+use interp::answer::{Ground, Run, RunCounts};
 use numbers::Code;
-use program::answer::Decoded;
-use typing::answer::Verdict;
+use program::answer::Refusal;
+use program::records::Counts;
+use stores::values::Stop;
+use typing::answer::{Accepted, Rejection};
 
 // The numbers of an answer, and of one with a ninth behind them.
 pub const ANSWER_NUMBERS: usize = 8;
@@ -34,12 +36,12 @@ pub fn refused(x: Code) -> Reply
     }
 }
 
-pub fn of_decoded(d: Decoded) -> Reply
+pub fn of_decoded(d: Result<Counts, Refusal>) -> Reply
     ensures { reply_model result ≡ of_decoded d }
 {
     match d {
-        Decoded::Refused(f) => refused(numbers::of_decoding(f)),
-        Decoded::Readable(c) => Reply {
+        Err(f) => refused(Code::from(f)),
+        Ok(c) => Reply {
             status: 0,
             numbers: [
                 0,
@@ -55,16 +57,15 @@ pub fn of_decoded(d: Decoded) -> Reply
     }
 }
 
-pub fn of_verdict(v: Verdict) -> Reply
+pub fn of_verdict(v: Result<Accepted, Rejection>) -> Reply
     ensures { reply_model result ≡ verdict_reply (verdict_model v) }
 {
     match v {
-        Verdict::Unreadable(f) => refused(numbers::of_decoding(f)),
-        Verdict::Refused(f) => refused(numbers::of_fault(f)),
-        Verdict::Accepted { terms, ty, needs } => Reply {
+        Ok(Accepted { terms, ty, needs }) => Reply {
             status: 0,
             numbers: [0, 0, ty as u32, terms as u32, 0, 0, 0, needs],
         },
+        Err(f) => refused(Code::from(f)),
     }
 }
 
@@ -88,17 +89,15 @@ pub fn counted(status: u32, first: Code, sort: u32, value: u32, m: RunCounts) ->
     }
 }
 
-fn of_outcome(o: Outcome, m: RunCounts) -> Reply
+fn of_outcome(o: Result<Ground, Stop>, m: RunCounts) -> Reply
     requires { Few (counts_model m) }
     ensures { reply_model result ≡ finished (outcome_model o) (counts_model m) }
 {
     let none = Code { cause: 0, place: 0 };
     match o {
-        Outcome::Stop(x) => counted(1, numbers::of_stop(x), 0, 0, m),
-        Outcome::End(v) => match v {
-            Ground::Bool(b) => counted(0, none, 0, b as u32, m),
-            Ground::Num(n) => counted(0, none, 1, n as u32, m),
-        },
+        Err(x) => counted(1, Code::from(x), 0, 0, m),
+        Ok(Ground::Bool(b)) => counted(0, none, 0, b as u32, m),
+        Ok(Ground::Num(n)) => counted(0, none, 1, n as u32, m),
     }
 }
 
@@ -107,8 +106,8 @@ pub fn of_run(x: Run) -> Reply
     ensures { reply_model result ≡ run_reply (run_model x) }
 {
     match x {
-        Run::Refused(f) => refused(numbers::of_refusal(f)),
-        Run::Ran { outcome, made } => of_outcome(outcome, made),
+        Err(f) => refused(Code::from(f)),
+        Ok(ran) => of_outcome(ran.outcome, ran.made),
     }
 }
 
@@ -117,11 +116,6 @@ pub fn put(reply: Reply, answer: &mut [u32]) -> u32
     requires { answer_numbers ≤ length answer.old }
     ensures { Put reply answer.old result answer.new }
 {
-    let numbers = reply.numbers;
-    let mut i = 0;
-    while i < ANSWER_NUMBERS {
-        answer[i] = numbers[i];
-        i += 1;
-    }
+    answer[..ANSWER_NUMBERS].copy_from_slice(&reply.numbers);
     reply.status
 }

@@ -1,21 +1,21 @@
 -- What a report answers and leaves in the buffers that it was lent.
-use Rattle.std.specs.Prelude.{Bool, true, false, cond, List, [], ◌++◌, ℕ, leb, length, drop}
+use Rattle.std.specs.Prelude.{Bool, true, false, cond, List, [], ◌++◌, ℕ, leb, length, drop, Result, Ok, Err}
 use Rattle.typing.specs.Verdicts.{Verdict, accepted, rejected, verdict}
 use Rattle.semantics.specs.Runs.{Buffers, are_largest, run}
 use Rattle.interp.specs.Answers.{buffers_of}
 use Rattle.text.specs.Text.{program_request, printed}
-use Rattle.report.specs.declared.answer.Reported.{Reported}
-use Rattle.report.specs.declared.answer.Reported.TheVariants.{Written, TooShort, Unfit}
+use Rattle.report.specs.declared.answer.Undelivered.{Undelivered}
+use Rattle.report.specs.declared.answer.Undelivered.TheVariants.{TooShort, Unfit}
 
 -- the text, so long, was written; it found no place; nothing was done, since the buffers are not the largest
 pub data ReportAnswer : Type 0 where
   written tooShort : (length : ℕ) → ReportAnswer
   unfit : ReportAnswer
 
-abbrev pub reported_model : Reported → ReportAnswer
-reported_model (Written n) = written n
-reported_model (TooShort n) = tooShort n
-reported_model Unfit = unfit
+abbrev pub reported_model : Result ℕ Undelivered → ReportAnswer
+reported_model (Ok n) = written n
+reported_model (Err (TooShort n)) = tooShort n
+reported_model (Err Unfit) = unfit
 
 -- the answer, with the cell store, the list of posts and the place for the text as they are left
 pub record Report : Type 0 where
@@ -23,7 +23,7 @@ pub record Report : Type 0 where
   pub buffers : Buffers
   pub text : List ℕ
 
-abbrev pub after_report : Reported → (cells posts text : List ℕ) → Report
+abbrev pub after_report : Result ℕ Undelivered → (cells posts text : List ℕ) → Report
 after_report r cells posts text = record { answer = reported_model r; buffers = buffers_of cells posts []; text = text }
 
 -- a text stands at the front of the place for it, whose rest is untouched; where it does not fit, all of it is

@@ -1,13 +1,12 @@
 -- What a reader may count on: a place of 209 bytes is enough for every text, and what was written is the text.
-use Rattle.std.specs.Prelude.{Bool, true, false, cond, List, ◌++◌, ◌≡◌, ℕ, ◌≤◌, leb, length, take, drop}
+use Rattle.std.specs.Prelude.{Bool, true, false, cond, List, ◌++◌, ◌≡◌, ℕ, ◌≤◌, leb, length, take, drop, Result, Ok}
 use Rattle.std.proofs.Common.{sym, ap, ◌∙◌, arith, length-append, take_at, le-leb}
 use Rattle.typing.specs.Verdicts.{verdict}
 use Rattle.semantics.specs.Runs.{Buffers, are_largest}
 use Rattle.text.specs.Text.{printed}
 use Rattle.text.specs.Theorems.{text_most}
 use Rattle.report.specs.Reports.{written, tooShort, unfit, Report, after_report, delivered, buffers_after_report, reported}
-use Rattle.report.specs.declared.answer.Reported.{Reported}
-use Rattle.report.specs.declared.answer.Reported.TheVariants.{Written}
+use Rattle.report.specs.declared.answer.Undelivered.{Undelivered}
 
 -- a report by its two tests
 abbrev by : (s text : List ℕ) (after before : Buffers) (large fits : Bool) → Report
@@ -34,7 +33,7 @@ written_front s text text' {n = n} l e = record {
 }
 
 by_cases : (s : List ℕ) (u b : Buffers) (text cells posts text' : List ℕ) {n : ℕ} (large fits : Bool)
-    → after_report (Written n) cells posts text' ≡ by s text u b large fits → TextWritten s n text'
+    → after_report (Ok n) cells posts text' ≡ by s text u b large fits → TextWritten s n text'
 by_cases s u b text cells posts text' {n = n} true true e =
     let f : written n ≡ written (length (printed s)) = ap (λ (r : Report). r.answer) e in
     written_front s text text' (cc) (ap (λ (r : Report). r.text) e)
@@ -45,9 +44,9 @@ by_cases s u b text cells posts text' {n = n} false fits e =
     let f : written n ≡ unfit = ap (λ (r : Report). r.answer) e in
     absurd (let z : ◌≡◌ {A = ℕ} 0 1 = cc in omega arith)
 
-pub text_written : (s : List ℕ) (b : Buffers) (text cells posts text' : List ℕ) {r : Reported} {n : ℕ} → r ≡ Written n → after_report r cells posts text'
+pub text_written : (s : List ℕ) (b : Buffers) (text cells posts text' : List ℕ) {r : Result ℕ Undelivered} {n : ℕ} → r ≡ Ok n → after_report r cells posts text'
     ≡ reported s b text → TextWritten s n text'
 unfolding reported
 text_written s b text cells posts text' e h =
     by_cases s (buffers_after_report (verdict s) s b) b text cells posts text' (are_largest b) (leb (length (printed s)) (length text))
-    (sym (ap (λ (z : Reported). after_report z cells posts text') e) ∙ h)
+    (sym (ap (λ (z : Result ℕ Undelivered). after_report z cells posts text') e) ∙ h)

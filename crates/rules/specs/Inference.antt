@@ -1,19 +1,19 @@
 -- What the contract of `checker::infer::infer` says: the judgement of one term of a sheet, under given bindings and a given principal.
-use Rattle.std.specs.Prelude.{List, [], ◌∷◌, ℕ, zero, suc, ◌+◌, ◌<◌, ◌≤◌, max, get_or}
+use Rattle.std.specs.Prelude.{List, [], ◌∷◌, ℕ, zero, suc, ◌+◌, ◌<◌, ◌≤◌, max, get_or, Result, Ok, Err}
 use Rattle.program.specs.Limits.{max_nesting}
 use Rattle.program.specs.Layout.{principals, terms}
 use Rattle.program.specs.Terms.{Term, boolean, number, variable, function, letrec, call, if, check, enable, sign, test, binary, post, tree}
 use Rattle.program.specs.declared.records.Counts.{Counts}
 use Rattle.typing.specs.Checking.{Judgement, typed, fault}
 use Rattle.typing.specs.Answers.{fault_cause, fault_place}
-use Rattle.typing.specs.declared.answer.Inferred.{Inferred}
-use Rattle.typing.specs.declared.answer.Inferred.TheVariants.{Typed, Faulty}
+use Rattle.typing.specs.declared.answer.Fault.{Fault}
+use Rattle.typing.specs.declared.answer.Typed.{Typed}
 use Rattle.accessors.specs.Internal.{FormedSheet}
 use Rattle.rules.specs.declared.bindings.Bindings.{Bindings}
 
-abbrev pub inferred_model : Inferred → Judgement
-inferred_model (Typed τ N) = typed τ N
-inferred_model (Faulty f) = fault (fault_cause f) (fault_place f)
+abbrev pub inferred_model : Result Typed Fault → Judgement
+inferred_model (Ok x) = typed x.ty x.needs
+inferred_model (Err f) = fault (fault_cause f) (fault_place f)
 
 -- the types of the bindings, the nearest first
 abbrev pub last_first : List ℕ → (count : ℕ) → List ℕ

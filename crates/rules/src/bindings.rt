@@ -7,7 +7,6 @@ ghost use Rattle.rules.specs.Inference.{context};
 ghost use Rattle.rules.specs.Steps.{Pushed};
 
 use program::limits::NESTING_PLACES;
-use program::search::Found;
 
 // The nearest binding is the last of the first `len`.
 #[derive(Clone, Copy)]
@@ -39,13 +38,13 @@ pub fn push(b: Bindings, ty: u16) -> Bindings
 }
 
 // The type of binding i, 0 for the nearest.
-pub fn lookup(b: Bindings, i: u16) -> Found
+pub fn lookup(b: Bindings, i: u16) -> Option<u16>
     requires { b.len ≤ max_nesting }
     ensures { found_model result ≡ lookup_type (context b) i }
 {
     if b.len <= (i as usize) {
-        return Found::Nothing;
+        return None;
     }
     let at = b.len - 1 - (i as usize);
-    Found::At(b.types[at])
+    Some(b.types[at])
 }

@@ -3,6 +3,7 @@ use mathlib.Core.List.{List}
 use mathlib.Core.Logic.{◌⊎◌, inl, inr}
 use mathlib.Core.Path.{◌≡◌, refl, sym, ap, ◌∙◌, subst}
 use Prim.Native.Nat.{ℕ, ◌<◌, ◌≤◌}
+use Rattle.std.specs.Prelude.{Result}
 use Rattle.program.specs.Layout.{types_of, guard_in}
 use Rattle.program.specs.Terms.{Term}
 use Rattle.program.specs.Records.{term_record, type_record, authority_record, guard_record}
@@ -11,8 +12,8 @@ use Rattle.program.specs.declared.records.TermRecord.{TermRecord}
 use Rattle.program.specs.declared.records.TypeRecord.{TypeRecord}
 use Rattle.typing.specs.Places.{placed}
 use Rattle.typing.specs.Checking.{Judgement, ◌next◌}
-use Rattle.typing.specs.declared.answer.Inferred.{Inferred}
-use Rattle.typing.specs.declared.answer.Inferred.TheVariants.{Typed}
+use Rattle.typing.specs.declared.answer.Fault.{Fault}
+use Rattle.typing.specs.declared.answer.Typed.{Typed}
 use Rattle.typing.specs.Verdicts.{term_judgement}
 use Rattle.rules.specs.Inference.{inferred_model, context}
 use Rattle.rules.specs.Steps.{leaf_step, check_step, enable_step, sign_step, post_step, test_step, if_step, binary_step, function_step, letrec_step, call_step, binary_result}
@@ -23,15 +24,7 @@ use Rattle.places.specs.declared.Place.{Place}
 use Rattle.places.proofs.PlaceLaws.{term_of, tree_is}
 use Rattle.smallest.specs.Internal.{place_judgement, Judges, Judgeable}
 
--- ---- a child that has a type, and then what depends on it
-pub goes : {j : Inferred} {τ N : ℕ} {r : Judgement} (k : ℕ → ℕ → Judgement) → j ≡ Typed τ N → r ≡ k τ N → r ≡ (inferred_model j next k)
-goes k e q = q ∙ ap (λ (j : Inferred). inferred_model j next k) (sym e)
-
-pub result_is : {r : Judgement} {σ : ℕ} (k t τ N : ℕ) (j : Judgement) → r ≡ binary_step σ t τ N j → σ ≡ binary_result k
-    → r ≡ binary_step (binary_result k) t τ N j
-result_is k t τ N j q e = q ∙ ap (λ (z : ℕ). binary_step z t τ N j) e
-
-module _ {s : List ℕ} {c : Counts} {l : List ℕ} {at : Place} {i j k : Inferred} (G : Judgeable s c l at i j k) {x : TermRecord}
+module _ {s : List ℕ} {c : Counts} {l : List ℕ} {at : Place} {i j k : Result Typed Fault} (G : Judgeable s c l at i j k) {x : TermRecord}
     (h : x ≡ term_record s c at.term) where
   pub ready_at : ReadyAt s c l at.term at.bindings at.principal x
   ready_at = record { ready = G.ready; known = G.known; record_is = h }

@@ -1,12 +1,12 @@
 -- What is found of a term from what is found of its children: the counts add up, and the smallest refused term is one of theirs or, where they have none, the
 -- term itself. Assumes nothing.
-use mathlib.Core.Bool.{true, false}
 use mathlib.Core.List.{List, ◌∷◌, ◌++◌}
 use mathlib.Core.Logic.{⊎_elim}
 use mathlib.Core.Option.{Option, none, some, none-ne-some}
 use mathlib.Core.Path.{◌≡◌, refl, sym, ap, ◌∙◌, subst}
 use Prim.Native.Nat.{ℕ, ◌+◌, ◌<◌, ◌≤◌}
 use native.Mathlib.Omega.{arith}
+use Rattle.std.specs.Prelude.{Result, Ok}
 use Rattle.program.specs.Limits.{max_terms}
 use Rattle.program.specs.Layout.{Types, authority, types_of}
 use Rattle.program.specs.Terms.{Term, boolean, number, variable, function, letrec, call, if, check, enable, sign, test, binary, post, tree, size}
@@ -15,20 +15,19 @@ use Rattle.program.proofs.Laws.Sizes.{size_most}
 use Rattle.typing.specs.Places.{Placed, placed, number_of}
 use Rattle.typing.proofs.Laws.Places.{tree_number}
 use Rattle.typing.specs.Checking.{Judgement, typed, fault, infer}
-use Rattle.typing.specs.declared.answer.Inferred.{Inferred}
-use Rattle.typing.specs.declared.answer.Inferred.TheVariants.{Typed}
+use Rattle.typing.specs.declared.answer.Fault.{Fault}
+use Rattle.typing.specs.declared.answer.Typed.{Typed}
 use Rattle.subtyping.specs.Known.{Known, Answered}
 use Rattle.typing.specs.Verdicts.{term_judgement}
 use Rattle.rules.specs.Inference.{inferred_model, context}
-use Rattle.places.specs.Internal.{placed_at, ReadyPlace, children_of, children_at, child_at, Reached}
+use Rattle.places.specs.Internal.{placed_at, ReadyPlace, children_of, children_at, Child, child_at, Reached}
 use Rattle.places.specs.declared.Place.{Place}
-use Rattle.places.specs.declared.Child.{Child}
 use Rattle.subterms.specs.Smallest.{subterms, FaultyTerm, faulty_as, smaller, faulty_at, smallest_of}
 use Rattle.subterms.proofs.Laws.Subterms.{subterms_in}
 use Rattle.subterms.proofs.Laws.Order.{smaller_one, smaller_none, passed, smallest_append}
 use Rattle.subterms.proofs.Laws.Pieces.{listed_count}
 use Rattle.smallest.specs.Internal.{or_own, place_judgement, Judgeable, size_in, VisitedAs, CombinedFrom}
-use Rattle.smallest.specs.declared.candidates.Candidate.TheVariants.{Nothing}
+use Rattle.std.specs.Prelude.{None}
 use Rattle.smallest.specs.declared.visit.Visited.{Visited}
 
 -- ---- a term and its children by their position
@@ -119,13 +118,10 @@ refused_own : (c : Term) (t n : ℕ) (j : Judgement) → number_of c ≡ t → s
 refused_own c t n j e f = λ i. faulty_as (e i) (f i) j
 
 -- ---- no child
-pub nothing_found : (s : List ℕ) (y : Child) {l : List ℕ} → y.present ≡ false → Known (types_of s) l
-    → VisitedAs s (child_at s y) (record { judged = Typed 0 0; count = 0; smallest = Nothing }) l
+pub nothing_found : (s : List ℕ) {l : List ℕ} → Known (types_of s) l
+    → VisitedAs s none (record { judged = Ok (record { ty = 0; needs = 0 }); count = 0; smallest = None }) l
 unfolding smallest_of
-nothing_found s y {l} e k =
-    let q : none ≡ child_at s y = rw e refl in
-    subst (λ (o : Option Placed). VisitedAs s o (record { judged = Typed 0 0; count = 0; smallest = Nothing }) l) q
-    (record { judged = tt; count_is = refl; smallest_is = refl; known = k })
+nothing_found s k = record { judged = tt; count_is = refl; smallest_is = refl; known = k }
 
 -- ---- a term, from its children
 module _ {s : List ℕ} {c : Counts} {at : Place} (R : ReadyPlace s c at) {i j k : Visited} {l l' l'' : List ℕ}
@@ -156,7 +152,7 @@ module _ {s : List ℕ} {c : Counts} {at : Place} (R : ReadyPlace s c at) {i j k
   pub counts_fit : 1 + i.count + j.count + k.count ≤ max_terms
   counts_fit = omega (arith, counts_are, size_most s R.sheet.well_formed at.term R.inside)
 
-  pub found_there : {r : Inferred} {l''' : List ℕ} → Answered (types_of s) (inferred_model r) (place_judgement s at) l''' → {x : Visited}
+  pub found_there : {r : Result Typed Fault} {l''' : List ℕ} → Answered (types_of s) (inferred_model r) (place_judgement s at) l''' → {x : Visited}
       → CombinedFrom at.term r i j k x → VisitedAs s (some (placed_at s at)) x l'''
   unfolding term_judgement
   found_there {r} a {x} q =
@@ -174,10 +170,3 @@ module _ {s : List ℕ} {c : Counts} {at : Place} (R : ReadyPlace s c at) {i j k
             ∙ sym (smallest_is T A (context at.bindings) at.principal (tree s at.term));
         known = a.known;
       }
-
--- where there is a child, it stands there
-pub there : (s : List ℕ) (y : Child) {x : Visited} {l : List ℕ} → y.present ≡ true → VisitedAs s (some (placed_at s y.place)) x l
-    → VisitedAs s (child_at s y) x l
-there s y {x} {l} e v =
-    let q : some (placed_at s y.place) ≡ child_at s y = rw e refl in
-    subst (λ (o : Option Placed). VisitedAs s o x l) q v

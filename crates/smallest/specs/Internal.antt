@@ -1,5 +1,5 @@
 -- What the contracts of internal functions say. No reader of the public promise needs this file.
-use Rattle.std.specs.Prelude.{List, ◌≡◌, ℕ, ◌+◌}
+use Rattle.std.specs.Prelude.{Option as Maybe, Some, None, List, ◌≡◌, ℕ, ◌+◌, Result}
 use Rattle.std.proofs.Math.Option.{Option, none, some}
 use Rattle.program.specs.Layout.{authority, types_of}
 use Rattle.program.specs.Terms.{size}
@@ -7,25 +7,23 @@ use Rattle.program.specs.declared.records.Counts.{Counts}
 use Rattle.typing.specs.Places.{Placed, placed}
 use Rattle.typing.specs.Checking.{Judgement}
 use Rattle.typing.specs.Answers.{fault_cause, fault_place}
-use Rattle.typing.specs.declared.answer.Inferred.{Inferred}
+use Rattle.typing.specs.declared.answer.Fault.{Fault}
+use Rattle.typing.specs.declared.answer.Typed.{Typed}
 use Rattle.subtyping.specs.Known.{Known}
 use Rattle.typing.specs.Verdicts.{term_judgement}
 use Rattle.rules.specs.Inference.{inferred_model, context}
-use Rattle.places.specs.Internal.{ReadyPlace, children_at, ReadyChild}
+use Rattle.places.specs.Internal.{ReadyPlace, children_at, Child, ReadyChild}
 use Rattle.places.specs.declared.Place.{Place}
-use Rattle.places.specs.declared.Child.{Child}
 use Rattle.subterms.specs.Smallest.{FaultyTerm, smaller, smallest_of, faulty_as}
+use Rattle.subterms.specs.declared.answer.Faulty.{Faulty}
 use Rattle.subterms.specs.Claims.{judgement_at}
 use Rattle.subterms.proofs.Laws.Subterms.{subterms_in}
-use Rattle.smallest.specs.declared.candidates.Candidate.{Candidate}
-use Rattle.smallest.specs.declared.candidates.Candidate.TheVariants as candidate
-use Rattle.smallest.specs.declared.candidates.Candidate.TheVariants.{Nothing}
 use Rattle.smallest.specs.declared.visit.Visited.{Visited}
 
 -- ---- candidates
-abbrev pub candidate_model : Candidate → Option FaultyTerm
-candidate_model Nothing = none
-candidate_model (candidate.Faulty t n f) = some (record { term = t; count = n; cause = fault_cause f; place = fault_place f })
+abbrev pub candidate_model : Maybe Faulty → Option FaultyTerm
+candidate_model None = none
+candidate_model (Some x) = some (record { term = x.term; count = x.count; cause = fault_cause x.fault; place = fault_place x.fault })
 
 abbrev pub or_own : (below own : Option FaultyTerm) → Option FaultyTerm
 or_own none own = own
@@ -41,7 +39,7 @@ Judges s none j = Unit {0}
 Judges s (some x) j = j ≡ judgement_at (types_of s) (authority s) x
 
 -- what judging a term from its children asks
-pub record Judgeable (s : List ℕ) (c : Counts) (l : List ℕ) (at : Place) (i j k : Inferred) : Type 0 where
+pub record Judgeable (s : List ℕ) (c : Counts) (l : List ℕ) (at : Place) (i j k : Result Typed Fault) : Type 0 where
   pub ready : ReadyPlace s c at
   pub known : Known (types_of s) l
   pub first : Judges s (children_at s at).first (inferred_model i)
@@ -65,7 +63,7 @@ pub record VisitedAs (s : List ℕ) (o : Option Placed) (r : Visited) (l : List 
   pub known : Known (types_of s) l
 
 -- what is found of term t from its judgement and what is found of its children
-pub record CombinedFrom (t : ℕ) (r : Inferred) (i j k x : Visited) : Type 0 where
+pub record CombinedFrom (t : ℕ) (r : Result Typed Fault) (i j k x : Visited) : Type 0 where
   pub judged_is : x.judged ≡ r
   pub count_is : x.count ≡ 1 + i.count + j.count + k.count
   pub smallest_is : candidate_model x.smallest

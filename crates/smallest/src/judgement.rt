@@ -12,28 +12,34 @@ use places::Place;
 use program::records::{Counts, TypeRecord};
 use rules::steps;
 use subtyping::known::Known;
-use typing::answer::Inferred;
+use typing::answer::{Fault, Typed};
 
 // Of a letrec whose function's type has the record f: the body's judgement and the rest's.
-fn letrec(f: TypeRecord, t: u16, j: Inferred, k: Inferred) -> Inferred
+fn letrec(
+    f: TypeRecord,
+    t: u16,
+    j: Result<Typed, Fault>,
+    k: Result<Typed, Fault>,
+) -> Result<Typed, Fault>
     ensures { inferred_model result ≡ (inferred_model j next λ τ N. letrec_step f t τ N (inferred_model k)) }
 {
-    let Inferred::Typed { ty, needs } = j else {
-        return j;
-    };
-    steps::letrec_of(f, t, ty, needs, k)
+    steps::letrec_of(f, t, j?, k)
 }
 
 // Of a call: the function's judgement and the argument's.
-fn call(s: &[u8], c: Counts, known: &mut Known, t: u16, i: Inferred, j: Inferred) -> Inferred
+fn call(
+    s: &[u8],
+    c: Counts,
+    known: &mut Known,
+    t: u16,
+    i: Result<Typed, Fault>,
+    j: Result<Typed, Fault>,
+) -> Result<Typed, Fault>
     requires { KnownSheet s.now c known.old }
     ensures { Answered (types_of s.now) (inferred_model result)
         (inferred_model i next λ φ N. call_step (types_of s.now) t φ N (inferred_model j)) known.new }
 {
-    let Inferred::Typed { ty, needs } = i else {
-        return i;
-    };
-    steps::call_of(s, c, known, t, ty, needs, j)
+    steps::call_of(s, c, known, t, i?, j)
 }
 
 // Of an if: the condition's judgement and those of the branches.
@@ -42,48 +48,44 @@ fn branches(
     c: Counts,
     known: &mut Known,
     t: u16,
-    i: Inferred,
-    j: Inferred,
-    k: Inferred,
-) -> Inferred
+    i: Result<Typed, Fault>,
+    j: Result<Typed, Fault>,
+    k: Result<Typed, Fault>,
+) -> Result<Typed, Fault>
     requires { KnownSheet s.now c known.old }
     ensures { Answered (types_of s.now) (inferred_model result)
         (inferred_model i next λ σ N. inferred_model j next λ τ M. if_step (types_of s.now) t σ N τ M (inferred_model k)) known.new }
 {
-    let Inferred::Typed {
-        ty: cond,
-        needs: cond_needs,
-    } = i
-    else {
-        return i;
-    };
-    let Inferred::Typed { ty, needs } = j else {
-        return j;
-    };
-    steps::branched(s, c, known, t, cond, cond_needs, ty, needs, k)
+    steps::branched(s, c, known, t, i?, j?, k)
 }
 
 // Of a test of privilege p: the judgements of the branches.
-fn test(s: &[u8], c: Counts, known: &mut Known, p: u8, t: u16, i: Inferred, j: Inferred) -> Inferred
+fn test(
+    s: &[u8],
+    c: Counts,
+    known: &mut Known,
+    p: u8,
+    t: u16,
+    i: Result<Typed, Fault>,
+    j: Result<Typed, Fault>,
+) -> Result<Typed, Fault>
     requires { KnownSheetPrivilege s.now c known.old p }
     ensures { Answered (types_of s.now) (inferred_model result)
         (inferred_model i next λ τ N. test_step (types_of s.now) p t τ N (inferred_model j)) known.new }
 {
-    let Inferred::Typed { ty, needs } = i else {
-        return i;
-    };
-    steps::tested(s, c, known, p, t, ty, needs, j)
+    steps::tested(s, c, known, p, t, i?, j)
 }
 
 // Of an operation on numbers, by its kind: the judgements of the operands.
-fn binary(kind: u8, t: u16, i: Inferred, j: Inferred) -> Inferred
+fn binary(
+    kind: u8,
+    t: u16,
+    i: Result<Typed, Fault>,
+    j: Result<Typed, Fault>,
+) -> Result<Typed, Fault>
     ensures { inferred_model result ≡ (inferred_model i next λ τ N. binary_step (binary_result kind) t τ N (inferred_model j)) }
 {
-    let Inferred::Typed { ty, needs } = i else {
-        return i;
-    };
-    let result = steps::binary_result(kind);
-    steps::computed(result, t, ty, needs, j)
+    steps::computed(steps::binary_result(kind), t, i?, j)
 }
 
 // By the kind; a child that is absent is not looked at.
@@ -92,10 +94,10 @@ pub fn judgement(
     c: Counts,
     known: &mut Known,
     at: Place,
-    i: Inferred,
-    j: Inferred,
-    k: Inferred,
-) -> Inferred
+    i: Result<Typed, Fault>,
+    j: Result<Typed, Fault>,
+    k: Result<Typed, Fault>,
+) -> Result<Typed, Fault>
     requires { Judgeable s.now c known.old at i j k }
     ensures { Answered (types_of s.now) (inferred_model result) (place_judgement s.now at) known.new }
 {

@@ -5,7 +5,6 @@ ghost use Rattle.std.specs.Prelude.{◌≤◌, length};
 
 use drafts::draft::DRAFT_BYTES;
 use program::limits::{MAX_CELLS, MAX_POSTS, MAX_SHEET};
-use report::answer::Reported;
 use report::report;
 use std::io::Read;
 
@@ -16,7 +15,8 @@ fn print(rt: &(impl Print + Eprint), text: &[u8]) {
     }
 }
 
-// Reads until the buffer is full, the input ends or a read fails, and returns how many bytes it put at the start of the buffer.
+// Reads until the buffer is full, the input ends or a read fails, and returns how many bytes it put at the start of the buffer. A loop of its own, since
+// read_exact does not tell how many bytes it read before the input ended, and read_to_end wants memory that grows.
 fn read_full(input: &mut impl Read, buf: &mut [u8]) -> usize
     ensures { result ≤ length buf.new }
 {
@@ -42,7 +42,7 @@ fn main(rt: HostRuntime) {
     let mut posts = [0u32; MAX_POSTS];
     let mut text = [0u8; DRAFT_BYTES];
     let reported = report(&sheet[..n], &mut cells, &mut posts, &mut text);
-    let Reported::Written(k) = reported else {
+    let Ok(k) = reported else {
         return;
     };
     print(&rt, &text[..k]);

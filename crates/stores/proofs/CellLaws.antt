@@ -1,11 +1,11 @@
--- Cells: what is read in the store and past its end, the walk from cell to cell, and a list that is filled whole. Assumes nothing.
+-- Cells: what is read in the store and past its end, and the walk from cell to cell. Assumes nothing.
 use mathlib.Core.Bool.{Bool, true, false, cond}
-use mathlib.Core.List.{List, ◌++◌, append-nil}
+use mathlib.Core.List.{List}
 use mathlib.Core.Path.{◌≡◌, refl, sym, ap, ◌∙◌}
 use Prim.Native.Nat.{ℕ, zero, suc, ◌+◌, ◌-◌, ◌*◌, ◌/◌, ◌<◌, ◌≤◌}
 use native.Mathlib.Numerals.{sub-one}
 use native.Mathlib.Omega.{arith}
-use lib.ListN.{get_or, length, replicate, drop, drop_of_length-le}
+use lib.ListN.{get_or, length}
 use lib.Dec.{ltb}
 use borrow.Author.Tests.{eq-eqb, ne_eqb, le-leb, lt-leb, le-ltb, lt-ltb, ltb-true, ltb-false}
 use Rattle.program.specs.Bytes.{word16}
@@ -86,13 +86,3 @@ module _ (made w behind : ℕ) (l : List ℕ) {r : ℕ} {l' : List ℕ} (b : Bin
       go : (c : Bool) → ltb made (length l / 8) ≡ c → (made < length l / 8) × ((r ≡ made + 1) × (l' ≡ cell_set l made w behind))
       go true e = (ltb-true made (length l / 8) e, by_room true e)
       go false e = absurd (n (by_room false e).0)
-
--- so many are zero, and the others as they were
-pub record ClearedBelow (old new : List ℕ) (i : ℕ) : Type 0 where
-  pub below : i ≤ length old
-  pub long : length new ≡ length old
-  pub cleared : new ≡ replicate i 0 ++ drop i old
-
--- a list that is filled whole
-pub filled : (a b : List ℕ) (i : ℕ) → a ≡ replicate i 0 ++ drop i b → i ≡ length b → a ≡ replicate (length b) 0
-filled a b i p q = p ∙ rw (drop_of_length-le b {i = i} (omega (arith, q)), append-nil {A = ℕ} (replicate i 0), q) refl

@@ -2,11 +2,11 @@
 -- function, whose environment is the number of a cell; a number that is known within limits has its lowest value as payload and its highest in the
 -- place of the environment, and a boolean that is not decided has the payload 2; a stop's sort is the papers' number of it and its payload the term
 -- that stops.
-use Rattle.std.specs.Prelude.{Bool, cond, ℕ, ◌+◌, ◌*◌, ◌/◌, ◌%◌, ltb, eqb}
+use Rattle.std.specs.Prelude.{Bool, Result, Ok, Err, cond, ℕ, ◌+◌, ◌*◌, ◌/◌, ◌%◌, ltb, eqb}
+use Rattle.stores.specs.declared.values.Value.{Value}
 use Rattle.stores.specs.declared.values.Value.TheVariants.{Bool as VBool, Num, Fun}
+use Rattle.stores.specs.declared.values.Stop.{Stop}
 use Rattle.stores.specs.declared.values.Stop.TheVariants.{Check, Stuck, OpenCalls, Calls, Cells, Posts, Undecided}
-use Rattle.stores.specs.declared.values.Out.{Out}
-use Rattle.stores.specs.declared.values.Out.TheVariants.{Val, Stop as Stopped}
 
 abbrev pub boolean_word : Bool → ℕ
 boolean_word b = cond b 65536 0
@@ -39,11 +39,11 @@ abbrev pub is_stop : ℕ → Bool
 is_stop w = ltb 2 (sort_of w)
 
 -- what a sort, a payload and an environment stand for
-unfoldable pub out_by : (sort payload env : ℕ) → Out
+unfoldable pub out_by : (sort payload env : ℕ) → Result Value Stop
 out_by k n e =
-    cond (eqb k 0) (Val (VBool (ltb 0 n))) (cond (eqb k 1) (Val (Num n)) (cond (eqb k 2) (Val (Fun n e))
-    (cond (eqb k 17) (Stopped (Check n)) (cond (eqb k 18) (Stopped (Stuck n)) (cond (eqb k 19) (Stopped (OpenCalls n))
-    (cond (eqb k 20) (Stopped (Calls n)) (cond (eqb k 21) (Stopped (Cells n)) (cond (eqb k 22) (Stopped (Posts n)) (Stopped (Undecided n))))))))))
+    cond (eqb k 0) (Ok (VBool (ltb 0 n))) (cond (eqb k 1) (Ok (Num n)) (cond (eqb k 2) (Ok (Fun n e))
+    (cond (eqb k 17) (Err (Check n)) (cond (eqb k 18) (Err (Stuck n)) (cond (eqb k 19) (Err (OpenCalls n))
+    (cond (eqb k 20) (Err (Calls n)) (cond (eqb k 21) (Err (Cells n)) (cond (eqb k 22) (Err (Posts n)) (Err (Undecided n))))))))))
 
-abbrev pub out_of : ℕ → Out
+abbrev pub out_of : ℕ → Result Value Stop
 out_of w = out_by (sort_of w) (payload_of w) (env_of w)

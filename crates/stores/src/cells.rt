@@ -7,19 +7,21 @@ ghost use Rattle.stores.specs.Returns.{Returned};
 
 use crate::words;
 
+// As accessors::be16: a crate for both would hold this line alone.
 fn get16(s: &[u8], i: usize) -> u16
     requires { i + 1 < length s.now }
     ensures { result ≡ word16 s.now i }
 {
-    (s[i] as u16) * 256 + (s[i + 1] as u16)
+    u16::from_be_bytes([s[i], s[i + 1]])
 }
 
 fn put16(s: &mut [u8], i: usize, n: u16)
     requires { i + 1 < length s.old }
     ensures { s.new ≡ with_word16 s.old i n }
 {
-    s[i] = (n / 256) as u8;
-    s[i + 1] = (n % 256) as u8;
+    let [high, low] = n.to_be_bytes();
+    s[i] = high;
+    s[i + 1] = low;
 }
 
 // The cell behind cell e.
@@ -55,10 +57,8 @@ fn walk(cells: &[u8], env: u16, k: u16) -> u16
     ensures { result ≡ walk_of cells.now env k }
 {
     let mut e = env;
-    let mut left = k;
-    while 0 < left {
+    for _ in 0..k {
         e = behind(cells, e);
-        left -= 1;
     }
     e
 }
@@ -104,13 +104,9 @@ pub fn bind(cells: &mut [u8], made: usize, w: u64, behind: u16) -> usize
     made + 1
 }
 
-// All bytes are zero.
+// All bytes are zero. The theorem on what a run leaves in the cells cites this clause.
 pub fn clear(a: &mut [u8])
     ensures { a.new ≡ zeros_like a.old }
 {
-    let mut i = 0;
-    while i < a.len() {
-        a[i] = 0;
-        i += 1;
-    }
+    a.fill(0);
 }

@@ -20,9 +20,3 @@ pub enum Stop {
     Posts(u16),
     Undecided(u16),
 }
-
-#[derive(Clone, Copy)]
-pub enum Out {
-    Val(Value),
-    Stop(Stop),
-}

@@ -4,7 +4,7 @@
 ghost use Rattle.std.specs.Prelude.{◌≡◌};
 ghost use Rattle.stores.specs.Words.{boolean_word, number_word, interval_word, undecided_word, function_word, stop_word, sort_of, payload_of, env_of, is_stop, out_of};
 
-use crate::values::{Out, Stop, Value};
+use crate::values::{Stop, Value};
 
 pub fn boolean(b: bool) -> u64
     ensures { result ≡ boolean_word b }
@@ -66,25 +66,26 @@ pub fn is_stop(w: u64) -> bool
     2 < w % 65536
 }
 
-// What a word stands for.
-pub fn out_of(w: u64) -> Out
+// What a word stands for: a value, or the stop in its place.
+#[tactic(auto, unfolding(crate::specs::Words::out_by))]
+pub fn out_of(w: u64) -> Result<Value, Stop>
     ensures { result ≡ out_of w }
 {
     let n = payload(w);
     let k = sort(w);
     match k {
-        0 => Out::Val(Value::Bool(0 < n)),
-        1 => Out::Val(Value::Num(n)),
-        2 => Out::Val(Value::Fun {
+        0 => Ok(Value::Bool(0 < n)),
+        1 => Ok(Value::Num(n)),
+        2 => Ok(Value::Fun {
             body: n,
             env: env(w),
         }),
-        17 => Out::Stop(Stop::Check(n)),
-        18 => Out::Stop(Stop::Stuck(n)),
-        19 => Out::Stop(Stop::OpenCalls(n)),
-        20 => Out::Stop(Stop::Calls(n)),
-        21 => Out::Stop(Stop::Cells(n)),
-        22 => Out::Stop(Stop::Posts(n)),
-        _ => Out::Stop(Stop::Undecided(n)),
+        17 => Err(Stop::Check(n)),
+        18 => Err(Stop::Stuck(n)),
+        19 => Err(Stop::OpenCalls(n)),
+        20 => Err(Stop::Calls(n)),
+        21 => Err(Stop::Cells(n)),
+        22 => Err(Stop::Posts(n)),
+        _ => Err(Stop::Undecided(n)),
     }
 }

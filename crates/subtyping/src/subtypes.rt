@@ -7,7 +7,6 @@ ghost use Rattle.subtyping.specs.Known.{KnownSheet, Answered};
 
 use crate::known::{Known, knows, note};
 use program::records::Counts;
-use program::search::Found;
 
 // Whether t is a function type of a sheet with these counts.
 pub fn is_function(c: Counts, t: u16) -> bool
@@ -53,15 +52,15 @@ pub fn subtype(s: &[u8], c: Counts, known: &mut Known, a: u16, b: u16) -> bool
 }
 
 // The wider of two types, if one is a subtype of the other. Equal types, the common case, pass the first test at once.
-pub fn wider(s: &[u8], c: Counts, known: &mut Known, a: u16, b: u16) -> Found
+pub fn wider(s: &[u8], c: Counts, known: &mut Known, a: u16, b: u16) -> Option<u16>
     requires { KnownSheet s.now c known.old }
     ensures { Answered (types_of s.now) (found_model result) (wider_of (types_of s.now) a b) known.new }
 {
     if subtype(s, c, known, a, b) {
-        return Found::At(b);
+        return Some(b);
     }
     if subtype(s, c, known, b, a) {
-        return Found::At(a);
+        return Some(a);
     }
-    Found::Nothing
+    None
 }

@@ -7,51 +7,53 @@ use native.Mathlib.Decide.{ℕ_discrete}
 use native.Mathlib.Omega.{arith}
 use lib.Dec.{leb, ltb, eqb}
 use borrow.Author.Tests.{lt-leb}
+use Rattle.std.specs.Prelude.{Option, None, is_none}
+use Rattle.std.specs.Bool.{then_some}
 use Rattle.program.specs.Limits.{max_privilege}
 use Rattle.program.specs.Layout.{terms, kind_byte, small, first, second, third}
-use Rattle.program.specs.Formats.{Part, unused, flag, any_number, privilege, principal, channel, function_type, child, body_child, Kind, Boolean, Number, Variable, Function, Letrec, Call, If, Check, Enable, Sign, Test, Sum, Difference, Less, Post, kind_of, format}
+use Rattle.program.specs.Formats.{Part, unused, flag, any_number, privilege, principal, channel, function_type, child, body_child, kind_of, format}
 use Rattle.program.specs.Decoding.{part_ok, format_at, term_ok}
 use Rattle.program.specs.Records.{CountsOf, term_record}
 use Rattle.accessors.specs.Internal.{Laid}
-use Rattle.termrecords.specs.Internal.{part_in, record_ok, kind_shape, shape_if, shape_from, shape_of, shape_at, is_wrong}
+use Rattle.termrecords.specs.Internal.{part_in, record_ok, kind_shape, shape_from, shape_of, shape_at}
 use Rattle.program.proofs.Laws.Readable.{fields_ok}
 use Rattle.program.proofs.Laws.Records.{term_laid}
 use Rattle.program.specs.declared.records.Counts.{Counts}
 use Rattle.program.specs.declared.records.TermRecord.{TermRecord}
 use Rattle.termrecords.specs.declared.Shape.{Shape}
-use Rattle.termrecords.specs.declared.Shape.TheVariants.{Leaf, One, Two, Wrong}
+use Rattle.termrecords.specs.declared.Shape.TheVariants.{Leaf, One, Two}
 
 -- ---- the arms of the match on the kind
 module _ (c : Counts) (t : ℕ) (r : TermRecord) where
   -- an arm of one number
-  pub at_kind : (n : ℕ) → r.kind ≡ n → {x : Shape} → x ≡ shape_from c t n r.small r.first r.second r.third → x ≡ shape_of c t r
+  pub at_kind : (n : ℕ) → r.kind ≡ n → {x : Option Shape} → x ≡ shape_from c t n r.small r.first r.second r.third → x ≡ shape_of c t r
   unfolding shape_of
   at_kind n e h = h ∙ ap (λ (k : ℕ). shape_from c t k r.small r.first r.second r.third) (sym e)
 
   -- numbers and variables: any number in the first part
-  plain : (x b d : Bool) → shape_if (x && b && d) Leaf ≡ shape_if (x && true && b && d) Leaf
-  plain x b d = ap (λ (z : Bool). shape_if (z && b && d) Leaf) (sym (and-true x))
+  plain : (x b d : Bool) → then_some (x && b && d) Leaf ≡ then_some (x && true && b && d) Leaf
+  plain x b d = ap (λ (z : Bool). then_some (z && b && d) Leaf) (sym (and-true x))
 
-  pub kinds_1_2 : {x : Shape} → 1 ≤ r.kind → r.kind < 3 → x ≡ shape_if (eqb r.small 0 && eqb r.second 0 && eqb r.third 0) Leaf → x ≡ shape_of c t r
+  pub kinds_1_2 : {x : Option Shape} → 1 ≤ r.kind → r.kind < 3 → x ≡ then_some (eqb r.small 0 && eqb r.second 0 && eqb r.third 0) Leaf → x ≡ shape_of c t r
   kinds_1_2 l h e = elim (ℕ_discrete r.kind 1) [
     | yes k ↦ at_kind 1 k (e ∙ plain (eqb r.small 0) (eqb r.second 0) (eqb r.third 0))
     | no k ↦ at_kind 2 (omega arith) (e ∙ plain (eqb r.small 0) (eqb r.second 0) (eqb r.third 0))
   ]
 
-  pub kinds_7_8 : {x : Shape} → 7 ≤ r.kind → r.kind < 9
-      → x ≡ shape_if (leb r.small max_privilege && ltb r.first t && eqb r.second 0 && eqb r.third 0) (One r.first) → x ≡ shape_of c t r
+  pub kinds_7_8 : {x : Option Shape} → 7 ≤ r.kind → r.kind < 9
+      → x ≡ then_some (leb r.small max_privilege && ltb r.first t && eqb r.second 0 && eqb r.third 0) (One r.first) → x ≡ shape_of c t r
   kinds_7_8 l h e = elim (ℕ_discrete r.kind 7) [ yes k ↦ at_kind 7 k e | no k ↦ at_kind 8 (omega arith) e ]
 
-  pub kinds_11_13 : {x : Shape} → 11 ≤ r.kind → r.kind < 14
-      → x ≡ shape_if (eqb r.small 0 && ltb r.first t && ltb r.second t && eqb r.third 0) (Two r.first r.second) → x ≡ shape_of c t r
+  pub kinds_11_13 : {x : Option Shape} → 11 ≤ r.kind → r.kind < 14
+      → x ≡ then_some (eqb r.small 0 && ltb r.first t && ltb r.second t && eqb r.third 0) (Two r.first r.second) → x ≡ shape_of c t r
   kinds_11_13 l h e = elim (ℕ_discrete r.kind 11) [
     | yes k ↦ at_kind 11 k e
     | no k ↦ elim (ℕ_discrete r.kind 12) [ yes m ↦ at_kind 12 m e | no m ↦ at_kind 13 (omega arith) e ]
   ]
 
-  pub kinds_above : 15 ≤ r.kind → Wrong ≡ shape_of c t r
+  pub kinds_above : 15 ≤ r.kind → None ≡ shape_of c t r
   unfolding shape_of
-  kinds_above l = sym (ap (λ (b : Bool). shape_if (b && rest.0 && rest.1 && rest.2 && rest.3)
+  kinds_above l = sym (ap (λ (b : Bool). then_some (b && rest.0 && rest.1 && rest.2 && rest.3)
       (kind_shape (kind_of r.kind) r.first r.second r.third)) (lt-leb r.kind 14 l))
     where
       rest : Bool × Bool × Bool × Bool
@@ -80,47 +82,18 @@ module _ (s : List ℕ) (c : Counts) (k : CountsOf s c) (t : ℕ) where
       leb (kind_byte s t) 14 && part_in_lem (format_at s t).small (small s t) i && part_in_lem (format_at s t).first (first s t) i
       && part_in_lem (format_at s t).second (second s t) i && part_in_lem (format_at s t).third (third s t) i
 
-pub shape_is : (s : List ℕ) (c : Counts) (t : ℕ) → Laid s c → t < terms s → {r : TermRecord} {x : Shape} → r ≡ term_record s c t → x ≡ shape_of c t r
+pub shape_is : (s : List ℕ) (c : Counts) (t : ℕ) → Laid s c → t < terms s → {r : TermRecord} {x : Option Shape} → r ≡ term_record s c t → x ≡ shape_of c t r
     → x ≡ shape_at s t
 unfolding shape_of shape_at
 shape_is s c t L h e g =
     g ∙ ap (shape_of c t) (e ∙ term_laid s (fields_ok s L.none_found).terms_in c L.counts_are t h)
-    ∙ ap (λ (b : Bool). shape_if b (kind_shape (kind_of (kind_byte s t)) (first s t) (second s t) (third s t))) (record_ok_lem s c L.counts_are t)
+    ∙ ap (λ (b : Bool). then_some b (kind_shape (kind_of (kind_byte s t)) (first s t) (second s t) (third s t))) (record_ok_lem s c L.counts_are t)
 
--- ---- a wrong shape is a wrong record
-children_right : (k : Kind) (a b d : ℕ) → is_wrong (kind_shape k a b d) ≡ false
-children_right Boolean a b d = refl
-children_right Number a b d = refl
-children_right Variable a b d = refl
-children_right Function a b d = refl
-children_right Letrec a b d = refl
-children_right Call a b d = refl
-children_right If a b d = refl
-children_right Check a b d = refl
-children_right Enable a b d = refl
-children_right Sign a b d = refl
-children_right Test a b d = refl
-children_right Sum a b d = refl
-children_right Difference a b d = refl
-children_right Less a b d = refl
-children_right Post a b d = refl
-
-wrong_if : (b : Bool) (x : Shape) → is_wrong x ≡ false → is_wrong (shape_if b x) ≡ not b
-wrong_if true x h = h
-wrong_if false x h = refl
-
-pub wrong_is : (s : List ℕ) (t : ℕ) {x : Shape} {b : Bool} → x ≡ shape_at s t → b ≡ is_wrong x → b ≡ not (term_ok s t)
+-- ---- a record of no shape is a wrong record
+pub wrong_is : (s : List ℕ) (t : ℕ) {x : Option Shape} {b : Bool} → x ≡ shape_at s t → b ≡ is_none x → b ≡ not (term_ok s t)
 unfolding shape_at
-wrong_is s t e g = g ∙ ap is_wrong e ∙ wrong_if (term_ok s t) _ (children_right (kind_of (kind_byte s t)) (first s t) (second s t) (third s t))
-
-not_not : (a b : Bool) → a ≡ not b → b ≡ not a
-not_not true true e = e
-not_not true false e = refl
-not_not false true e = refl
-not_not false false e = e
-
-pub wrong_bad : (s : List ℕ) (t : ℕ) {b : Bool} → b ≡ not (term_ok s t) → b ≡ true → term_ok s t ≡ false
-wrong_bad s t {b} e h = not_not b (term_ok s t) e ∙ ap not h
-
-pub right_good : (s : List ℕ) (t : ℕ) {b : Bool} → b ≡ not (term_ok s t) → b ≡ false → term_ok s t ≡ true
-right_good s t {b} e h = not_not b (term_ok s t) e ∙ ap not h
+wrong_is s t e g = g ∙ ap is_none e ∙ by (term_ok s t) _
+  where
+    by : (b : Bool) (y : Shape) → is_none (then_some b y) ≡ not b
+    by true y = refl
+    by false y = refl

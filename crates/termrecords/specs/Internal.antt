@@ -1,5 +1,6 @@
 -- What the contracts of the functions that look at term records for the decoder say. No reader of the public promise needs this file.
-use Rattle.std.specs.Prelude.{Bool, true, false, ◌&&◌, List, ℕ, ◌<◌, leb, ltb, eqb}
+use Rattle.std.specs.Prelude.{Bool, true, Option, ◌&&◌, List, ℕ, ◌<◌, leb, ltb, eqb}
+use Rattle.std.specs.Bool.{then_some}
 use Rattle.program.specs.Limits.{max_privilege}
 use Rattle.program.specs.Layout.{terms, kind_byte, first, second, third}
 use Rattle.program.specs.Formats.{Part, unused, flag, any_number, privilege, principal, channel, function_type, child, body_child}
@@ -9,7 +10,7 @@ use Rattle.program.specs.declared.records.Counts.{Counts}
 use Rattle.program.specs.declared.records.TermRecord.{TermRecord}
 use Rattle.accessors.specs.Internal.{Laid}
 use Rattle.termrecords.specs.declared.Shape.{Shape}
-use Rattle.termrecords.specs.declared.Shape.TheVariants.{Leaf, One, Two, Three, Function as FunctionShape, Letrec as LetrecShape, Wrong}
+use Rattle.termrecords.specs.declared.Shape.TheVariants.{Leaf, One, Two, Three, Function as FunctionShape, Letrec as LetrecShape}
 
 -- a term of a sheet with these counts
 pub record LaidTerm (s : List ℕ) (c : Counts) (t : ℕ) : Type 0 where
@@ -51,24 +52,12 @@ kind_shape Difference a b d = Two a b
 kind_shape Less a b d = Two a b
 kind_shape Post a b d = One a
 
-abbrev pub shape_if : Bool → Shape → Shape
-shape_if true x = x
-shape_if false x = Wrong
+-- of a record that is wrong, none
+abbrev pub shape_from : Counts → (t kind small first second third : ℕ) → Option Shape
+shape_from c t k x a b d = then_some (record_ok c t k x a b d) (kind_shape (kind_of k) a b d)
 
-abbrev pub shape_from : Counts → (t kind small first second third : ℕ) → Shape
-shape_from c t k x a b d = shape_if (record_ok c t k x a b d) (kind_shape (kind_of k) a b d)
-
-unfoldable pub shape_of : Counts → (t : ℕ) → TermRecord → Shape
+unfoldable pub shape_of : Counts → (t : ℕ) → TermRecord → Option Shape
 shape_of c t r = shape_from c t r.kind r.small r.first r.second r.third
 
-unfoldable pub shape_at : List ℕ → (t : ℕ) → Shape
-shape_at s t = shape_if (term_ok s t) (kind_shape (kind_of (kind_byte s t)) (first s t) (second s t) (third s t))
-
-abbrev pub is_wrong : Shape → Bool
-is_wrong Leaf = false
-is_wrong (One a) = false
-is_wrong (Two a b) = false
-is_wrong (Three a b d) = false
-is_wrong (FunctionShape b) = false
-is_wrong (LetrecShape b d) = false
-is_wrong Wrong = true
+unfoldable pub shape_at : List ℕ → (t : ℕ) → Option Shape
+shape_at s t = then_some (term_ok s t) (kind_shape (kind_of (kind_byte s t)) (first s t) (second s t) (third s t))

@@ -72,11 +72,8 @@ pub fn decode_terms(s: &[u8], c: Counts, terms: &mut [u64; TERM_PLACES])
     requires { Decodable s.now c terms.old }
     ensures { TermWords s.now c terms.new }
 {
-    let count = c.terms;
-    let mut t = 0;
-    while t < count {
+    for t in 0..c.terms {
         terms[t as usize] = term_word(s, c, t);
-        t += 1;
     }
 }
 

@@ -1,2 +1,3 @@
+pub mod RangeLaws
 pub mod TypeLaws
 pub mod WordLaws

@@ -1,7 +1,8 @@
 -- The type table: what each way out of the code has found of a record.
 use mathlib.Core.Bool.{Bool, true, false, not, cond, ◌&&◌, false≢true}
 use mathlib.Core.List.{List}
-use mathlib.Core.Path.{◌≡◌, refl, sym, ap, ◌∙◌}
+use mathlib.Core.Path.{◌≡◌, refl, sym, ap, ◌∙◌, subst}
+use Rattle.std.proofs.Common.{Option}
 use Prim.Native.Nat.{ℕ, zero, suc, ◌+◌, ◌*◌, ◌-◌, ◌<◌, ◌≤◌, max}
 use native.Mathlib.Decide.{ℕ_discrete}
 use native.Mathlib.Omega.{arith}
@@ -9,6 +10,8 @@ use lib.Dec.{leb, ltb, eqb}
 use lib.ListN.{get_or, length, set}
 use lib.Seq.{get_or-set_same, get_or-set_other}
 use borrow.Author.Tests.{ltb-true, leb-true, leb-false, lt-ltb, le-ltb, le-leb, lt-leb}
+use Rattle.std.specs.Bool.{MatchBool, then_some}
+use Rattle.std.specs.List.{range_with_len, AllWithin, HoldsAt}
 use Rattle.privileges.specs.Booleans.{and_left, and_right}
 use Rattle.program.specs.Limits.{max_types, max_type_depth}
 use Rattle.program.specs.Tests.{also, or_else}
@@ -18,10 +21,11 @@ use Rattle.program.specs.Decoding.{base_ok, function_ok, shallow, same_bytes, fr
 use Rattle.program.specs.Records.{type_at_byte, type_record}
 use Rattle.accessors.specs.Internal.{Laid}
 use Rattle.program.specs.Search.{Passed}
-use Rattle.typerecords.specs.Internal.{le_word, TableAt, Depths, Deep}
+use Rattle.typerecords.specs.Internal.{le_word, TableAt, Depths, Deep, DepthIs}
 use Rattle.program.proofs.Laws.Readable.{FieldsOk, fields_ok}
 use Rattle.program.proofs.Laws.Records.{type_laid}
-use Rattle.typerecords.proofs.WordLaws.{eight_differ}
+use Rattle.typerecords.proofs.RangeLaws.{each_number, some_number}
+use Rattle.typerecords.proofs.WordLaws.{words_differ, words_same}
 use Rattle.program.specs.declared.records.Counts.{Counts}
 use Rattle.program.specs.declared.records.TypeRecord.{TypeRecord}
 
@@ -31,31 +35,42 @@ pub record FreshFrom (s : List ℕ) (t n j : ℕ) : Type 0 where
   pub below : j ≤ n
   pub rest_is : fresh s t n ≡ fresh s t j
 
--- the word stands in none of the records from k to n - 1, the first of which has its place at i
-pub record NotMetFrom (s : List ℕ) (i n eight k : ℕ) : Type 0 where
-  pub below : k ≤ n
-  pub not_met : (m : ℕ) → k ≤ m → m < n → le_word s (i + 10 * m) 8 ≡ eight → ⊥
+-- what a comparison finds of a record before that of t: it is another by one of its two words, or the same by both
+module _ (s : List ℕ) (at eight two : ℕ) where
+  abbrev pub OtherRecord : (k : ℕ) → Type 0
+  OtherRecord k = le_word s (at + 10 * k + 2) 8 ≡ eight → le_word s (at + 10 * k) 2 ≡ two → ⊥
 
-fresh_step : (s : List ℕ) (t j : ℕ) → 0 < j → fresh s t j ≡ (not (same_bytes s (type_at s (j - 1)) (type_at s t) 10) && fresh s t (j - 1))
-fresh_step s t zero h = absurd (omega arith)
-fresh_step s t (suc k) h = let e : suc k - 1 ≡ k =
-    omega arith in ap (λ (x : ℕ). not (same_bytes s (type_at s x) (type_at s t) 10) && fresh s t x) (sym e)
+  abbrev pub EqualRecord : (k : ℕ) → Type 0
+  EqualRecord k = (le_word s (at + 10 * k + 2) 8 ≡ eight) × (le_word s (at + 10 * k) 2 ≡ two)
 
-module _ (s : List ℕ) (at t j : ℕ) (T : TableAt s at t) {b : Bool} (e : b ≡ same_bytes s (at + 10 * (j - 1)) (at + 10 * t) 10) (h : 0 < j) where
-  fresh_is : fresh s t j ≡ (not b && fresh s t (j - 1))
-  fresh_is =
-      fresh_step s t j h ∙ (λ i. not (same_bytes s (sym (T.begins (j - 1)) i) (sym (T.begins t) i) 10) && fresh s t (j - 1))
-      ∙ ap (λ (x : Bool). not x && fresh s t (j - 1)) (sym e)
+module _ (s : List ℕ) (b : Bytes s) (at t : ℕ) (T : TableAt s at t) {eight two : ℕ} (e : eight ≡ le_word s (at + 10 * t + 2) 8)
+    (f : two ≡ le_word s (at + 10 * t) 2) where
+  step_of : (k : ℕ) {x : Bool} → same_bytes s (at + 10 * k) (at + 10 * t) 10 ≡ x → fresh s t (suc k) ≡ (not x && fresh s t k)
+  step_of k g =
+      (λ i. not (same_bytes s (sym (T.begins k) i) (sym (T.begins t) i) 10) && fresh s t k) ∙ ap (λ (x : Bool). not x && fresh s t k) g
 
-  pub fresh_not : b ≡ true → false ≡ fresh s t j
-  fresh_not g = sym (fresh_is ∙ ap (λ (x : Bool). not x && fresh s t (j - 1)) g)
+  pub all_other : (n : ℕ) → ((k : ℕ) → k < n → OtherRecord s at eight two k) → fresh s t n ≡ true
+  all_other zero h = refl
+  all_other (suc n) h =
+      step_of n (words_differ s b _ _ (λ p q. h n (omega arith) (p ∙ sym e) (q ∙ sym f))) ∙ all_other n (λ k l. h k (omega arith))
 
-  pub fresh_more : b ≡ false → fresh s t j ≡ fresh s t (j - 1)
-  fresh_more g = fresh_is ∙ ap (λ (x : Bool). not x && fresh s t (j - 1)) g
+  pub one_equal : (n k : ℕ) → k < n → EqualRecord s at eight two k → fresh s t n ≡ false
+  one_equal zero k l h = absurd (omega arith)
+  one_equal (suc n) k l h = elim (ℕ_discrete k n) [
+    | yes d ↦ ap (λ (j : ℕ). fresh s t (suc j)) (sym d) ∙ step_of k (words_same s b _ _ (h.0 ∙ e) (h.1 ∙ f))
+    | no d ↦ and_false (fresh s t n) _ (one_equal n k (omega arith) h)
+  ]
+    where
+      and_false : (a b : Bool) → a ≡ false → (b && a) ≡ false
+      and_false a true p = p
+      and_false a false p = refl
 
-pub fresh_end : (s : List ℕ) (t j : ℕ) → j ≤ 0 → true ≡ fresh s t j
-fresh_end s t zero h = refl
-fresh_end s t (suc j) h = absurd (omega arith)
+  -- `all` of the numbers below n
+  pub compared : (n : ℕ) (r : Bool) → MatchBool r (AllWithin (OtherRecord s at eight two) (range_with_len 0 n) 0 (length (range_with_len 0 n)))
+      ((k : ℕ) × (k < length (range_with_len 0 n)) × HoldsAt (EqualRecord s at eight two) (range_with_len 0 n) k)
+      → r ≡ fresh s t n
+  compared n true h = sym (all_other n (each_number n (OtherRecord s at eight two) h))
+  compared n false h = let k = some_number n (EqualRecord s at eight two) h in sym (one_equal n k.0 k.1 k.2)
 
 -- a group of m records, none of which has the eight bytes
 module _ (s : List ℕ) (b : Bytes s) (at t : ℕ) (T : TableAt s at t) where
@@ -65,8 +80,8 @@ module _ (s : List ℕ) (b : Bytes s) (at t : ℕ) (T : TableAt s at t) where
       let e : n + suc m ≡ suc (n + m) = omega arith in
       let p : at + 10 * n + 2 + 10 * m ≡ at + 10 * (n + m) + 2 = omega arith in
       ap (fresh s t) e ∙ (λ i. not (same_bytes s (sym (T.begins (n + m)) i) (sym (T.begins t) i) 10) && fresh s t (n + m))
-      ∙ ap (λ (x : Bool). not x && fresh s t (n + m)) (sym (eight_differ s b (at + 10 * (n + m)) (at + 10 * t) refl refl
-      (λ d. f m (omega arith) (ap (λ (x : ℕ). le_word s x 8) p ∙ d))))
+      ∙ ap (λ (x : Bool). not x && fresh s t (n + m)) (words_differ s b (at + 10 * (n + m)) (at + 10 * t)
+      (λ d q. f m (omega arith) (ap (λ (x : ℕ). le_word s x 8) p ∙ d)))
       ∙ past n m (λ k h. f k (omega arith))
 
   pub fresh_group : (j m : ℕ) {eight : ℕ} → eight ≡ le_word s (at + 10 * t + 2) 8 → m ≤ j
@@ -115,11 +130,13 @@ module _ (s : List ℕ) (c : Counts) (L : Laid s c) (t : ℕ) (l : t < types s) 
           (λ i. cond (lt-ltb t 2 low i) (base_ok s t) (function_ok s t && shallow s max_type_depth t && fresh s t t))
           ∙ sym (g ∙ ap (λ (x : TypeRecord). eqb x.kind t && eqb x.zero 0 && eqb x.arg 0 && eqb x.res 0 && eqb x.latent 0) read)
 
-      pub base_good : b ≡ true → Deep s t 0
-      base_good f = record { right = base_is ∙ f; deep = λ k. shallow_base s t k low ∙ sym (le-leb 0 k (omega arith)) }
-
-      pub base_bad : b ≡ false → type_ok s t ≡ false
-      base_bad f = base_is ∙ f
+      -- the depth that is answered
+      pub base_depth : {o : Option ℕ} → o ≡ then_some b 0 → DepthIs s t o
+      base_depth {o} h = subst (DepthIs s t) (sym h) (depth b refl)
+        where
+          depth : (a : Bool) → b ≡ a → DepthIs s t (then_some a 0)
+          depth true f = record { right = base_is ∙ f; deep = λ k. shallow_base s t k low ∙ sym (le-leb 0 k (omega arith)) }
+          depth false f = base_is ∙ f
 
     module _ (two : 2 ≤ t) {form : Bool} (g : form ≡ (eqb r.kind 2 && eqb r.zero 0 && ltb r.arg t && ltb r.res t)) where
       form_is : form ≡ function_ok s t

@@ -3,8 +3,8 @@
 use mathlib.Core.Bool.{Bool, true, false, ◌&&◌}
 use mathlib.Core.List.{List}
 use mathlib.Core.Path.{◌≡◌, refl, sym, ap, ◌∙◌}
-use Prim.Native.Nat.{ℕ, zero, suc, ◌+◌, ◌*◌, ◌-◌, ◌^◌, ◌<◌, ◌≤◌}
-use native.Mathlib.Nat.{pow-succ', pow-le-pow_right}
+use native.Mathlib.Decide.{ℕ_discrete}
+use Prim.Native.Nat.{ℕ, zero, suc, ◌+◌, ◌*◌, ◌^◌, ◌<◌}
 use native.Mathlib.Omega.{arith}
 use lib.Dec.{eqb}
 use borrow.Author.Tests.{eqb-true, eqb-false, eq-eqb, ne_eqb}
@@ -12,38 +12,38 @@ use Rattle.program.specs.Bytes.{byte, Bytes}
 use Rattle.program.specs.Decoding.{same_bytes}
 use Rattle.typerecords.specs.Internal.{le_word}
 
--- ---- a word, byte by byte from the last
--- w is the word of all but the first `left`
-pub record WordFrom (s : List ℕ) (at width left w : ℕ) : Type 0 where
-  pub below : left ≤ width
-  pub word_is : w ≡ le_word s (at + left) (width - left)
-
-pub word_none : (s : List ℕ) (at width : ℕ) → 0 ≡ le_word s (at + width) (width - width)
+-- ---- the library's numbers of eight and of two bytes
+word_step : (s : List ℕ) (i j n : ℕ) → i + 1 ≡ j → le_word s i (n + 1) ≡ byte s i + 256 * le_word s j n
 unfolding le_word
-word_none s at width = let e : 0 ≡ width - width = omega arith in ap (le_word s (at + width)) e
+word_step s i j n e =
+    let k : n + 1 ≡ suc n = omega arith in
+    ap (le_word s i) k ∙ ap (λ (x : ℕ). byte s i + 256 * le_word s x n) e
 
-module _ (s : List ℕ) (at width k : ℕ) {w : ℕ} (e : w ≡ le_word s (at + k) (width - k)) where
-  pub word_more : 0 < k → k ≤ width → byte s (at + (k - 1)) + 256 * w ≡ le_word s (at + (k - 1)) (width - (k - 1))
-  unfolding le_word
-  word_more h l =
-      let next : at + k ≡ at + (k - 1) + 1 = omega arith in
-      let more : suc (width - k) ≡ width - (k - 1) = omega arith in
-      ap (λ (x : ℕ). byte s (at + (k - 1)) + 256 * x) (e ∙ ap (λ (x : ℕ). le_word s x (width - k)) next) ∙ ap (le_word s (at + (k - 1))) more
-
-  pub word_all : k ≤ 0 → w ≡ le_word s at width
-  word_all h =
-      let here : at + k ≡ at = omega arith in
-      let whole : width - k ≡ width = omega arith in
-      e ∙ ap (λ (x : ℕ). le_word s x (width - k)) here ∙ ap (le_word s at) whole
-
--- of so many bytes it is below 256 to that power
-pub word_below : (s : List ℕ) → Bytes s → (i n : ℕ) → le_word s i n < 256 ^ n
+word_end : (s : List ℕ) (i : ℕ) → le_word s i 0 ≡ 0
 unfolding le_word
-word_below s b i zero = omega arith
-word_below s b i (suc n) = omega (arith, b.below i, word_below s b (i + 1) n, pow-succ' 256 n)
+word_end s i = refl
 
-pub word_fits : (s : List ℕ) → Bytes s → (i n : ℕ) → n ≤ 7 → le_word s i n < 256 ^ 7
-word_fits s b i n h = omega (arith, word_below s b i n, pow-le-pow_right {n = 256} (omega arith) {i = n} {j = 7} h)
+pub word_2 : (s : List ℕ) (i : ℕ) {x : ℕ} → x ≡ byte s i + byte s (i + 1) * 256 → x ≡ le_word s i 2
+word_2 s i e = omega (arith, e, word_step s i (i + 1) 1 refl, word_step s (i + 1) (i + 2) 0 (omega arith), word_end s (i + 2))
+
+pub word_8 : (s : List ℕ) (i : ℕ) {x : ℕ}
+    → x ≡ byte s i + byte s (i + 1) * 256 + byte s (i + 2) * 256 ^ 2 + byte s (i + 3) * 256 ^ 3 + byte s (i + 4) * 256 ^ 4 + byte s (i + 5) * 256 ^ 5
+    + byte s (i + 6) * 256 ^ 6 + byte s (i + 7) * 256 ^ 7
+    → x ≡ le_word s i 8
+word_8 s i e =
+    omega (
+      arith,
+      e,
+      word_step s i (i + 1) 7 refl,
+      word_step s (i + 1) (i + 2) 6 (omega arith),
+      word_step s (i + 2) (i + 3) 5 (omega arith),
+      word_step s (i + 3) (i + 4) 4 (omega arith),
+      word_step s (i + 4) (i + 5) 3 (omega arith),
+      word_step s (i + 5) (i + 6) 2 (omega arith),
+      word_step s (i + 6) (i + 7) 1 (omega arith),
+      word_step s (i + 7) (i + 8) 0 (omega arith),
+      word_end s (i + 8),
+    )
 
 -- ---- bytes in two parts
 and_assoc : (a b c : Bool) → (a && (b && c)) ≡ ((a && b) && c)
@@ -95,20 +95,12 @@ pub same_record : (s : List ℕ) → Bytes s → (i j : ℕ)
 same_record s b i j = same_split s i j 2 8 ∙ (λ k. same_word s b (i + 2) (j + 2) 8 k && same_word s b i j 2 k)
 
 -- ---- what a comparison by words finds of two records
-module _ (s : List ℕ) (b : Bytes s) (i j : ℕ) {x y : ℕ} (ex : x ≡ le_word s (i + 2) 8) (ey : y ≡ le_word s (j + 2) 8) where
-  pub eight_differ : (x ≡ y → ⊥) → false ≡ same_bytes s i j 10
-  eight_differ n =
-      sym (same_record s b i j ∙ ap (λ (z : Bool). z && eqb (le_word s i 2) (le_word s j 2))
-      (ne_eqb (le_word s (i + 2) 8) (le_word s (j + 2) 8) (λ e. n (ex ∙ e ∙ sym ey))))
+module _ (s : List ℕ) (b : Bytes s) (i j : ℕ) where
+  pub words_differ : (le_word s (i + 2) 8 ≡ le_word s (j + 2) 8 → le_word s i 2 ≡ le_word s j 2 → ⊥) → same_bytes s i j 10 ≡ false
+  words_differ n = same_record s b i j ∙ elim (ℕ_discrete (le_word s (i + 2) 8) (le_word s (j + 2) 8)) [
+    | yes e ↦ ap (λ (z : Bool). z && eqb (le_word s i 2) (le_word s j 2)) (eq-eqb _ _ e) ∙ ne_eqb (le_word s i 2) (le_word s j 2) (n e)
+    | no d ↦ ap (λ (z : Bool). z && eqb (le_word s i 2) (le_word s j 2)) (ne_eqb _ _ d)
+  ]
 
-  module _ {u v : ℕ} (same : x ≡ y) (eu : u ≡ le_word s i 2) (ev : v ≡ le_word s j 2) where
-    two_left : same_bytes s i j 10 ≡ eqb (le_word s i 2) (le_word s j 2)
-    two_left =
-        same_record s b i j ∙ ap (λ (z : Bool). z && eqb (le_word s i 2) (le_word s j 2))
-        (eq-eqb (le_word s (i + 2) 8) (le_word s (j + 2) 8) (sym ex ∙ same ∙ ey))
-
-    pub two_differ : (u ≡ v → ⊥) → false ≡ same_bytes s i j 10
-    two_differ n = sym (two_left ∙ ne_eqb (le_word s i 2) (le_word s j 2) (λ e. n (eu ∙ e ∙ sym ev)))
-
-    pub two_same : u ≡ v → true ≡ same_bytes s i j 10
-    two_same e = sym (two_left ∙ eq-eqb (le_word s i 2) (le_word s j 2) (sym eu ∙ e ∙ ev))
+  pub words_same : le_word s (i + 2) 8 ≡ le_word s (j + 2) 8 → le_word s i 2 ≡ le_word s j 2 → same_bytes s i j 10 ≡ true
+  words_same e f = same_record s b i j ∙ (λ k. eq-eqb _ _ e k && eq-eqb _ _ f k)

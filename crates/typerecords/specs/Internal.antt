@@ -1,23 +1,16 @@
 -- What the contracts of the functions that look at type records for the decoder say. No reader of the public promise needs this file.
-use Rattle.std.specs.Prelude.{true, false, List, ◌≡◌, ℕ, zero, suc, ◌+◌, ◌*◌, ◌<◌, ◌≤◌, leb, length, get_or}
+use Rattle.std.specs.Prelude.{true, false, Option, Some, None, List, ◌≡◌, ℕ, zero, suc, ◌+◌, ◌*◌, ◌<◌, ◌≤◌, leb, length, get_or}
 use Rattle.program.specs.Limits.{max_principals}
 use Rattle.program.specs.Bytes.{byte}
 use Rattle.program.specs.Layout.{types, type_at}
 use Rattle.program.specs.Decoding.{shallow, type_ok}
 use Rattle.program.specs.declared.records.Counts.{Counts}
 use Rattle.accessors.specs.Internal.{Laid}
-use Rattle.typerecords.specs.declared.Depth.{Depth}
-use Rattle.typerecords.specs.declared.Depth.TheVariants.{Is, Fault as DepthFault}
 
 -- so many bytes as one number, lowest first
 unfoldable pub le_word : List ℕ → (at width : ℕ) → ℕ
 le_word s i zero = 0
 le_word s i (suc n) = byte s i + 256 * le_word s (i + 1) n
-
--- so many bytes lie in the sheet, and a number of 64 bits has room for them
-pub record WordAt (s : List ℕ) (at width : ℕ) : Type 0 where
-  pub inside : at + width ≤ length s
-  pub short : width ≤ 8
 
 -- the type table begins at `at`, and the record of type t lies in the sheet
 pub record TableAt (s : List ℕ) (at t : ℕ) : Type 0 where
@@ -45,6 +38,7 @@ pub record Deep (s : List ℕ) (t d : ℕ) : Type 0 where
   pub right : type_ok s t ≡ true
   pub deep : (k : ℕ) → shallow s k t ≡ leb d k
 
-abbrev pub DepthIs : List ℕ → ℕ → Depth → Type 0
-DepthIs s t (Is d) = Deep s t d
-DepthIs s t DepthFault = type_ok s t ≡ false
+-- the depth that is answered, or none for a record at fault
+abbrev pub DepthIs : List ℕ → ℕ → Option ℕ → Type 0
+DepthIs s t (Some d) = Deep s t d
+DepthIs s t None = type_ok s t ≡ false

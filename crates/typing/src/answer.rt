@@ -14,17 +14,46 @@ pub enum Fault {
     Branches(u16),
 }
 
-// The type and needs of a term, or the first fault in it.
+// The type and needs of a term in which no fault was found. A judgement is a `Result<Typed, Fault>`, with the first fault in the term.
 #[derive(Clone, Copy)]
-pub enum Inferred {
-    Typed { ty: u16, needs: u32 },
-    Faulty(Fault),
+pub struct Typed {
+    pub ty: u16,
+    pub needs: u32,
 }
 
-// The verdict on a sheet: accepted with its number of terms and its root's type and needs, or refused by the reader or by the rules.
+// An accepted sheet: its number of terms, and its root's type and needs.
 #[derive(Clone, Copy)]
-pub enum Verdict {
-    Accepted { terms: u16, ty: u16, needs: u32 },
+pub struct Accepted {
+    pub terms: u16,
+    pub ty: u16,
+    pub needs: u32,
+}
+
+// Why a sheet is not accepted: the reader refuses it, or the rules do. The verdict on a sheet is a `Result<Accepted, Rejection>`.
+#[derive(Clone, Copy)]
+pub enum Rejection {
     Unreadable(Refusal),
     Refused(Fault),
+}
+
+impl From<Refusal> for Rejection {
+    ghost use Rattle.std.specs.Prelude.{◌≡◌};
+    ghost use Rattle.typing.specs.declared.answer.Rejection.TheVariants.{Unreadable};
+
+    ghost from_gives = { λ refusal r. r ≡ Unreadable refusal };
+
+    fn from(refusal: Refusal) -> Rejection {
+        Rejection::Unreadable(refusal)
+    }
+}
+
+impl From<Fault> for Rejection {
+    ghost use Rattle.std.specs.Prelude.{◌≡◌};
+    ghost use Rattle.typing.specs.declared.answer.Rejection.TheVariants.{Refused};
+
+    ghost from_gives = { λ fault r. r ≡ Refused fault };
+
+    fn from(fault: Fault) -> Rejection {
+        Rejection::Refused(fault)
+    }
 }

@@ -3,7 +3,6 @@ ghost use Rattle.std.specs.Prelude.{◌≡◌, ◌+◌, ◌*◌, length};
 ghost use Rattle.program.specs.Limits.{max_terms, max_sheet, max_start, max_cells, max_posts, frame_numbers};
 
 use program::limits::{FRAME_NUMBERS, MAX_CELLS, MAX_POSTS, MAX_SHEET, MAX_START, TERM_PLACES};
-use std::num::{wrapping_add_u8, wrapping_add_u32, wrapping_sub_u32};
 
 // Room for the largest of each, and more: what is too long must be refused. The contracts say that the code's limits are those of the definitions.
 pub const START_ROOM: usize = MAX_START + 8;
@@ -18,6 +17,7 @@ pub const FRAME_ROOM: usize = FRAME_NUMBERS + 1;
 
 pub const PAIR_ROOM: usize = 2 * TERM_PLACES + 2;
 
+// One function for each buffer, since each length is tied to its own definition by a clause.
 pub fn start_buffer() -> [u32; START_ROOM]
     ensures { max_start + 8 ≡ length result }
 {
@@ -54,25 +54,24 @@ pub fn pair_buffer() -> [u16; PAIR_ROOM]
     [0; PAIR_ROOM]
 }
 
+// The bytes 1, 8, 15 and so on. One function for these and for numbers would need a trait for the wrapping sum, which is no plainer.
 pub fn fill_cells(a: &mut [u8]) {
-    let mut v = 1;
-    let mut i = 0;
-    while i < a.len() {
-        a[i] = v;
-        v = wrapping_add_u8(v, 7);
-        i += 1;
-    }
+    let mut next: u8 = 1;
+    a.fill_with(|| {
+        let v = next;
+        next = v.wrapping_add(7);
+        v
+    });
 }
 
 // Numbers from the first one on, each by a step more.
 pub fn fill_numbers(a: &mut [u32], first: u32, step: u32) {
-    let mut v = first;
-    let mut i = 0;
-    while i < a.len() {
-        a[i] = v;
-        v = wrapping_add_u32(v, step);
-        i += 1;
-    }
+    let mut next = first;
+    a.fill_with(|| {
+        let v = next;
+        next = v.wrapping_add(step);
+        v
+    });
 }
 
 // All that a lazy run is lent.
@@ -82,35 +81,12 @@ pub fn fill_all(cells: &mut [u8], posts: &mut [u32], frames: &mut [u32]) {
     fill_numbers(frames, 5, 1);
 }
 
-// 31 times the sum, and x.
-fn mixed(h: u32, x: u32) -> u32 {
-    wrapping_add_u32(wrapping_sub_u32(h << 5, h), x)
-}
-
-fn wide8(x: u8) -> u32 {
-    x as u32
-}
-
-pub fn mix_cells(h: u32, a: &[u8]) -> u32 {
-    let mut sum = h;
-    let mut i = 0;
-    while i < a.len() {
-        sum = mixed(sum, wide8(a[i]));
-        i += 1;
-    }
-    sum
-}
-
-pub fn mix_numbers(h: u32, a: &[u32]) -> u32 {
-    let mut sum = h;
-    let mut i = 0;
-    while i < a.len() {
-        sum = mixed(sum, a[i]);
-        i += 1;
-    }
-    sum
+// The sum h taken on over a list: for each entry 31 times the sum, and the entry.
+pub fn mix<T: Copy + Into<u32>>(h: u32, a: &[T]) -> u32 {
+    a.iter()
+        .fold(h, |sum, &x| sum.wrapping_mul(31).wrapping_add(x.into()))
 }
 
 pub fn mix_all(cells: &[u8], posts: &[u32], frames: &[u32]) -> u32 {
-    mix_numbers(mix_numbers(mix_cells(0, cells), posts), frames)
+    mix(mix(mix(0, cells), posts), frames)
 }

@@ -9,10 +9,8 @@ fn word(rt: &impl Print, x: u32) {
 fn answer(rt: &impl Print, name: &[u8], status: u32, numbers: &[u32]) {
     let _ = rt.write_all(name);
     word(rt, status);
-    let mut i = 0;
-    while i < numbers.len() {
-        word(rt, numbers[i]);
-        i += 1;
+    for &x in numbers {
+        word(rt, x);
     }
 }
 

@@ -5,10 +5,10 @@
 use replies::{ANSWER_NUMBERS, LONG_ANSWER};
 use std::io::Read;
 use vector_io::buffers::{
-    PAIR_ROOM, cell_buffer, fill_all, fill_cells, fill_numbers, frame_buffer, mix_all, mix_cells,
-    mix_numbers, pair_buffer, post_buffer, sheet_buffer, start_buffer,
+    PAIR_ROOM, cell_buffer, fill_all, fill_cells, fill_numbers, frame_buffer, mix, mix_all,
+    pair_buffer, post_buffer, sheet_buffer, start_buffer,
 };
-use vector_io::input::{Vector, least, read_pairs, read_start, read_vector};
+use vector_io::input::{Vector, read_pairs, read_start, read_vector};
 use vector_io::output::{line, run_line};
 
 // What is told without a run; of a piece also the sum of the bytes that are handed back.
@@ -19,20 +19,26 @@ fn judgements(rt: &impl Print, sheet: &[u8], term: u32) {
     let r2 = capi_base::typecheck(sheet, &mut answer);
     line(rt, b"typecheck", r2, &answer);
     let r3 = capi_piece::piece(sheet, &mut answer);
-    let h = mix_cells(0, piece::record_of(sheet));
+    let h = mix(0, piece::record_of(sheet));
     run_line(rt, b"piece", r3, &answer, h);
     let r4 = capi_term::term(sheet, term, &mut answer);
     line(rt, b"term", r4, &answer);
 }
 
-// An eager run on filled buffers of the lengths asked for.
+// What each run of a vector is asked for.
+#[derive(Clone, Copy)]
+struct Request<'a> {
+    sheet: &'a [u8],
+    start: &'a [u32],
+    calls: u32,
+    depth: u32,
+}
+
+// An eager run on filled buffers of the lengths asked for. Each entry for C has a function here: they differ in the entry and in what it is lent.
 fn eager(
     rt: &impl Print,
     name: &[u8],
-    sheet: &[u8],
-    start: &[u32],
-    calls: u32,
-    depth: u32,
+    q: Request<'_>,
     enforce: u32,
     cells: &mut [u8],
     posts: &mut [u32],
@@ -41,16 +47,16 @@ fn eager(
     fill_numbers(posts, 2, 3);
     let mut answer = [0u32; ANSWER_NUMBERS];
     let r = capi_base::eager(
-        sheet,
-        start,
-        calls,
-        depth,
+        q.sheet,
+        q.start,
+        q.calls,
+        q.depth,
         enforce,
         cells,
         posts,
         &mut answer,
     );
-    let h = mix_numbers(mix_cells(0, cells), posts);
+    let h = mix(mix(0, cells), posts);
     run_line(rt, name, r, &answer, h);
 }
 
@@ -58,10 +64,7 @@ fn eager(
 fn lazy(
     rt: &impl Print,
     name: &[u8],
-    sheet: &[u8],
-    start: &[u32],
-    calls: u32,
-    depth: u32,
+    q: Request<'_>,
     enforce: u32,
     cells: &mut [u8],
     posts: &mut [u32],
@@ -70,10 +73,10 @@ fn lazy(
     fill_all(cells, posts, frames);
     let mut answer = [0u32; ANSWER_NUMBERS];
     let r = capi_base::lazy(
-        sheet,
-        start,
-        calls,
-        depth,
+        q.sheet,
+        q.start,
+        q.calls,
+        q.depth,
         enforce,
         cells,
         posts,
@@ -88,10 +91,7 @@ fn lazy(
 fn record_eager(
     rt: &impl Print,
     name: &[u8],
-    sheet: &[u8],
-    start: &[u32],
-    calls: u32,
-    depth: u32,
+    q: Request<'_>,
     enforce: u32,
     cells: &mut [u8],
     posts: &mut [u32],
@@ -101,27 +101,24 @@ fn record_eager(
     let mut noted = [6u8; 42];
     let mut answer = [0u32; LONG_ANSWER];
     let r = capi_record::eager(
-        sheet,
-        start,
-        calls,
-        depth,
+        q.sheet,
+        q.start,
+        q.calls,
+        q.depth,
         enforce,
         cells,
         posts,
         &mut noted,
         &mut answer,
     );
-    let h = mix_cells(mix_numbers(mix_cells(0, cells), posts), &noted);
+    let h = mix(mix(mix(0, cells), posts), &noted);
     run_line(rt, name, r, &answer, h);
 }
 
 fn record_lazy(
     rt: &impl Print,
     name: &[u8],
-    sheet: &[u8],
-    start: &[u32],
-    calls: u32,
-    depth: u32,
+    q: Request<'_>,
     enforce: u32,
     cells: &mut [u8],
     posts: &mut [u32],
@@ -131,10 +128,10 @@ fn record_lazy(
     let mut noted = [6u8; 42];
     let mut answer = [0u32; LONG_ANSWER];
     let r = capi_record::lazy(
-        sheet,
-        start,
-        calls,
-        depth,
+        q.sheet,
+        q.start,
+        q.calls,
+        q.depth,
         enforce,
         cells,
         posts,
@@ -142,7 +139,7 @@ fn record_lazy(
         &mut noted,
         &mut answer,
     );
-    let h = mix_cells(mix_all(cells, posts, frames), &noted);
+    let h = mix(mix_all(cells, posts, frames), &noted);
     run_line(rt, name, r, &answer, h);
 }
 
@@ -150,11 +147,8 @@ fn record_lazy(
 fn ranging(
     rt: &impl Print,
     name: &[u8],
-    sheet: &[u8],
+    q: Request<'_>,
     pairs: &[u16],
-    start: &[u32],
-    calls: u32,
-    depth: u32,
     enforce: u32,
     cells: &mut [u8],
     posts: &mut [u32],
@@ -163,202 +157,56 @@ fn ranging(
     fill_numbers(posts, 2, 3);
     let mut answer = [0u32; ANSWER_NUMBERS];
     let r = capi_ranges::ranges(
-        sheet,
+        q.sheet,
         pairs,
-        start,
-        calls,
-        depth,
+        q.start,
+        q.calls,
+        q.depth,
         enforce,
         cells,
         posts,
         &mut answer,
     );
-    let h = mix_numbers(mix_cells(0, cells), posts);
+    let h = mix(mix(0, cells), posts);
     run_line(rt, name, r, &answer, h);
 }
 
 // Both ways to treat checks: in force, then passed over.
-fn eagers(
-    rt: &impl Print,
-    sheet: &[u8],
-    start: &[u32],
-    calls: u32,
-    depth: u32,
-    cells: &mut [u8],
-    posts: &mut [u32],
-) {
-    eager(rt, b"eager", sheet, start, calls, depth, 1, cells, posts);
-    eager(
-        rt,
-        b"eager-skip",
-        sheet,
-        start,
-        calls,
-        depth,
-        0,
-        cells,
-        posts,
-    );
-    record_eager(
-        rt,
-        b"eager-record",
-        sheet,
-        start,
-        calls,
-        depth,
-        1,
-        cells,
-        posts,
-    );
-    record_eager(
-        rt,
-        b"eager-record-skip",
-        sheet,
-        start,
-        calls,
-        depth,
-        0,
-        cells,
-        posts,
-    );
-}
-
-fn recorded_lazies(
-    rt: &impl Print,
-    sheet: &[u8],
-    start: &[u32],
-    calls: u32,
-    depth: u32,
-    cells: &mut [u8],
-    posts: &mut [u32],
-    frames: &mut [u32],
-) {
-    record_lazy(
-        rt,
-        b"lazy-record",
-        sheet,
-        start,
-        calls,
-        depth,
-        1,
-        cells,
-        posts,
-        frames,
-    );
-    record_lazy(
-        rt,
-        b"lazy-record-skip",
-        sheet,
-        start,
-        calls,
-        depth,
-        0,
-        cells,
-        posts,
-        frames,
-    );
+fn eagers(rt: &impl Print, q: Request<'_>, cells: &mut [u8], posts: &mut [u32]) {
+    eager(rt, b"eager", q, 1, cells, posts);
+    eager(rt, b"eager-skip", q, 0, cells, posts);
+    record_eager(rt, b"eager-record", q, 1, cells, posts);
+    record_eager(rt, b"eager-record-skip", q, 0, cells, posts);
 }
 
 fn lazies(
     rt: &impl Print,
-    sheet: &[u8],
-    start: &[u32],
-    calls: u32,
-    depth: u32,
+    q: Request<'_>,
     cells: &mut [u8],
     posts: &mut [u32],
     frames: &mut [u32],
 ) {
-    lazy(
-        rt, b"lazy", sheet, start, calls, depth, 1, cells, posts, frames,
-    );
-    lazy(
-        rt,
-        b"lazy-skip",
-        sheet,
-        start,
-        calls,
-        depth,
-        0,
-        cells,
-        posts,
-        frames,
-    );
-    recorded_lazies(rt, sheet, start, calls, depth, cells, posts, frames);
+    lazy(rt, b"lazy", q, 1, cells, posts, frames);
+    lazy(rt, b"lazy-skip", q, 0, cells, posts, frames);
+    record_lazy(rt, b"lazy-record", q, 1, cells, posts, frames);
+    record_lazy(rt, b"lazy-record-skip", q, 0, cells, posts, frames);
 }
 
-// The same, by the pairs that the input has next.
-fn rangings(
-    rt: &impl Print,
-    input: &mut impl Read,
-    pairs: &mut [u16],
-    sheet: &[u8],
-    start: &[u32],
-    calls: u32,
-    depth: u32,
-    cells: &mut [u8],
-    posts: &mut [u32],
-) {
-    read_pairs(input, pairs);
-    ranging(
-        rt, b"ranges", sheet, pairs, start, calls, depth, 1, cells, posts,
-    );
-    ranging(
-        rt,
-        b"ranges-skip",
-        sheet,
-        pairs,
-        start,
-        calls,
-        depth,
-        0,
-        cells,
-        posts,
-    );
-}
-
-// On a part of the largest list.
+// The same over ranges, by the pairs that the input has next, on a part of the largest list.
 fn over_intervals(
     rt: &impl Print,
     input: &mut impl Read,
     numbers: usize,
-    sheet: &[u8],
-    start: &[u32],
-    calls: u32,
-    depth: u32,
+    q: Request<'_>,
     cells: &mut [u8],
     posts: &mut [u32],
 ) {
-    let mut pairs = pair_buffer();
-    let used = least(numbers, PAIR_ROOM);
-    rangings(
-        rt,
-        input,
-        &mut pairs[..used],
-        sheet,
-        start,
-        calls,
-        depth,
-        cells,
-        posts,
-    );
-}
-
-fn runs(
-    rt: &impl Print,
-    input: &mut impl Read,
-    v: Vector,
-    sheet: &[u8],
-    start: &[u32],
-    cells: &mut [u8],
-    posts: &mut [u32],
-    frames: &mut [u32],
-) {
-    eagers(rt, sheet, start, v.calls, v.depth, cells, posts);
-    lazies(rt, sheet, start, v.calls, v.depth, cells, posts, frames);
-    over_intervals(
-        rt, input, v.pairs, sheet, start, v.calls, v.depth, cells, posts,
-    );
+    let mut room = pair_buffer();
+    let used = numbers.min(PAIR_ROOM);
+    let pairs = &mut room[..used];
+    read_pairs(input, pairs);
+    ranging(rt, b"ranges", q, pairs, 1, cells, posts);
+    ranging(rt, b"ranges-skip", q, pairs, 0, cells, posts);
 }
 
 // One vector, on buffers of the lengths that it asks for.
@@ -375,7 +223,15 @@ fn vector(
     read_start(input, start);
     let _ = input.read_exact(sheet);
     judgements(rt, sheet, v.term);
-    runs(rt, input, v, sheet, start, cells, posts, frames);
+    let q = Request {
+        sheet,
+        start,
+        calls: v.calls,
+        depth: v.depth,
+    };
+    eagers(rt, q, cells, posts);
+    lazies(rt, q, cells, posts, frames);
+    over_intervals(rt, input, v.pairs, q, cells, posts);
 }
 
 // The next vector, on parts of the largest buffers; false at the end of the input.
@@ -388,17 +244,16 @@ fn next(
     posts: &mut [u32],
     frames: &mut [u32],
 ) -> bool {
-    let v = read_vector(
+    let Ok(v) = read_vector(
         input,
         start.len(),
         sheet.len(),
         cells.len(),
         posts.len(),
         frames.len(),
-    );
-    if !v.whole {
+    ) else {
         return false;
-    }
+    };
     let numbers = v.start;
     let bytes = v.sheet;
     let cell_bytes = v.cells;
@@ -437,11 +292,12 @@ fn one(rt: &impl Print, input: &mut impl Read) -> bool {
 // More vectors than are recorded.
 const MAX_VECTORS: u64 = 65536;
 
-// The loop counts its turns down, since nothing says that the input ends.
+// The turns are counted, since nothing says that the input ends.
 fn main(rt: HostRuntime) {
     let mut input = rt.reader();
-    let mut turns = MAX_VECTORS;
-    while 0 < turns && one(&rt, &mut input) {
-        turns -= 1;
+    for _ in 0..MAX_VECTORS {
+        if !one(&rt, &mut input) {
+            break;
+        }
     }
 }

@@ -357,11 +357,16 @@ fn quoted(text: &str) -> impl Iterator<Item = &str> {
     text.split('`').skip(1).step_by(2)
 }
 
-/// Whether `crate::module::item`, which may have parameters, is in its module.
+/// Whether `crate::module::item`, which may have parameters, is in its module;
+/// or, as `crate::module::Type::item`, among the functions of a type there.
 fn item_exists(path: &str) -> bool {
     let path = path.split('(').next().unwrap();
     let Some((module, item)) = path.rsplit_once("::") else {
         return false;
+    };
+    let (module, owner) = match module.rsplit_once("::") {
+        Some((module, owner)) if owner.starts_with(char::is_uppercase) => (module, Some(owner)),
+        _ => (module, None),
     };
     let (crate_name, files) = match module.split_once("::") {
         Some((crate_name, file)) => (crate_name, vec![file]),
@@ -370,8 +375,32 @@ fn item_exists(path: &str) -> bool {
     let folder = repository().join("crates").join(crate_name).join("src");
     let paths = files.iter().map(|file| folder.join(format!("{file}.rt")));
     let mut texts = paths.filter_map(|path| fs::read_to_string(path).ok());
-    let kinds = ["fn", "mod", "struct", "enum", "const"].map(|kind| format!("{kind} {item}"));
-    texts.any(|text| kinds.iter().any(|kind| has_word(&text, kind)))
+    let kinds = ["fn", "mod", "struct", "enum", "type", "const"];
+    let kinds = kinds.map(|kind| format!("{kind} {item}"));
+    texts.any(|text| {
+        let text = match owner {
+            Some(owner) => functions_of(&text, owner),
+            None => text,
+        };
+        kinds.iter().any(|kind| has_word(&text, kind))
+    })
+}
+
+/// The `impl` blocks of a type.
+fn functions_of(text: &str, owner: &str) -> String {
+    let blocks = impls(text).filter(|(name, _)| *name == owner);
+    blocks.map(|(_, block)| block).collect()
+}
+
+/// The `impl` blocks of a file, each with its type.
+fn impls(text: &str) -> impl Iterator<Item = (&str, &str)> {
+    let blocks = text.split("\nimpl").skip(1);
+    let blocks = blocks.map(|block| block.split_once("\n}").map_or(block, |(block, _)| block));
+    blocks.filter_map(|block| {
+        let (head, _) = block.split_once(" {")?;
+        let name = head.rsplit(' ').next()?;
+        Some((name.split('<').next()?, block))
+    })
 }
 
 /// The texts that a name may stand in: the file of the crate, of definitions
@@ -401,15 +430,24 @@ fn requiring(crate_folder: &Path) -> Vec<String> {
             file => format!("{}::{file}", name(crate_folder)),
         };
         let text = fs::read_to_string(&source).expect("a text");
-        let functions = text.split("\npub fn ").skip(1);
-        for head in functions.filter_map(|text| text.split("\n{\n").next()) {
-            if head.contains("\n    requires ") {
-                let function = head.split(['(', '<']).next().unwrap();
-                paths.push(format!("{module}::{function}"));
-            }
+        paths.extend(requiring_in(&text, "").map(|function| format!("{module}::{function}")));
+        for (owner, block) in impls(&text) {
+            let functions = requiring_in(block, "    ");
+            paths.extend(functions.map(|function| format!("{module}::{owner}::{function}")));
         }
     }
     paths
+}
+
+/// The public functions of a text, at this depth, that have a `requires`.
+fn requiring_in<'a>(text: &'a str, depth: &str) -> impl Iterator<Item = &'a str> {
+    let body = format!("\n{depth}{{\n");
+    let clause = format!("\n{depth}    requires ");
+    let start = format!("\n{depth}pub fn ");
+    let heads = text.split(&start).skip(1);
+    let heads: Vec<&str> = heads.filter_map(|text| text.split(&body).next()).collect();
+    let heads = heads.into_iter().filter(move |head| head.contains(&clause));
+    heads.map(|head| head.split(['(', '<']).next().unwrap())
 }
 
 /// The texts in this folder of every crate.

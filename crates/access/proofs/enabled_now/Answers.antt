@@ -3,13 +3,13 @@ use Rattle.std.proofs.Common.{refl}
 use Rattle.access.proofs.AccessLaws.{enabled_lazy, enabled_eager}
 use Rattle.access.proofs.enabled_now.Goals as goal
 
-pub returns-then-lazy_mode : goal.returns-then-lazy_mode
-returns-then-lazy_mode c =
+pub returns-then-lazy : goal.returns-then-lazy
+returns-then-lazy c =
     record {
-      answer_is = enabled_lazy _ _ _ c.lazy_mode.ensures c.if-lazy_mode.true c.first_enabled.ensures
+      answer_is = enabled_lazy _ _ _ c.if-lazy.true c.first_enabled.ensures
           c.number_at.ensures;
       store_is = refl;
     }
 
 pub returns : goal.returns
-returns c = record { answer_is = enabled_eager _ _ _ c.lazy_mode.ensures c.if-lazy_mode.false; store_is = refl }
+returns c = record { answer_is = enabled_eager _ _ _ c.if-lazy.false; store_is = refl }

@@ -5,4 +5,4 @@ use Rattle.access.proofs.AccessLaws.{last_of_lem}
 use Rattle.access.proofs.first_enabled.Goals as goal
 
 pub returns : goal.returns
-returns c = last_of_lem _ _ (omega arith) (omega (arith, c.low.ensures)) c.wrapping_sub_usize.ensures.value ∙ ap last_of c.low.ensures
+returns c = last_of_lem _ (omega (arith, c.low.ensures)) ∙ ap last_of c.low.ensures

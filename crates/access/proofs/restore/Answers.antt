@@ -2,10 +2,10 @@
 use Rattle.access.proofs.AccessLaws.{restore_lazy, restore_eager}
 use Rattle.access.proofs.restore.Goals as goal
 
-pub returns-then-lazy_mode : goal.returns-then-lazy_mode
-returns-then-lazy_mode c =
-    restore_lazy _ _ _ c.lazy_mode.ensures c.if-lazy_mode.true c.first_enabled.ensures _
+pub returns-then-lazy : goal.returns-then-lazy
+returns-then-lazy c =
+    restore_lazy _ _ _ c.if-lazy.true c.first_enabled.ensures _
     c.put_number.ensures
 
-pub returns-else-lazy_mode : goal.returns-else-lazy_mode
-returns-else-lazy_mode c = restore_eager _ _ _ c.lazy_mode.ensures c.if-lazy_mode.false _
+pub returns-else-lazy : goal.returns-else-lazy
+returns-else-lazy c = restore_eager _ _ _ c.if-lazy.false _

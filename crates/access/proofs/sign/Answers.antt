@@ -2,12 +2,12 @@
 use Rattle.access.proofs.AccessLaws.{sign_lazy, sign_eager}
 use Rattle.access.proofs.sign.Goals as goal
 
-pub returns-then-lazy_mode : goal.returns-then-lazy_mode
-returns-then-lazy_mode c =
-    sign_lazy _ _ _ c.lazy_mode.ensures c.if-lazy_mode.true _ c.low-at.ensures c.put_number.ensures
-    c.put_number-then-lazy_mode.ensures
+pub returns-then-lazy : goal.returns-then-lazy
+returns-then-lazy c =
+    sign_lazy _ _ _ c.if-lazy.true _ c.low-at.ensures c.put_number.ensures
+    c.put_number-then-lazy.ensures
 
 pub returns : goal.returns
 returns c =
-    sign_eager _ _ _ c.lazy_mode.ensures c.if-lazy_mode.false _ c.high.ensures c.meet.ensures
+    sign_eager _ _ _ c.if-lazy.false _ c.high.ensures c.meet.ensures
     c.pair.ensures

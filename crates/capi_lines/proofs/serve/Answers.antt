@@ -9,11 +9,11 @@ use Rattle.capi_lines.proofs.serve.Goals as goal
 
 pub of_served-requires : goal.of_served-requires
 of_served-requires c =
-    small_answer (lines_model c.load-old.result) c.args.store.now (buffers_of c.args.cells.now c.args.posts.now [])
-    c.serve-r.result c.serve-r.ensures
+    small_answer (lines_model c.load-lines.result) c.args.store.now (buffers_of c.args.cells.now c.args.posts.now [])
+    c.serve-served.result c.serve-served.new.lines c.serve-served.ensures
 
 pub returns : goal.returns
 returns c =
-    serve_given c.args.state.now c.args.answer.now c.args.store.now c.if-state-ne-STATE_NUMBERS.false c.if-answer-lt-LONG_ANSWER.false
-    (buffers_of c.args.cells.now c.args.posts.now []) c.load-old.result c.load-old.ensures c.serve-r.result
-    c.serve-r.ensures c.keep_served.ensures c.of_served.ensures c.put-status.ensures
+    rw c.line_of.ensures (serve_given c.args.state.now c.args.answer.now c.args.store.now c.if-state-ne-STATE_NUMBERS.false c.if-answer-lt-LONG_ANSWER.false
+    (buffers_of c.args.cells.now c.args.posts.now []) c.load-lines.result c.load-lines.ensures c.serve-served.result c.serve-served.new.lines
+    c.serve-served.ensures c.keep_served.ensures c.of_served.ensures c.put-status.ensures)

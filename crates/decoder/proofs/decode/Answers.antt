@@ -1,15 +1,13 @@
 -- A fault of the fields is the first condition that is found (header_found). Where they have none, none of their conditions is found, so that
 -- screening the tables tells what screening the whole sheet tells (tables_found).
-use Rattle.decoder.proofs.DecodeLaws.{header_found, header_laid, tables_found}
+use Rattle.std.proofs.lemmas.Result.{err_from_is_err_and}
+use Rattle.decoder.proofs.DecodeLaws.{header_found, tables_found}
 use Rattle.decoder.proofs.decode.Goals as goal
 
-pub decode_tables-requires : goal.decode_tables-requires
-decode_tables-requires c = header_laid c.args.sheet.now c.in-Laid.is c.read_header.ensures
+pub returns-in_err-c : goal.returns-in_err-c
+returns-in_err-c c =
+    let p = err_from_is_err_and c.from_residual.result c.from_residual.ensures.1 in
+    rw (p.1, p.2) (record { answer_is = header_found c.args.sheet.now _ c.in_err-c.ensures; counts_are = tt })
 
-pub returns-in-Fault : goal.returns-in-Fault
-returns-in-Fault c = record { answer_is = header_found c.args.sheet.now c.in-Fault.is c.read_header.ensures; counts_are = tt }
-
-pub returns-in-Laid : goal.returns-in-Laid
-returns-in-Laid c =
-    tables_found c.args.sheet.now (header_laid c.args.sheet.now c.in-Laid.is c.read_header.ensures)
-    c.decode_tables.ensures
+pub returns : goal.returns
+returns c = tables_found c.args.sheet.now c.in_ok-c.ensures c.decode_tables.ensures

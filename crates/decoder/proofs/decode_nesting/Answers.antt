@@ -1,11 +1,10 @@
 -- Since the places are right, every parent is higher than its child (rising_at), and the search in the list of nestings is the search for the lowest term
 -- nested deeper than 32 (deep_at). A term found is refusal 8; with none found, that is what `decode_guards` requires, and its answer is the answer.
-use mathlib.Core.Path.{◌∙◌}
+use mathlib.Core.Path.{sym, ◌∙◌}
 use native.Mathlib.Omega.{arith}
 use Rattle.program.proofs.Laws.Readable.{fields_ok}
 use Rattle.decoder.proofs.NestingLaws.{rising_at, deep_at}
-use Rattle.program.proofs.Laws.Order.{found_8}
-use Rattle.decoder.proofs.DecodeLaws.{found_at, found_none}
+use Rattle.decoder.proofs.DecodeLaws.{nesting_told}
 use Rattle.decoder.proofs.decode_nesting.Goals as goal
 
 pub nestings-deep-requires : goal.nestings-deep-requires
@@ -27,18 +26,15 @@ decode_guards-requires c =
     record {
       tables = c.requires.tables;
       places_ok = c.requires.places_ok.none_found;
-      nesting_ok = found_none c.in-Nothing.is (c.too_deep.ensures ∙ deep_at c.args.s.now c.args.parents.now
+      nesting_ok = sym (c.in_default.ensures ∙ deep_at c.args.s.now c.args.parents.now
           c.requires.tables.terms_ok (fields_ok c.args.s.now c.requires.tables.laid.none_found).terms_high c.requires.places_ok
           c.requires.tables.laid.counts_are.terms_are _ c.nestings-deep.ensures);
     }
 
-pub returns-in-At : goal.returns-in-At
-returns-in-At c =
-    record {
-      answer_is = found_8 c.args.s.now c.requires.tables.types_ok.none_found c.requires.tables.terms_ok.none_found
-          c.requires.places_ok.none_found
-          (found_at c.in-At.is (c.too_deep.ensures ∙ deep_at c.args.s.now c.args.parents.now
-          c.requires.tables.terms_ok (fields_ok c.args.s.now c.requires.tables.laid.none_found).terms_high c.requires.places_ok
-          c.requires.tables.laid.counts_are.terms_are _ c.nestings-deep.ensures));
-      counts_are = tt;
-    }
+pub returns-in-Some : goal.returns-in-Some
+returns-in-Some c =
+    nesting_told c.args.s.now c.requires.tables.types_ok.none_found c.requires.tables.terms_ok.none_found
+    c.requires.places_ok.none_found
+    (c.in-Some.ensures ∙ deep_at c.args.s.now c.args.parents.now
+    c.requires.tables.terms_ok (fields_ok c.args.s.now c.requires.tables.laid.none_found).terms_high c.requires.places_ok
+    c.requires.tables.laid.counts_are.terms_are _ c.nestings-deep.ensures)

@@ -13,4 +13,4 @@ pub returns : goal.returns
 returns c =
     eager_after c.args.s.now c.args.start.now c.args.enforce c.args.cells.now c.args.posts.now
     c.args.noted.now c.args.calls c.args.depth (0 ∷ []) c.requires c.start_access-access.ensures
-    c.mode_of.ensures c.evaluate.ensures
+    c.evaluate.ensures

@@ -17,4 +17,4 @@ pub returns : goal.returns
 returns c =
     lazy_after c.args.s.now c.args.start.now c.args.enforce c.args.cells.now c.args.posts.now
     c.args.noted.now c.args.calls c.args.depth c.args.frames.now c.requires c.lay_frames.ensures refl
-    c.mode_of.ensures c.evaluate-r.ensures c.clear_frames.ensures
+    c.evaluate-r.ensures c.clear_frames.ensures

@@ -1,4 +1,4 @@
--- The root is visited without bindings, and nothing is known of the types yet (root_visitable). What is found of it is the sheet's piece (LocateLaws).
+-- The root is visited without bindings, and nothing is known of the types yet (root_visitable). What is found of it is the sheet's piece; the check finds that.
 use mathlib.Core.Path.{refl}
 use Rattle.subtyping.proofs.KnownLaws.{known_none}
 use Rattle.piece.proofs.LocateLaws.{root_visitable}

@@ -15,26 +15,26 @@ push-inner-requires-in-4 c = let h = letrec_fits c.requires c.term-x.ensures c.i
 pub returns-in-3 : goal.returns-in-3
 returns-in-3 c =
     second_function c.requires c.term-x.ensures c.in-3.is c.type_record-f.ensures
-    c.push-inner.ensures c.present.ensures
+    c.push-inner.ensures c.new.ensures
 
 pub returns-in-4 : goal.returns-in-4
 returns-in-4 c =
     second_letrec c.requires c.term-x.ensures c.in-4.is c.push-outer.ensures
-    c.type_record-f-in-4.ensures c.push-inner-in-4.ensures c.present-in-4.ensures
+    c.type_record-f-in-4.ensures c.push-inner-in-4.ensures c.new-in-4.ensures
 
 pub returns-in-0-to-2 : goal.returns-in-0-to-2
-returns-in-0-to-2 c = no_second_leaf c.requires c.term-x.ensures c.absent.ensures (omega arith)
+returns-in-0-to-2 c = no_second_leaf c.requires c.term-x.ensures (omega arith)
 
 pub returns-in-5-to-6 : goal.returns-in-5-to-6
 returns-in-5-to-6 c =
-    second_call c.requires c.term-x.ensures c.present-in-5-to-6.ensures
+    second_call c.requires c.term-x.ensures c.new-in-5-to-6.ensures
     (omega arith) (omega arith)
 
 pub returns-in-7-to-9 : goal.returns-in-7-to-9
-returns-in-7-to-9 c = no_second_one c.requires c.term-x.ensures c.absent-in-7-to-9.ensures (omega arith) (omega arith)
+returns-in-7-to-9 c = no_second_one c.requires c.term-x.ensures (omega arith) (omega arith)
 
 pub returns-in-10-to-13 : goal.returns-in-10-to-13
-returns-in-10-to-13 c = second_same c.requires c.term-x.ensures c.present-in-10-to-13.ensures (omega arith) (omega arith)
+returns-in-10-to-13 c = second_same c.requires c.term-x.ensures c.new-in-10-to-13.ensures (omega arith) (omega arith)
 
 pub returns-in_default : goal.returns-in_default
-returns-in_default c = no_second_post c.requires c.term-x.ensures c.absent-in_default.ensures (omega arith)
+returns-in_default c = no_second_post c.requires c.term-x.ensures (omega arith)

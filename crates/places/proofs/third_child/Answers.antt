@@ -9,10 +9,10 @@ push-outer-requires c = let h = letrec_fits c.requires c.term-x.ensures c.in-4.i
 pub returns-in-4 : goal.returns-in-4
 returns-in-4 c =
     third_letrec c.requires c.term-x.ensures c.in-4.is c.push-outer.ensures
-    c.present.ensures
+    c.new.ensures
 
 pub returns-in-6 : goal.returns-in-6
-returns-in-6 c = third_if c.requires c.term-x.ensures c.in-6.is c.present-in-6.ensures
+returns-in-6 c = third_if c.requires c.term-x.ensures c.in-6.is c.new-in-6.ensures
 
 pub returns-in_default : goal.returns-in_default
-returns-in_default c = no_third c.requires c.term-x.ensures c.absent.ensures (λ e. omega arith) (λ e. omega arith)
+returns-in_default c = no_third c.requires c.term-x.ensures (λ e. omega arith) (λ e. omega arith)

@@ -36,5 +36,5 @@ returns c =
     c.args.posts.now c.args.calls c.args.depth c.requires.cleared c.requires.pairs_ok_holds (0 ∷ []) [] c.outcome_of.result
     (interval_table c.requires.cleared.well_formed c.requires.cleared.counts c.decode_terms.ensures
     c.lay_pairs.ensures)
-    c.start_access-access.ensures c.mode_over_intervals.ensures c.evaluate_words-t.ensures
+    c.start_access-access.ensures c.evaluate_words-t.ensures
     c.outcome_of.ensures

@@ -8,33 +8,33 @@ use Rattle.std.proofs.Math.Decide.{ℕ_discrete}
 use Rattle.program.specs.Limits.{frame_numbers, max_frames}
 use Rattle.privileges.specs.Sets.{has, meet, insert}
 use Rattle.semantics.specs.Access.{Frame, frame, chk, enable_first, lazy_control, Rights, rights, add_authorised, eager_control}
-use Rattle.access.specs.Access.{packed, low_of, high_of, enforced, lazy_mode, walk_grants, frames_grant, granted_of, sign_access, sign_frames, last_of, enable_access, enable_frames, enabled_now, restore_frames}
+use Rattle.access.specs.Access.{packed, low_of, high_of, walk_grants, frames_grant, granted_of, sign_access, sign_frames, last_of, enable_access, enable_frames, enabled_now, restore_frames}
 use Rattle.refinement.proofs.Laws.Relation.{Fixed, FramesKept}
 use Rattle.refinement.proofs.Laws.Steps.{Models}
 
 -- ---- what each style does, at a number whose low half is known
-module _ (mode : ℕ) (b : Bool) (style : lazy_mode mode ≡ b) (access low : ℕ) (used : low_of access ≡ low) where
-  granted_by : (f : List ℕ) (p : ℕ) → granted_of mode access f p ≡ cond b (frames_grant f low p) (has p (high_of access))
+module _ (lazy b : Bool) (style : lazy ≡ b) (access low : ℕ) (used : low_of access ≡ low) where
+  granted_by : (f : List ℕ) (p : ℕ) → granted_of lazy access f p ≡ cond b (frames_grant f low p) (has p (high_of access))
   unfolding granted_of
   granted_by f p = λ i. cond (style i) (frames_grant f (used i) p) (has p (high_of access))
 
-  sign_access_lem : (authorised : ℕ) → sign_access mode access authorised ≡ cond b (low + 2) (packed authorised (meet (high_of access) authorised))
+  sign_access_lem : (authorised : ℕ) → sign_access lazy access authorised ≡ cond b (low + 2) (packed authorised (meet (high_of access) authorised))
   unfolding sign_access
   sign_access_lem authorised = λ i. cond (style i) (used i + 2) (packed authorised (meet (high_of access) authorised))
 
-  sign_frames_lem : (f : List ℕ) (authorised : ℕ) → sign_frames mode access f authorised ≡ cond b (set (set f low authorised) (low + 1) 0) f
+  sign_frames_lem : (f : List ℕ) (authorised : ℕ) → sign_frames lazy access f authorised ≡ cond b (set (set f low authorised) (low + 1) 0) f
   unfolding sign_frames
   sign_frames_lem f authorised = λ i. cond (style i) (set (set f (used i) authorised) (used i + 1) 0) f
 
-  enable_access_lem : (p : ℕ) → enable_access mode access p ≡ cond b access (cond (has p low) (packed low (insert p (high_of access))) access)
+  enable_access_lem : (p : ℕ) → enable_access lazy access p ≡ cond b access (cond (has p low) (packed low (insert p (high_of access))) access)
   unfolding enable_access
   enable_access_lem p = λ i. cond (style i) access (cond (has p (used i)) (packed (used i) (insert p (high_of access))) access)
 
-  enable_frames_lem : (f : List ℕ) (p : ℕ) → enable_frames mode access f p ≡ cond b (set f (last_of low) (insert p (get_or f (last_of low) 0))) f
+  enable_frames_lem : (f : List ℕ) (p : ℕ) → enable_frames lazy access f p ≡ cond b (set f (last_of low) (insert p (get_or f (last_of low) 0))) f
   unfolding enable_frames
   enable_frames_lem f p = λ i. cond (style i) (set f (last_of (used i)) (insert p (get_or f (last_of (used i)) 0))) f
 
-  restore_frames_lem : (f g : List ℕ) → restore_frames mode access g (enabled_now mode access f)
+  restore_frames_lem : (f g : List ℕ) → restore_frames lazy access g (enabled_now lazy access f)
       ≡ cond b (set g (last_of low) (get_or f (last_of low) 0)) g
   unfolding restore_frames enabled_now
   restore_frames_lem f g = (λ i. cond (style i) (set g (last_of (used i)) (cond (style i) (get_or f (last_of (used i)) 0) 0)) g) ∙ same b
@@ -52,12 +52,12 @@ pub record EagerMode (A : ℕ → ℕ) (a : Rights) (access : ℕ) : Type 0 wher
 pub pair_mode : (A : ℕ → ℕ) (n authorised P g : ℕ) → authorised ≡ A n → authorised < 4294967296 → P ≡ g → EagerMode A (rights n g) (packed authorised P)
 pair_mode A n authorised P g e i f = record { signing = omega arith; granting = omega arith }
 
-module _ (z : Fixed) (style : lazy_mode z.mode ≡ false) where
+module _ (z : Fixed) (style : z.mode.lazy ≡ false) where
   eager_enabled : (a : Rights) (access p : ℕ) → EagerMode z.authorised a access
-      → EagerMode z.authorised (rights a.signer (add_authorised z.authorised a.signer p a.granted)) (enable_access z.mode access p)
+      → EagerMode z.authorised (rights a.signer (add_authorised z.authorised a.signer p a.granted)) (enable_access z.mode.lazy access p)
   unfolding add_authorised
   eager_enabled a access p h =
-      subst (EagerMode z.authorised _) (sym (enable_access_lem z.mode false style access (z.authorised a.signer) h.signing p))
+      subst (EagerMode z.authorised _) (sym (enable_access_lem z.mode.lazy false style access (z.authorised a.signer) h.signing p))
       (go (has p (z.authorised a.signer)))
     where
       go : (c : Bool) → EagerMode z.authorised (rights a.signer (cond c (insert p a.granted) a.granted))
@@ -67,25 +67,26 @@ module _ (z : Fixed) (style : lazy_mode z.mode ≡ false) where
           (λ i. insert p (h.granting i))
       go false = record { signing = h.signing; granting = h.granting }
 
-  eager_unsigned : (access d : ℕ) (f g : List ℕ) (authorised : ℕ) → FramesKept (d + 1) (sign_frames z.mode access f authorised) g → FramesKept d f g
+  eager_unsigned : (access d : ℕ) (f g : List ℕ) (authorised : ℕ) → FramesKept (d + 1) (sign_frames z.mode.lazy access f authorised) g → FramesKept d f g
   eager_unsigned access d f g authorised k =
-      let k' : FramesKept (d + 1) f g = subst (λ x. FramesKept (d + 1) x g) (sign_frames_lem z.mode false style access (low_of access) refl f authorised) k in
+      let k' : FramesKept (d + 1) f g =
+      subst (λ x. FramesKept (d + 1) x g) (sign_frames_lem z.mode.lazy false style access (low_of access) refl f authorised) k in
       record { long = k'.long; same = λ i h. k'.same i (omega arith) }
 
-  pub eager_models : (enforce : Bool) → enforced z.mode ≡ enforce
+  pub eager_models : (enforce : Bool) → z.mode.enforce ≡ enforce
       → Models z (eager_control z.authorised) enforce (λ a access d f. EagerMode z.authorised a access)
   eager_models enforce checks = record {
     keeps = λ a access d f g h k. h;
     signed = λ a access d f n authorised h e i l.
-        subst (EagerMode z.authorised _) (sym (sign_access_lem z.mode false style access (low_of access) refl authorised))
+        subst (EagerMode z.authorised _) (sym (sign_access_lem z.mode.lazy false style access (low_of access) refl authorised))
         (pair_mode z.authorised n authorised (meet (high_of access) authorised) (meet a.granted (z.authorised n)) e i (λ j. meet (h.granting j) (e j)));
     enabled = λ a access d f p h l. eager_enabled a access p h;
-    grants = λ a access d f p h l. granted_by z.mode false style access (low_of access) refl f p ∙ (λ i. has p (h.granting i));
+    grants = λ a access d f p h l. granted_by z.mode.lazy false style access (low_of access) refl f p ∙ (λ i. has p (h.granting i));
     enforces = checks;
     unsigned = λ a access d f g authorised h k. eager_unsigned access d f g authorised k;
     undone = λ a access d f g p h l k.
-        subst (FramesKept d f) (sym (restore_frames_lem z.mode false style access (low_of access) refl f g))
-        (subst (λ x. FramesKept d x g) (enable_frames_lem z.mode false style access (low_of access) refl f p) k);
+        subst (FramesKept d f) (sym (restore_frames_lem z.mode.lazy false style access (low_of access) refl f g))
+        (subst (λ x. FramesKept d x g) (enable_frames_lem z.mode.lazy false style access (low_of access) refl f p) k);
   }
 
 -- ---- the lazy style: the first d frames of the list, the outermost first
@@ -174,14 +175,14 @@ module _ (A : ℕ → ℕ) (f : List ℕ) where
   unfolding frames_grant
   frames_grant_lem p {d} h l = (λ i. cond (le-leb (d * 2) (length f) l i) (walk_grants f (d * 2) p) false) ∙ frames_walk p h
 
-module _ (z : Fixed) (style : lazy_mode z.mode ≡ true) where
+module _ (z : Fixed) (style : z.mode.lazy ≡ true) where
   lazy_signed : (a : List Frame) (access d : ℕ) (f : List ℕ) (n authorised : ℕ) → LazyMode z.authorised a access d f → authorised ≡ z.authorised n
       → d < max_frames
-      → LazyMode z.authorised (frame n 0 ∷ a) (sign_access z.mode access authorised) (d + 1) (sign_frames z.mode access f authorised)
+      → LazyMode z.authorised (frame n 0 ∷ a) (sign_access z.mode.lazy access authorised) (d + 1) (sign_frames z.mode.lazy access f authorised)
   lazy_signed a access d f n authorised h e l =
-      subst (λ x. LazyMode z.authorised (frame n 0 ∷ a) x (d + 1) (sign_frames z.mode access f authorised))
-      (sym (sign_access_lem z.mode true style access (d * 2) h.used authorised))
-      (subst (LazyMode z.authorised (frame n 0 ∷ a) (d * 2 + 2) (d + 1)) (sym (sign_frames_lem z.mode true style access (d * 2) h.used f authorised))
+      subst (λ x. LazyMode z.authorised (frame n 0 ∷ a) x (d + 1) (sign_frames z.mode.lazy access f authorised))
+      (sym (sign_access_lem z.mode.lazy true style access (d * 2) h.used authorised))
+      (subst (LazyMode z.authorised (frame n 0 ∷ a) (d * 2 + 2) (d + 1)) (sym (sign_frames_lem z.mode.lazy true style access (d * 2) h.used f authorised))
       record {
         used = omega arith;
         long = length-set (set f (d * 2) authorised) (d * 2 + 1) 0 ∙ length-set f (d * 2) authorised ∙ h.long;
@@ -189,11 +190,11 @@ module _ (z : Fixed) (style : lazy_mode z.mode ≡ true) where
       })
 
   lazy_enabled : (a : List Frame) (access d : ℕ) (f : List ℕ) (p : ℕ) → LazyMode z.authorised a access d f → d ≤ max_frames
-      → LazyMode z.authorised (enable_first p a) (enable_access z.mode access p) d (enable_frames z.mode access f p)
+      → LazyMode z.authorised (enable_first p a) (enable_access z.mode.lazy access p) d (enable_frames z.mode.lazy access f p)
   lazy_enabled a access d f p h l =
-      subst (λ x. LazyMode z.authorised (enable_first p a) x d (enable_frames z.mode access f p))
-      (sym (enable_access_lem z.mode true style access (d * 2) h.used p))
-      (subst (LazyMode z.authorised (enable_first p a) access d) (sym (enable_frames_lem z.mode true style access (d * 2) h.used f p))
+      subst (λ x. LazyMode z.authorised (enable_first p a) x d (enable_frames z.mode.lazy access f p))
+      (sym (enable_access_lem z.mode.lazy true style access (d * 2) h.used p))
+      (subst (LazyMode z.authorised (enable_first p a) access d) (sym (enable_frames_lem z.mode.lazy true style access (d * 2) h.used f p))
       record {
         used = h.used;
         long = length-set f (last_of (d * 2)) (insert p (get_or f (last_of (d * 2)) 0)) ∙ h.long;
@@ -201,25 +202,25 @@ module _ (z : Fixed) (style : lazy_mode z.mode ≡ true) where
       })
 
   lazy_unsigned : (a : List Frame) (access d : ℕ) (f g : List ℕ) (authorised : ℕ) → LazyMode z.authorised a access d f
-      → FramesKept (d + 1) (sign_frames z.mode access f authorised) g
+      → FramesKept (d + 1) (sign_frames z.mode.lazy access f authorised) g
       → FramesKept d f g
   lazy_unsigned a access d f g authorised h k =
       let k' : FramesKept (d + 1) (signed_frames d f authorised) g = subst (λ x. FramesKept (d + 1) x g)
-      (sign_frames_lem z.mode true style access (d * 2) h.used f authorised) k in
+      (sign_frames_lem z.mode.lazy true style access (d * 2) h.used f authorised) k in
       record { long = k'.long ∙ simp length-set; same = λ i l. k'.same i (omega arith) ∙ signed_same d f authorised i l }
 
-  pub lazy_models : (enforce : Bool) → enforced z.mode ≡ enforce → Models z (lazy_control z.authorised) enforce (LazyMode z.authorised)
+  pub lazy_models : (enforce : Bool) → z.mode.enforce ≡ enforce → Models z (lazy_control z.authorised) enforce (LazyMode z.authorised)
   lazy_models enforce checks = record {
     keeps = λ a access d f g h k. record { used = h.used; long = k.long ∙ h.long; frames = frames_same z.authorised f g h.frames k.same };
     signed = λ a access d f n authorised h e i l. lazy_signed a access d f n authorised h e l;
     enabled = lazy_enabled;
     grants =
-        λ a access d f p h l. granted_by z.mode true style access (d * 2) h.used f p
+        λ a access d f p h l. granted_by z.mode.lazy true style access (d * 2) h.used f p
         ∙ frames_grant_lem z.authorised f p h.frames (omega (arith, h.long));
     enforces = checks;
     unsigned = lazy_unsigned;
     undone = λ a access d f g p h l k.
-        subst (FramesKept d f) (sym (restore_frames_lem z.mode true style access (d * 2) h.used f g))
+        subst (FramesKept d f) (sym (restore_frames_lem z.mode.lazy true style access (d * 2) h.used f g))
         (enable_kept d f g (insert p (get_or f (last_of (d * 2)) 0)) (omega (arith, h.long))
-        (subst (λ x. FramesKept d x g) (enable_frames_lem z.mode true style access (d * 2) h.used f p) k));
+        (subst (λ x. FramesKept d x g) (enable_frames_lem z.mode.lazy true style access (d * 2) h.used f p) k));
   }

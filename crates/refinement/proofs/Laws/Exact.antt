@@ -1,5 +1,5 @@
 -- How words stand for plain numbers and booleans: a number is a word's payload, and the payload of a boolean is 0 or 1.
-use Rattle.std.specs.Prelude.{Bool, true, false, List, ◌≡◌, ℕ, ◌+◌, ◌-◌, ◌<◌, min}
+use Rattle.std.specs.Prelude.{Bool, true, false, Err, List, ◌≡◌, ℕ, ◌+◌, ◌-◌, ◌<◌, min}
 use Rattle.std.proofs.Math.Bool.{cond}
 use Rattle.std.proofs.Math.Option.{some}
 use Rattle.std.proofs.Math.Path.{refl, subst}
@@ -16,11 +16,10 @@ use Rattle.semantics.specs.Domains.{saturates, post_entry, single, standard}
 use Rattle.semantics.specs.Runs.{ground_bool, ended}
 use Rattle.stores.specs.declared.values.Stop.{Stop}
 use Rattle.stores.specs.declared.values.Stop.TheVariants.{Check, Stuck, OpenCalls, Calls, Cells, Posts, Undecided}
-use Rattle.stores.specs.declared.values.Out.TheVariants.{Stop as Stopped}
 use Rattle.stores.specs.Words.{boolean_word, number_word, interval_word, payload_of, env_of, out_by, out_of}
-use Rattle.access.specs.Access.{interval_mode}
 use Rattle.stores.specs.Stops.{stop_cause, stop_place}
 use Rattle.termtable.specs.Table.{word_small, word_first, word_second, TermWords}
+use Rattle.access.specs.declared.Mode.{Mode}
 use Rattle.machine.specs.Steps.{result_word, saturates_of, interval_result, numbers_result, entry_of, listed_as}
 use Rattle.refinement.specs.Claims.{outcome_of, decided_by}
 use Rattle.refinement.proofs.Laws.Codings.{WordOfSort, kind_number, numbers_saturate, Coding, Decoding}
@@ -59,35 +58,35 @@ saturates_exact sum a b = refl
 saturates_exact difference a b = refl
 saturates_exact less a b = refl
 
-module _ (mode : ℕ) (plain : interval_mode mode ≡ false) where
-  result_exact : (k v w : ℕ) → numbers_result mode k v w ≡ result_word k (payload_of v) (payload_of w)
+module _ (mode : Mode) (plain : mode.intervals ≡ false) where
+  result_exact : (k v w : ℕ) → numbers_result mode.intervals k v w ≡ result_word k (payload_of v) (payload_of w)
   unfolding numbers_result
   result_exact k v w = λ i. cond (plain i) (interval_result k (payload_of v) (env_of v) (payload_of w) (env_of w)) (result_word k (payload_of v) (payload_of w))
 
   module _ {v w m n : ℕ} (p : ExactNumber v m) (q : ExactNumber w n) where
-    pub sum_exact : ExactNumber (numbers_result mode 11 v w) (min max_number (m + n))
+    pub sum_exact : ExactNumber (numbers_result mode.intervals 11 v w) (min max_number (m + n))
     unfolding result_word
     sum_exact =
         subst (λ r. ExactNumber r (min max_number (m + n))) (sym (result_exact 11 v w))
         (number_exact (min (payload_of v + payload_of w) max_number) (min max_number (m + n)) (omega arith) (omega (arith, p.number_is, q.number_is)))
 
-    pub difference_exact : ExactNumber (numbers_result mode 12 v w) (m - n)
+    pub difference_exact : ExactNumber (numbers_result mode.intervals 12 v w) (m - n)
     unfolding result_word
     difference_exact =
         subst (λ r. ExactNumber r (m - n)) (sym (result_exact 12 v w))
         (number_exact (payload_of v - payload_of w) (m - n) (omega arith) (omega (arith, p.number_is, q.number_is)))
 
-    pub less_exact : ExactTruth (numbers_result mode 13 v w) (ltb m n)
+    pub less_exact : ExactTruth (numbers_result mode.intervals 13 v w) (ltb m n)
     unfolding result_word
     less_exact =
         subst (λ r. ExactTruth r (ltb m n)) (sym (result_exact 13 v w))
         (subst (ExactTruth (boolean_word (ltb (payload_of v) (payload_of w)))) (λ i. ltb (p.number_is i) (q.number_is i))
         (truth_exact (ltb (payload_of v) (payload_of w))))
 
-    pub counted_exact : (op : Op) → numbers_saturate mode (kind_number op) v w ≡ saturates op m n
+    pub counted_exact : (op : Op) → numbers_saturate mode.intervals (kind_number op) v w ≡ saturates op m n
     counted_exact op = (λ i. cond (plain i) false (saturates_of (kind_number op) (p.number_is i) (q.number_is i))) ∙ saturates_exact op m n
 
-  pub entry_exact : (x : ℕ) {w n : ℕ} → ExactNumber w n → listed_as mode x w ≡ post_entry (word_small x) n
+  pub entry_exact : (x : ℕ) {w n : ℕ} → ExactNumber w n → listed_as mode.intervals x w ≡ post_entry (word_small x) n
   unfolding listed_as
   entry_exact x {w} h = λ i. cond (plain i) (entry_of (payload_of w) (env_of w)) (entry_of (word_small x) (h.number_is i))
 
@@ -107,7 +106,7 @@ module _ (mode : ℕ) (plain : interval_mode mode ≡ false) where
   }
 
   -- ---- what a word tells
-  stop_out : (x : Stop) (e : ℕ) → out_by (stop_cause x) (stop_place x) e ≡ Stopped x
+  stop_out : (x : Stop) (e : ℕ) → out_by (stop_cause x) (stop_place x) e ≡ Err x
   unfolding out_by
   stop_out (Check t) e = refl
   stop_out (Stuck t) e = refl

@@ -14,9 +14,9 @@ use Rattle.intervals.specs.Pairs.{pair_of, over_intervals}
 use Rattle.stores.specs.declared.values.Stop.{Stop}
 use Rattle.stores.specs.declared.values.Stop.TheVariants.{Check, Stuck, OpenCalls, Calls, Cells, Posts, Undecided}
 use Rattle.stores.specs.Words.{boolean_word, interval_word, undecided_word, payload_of, env_of, out_by}
-use Rattle.access.specs.Access.{interval_mode}
 use Rattle.stores.specs.Stops.{stop_cause, stop_place}
 use Rattle.termtable.specs.Table.{word_small, word_first, word_second}
+use Rattle.access.specs.declared.Mode.{Mode}
 use Rattle.machine.specs.Steps.{result_word, saturates_of, less_word, interval_result, numbers_result, entry_of, listed_as}
 use Rattle.refinement.specs.Claims.{decided_by, interval_outcome_by, interval_outcome_of, IntervalTable}
 use Rattle.refinement.proofs.Laws.Codings.{WordOfSort, kind_number, numbers_saturate, Coding, Decoding}
@@ -52,14 +52,14 @@ tests_interval false false = record { word = record { sort_is = refl; small = om
 sum_same : (a b m n : ℕ) → a ≡ m → b ≡ n → min (a + b) max_number ≡ min max_number (m + n)
 sum_same a b m n p q = omega arith
 
-module _ (mode : ℕ) (is-interval : interval_mode mode ≡ true) where
-  result_interval : (k v w : ℕ) → numbers_result mode k v w ≡ interval_result k (payload_of v) (env_of v) (payload_of w) (env_of w)
+module _ (mode : Mode) (is-interval : mode.intervals ≡ true) where
+  result_interval : (k v w : ℕ) → numbers_result mode.intervals k v w ≡ interval_result k (payload_of v) (env_of v) (payload_of w) (env_of w)
   unfolding numbers_result
   result_interval k v w =
       λ i. cond (is-interval i) (interval_result k (payload_of v) (env_of v) (payload_of w) (env_of w)) (result_word k (payload_of v) (payload_of w))
 
   module _ {v w : ℕ} {m n : Interval} (p : IntervalNumber v m) (q : IntervalNumber w n) where
-    pub sum_interval : IntervalNumber (numbers_result mode 11 v w) (sum_of m n)
+    pub sum_interval : IntervalNumber (numbers_result mode.intervals 11 v w) (sum_of m n)
     unfolding interval_result
     sum_interval =
         subst (λ r. IntervalNumber r (sum_of m n)) (sym (result_interval 11 v w))
@@ -67,14 +67,14 @@ module _ (mode : ℕ) (is-interval : interval_mode mode ≡ true) where
         (sum_same (payload_of v) (payload_of w) m.low n.low p.lowest_is q.lowest_is)
         (sum_same (env_of v) (env_of w) m.high n.high p.highest_is q.highest_is))
 
-    pub difference_interval : IntervalNumber (numbers_result mode 12 v w) (difference_of m n)
+    pub difference_interval : IntervalNumber (numbers_result mode.intervals 12 v w) (difference_of m n)
     unfolding interval_result
     difference_interval =
         subst (λ r. IntervalNumber r (difference_of m n)) (sym (result_interval 12 v w))
         (number_interval (payload_of v - env_of w) (env_of v - payload_of w) (difference_of m n) (omega arith) (omega arith)
         (λ i. p.lowest_is i - q.highest_is i) (λ i. p.highest_is i - q.lowest_is i))
 
-    pub less_interval : IntervalTruth (numbers_result mode 13 v w) (less_of m n)
+    pub less_interval : IntervalTruth (numbers_result mode.intervals 13 v w) (less_of m n)
     unfolding interval_result less_word
     less_interval =
         subst (λ r. IntervalTruth r (less_of m n)) (sym (result_interval 13 v w))
@@ -82,10 +82,10 @@ module _ (mode : ℕ) (is-interval : interval_mode mode ≡ true) where
         (λ i. cond (ltb (p.highest_is i) (q.lowest_is i)) (some true) (cond (leb (q.highest_is i) (p.lowest_is i)) (some false) none))
         (tests_interval (ltb (env_of v) (payload_of w)) (leb (env_of w) (payload_of v))))
 
-  pub counted_interval : (op : Op) (v w : ℕ) → numbers_saturate mode (kind_number op) v w ≡ false
+  pub counted_interval : (op : Op) (v w : ℕ) → numbers_saturate mode.intervals (kind_number op) v w ≡ false
   counted_interval op v w = λ i. cond (is-interval i) false (saturates_of (kind_number op) (payload_of v) (payload_of w))
 
-  pub entry_interval : (x : ℕ) {w : ℕ} {n : Interval} → IntervalNumber w n → listed_as mode x w ≡ interval_entry n
+  pub entry_interval : (x : ℕ) {w : ℕ} {n : Interval} → IntervalNumber w n → listed_as mode.intervals x w ≡ interval_entry n
   unfolding listed_as
   entry_interval x {w} h = λ i. cond (is-interval i) (entry_of (h.lowest_is i) (h.highest_is i)) (entry_of (word_small x) (payload_of w))
 

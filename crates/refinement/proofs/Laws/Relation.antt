@@ -16,7 +16,9 @@ use Rattle.stores.specs.declared.values.Stop.TheVariants.{Check, Stuck, OpenCall
 use Rattle.stores.specs.Words.{interval_word, function_word, stop_word, sort_of, payload_of, env_of, is_stop}
 use Rattle.termtable.specs.Table.{word_kind, word_small, word_first, word_second, word_third, word_authority, word_guard}
 use Rattle.stores.specs.Cells.{behind_of, cell_word}
-use Rattle.machine.specs.Steps.{cells_made, wrapped}
+use Rattle.access.specs.declared.Mode.{Mode}
+use Rattle.machine.specs.declared.counters.Counters.{Counters}
+use Rattle.machine.specs.Steps.{wrapped}
 use Rattle.machine.specs.Store.{Store, Done, done_of, and_then}
 use Rattle.stores.specs.Stops.{stop_cause, stop_place}
 use Rattle.refinement.proofs.Laws.Records.{record_after}
@@ -31,7 +33,7 @@ pub record Fixed : Type 1 where
   pub authorised : ℕ → ℕ
   pub posts : List ℕ
   pub noted : List ℕ
-  pub mode : ℕ
+  pub mode : Mode
   pub coding : Coding interpretation.domain mode
 
 abbrev pub ValueIn : Fixed → Type 0
@@ -55,9 +57,15 @@ length_written l [] = refl
 length_written l (p ∷ ps) = length-set (posts_written l ps) (length ps) p ∙ length_written l ps
 
 -- with m cells made
-abbrev pub counters_of : Fixed → (calls m : ℕ) → Log → List ℕ
-counters_of z c m log =
-    c ∷ m ∷ length log.posts ∷ z.mode ∷ wrapped log.saturated ∷ length (recorded (length z.noted) (reverse log.decisions)) ∷ []
+abbrev pub counters_of : Fixed → (calls m : ℕ) → Log → Counters
+counters_of z c m log = record {
+  calls_left = c;
+  cells = m;
+  posts = length log.posts;
+  mode = z.mode;
+  saturated = wrapped log.saturated;
+  entries = length (recorded (length z.noted) (reverse log.decisions));
+}
 
 pub record Balance (z : Fixed) (st : Store) (c m d r : ℕ) (log : Log) : Type 0 where
   pub counters : st.counters ≡ counters_of z c m log
@@ -85,8 +93,8 @@ kept_trans p q = record { long = q.long ∙ p.long; same = λ i h. q.same i h �
 
 -- cells made before and the first frames are as they were
 pub record Later (depth : ℕ) (st₀ st : Store) : Type 0 where
-  pub more : cells_made st₀.counters ≤ cells_made st.counters
-  pub old : Agree (cells_made st₀.counters) st₀.cells st.cells
+  pub more : st₀.counters.cells ≤ st.counters.cells
+  pub old : Agree st₀.counters.cells st₀.cells st.cells
   pub frames : FramesKept depth st₀.frames st.frames
 
 pub later_refl : (depth : ℕ) (st : Store) → Later depth st st
@@ -240,10 +248,10 @@ module _ (z : Fixed) where
 
   -- the same at a state
   abbrev pub RepAt : Store → ℕ → ValueIn z → Type 0
-  RepAt st w x = Rep st.cells (cells_made st.counters) w x
+  RepAt st w x = Rep st.cells st.counters.cells w x
 
   abbrev pub EnvAt : Store → ℕ → EnvIn z → Type 0
-  EnvAt st e E = RepEnv st.cells (cells_made st.counters) e E
+  EnvAt st e E = RepEnv st.cells st.counters.cells e E
 
   -- ---- outcomes
   pub data Meets (depth : ℕ) (st₀ : Store) : Done → ResultIn z → Type 0 where

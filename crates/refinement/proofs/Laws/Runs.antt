@@ -23,9 +23,10 @@ use Rattle.semantics.specs.Runs.{Request, Buffers, sizes, OutcomeOf, initial, ou
 use Rattle.semantics.specs.Recording.{decided_in, with_entries}
 use Rattle.semantics.proofs.Laws.Tracing.{forget, forgets, outcome_forgotten, counts_forgotten, posts_forgotten}
 use Rattle.stores.specs.Words.{stop_word}
-use Rattle.access.specs.Access.{packed, enforced, lazy_mode}
-use Rattle.machine.specs.Steps.{entries_made, wrapped}
-use Rattle.machine.specs.Store.{Store, Done, done_of, eval_at}
+use Rattle.access.specs.declared.Mode.{Mode}
+use Rattle.access.specs.Access.{packed}
+use Rattle.machine.specs.Steps.{wrapped}
+use Rattle.machine.specs.Store.{Store, Done, counters_at_start, done_of, eval_at}
 use Rattle.stores.specs.Stops.{stop_cause, stop_place}
 use Rattle.refinement.specs.Claims.{run_counts, wrapped_counts, sizes_of, laid_out, start_of, RefinedBy}
 use Rattle.refinement.proofs.Laws.Codings.{Coding, Decoding}
@@ -69,7 +70,7 @@ module _ (z : Fixed) {decodes : (root word : ℕ) → OutcomeOf z.interpretation
   value_outcome o (rep_rec h b p q v e) = T.decodes_function n h
 
 -- ---- what a state tells of the budget that it stands for
-module _ (I : Interpretation) {mode : ℕ} (K : Coding I.domain mode) {decodes : (root word : ℕ) → OutcomeOf I.domain} (T : Decoding K decodes)
+module _ (I : Interpretation) {mode : Mode} (K : Coding I.domain mode) {decodes : (root word : ℕ) → OutcomeOf I.domain} (T : Decoding K decodes)
     (s table : List ℕ) (q : Request) (b : Buffers) (t : List ℕ) where
   abbrev run : Fixed
   run = fixed_of I K s table b.posts t
@@ -78,7 +79,7 @@ module _ (I : Interpretation) {mode : ℕ} (K : Coding I.domain mode) {decodes :
     counts_agree : run_counts q.calls st.counters ≡ wrapped_counts (counts q (sizes b) u)
     posts_agree : st.posts ≡ in_order u ++ drop (length (in_order u)) b.posts
     sizes_agree : sizes_of st ≡ sizes b
-    entries_agree : entries_made st.counters ≡ length (recorded (length t) (decided_in u))
+    entries_agree : st.counters.entries ≡ length (recorded (length t) (decided_in u))
     noted_agrees : st.noted ≡ with_entries (recorded (length t) (decided_in u)) t
 
   agrees : {depth : ℕ} {st : Store} {u : Budget} → Balances run st u → Later depth (start_of mode q b t) st → CourseAgrees st u
@@ -90,7 +91,7 @@ module _ (I : Interpretation) {mode : ℕ} (K : Coding I.domain mode) {decodes :
             ∙ (λ i. record { calls = q.calls - c; cells = p i; posts = length ps; saturated = wrapped log.saturated });
         posts_agree = h.list ∙ written_is b.posts ps (omega (arith, h.room)) ∙ ap (λ (n : ℕ). reverse ps ++ drop n b.posts) (sym (length-reverse ps));
         sizes_agree = λ i. record { cells = l.old.long i; posts = (ap length h.list ∙ length_written b.posts ps) i; frames = l.frames.long i };
-        entries_agree = λ i. entries_made (h.counters i);
+        entries_agree = λ i. (h.counters i).entries;
         noted_agrees = h.noted_is;
       }
 
@@ -114,7 +115,7 @@ module _ (I : Interpretation) {mode : ℕ} (K : Coding I.domain mode) {decodes :
       refined_by n {w = w} (stops (stop_cause x) (stop_place x) o) (T.decodes_stop n x v.0 v.1) (agrees h l)
 
 -- ---- a whole run, in either style
-module _ (I : Interpretation) {mode : ℕ} (K : Coding I.domain mode) {decodes : (root word : ℕ) → OutcomeOf I.domain} (T : Decoding K decodes)
+module _ (I : Interpretation) {mode : Mode} (K : Coding I.domain mode) {decodes : (root word : ℕ) → OutcomeOf I.domain} (T : Decoding K decodes)
     (s : List ℕ) (w : WellFormed s) (c : Counts) (h : CountsOf s c) (table : List ℕ) (tabled : Tabled I K s c table) (q : Request) (b : Buffers)
     (t : List ℕ) (few : q.depth ≤ max_depth) (most : length b.cells ≤ max_cells) where
   pub refined : (X : Control) (R : X.State → (access depth : ℕ) → List ℕ → Type 0) → Models (fixed_of I K s table b.posts t) X q.enforce R
@@ -134,7 +135,7 @@ module _ (I : Interpretation) {mode : ℕ} (K : Coding I.domain mode) {decodes :
       (omega (arith, root_lower s w, w.terms_most)) (program_height s w)
       ).go 0 empty access depth a (start_of mode q b t) (initial q (sizes b)) (omega arith) r env_none
       (balance record {
-        counters = λ i. q.calls ∷ 0 ∷ 0 ∷ mode ∷ 0 ∷ length (none i) ∷ [];
+        counters = λ i. record (counters_at_start q.calls mode) { entries = length (none i) };
         cells = omega arith;
         most = most;
         room = omega arith;
@@ -143,7 +144,7 @@ module _ (I : Interpretation) {mode : ℕ} (K : Coding I.domain mode) {decodes :
       })))
 
   -- an eager one, that holds any set
-  pub refined_eagerly : (authorised P : ℕ) → enforced mode ≡ q.enforce → lazy_mode mode ≡ false → authorised < 4294967296 → authorised ≡ authority s 0
+  pub refined_eagerly : (authorised P : ℕ) → mode.enforce ≡ q.enforce → mode.lazy ≡ false → authorised < 4294967296 → authorised ≡ authority s 0
       → RefinedBy decodes (root s) q b t (eval_at table q.depth (root s) 0 (packed authorised P) (start_of mode q b t))
       (eval I (eager_control (authority s)) (plain q.enforce) q.depth (program s) (rights 0 P) empty (initial q (sizes b)))
       (decided_in (left (eval I (eager_control (authority s)) (traced q.enforce) q.depth (program s) (rights 0 P) empty (initial q (sizes b)))))

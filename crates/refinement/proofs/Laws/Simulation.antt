@@ -14,7 +14,6 @@ use Rattle.stores.specs.declared.values.Stop.TheVariants.{Stuck, OpenCalls}
 use Rattle.stores.specs.Words.{boolean_word, interval_word, function_word, stop_word, payload_of}
 use Rattle.termtable.specs.Table.{word_kind, word_small, word_first, word_second, word_authority}
 use Rattle.stores.specs.Cells.{look_of}
-use Rattle.machine.specs.Steps.{cells_made}
 use Rattle.machine.specs.Store.{Store, Done, done_of, StoreEvaluation, StoreApplication, Action, binary, action_of, immediate_word, binary_s, by_action, begin, step, eval_below, apply_at, eval_at}
 use Rattle.refinement.proofs.Laws.Codings.{kind_number}
 use Rattle.refinement.proofs.Laws.Relation.{Fixed, ValueIn, Balances, sort_for, function_word_lem, word_at, kind_in, small_in, first_in, second_in, Represents, on_boolean, on_number, on_variable, on_function, on_letrec, on_call, on_if, on_check, on_enable, on_sign, on_test, on_binary, on_post, Body, rep_bool, rep_num, rep_fun, rep_rec, RepAt, EnvAt, rep_word, env_low, Meets}
@@ -91,7 +90,7 @@ module _ (z : Fixed) (X : Control) (enforce : Bool) (R : X.State → (access dep
   leaf_variable h t x i k = record {
     go = λ env E access d a st o w r v y.
         subst (λ i. Meets z d st (done_of i st) (variable_value t (lookup E (word_first x)) o)) (sym (leaf_is st.cells t x env 2 k))
-        (meets_found z t i (look_finds z st.cells (cells_made st.counters) t v (word_first x)) y);
+        (meets_found z t i (look_finds z st.cells st.counters.cells t v (word_first x)) y);
   }
 
   leaf_function : (h t x ty : ℕ) (b : Term) → word_kind x ≡ 3 → Body z (word_second x) b → Does h (leaf t x) (λ a E o. ends (closure false ty b E) o)

@@ -2,7 +2,7 @@
 use Rattle.std.specs.Prelude.{Bool, ◌≡◌, ltb, eqb, set}
 use Rattle.std.proofs.Math.Bool.{true, false, cond}
 use Rattle.std.proofs.Math.Path.{refl, sym, subst}
-use Rattle.std.proofs.Common.{ap, ◌∙◌, arith, length-take, get_or-set_other}
+use Rattle.std.proofs.Common.{ap, ◌∙◌, arith, length-take}
 use mathlib.Core.List.{List, [], ◌∷◌, ◌++◌, reverse, reverse-cons}
 use Rattle.std.proofs.Math.Option.{Option, none, some}
 use Prim.Native.Nat.{ℕ, zero, suc, ◌+◌, ◌*◌, ◌/◌, ◌-◌, ◌<◌, ◌≤◌, min}
@@ -21,9 +21,10 @@ use Rattle.stores.specs.declared.values.Stop.{Stop}
 use Rattle.stores.specs.declared.values.Stop.TheVariants.{Check, Stuck, Calls, Cells, Posts, Undecided}
 use Rattle.stores.specs.Words.{function_word, stop_word, sort_of, payload_of, env_of}
 use Rattle.stores.specs.Cells.{behind_of, walk_of, cell_word, look_of, cell_set}
-use Rattle.access.specs.Access.{enforced, granted_of, allowed_of, sign_access, sign_frames, enable_access, enable_frames, enabled_now, restore_frames}
+use Rattle.access.specs.Access.{granted_of, allowed_of, sign_access, sign_frames, enable_access, enable_frames, enabled_now, restore_frames}
 use Rattle.termtable.specs.Table.{word_small, word_guard}
-use Rattle.machine.specs.Steps.{calls_left, cells_made, posts_made, mode_of, saturated_made, entries_made, numbers_result, operate_of, operate_saturates, wrapped, counters_saturated, operate_counters, decided_event, note_counters, note_bytes, guard_passed, number_decides, cause_of, listed_as, post_cause, post_word, post_counters, post_list}
+use Rattle.machine.specs.declared.counters.Counters.{Counters}
+use Rattle.machine.specs.Steps.{numbers_result, operate_of, operate_saturates, wrapped, operate_counters, decided_event, note_counters, note_bytes, guard_passed, number_decides, cause_of, listed_as, post_cause, post_word, post_counters, post_list}
 use Rattle.machine.specs.Store.{Store, Done, store_of, done_of, with_frames, with_entry, and_then, StoreEvaluation, StoreApplication, has_room, own_cell, cell_bound, call_bound, letrec_s, call_s, branch_s, if_s, check_s, test_s, sign_s, restored, enable_s, operate_done, binary_s, post_done, post_s, begin}
 use Rattle.stores.specs.Stops.{stop_cause, stop_place}
 use Rattle.refinement.proofs.Laws.Records.{record_after, length_record, entry_more, entry_made, full}
@@ -50,11 +51,11 @@ unfolding look_of walk_of
 look_next cells t e i = refl
 
 -- ---- a new cell
-abbrev with_cell : Store → (n : List ℕ) (w behind : ℕ) → Store
-with_cell st n w e = store_of n (cell_set st.cells (cells_made st.counters) w e) st.posts st.frames st.noted
+abbrev with_cell : Store → Counters → (w behind : ℕ) → Store
+with_cell st n w e = store_of n (cell_set st.cells st.counters.cells w e) st.posts st.frames st.noted
 
-later_cell : (depth : ℕ) (st : Store) (n : List ℕ) (w e : ℕ) → cells_made n ≡ cells_made st.counters + 1 → Later depth st (with_cell st n w e)
-later_cell depth st n w e h = record { more = omega arith; old = agree_cell st.cells (cells_made st.counters) w e; frames = kept_refl depth st.frames }
+later_cell : (depth : ℕ) (st : Store) (n : Counters) (w e : ℕ) → n.cells ≡ st.counters.cells + 1 → Later depth st (with_cell st n w e)
+later_cell depth st n w e h = record { more = omega arith; old = agree_cell st.cells st.counters.cells w e; frames = kept_refl depth st.frames }
 
 module _ (z : Fixed) where
   pub data Finds (cells : List ℕ) (m t : ℕ) : ℕ → Option (ValueIn z) → Type 0 where
@@ -95,47 +96,47 @@ module _ (z : Fixed) where
       (rep_later z (omega arith) (agree_cell l m w (env_of f)) r)
 
   -- ---- the counters
-  calls_are : {st : Store} {c m d r : ℕ} {log : Log} → Balance z st c m d r log → calls_left st.counters ≡ c
-  calls_are h = λ i. calls_left (h.counters i)
+  calls_are : {st : Store} {c m d r : ℕ} {log : Log} → Balance z st c m d r log → st.counters.calls_left ≡ c
+  calls_are h = λ i. (h.counters i).calls_left
 
-  made_is : {st : Store} {c m d r : ℕ} {log : Log} → Balance z st c m d r log → cells_made st.counters ≡ m
-  made_is h = λ i. cells_made (h.counters i)
+  made_is : {st : Store} {c m d r : ℕ} {log : Log} → Balance z st c m d r log → st.counters.cells ≡ m
+  made_is h = λ i. (h.counters i).cells
 
-  posts_are : {st : Store} {c m d r : ℕ} {log : Log} → Balance z st c m d r log → posts_made st.counters ≡ length log.posts
-  posts_are h = λ i. posts_made (h.counters i)
+  posts_are : {st : Store} {c m d r : ℕ} {log : Log} → Balance z st c m d r log → st.counters.posts ≡ length log.posts
+  posts_are h = λ i. (h.counters i).posts
 
   long_is : {st : Store} {c m d r : ℕ} {log : Log} → Balance z st c m d r log → length st.posts ≡ length z.posts
   long_is {log = log} h = ap length h.list ∙ length_written z.posts log.posts
 
-  mode_is : {st : Store} {o : Budget} → Balances z st o → mode_of st.counters ≡ z.mode
-  mode_is (balance h) = λ i. mode_of (h.counters i)
+  mode_is : {st : Store} {o : Budget} → Balances z st o → st.counters.mode ≡ z.mode
+  mode_is (balance h) = λ i. (h.counters i).mode
 
   -- a cell has eight of at most 65,536 bytes
-  pub few_cells : {st : Store} {o : Budget} → Balances z st o → cells_made st.counters ≤ 8192
+  pub few_cells : {st : Store} {o : Budget} → Balances z st o → st.counters.cells ≤ 8192
   few_cells (balance h) = omega (arith, made_is h, h.cells, h.most)
 
   -- cells left, and the number of the next
   room_none : {st : Store} {c m r : ℕ} {log : Log} → Balance z st c m 0 r log → has_room st ≡ false
   unfolding has_room
-  room_none {st} h = le-ltb (cells_made st.counters) (length st.cells / 8) (omega (arith, made_is h, h.cells))
+  room_none {st} h = le-ltb st.counters.cells (length st.cells / 8) (omega (arith, made_is h, h.cells))
 
   room_some : {st : Store} {c m d r : ℕ} {log : Log} → Balance z st c m (suc d) r log → has_room st ≡ true
   unfolding has_room
-  room_some {st} h = lt-ltb (cells_made st.counters) (length st.cells / 8) (omega (arith, made_is h, h.cells))
+  room_some {st} h = lt-ltb st.counters.cells (length st.cells / 8) (omega (arith, made_is h, h.cells))
 
-  own_is : {st : Store} {c m d r : ℕ} {log : Log} → Balance z st c m (suc d) r log → own_cell st ≡ cells_made st.counters + 1
+  own_is : {st : Store} {c m d r : ℕ} {log : Log} → Balance z st c m (suc d) r log → own_cell st ≡ st.counters.cells + 1
   own_is h = omega (arith, made_is h, h.cells, h.most)
 
-  fits_is : {st : Store} {c m d r : ℕ} {log : Log} → Balance z st c m (suc d) r log → cells_made st.counters * 8 + 7 < length st.cells
+  fits_is : {st : Store} {c m d r : ℕ} {log : Log} → Balance z st c m (suc d) r log → st.counters.cells * 8 + 7 < length st.cells
   fits_is h = omega (arith, made_is h, h.cells)
 
   -- a cell more
-  cell_tally : (st : Store) (n : List ℕ) (w e : ℕ) {c c' m d r : ℕ} {log : Log} → n ≡ counters_of z c' (m + 1) log
+  cell_tally : (st : Store) (n : Counters) (w e : ℕ) {c c' m d r : ℕ} {log : Log} → n ≡ counters_of z c' (m + 1) log
       → Balance z st c m (suc d) r log → Balance z (with_cell st n w e) c' (m + 1) d r log
   cell_tally st n w e k h = record {
     counters = k;
-    cells = omega (arith, h.cells, length_cell st.cells (cells_made st.counters) w e);
-    most = omega (arith, h.most, length_cell st.cells (cells_made st.counters) w e);
+    cells = omega (arith, h.cells, length_cell st.cells st.counters.cells w e);
+    most = omega (arith, h.most, length_cell st.cells st.counters.cells w e);
     room = h.room;
     list = h.list;
     noted_is = h.noted_is;
@@ -161,7 +162,7 @@ module _ (z : Fixed) where
   meets_end {depth} {st} r h = valued r h (later_refl depth st)
 
   pub meets_found : {depth : ℕ} {st : Store} {o : Budget} (t : ℕ) {w : ℕ} {x : Option (ValueIn z)} → t < 65536
-      → Finds st.cells (cells_made st.counters) t w x
+      → Finds st.cells st.counters.cells t w x
       → Balances z st o → Meets z depth st (done_of w st) (variable_value t x o)
   meets_found t i (finds_some r) h = meets_end r h
   meets_found t i finds_none h = meets_stop (Stuck t) i h
@@ -177,21 +178,23 @@ module _ (z : Fixed) where
 
   -- an operation on two numbers
   results : (op : Op) (l : List ℕ) (k : ℕ) {v w : ℕ} {m n : z.interpretation.domain.Number} → z.coding.Number v m → z.coding.Number w n
-      → Rep z l k (numbers_result z.mode (kind_number op) v w) (operate op m n)
+      → Rep z l k (numbers_result z.mode.intervals (kind_number op) v w) (operate op m n)
   results sum l k p q = rep_num (z.coding.sum_coded p q)
   results difference l k p q = rep_num (z.coding.difference_coded p q)
   results less l k p q = rep_bool (z.coding.less_coded p q)
 
   -- and its result counted, where it is saturated
   abbrev counted : Bool → Store → Store
-  counted over st = store_of (cond over (counters_saturated st.counters) st.counters) st.cells st.posts st.frames st.noted
+  counted over st =
+      store_of (record st.counters { saturated = cond over (wrapped (st.counters.saturated + 1)) st.counters.saturated })
+      st.cells st.posts st.frames st.noted
 
   counted_tally : {st : Store} {c m d r : ℕ} {log : Log} → Balance z st c m d r log → Balance z (counted true st) c m d r (log_saturated true log)
   counted_tally {c = c} {m = m} {log = log} h =
       let one_more : wrapped (wrapped log.saturated + 1) ≡ wrapped (suc log.saturated) = omega arith in
       record {
-        counters = (λ i. set (h.counters i) 4 (wrapped (saturated_made (h.counters i) + 1)))
-            ∙ (λ i. c ∷ m ∷ length log.posts ∷ z.mode ∷ one_more i ∷ length (recorded (length z.noted) (reverse log.decisions)) ∷ []);
+        counters = (λ i. record (h.counters i) { saturated = wrapped ((h.counters i).saturated + 1) })
+            ∙ (λ i. record (counters_of z c m log) { saturated = one_more i });
         cells = h.cells;
         most = h.most;
         room = h.room;
@@ -203,7 +206,7 @@ module _ (z : Fixed) where
       → Meets z depth st (done_of w (counted over st)) (ends x (count_saturated over o))
   meets_counted false r (balance h) = meets_end r (balance h)
   meets_counted {depth} {st} {w = w} {x = x} true r (balance h) =
-      let same : cells_made (counted true st).counters ≡ cells_made st.counters = made_is (counted_tally h) ∙ sym (made_is h) in
+      let same : (counted true st).counters.cells ≡ st.counters.cells = made_is (counted_tally h) ∙ sym (made_is h) in
       valued {st = counted true st} (subst (λ k. Rep z st.cells k w x) (sym same) r) (balance (counted_tally h))
       record { more = omega arith; old = record { long = refl; same = λ j g. refl }; frames = kept_refl depth st.frames }
 
@@ -233,21 +236,21 @@ module _ (z : Fixed) where
         → Meets z depth st (operate_done (kind_number op) t v w st) (compute t op x y o)
     unfolding operate_done operate_of operate_saturates operate_counters
     meets_compute {v} {w} {x} {y} op r u =
-        subst (λ n. Meets z depth st (by n (sort_of v) (sort_of w)) (compute t op x y o)) (sym (mode_is h))
-        (subst (λ k. Meets z depth st (by z.mode k (sort_of w)) (compute t op x y o)) (sym (rep_word z r).sort_is)
-        (subst (λ k. Meets z depth st (by z.mode (sort_for x) k) (compute t op x y o)) (sym (rep_word z u).sort_is) (go r u)))
+        subst (λ n. Meets z depth st (by n (sort_of v) (sort_of w)) (compute t op x y o)) (λ i. (sym (mode_is h) i).intervals)
+        (subst (λ k. Meets z depth st (by z.mode.intervals k (sort_of w)) (compute t op x y o)) (sym (rep_word z r).sort_is)
+        (subst (λ k. Meets z depth st (by z.mode.intervals (sort_for x) k) (compute t op x y o)) (sym (rep_word z u).sort_is) (go r u)))
       where
-        by : (mode j k : ℕ) → Done
+        by : (intervals : Bool) (j k : ℕ) → Done
         by n j k = done_of (cond (eqb j 1) (cond (eqb k 1) (numbers_result n (kind_number op) v w) (stop_word 18 t)) (stop_word 18 t))
             (counted (cond (eqb j 1) (cond (eqb k 1) (numbers_saturate n (kind_number op) v w) false) false) st)
 
-        go : {x y : ValueIn z} → RepAt z st v x → RepAt z st w y → Meets z depth st (by z.mode (sort_for x) (sort_for y)) (compute t op x y o)
+        go : {x y : ValueIn z} → RepAt z st v x → RepAt z st w y → Meets z depth st (by z.mode.intervals (sort_for x) (sort_for y)) (compute t op x y o)
         go (rep_bool e) u = meets_stop (Stuck t) i h
         go (rep_num e) (rep_bool e') = meets_stop (Stuck t) i h
         go (rep_num {n = a} e) (rep_num {n = b} e') =
             let x : ValueIn z = operate op a b in
-            subst (λ c. Meets z depth st (by z.mode 1 1) (ends x (count_saturated c o))) (z.coding.saturates_coded op e e')
-            (meets_counted (numbers_saturate z.mode (kind_number op) v w) (results op st.cells (cells_made st.counters) e e') h)
+            subst (λ c. Meets z depth st (by z.mode.intervals 1 1) (ends x (count_saturated c o))) (z.coding.saturates_coded op e e')
+            (meets_counted (numbers_saturate z.mode.intervals (kind_number op) v w) (results op st.cells st.counters.cells e e') h)
         go (rep_num e) (rep_fun k' b e') = meets_stop (Stuck t) i h
         go (rep_num e) (rep_rec k' b p q g e') = meets_stop (Stuck t) i h
         go (rep_fun k b e) u = meets_stop (Stuck t) i h
@@ -255,8 +258,8 @@ module _ (z : Fixed) where
 
   -- ---- a decision is noted
   entries_are : {st : Store} {c m d r : ℕ} {log : Log} → Balance z st c m d r log
-      → entries_made st.counters ≡ length (recorded (length z.noted) (reverse log.decisions))
-  entries_are h = λ i. entries_made (h.counters i)
+      → st.counters.entries ≡ length (recorded (length z.noted) (reverse log.decisions))
+  entries_are h = λ i. (h.counters i).entries
 
   noted_long : {st : Store} {c m d r : ℕ} {log : Log} → Balance z st c m d r log → length st.noted ≡ length z.noted
   noted_long {log = log} h = ap length h.noted_is ∙ length_record z.noted (reverse log.decisions)
@@ -283,37 +286,38 @@ module _ (z : Fixed) where
       many : kept ≡ min (length t / 4) (length ds)
       many = length-take (length t / 4) ds
 
-      made : ℕ → List ℕ
-      made k = c ∷ m ∷ length log.posts ∷ z.mode ∷ wrapped log.saturated ∷ k ∷ []
+      made : ℕ → Counters
+      made k = record (counters_of z c m log) { entries = k }
 
       go : Dec (length ds < length t / 4) → Balance z (with_note e st) c m d r (log_decision e log)
       go (yes l) =
-          let room : ltb (entries_made st.counters) (length st.noted / 4) ≡ true =
-          lt-ltb (entries_made st.counters) (length st.noted / 4) (omega (arith, entries_are h, noted_long h, many)) in
+          let room : ltb st.counters.entries (length st.noted / 4) ≡ true =
+          lt-ltb st.counters.entries (length st.noted / 4) (omega (arith, entries_are h, noted_long h, many)) in
           record {
-            counters = (λ i. cond (room i) (set st.counters 5 (entries_made st.counters + 1)) st.counters)
-                ∙ (λ i. set (h.counters i) 5 (entries_made (h.counters i) + 1)) ∙ (λ i. made (sym (entry_more t ds e l) i))
+            counters = (λ i. record st.counters { entries = cond (room i) (st.counters.entries + 1) st.counters.entries })
+                ∙ (λ i. record (h.counters i) { entries = (h.counters i).entries + 1 }) ∙ (λ i. made (sym (entry_more t ds e l) i))
                 ∙ (λ i. made (length (recorded (length t) (behind i))));
             cells = h.cells;
             most = h.most;
             room = h.room;
             list = h.list;
-            noted_is = (λ i. cond (room i) (overwrite st.noted (4 * entries_made st.counters) (event_bytes e)) st.noted)
+            noted_is = (λ i. cond (room i) (overwrite st.noted (4 * st.counters.entries) (event_bytes e)) st.noted)
                 ∙ (λ i. overwrite (h.noted_is i) (4 * entries_are h i) (event_bytes e)) ∙ entry_made t ds e l ∙ (λ i. record_after t (behind i));
           }
       go (no g) =
-          let no_room : ltb (entries_made st.counters) (length st.noted / 4) ≡ false =
-          le-ltb (entries_made st.counters) (length st.noted / 4) (omega (arith, entries_are h, noted_long h, many, g)) in
+          let no_room : ltb st.counters.entries (length st.noted / 4) ≡ false =
+          le-ltb st.counters.entries (length st.noted / 4) (omega (arith, entries_are h, noted_long h, many, g)) in
           let same : recorded (length t) ds ≡ recorded (length t) (reverse (e ∷ log.decisions)) =
           sym (full t ds e (omega (arith, g))) ∙ (λ i. recorded (length t) (behind i)) in
           record {
             counters =
-                (λ i. cond (no_room i) (set st.counters 5 (entries_made st.counters + 1)) st.counters) ∙ h.counters ∙ (λ i. made (length (same i)));
+                (λ i. record st.counters { entries = cond (no_room i) (st.counters.entries + 1) st.counters.entries })
+                ∙ h.counters ∙ (λ i. made (length (same i)));
             cells = h.cells;
             most = h.most;
             room = h.room;
             list = h.list;
-            noted_is = (λ i. cond (no_room i) (overwrite st.noted (4 * entries_made st.counters) (event_bytes e)) st.noted) ∙ h.noted_is
+            noted_is = (λ i. cond (no_room i) (overwrite st.noted (4 * st.counters.entries) (event_bytes e)) st.noted) ∙ h.noted_is
                 ∙ (λ i. with_entries (same i) t);
           }
 
@@ -322,13 +326,13 @@ module _ (z : Fixed) where
     balances : Balances z st₁ o
     later : (depth : ℕ) → Later depth st st₁
 
-  notes : (decides : Bool) (t p access : ℕ) (grants : ℕ → Bool) {st : Store} {o : Budget} → granted_of (mode_of st.counters) access st.frames p ≡ grants p
+  notes : (decides : Bool) (t p access : ℕ) (grants : ℕ → Bool) {st : Store} {o : Budget} → granted_of st.counters.mode.lazy access st.frames p ≡ grants p
       → Balances z st o → Notes st (with_entry decides t p access st) (note (event_if decides t grants (some p)) o)
   unfolding note_counters note_bytes
   notes false t p access grants {st} e h = record { balances = h; later = λ depth. later_refl depth st }
   notes true t p access grants {st} e (balance {c = c} {d = d} {r = r} {log = log} h) =
       let event = decided_event t p (grants p) in
-      let same : cells_made (note_counters true st.counters st.noted) ≡ cells_made st.counters = made_is (note_tally event h) ∙ sym (made_is h) in
+      let same : (note_counters true st.counters st.noted).cells ≡ st.counters.cells = made_is (note_tally event h) ∙ sym (made_is h) in
       record {
         balances = subst (λ b. Balances z (with_note (decided_event t p b) st) (budget c d r (log_decision event log))) (sym e) (balance (note_tally event h));
         later = λ depth. record { more = omega (arith, same); old = record { long = refl; same = λ j g. refl }; frames = kept_refl depth st.frames };
@@ -338,15 +342,16 @@ module _ (z : Fixed) where
   module _ (st : Store) (t x w : ℕ) where
     abbrev posted : Store
     posted =
-        store_of (set st.counters 2 (posts_made st.counters + 1)) st.cells (set st.posts (posts_made st.counters) (listed_as z.mode x w))
+        store_of (record st.counters { posts = st.counters.posts + 1 }) st.cells (set st.posts st.counters.posts (listed_as z.mode.intervals x w))
         st.frames st.noted
 
     abbrev post_by : (cause : ℕ) → Done
     post_by c = done_of (cond (eqb c 0) w (stop_word c t))
-        (store_of (cond (eqb c 0) posted.counters st.counters) st.cells (cond (eqb c 0) posted.posts st.posts) st.frames st.noted)
+        (store_of (record st.counters { posts = cond (eqb c 0) posted.counters.posts st.counters.posts }) st.cells
+        (cond (eqb c 0) posted.posts st.posts) st.frames st.noted)
 
     abbrev room : Bool
-    room = ltb (posts_made st.counters) (length st.posts)
+    room = ltb st.counters.posts (length st.posts)
 
     abbrev listed : z.interpretation.domain.Number → ℕ
     listed y = z.interpretation.domain.entry (word_small x) y
@@ -354,9 +359,9 @@ module _ (z : Fixed) where
     posted_tally : {c m d r : ℕ} {y : z.interpretation.domain.Number} {log : Log} → z.coding.Number w y → Balance z st c m d (suc r) log
         → Balance z posted c m d r (log_post (listed y) log)
     posted_tally {log = log} e h =
-        let one_more : posts_made st.counters + 1 ≡ suc (length log.posts) = omega (arith, posts_are h) in
+        let one_more : st.counters.posts + 1 ≡ suc (length log.posts) = omega (arith, posts_are h) in
         record {
-          counters = λ i. set (h.counters i) 2 (one_more i);
+          counters = λ i. record (h.counters i) { posts = one_more i };
           cells = h.cells;
           most = h.most;
           room = omega (arith, h.room);
@@ -368,15 +373,15 @@ module _ (z : Fixed) where
         → Meets z depth st (post_by (cause_of true true room)) (append_post t (word_small x) y (budget c d r log))
     unfolding cause_of
     post_number {depth} {c} {m} {d} {y} {log} zero i v h =
-        let e : length st.posts ≤ posts_made st.counters = omega (arith, posts_are h, long_is h, h.room) in
+        let e : length st.posts ≤ st.counters.posts = omega (arith, posts_are h, long_is h, h.room) in
         subst (λ b. Meets z depth st (post_by (cause_of true true b)) (stops 22 t (budget c d 0 log)))
-        (sym (le-ltb (posts_made st.counters) (length st.posts) e))
+        (sym (le-ltb st.counters.posts (length st.posts) e))
         (meets_stop (Posts t) i (balance h))
     post_number {depth} {c} {m} {d} {y} {log} (suc r) i v h =
-        let e : posts_made st.counters < length st.posts = omega (arith, posts_are h, long_is h, h.room) in
-        let same : cells_made posted.counters ≡ cells_made st.counters = made_is (posted_tally v h) ∙ sym (made_is h) in
+        let e : st.counters.posts < length st.posts = omega (arith, posts_are h, long_is h, h.room) in
+        let same : posted.counters.cells ≡ st.counters.cells = made_is (posted_tally v h) ∙ sym (made_is h) in
         subst (λ b. Meets z depth st (post_by (cause_of true true b)) (ends (num y) (budget c d r (log_post (listed y) log))))
-        (sym (lt-ltb (posts_made st.counters) (length st.posts) e))
+        (sym (lt-ltb st.counters.posts (length st.posts) e))
         (valued {st = posted} (rep_num v) (balance (posted_tally v h))
         record { more = omega arith; old = record { long = refl; same = λ j g. refl }; frames = kept_refl depth st.frames })
 
@@ -390,34 +395,21 @@ module _ (z : Fixed) where
   -- the same from the state before the guard is noted, if the word is a number's
   module _ (st : Store) (t x access w : ℕ) where
     abbrev guarded_by : (sort : ℕ) → Store
-    guarded_by k = with_entry (cond (eqb k 1) (number_decides (mode_of st.counters) x) false) t (word_guard x) access st
+    guarded_by k = with_entry (cond (eqb k 1) (number_decides st.counters.mode.enforce x) false) t (word_guard x) access st
 
-    -- noting an entry makes no post
-    posts_kept : (b : Bool) → posts_made st.counters ≡ posts_made (with_entry b t (word_guard x) access st).counters
-    unfolding note_counters
-    posts_kept b = go (cond b (ltb (entries_made st.counters) (length st.noted / 4)) false)
-      where
-        go : (y : Bool) → posts_made st.counters ≡ posts_made (cond y (set st.counters 5 (entries_made st.counters + 1)) st.counters)
-        go true = sym (get_or-set_other st.counters 5 2 (entries_made st.counters + 1) 0 (λ e. omega (arith, e)))
-        go false = refl
-
-    post_is : (k : ℕ) (g : Bool) → mode_of st.counters ≡ z.mode → sort_of w ≡ k → guard_passed (mode_of st.counters) access st.frames (word_guard x) ≡ g
+    post_is : (k : ℕ) (g : Bool) → st.counters.mode ≡ z.mode → sort_of w ≡ k → guard_passed st.counters.mode access st.frames (word_guard x) ≡ g
         → post_done t x access w st ≡ post_by (guarded_by k) t x w (cause_of (eqb k 1) g (room (guarded_by k) t x w))
-    unfolding post_done post_cause post_word post_counters post_list
+    unfolding post_done post_cause post_word post_counters post_list note_counters
     post_is k g j e f =
-        (λ i. by (guarded_by (e i)) (j i) (posts_made st.counters) (cause_of (eqb (e i) 1) (f i) (ltb (posts_made st.counters) (length st.posts))))
-        ∙ (λ i. by (guarded_by k) z.mode (made i) (cause_of (eqb k 1) g (ltb (made i) (length st.posts))))
+        λ i. by (guarded_by (e i)) (j i).intervals (cause_of (eqb (e i) 1) (f i) (ltb st.counters.posts (length st.posts)))
       where
-        by : Store → (mode made cause : ℕ) → Done
-        by u n m c = done_of (cond (eqb c 0) w (stop_word c t))
-            (store_of (cond (eqb c 0) (set u.counters 2 (posts_made u.counters + 1)) u.counters) st.cells
-            (cond (eqb c 0) (set st.posts m (listed_as n x w)) st.posts) st.frames u.noted)
-
-        made : posts_made st.counters ≡ posts_made (guarded_by k).counters
-        made = posts_kept (cond (eqb k 1) (number_decides (mode_of st.counters) x) false)
+        by : Store → (intervals : Bool) (cause : ℕ) → Done
+        by u n c = done_of (cond (eqb c 0) w (stop_word c t))
+            (store_of (record u.counters { posts = cond (eqb c 0) (u.counters.posts + 1) u.counters.posts }) st.cells
+            (cond (eqb c 0) (set st.posts st.counters.posts (listed_as n x w)) st.posts) st.frames u.noted)
 
     meets_post : (g : Bool) (n : Option Event) {depth : ℕ} {o : Budget} {y : ValueIn z}
-        → guard_passed (mode_of st.counters) access st.frames (word_guard x) ≡ g
+        → guard_passed st.counters.mode access st.frames (word_guard x) ≡ g
         → Notes st (guarded_by 1) (note n o) → t < 65536
         → RepAt z st w y → Balances z st o → Meets z depth st (post_done t x access w st) (post_value t (word_small x) g n y o)
     unfolding cause_of note_counters note_bytes
@@ -437,15 +429,15 @@ pub record Models (z : Fixed) (X : Control) (enforce : Bool) (R : X.State → (a
   pub keeps : (a : X.State) (access d : ℕ) (f g : List ℕ) → R a access d f → FramesKept d f g → R a access d g
   pub signed : (a : X.State) (access d : ℕ) (f : List ℕ) (n authorised : ℕ) → R a access d f → authorised ≡ z.authorised n → authorised < 4294967296
       → d < max_frames
-      → R (X.signs n a) (sign_access z.mode access authorised) (d + 1) (sign_frames z.mode access f authorised)
+      → R (X.signs n a) (sign_access z.mode.lazy access authorised) (d + 1) (sign_frames z.mode.lazy access f authorised)
   pub enabled : (a : X.State) (access d : ℕ) (f : List ℕ) (p : ℕ) → R a access d f → d ≤ max_frames
-      → R (X.enables p a) (enable_access z.mode access p) d (enable_frames z.mode access f p)
-  pub grants : (a : X.State) (access d : ℕ) (f : List ℕ) (p : ℕ) → R a access d f → d ≤ max_frames → granted_of z.mode access f p ≡ X.grants a p
-  pub enforces : enforced z.mode ≡ enforce
+      → R (X.enables p a) (enable_access z.mode.lazy access p) d (enable_frames z.mode.lazy access f p)
+  pub grants : (a : X.State) (access d : ℕ) (f : List ℕ) (p : ℕ) → R a access d f → d ≤ max_frames → granted_of z.mode.lazy access f p ≡ X.grants a p
+  pub enforces : z.mode.enforce ≡ enforce
   pub unsigned : (a : X.State) (access d : ℕ) (f g : List ℕ) (authorised : ℕ) → R a access d f
-      → FramesKept (d + 1) (sign_frames z.mode access f authorised) g → FramesKept d f g
-  pub undone : (a : X.State) (access d : ℕ) (f g : List ℕ) (p : ℕ) → R a access d f → d ≤ max_frames → FramesKept d (enable_frames z.mode access f p) g
-      → FramesKept d f (restore_frames z.mode access g (enabled_now z.mode access f))
+      → FramesKept (d + 1) (sign_frames z.mode.lazy access f authorised) g → FramesKept d f g
+  pub undone : (a : X.State) (access d : ℕ) (f g : List ℕ) (p : ℕ) → R a access d f → d ≤ max_frames → FramesKept d (enable_frames z.mode.lazy access f p) g
+      → FramesKept d f (restore_frames z.mode.lazy access g (enabled_now z.mode.lazy access f))
 
 module _ (z : Fixed) (X : Control) (R : X.State → (access depth : ℕ) → List ℕ → Type 0) where
   -- a run that does as the meaning's, where h more frames have room
@@ -517,8 +509,8 @@ module _ (z : Fixed) (X : Control) (enforce : Bool) (R : X.State → (access dep
 
   -- ---- access
   granted_is : {a : X.State} {access d : ℕ} {st : Store} {o : Budget} (p : ℕ) → R a access d st.frames → d ≤ max_frames → Balances z st o
-      → granted_of (mode_of st.counters) access st.frames p ≡ X.grants a p
-  granted_is {a} {access} {d} {st} p r l y = (λ i. granted_of (mode_is z y i) access st.frames p) ∙ ctl.grants a access d st.frames p r l
+      → granted_of st.counters.mode.lazy access st.frames p ≡ X.grants a p
+  granted_is {a} {access} {d} {st} p r l y = (λ i. granted_of (mode_is z y i).lazy access st.frames p) ∙ ctl.grants a access d st.frames p r l
 
   -- a run from where a decision is noted
   noted_go : (h : ℕ) (q : StoreEvaluation) (Q : Evaluation z.interpretation X) → Does h q Q
@@ -535,23 +527,23 @@ module _ (z : Fixed) (X : Control) (enforce : Bool) (R : X.State → (access dep
     go = λ env E access d a st o w r e y.
         let g = granted_is p r (omega arith) y in
         let k = notes z true t p access (X.grants a) g y in
-        meets_pick z (granted_of (mode_of st.counters) access st.frames p) (X.grants a p) g _ _ _ _
+        meets_pick z (granted_of st.counters.mode.lazy access st.frames p) (X.grants a p) g _ _ _ _
         (noted_go h q Q hq w r e k) (noted_go h u U hu w r e k);
   }
 
   allowed_is : {a : X.State} {access d : ℕ} {st : Store} {o : Budget} (p : ℕ) → R a access d st.frames → d ≤ max_frames → Balances z st o
-      → allowed_of (mode_of st.counters) access st.frames p ≡ passes enforce (X.grants a p)
+      → allowed_of st.counters.mode access st.frames p ≡ passes enforce (X.grants a p)
   unfolding allowed_of
   allowed_is {a} {access} {d} {st} p r l y =
-      allows enforce (enforced (mode_of st.counters)) (granted_of (mode_of st.counters) access st.frames p) (X.grants a p)
-      ((λ j. enforced (mode_is z y j)) ∙ ctl.enforces) (granted_is p r l y)
+      allows enforce st.counters.mode.enforce (granted_of st.counters.mode.lazy access st.frames p) (X.grants a p)
+      ((λ j. (mode_is z y j).enforce) ∙ ctl.enforces) (granted_is p r l y)
 
   -- a decision on p where checks are in force
   check_notes : (t p : ℕ) {a : X.State} {access d : ℕ} {st : Store} {o : Budget} → R a access d st.frames → d ≤ max_frames → Balances z st o
-      → Notes z st (with_entry (enforced (mode_of st.counters)) t p access st) (note (event_if enforce t (X.grants a) (some p)) o)
+      → Notes z st (with_entry st.counters.mode.enforce t p access st) (note (event_if enforce t (X.grants a) (some p)) o)
   check_notes t p {a} {access} {d} {st} {o} r l y =
       subst (λ b. Notes z st (with_entry b t p access st) (note (event_if enforce t (X.grants a) (some p)) o))
-      (sym ((λ j. enforced (mode_is z y j)) ∙ ctl.enforces)) (notes z enforce t p access (X.grants a) (granted_is p r l y) y)
+      (sym ((λ j. (mode_is z y j).enforce) ∙ ctl.enforces)) (notes z enforce t p access (X.grants a) (granted_is p r l y) y)
 
   pub sim_check : (h p t : ℕ) → t < 65536 → (q : StoreEvaluation) (Q : Evaluation z.interpretation X) → Does h q Q
       → Does h (check_s q p t)
@@ -560,22 +552,22 @@ module _ (z : Fixed) (X : Control) (enforce : Bool) (R : X.State → (access dep
   sim_check h p t i q Q hq = record {
     go = λ env E access d a st o w r e y.
         let k = check_notes t p r (omega arith) y in
-        meets_pick z (allowed_of (mode_of st.counters) access st.frames p) (passes enforce (X.grants a p)) (allowed_is p r (omega arith) y)
+        meets_pick z (allowed_of st.counters.mode access st.frames p) (passes enforce (X.grants a p)) (allowed_is p r (omega arith) y)
         _ _ _ _ (noted_go h q Q hq w r e k) (meets_later z (k.later d) (meets_stop z (Check t) i k.balances));
   }
 
   -- a post, whose guard is decided in the access of the post
   guard_is : {a : X.State} {access d : ℕ} {st : Store} {o : Budget} (g : ℕ) → R a access d st.frames → d ≤ max_frames → Balances z st o
-      → guard_passed (mode_of st.counters) access st.frames g ≡ guard_passes enforce (X.grants a) (guard_in g)
+      → guard_passed st.counters.mode access st.frames g ≡ guard_passes enforce (X.grants a) (guard_in g)
   unfolding guard_passed
   guard_is {a} {access} {d} {st} g r l y = go (eqb g no_guard)
     where
-      go : (b : Bool) → cond b true (allowed_of (mode_of st.counters) access st.frames g) ≡ guard_passes enforce (X.grants a) (cond b none (some g))
+      go : (b : Bool) → cond b true (allowed_of st.counters.mode access st.frames g) ≡ guard_passes enforce (X.grants a) (cond b none (some g))
       go true = refl
       go false = allowed_is g r l y
 
   guard_notes : (t x : ℕ) {a : X.State} {access d : ℕ} {st : Store} {o : Budget} → R a access d st.frames → d ≤ max_frames → Balances z st o
-      → Notes z st (with_entry (number_decides (mode_of st.counters) x) t (word_guard x) access st)
+      → Notes z st (with_entry (number_decides st.counters.mode.enforce x) t (word_guard x) access st)
       (note (event_if enforce t (X.grants a) (guard_in (word_guard x))) o)
   guard_notes t x {a} {access} {d} {st} {o} r l y = go (eqb (word_guard x) no_guard)
     where
@@ -583,7 +575,7 @@ module _ (z : Fixed) (X : Control) (enforce : Bool) (R : X.State → (access dep
       unguarded true = refl
       unguarded false = refl
 
-      go : (b : Bool) → Notes z st (with_entry (cond b false (enforced (mode_of st.counters))) t (word_guard x) access st)
+      go : (b : Bool) → Notes z st (with_entry (cond b false st.counters.mode.enforce) t (word_guard x) access st)
           (note (event_if enforce t (X.grants a) (cond b none (some (word_guard x)))) o)
       go true = subst (λ n. Notes z st (with_entry false t (word_guard x) access st) (note n o)) (sym (unguarded enforce))
           (notes z false t (word_guard x) access (X.grants a) (granted_is (word_guard x) r l y) y)
@@ -617,37 +609,38 @@ module _ (z : Fixed) (X : Control) (enforce : Bool) (R : X.State → (access dep
   unfolding sign_s
   sim_sign h n authorised q Q e i hq = record {
     go = λ env E access d a st o w r v y.
-        subst (λ m. Meets z d st (q env (sign_access m access authorised) (with_frames (sign_frames m access st.frames authorised) st)) (Q (X.signs n a) E o))
-        (sym (mode_is z y))
+        subst (λ lazy. Meets z d st (q env (sign_access lazy access authorised) (with_frames (sign_frames lazy access st.frames authorised) st))
+        (Q (X.signs n a) E o)) (λ i. (sym (mode_is z y) i).lazy)
         (reframed (λ f. f) (λ f k. ctl.unsigned a access d st.frames f authorised r k)
-        (hq.go env E (sign_access z.mode access authorised) (d + 1) (X.signs n a) (with_frames (sign_frames z.mode access st.frames authorised) st) o
+        (hq.go env E (sign_access z.mode.lazy access authorised) (d + 1) (X.signs n a) (with_frames (sign_frames z.mode.lazy access st.frames authorised) st) o
         (omega arith)
-        (ctl.signed a access d st.frames n authorised r e i (omega arith)) v (balances_frames z (sign_frames z.mode access st.frames authorised) y)));
+        (ctl.signed a access d st.frames n authorised r e i (omega arith)) v (balances_frames z (sign_frames z.mode.lazy access st.frames authorised) y)));
   }
 
   pub sim_enable : (h p : ℕ) (q : StoreEvaluation) (Q : Evaluation z.interpretation X) → Does h q Q → Does h (enable_s q p) (λ a E o. Q (X.enables p a) E o)
   unfolding enable_s
   sim_enable h p q Q hq = record {
     go = λ env E access d a st o w r v y.
-        subst (λ m. Meets z d st (restored m access (enabled_now m access st.frames)
-        (q env (enable_access m access p) (with_frames (enable_frames m access st.frames p) st))) (Q (X.enables p a) E o)) (sym (mode_is z y))
-        (reframed (λ f. restore_frames z.mode access f (enabled_now z.mode access st.frames))
+        subst (λ lazy. Meets z d st (restored lazy access (enabled_now lazy access st.frames)
+        (q env (enable_access lazy access p) (with_frames (enable_frames lazy access st.frames p) st))) (Q (X.enables p a) E o))
+        (λ i. (sym (mode_is z y) i).lazy)
+        (reframed (λ f. restore_frames z.mode.lazy access f (enabled_now z.mode.lazy access st.frames))
         (λ f k. ctl.undone a access d st.frames f p r (omega arith) k)
-        (hq.go env E (enable_access z.mode access p) d (X.enables p a) (with_frames (enable_frames z.mode access st.frames p) st) o w
-        (ctl.enabled a access d st.frames p r (omega arith)) v (balances_frames z (enable_frames z.mode access st.frames p) y)));
+        (hq.go env E (enable_access z.mode.lazy access p) d (X.enables p a) (with_frames (enable_frames z.mode.lazy access st.frames p) st) o w
+        (ctl.enabled a access d st.frames p r (omega arith)) v (balances_frames z (enable_frames z.mode.lazy access st.frames p) y)));
   }
 
   -- ---- a run that goes on with a new cell
   on_cell : (h : ℕ) (p : StoreEvaluation) (P : Evaluation z.interpretation X) → Does h p P
-      → (E : EnvIn z) (access d : ℕ) (a : X.State) (st : Store) (n : List ℕ) (w e : ℕ) {c c' m k r : ℕ} {log : Log}
+      → (E : EnvIn z) (access d : ℕ) (a : X.State) (st : Store) (n : Counters) (w e : ℕ) {c c' m k r : ℕ} {log : Log}
       → d + h ≤ max_frames → R a access d st.frames → Balance z st c m (suc k) r log → n ≡ counters_of z c' (m + 1) log
-      → RepEnv z (cell_set st.cells (cells_made st.counters) w e) (cells_made st.counters + 1) (cells_made st.counters + 1) E
-      → Meets z d st (p (cells_made st.counters + 1) access (with_cell st n w e)) (P a E (budget c' k r log))
+      → RepEnv z (cell_set st.cells st.counters.cells w e) (st.counters.cells + 1) (st.counters.cells + 1) E
+      → Meets z d st (p (st.counters.cells + 1) access (with_cell st n w e)) (P a E (budget c' k r log))
   on_cell h p P hp E access d a st n w e l r y k v =
-      let made : cells_made n ≡ cells_made st.counters + 1 = (λ j. cells_made (k j)) ∙ (λ j. sym (made_is z y) j + 1) in
+      let made : n.cells ≡ st.counters.cells + 1 = (λ j. (k j).cells) ∙ (λ j. sym (made_is z y) j + 1) in
       meets_later z (later_cell d st n w e made)
-      (hp.go (cells_made st.counters + 1) E access d a (with_cell st n w e) _ l r
-      (subst (λ m. RepEnv z (cell_set st.cells (cells_made st.counters) w e) m (cells_made st.counters + 1) E) (sym made) v)
+      (hp.go (st.counters.cells + 1) E access d a (with_cell st n w e) _ l r
+      (subst (λ m. RepEnv z (cell_set st.cells st.counters.cells w e) m (st.counters.cells + 1) E) (sym made) v)
       (balance (cell_tally z st n w e k y)))
 
   -- a recursive function
@@ -664,12 +657,12 @@ module _ (z : Fixed) (X : Control) (enforce : Bool) (R : X.State → (access dep
         subst (λ x. Meets z d st x (stops 21 t (budget c 0 u log))) (sym (letrec_is false (own_cell st) (room_none z y) refl))
         (meets_stop z (Cells t) i (balance y))
     letrec_meets (balance {c = c} {d = suc e} {r = u} {log = log} y) =
-        let own : ℕ = cells_made st.counters + 1 in
+        let own : ℕ = st.counters.cells + 1 in
         let f : ℕ = function_word b own in
         subst (λ x. Meets z d st x (Q a (bind (closure true ty body E) E) (budget c e u log))) (sym (letrec_is true own (room_some z y) (own_is z y)))
-        (on_cell h q Q hq (bind (closure true ty body E) E) access d a st (set st.counters 1 own) f env w r y
-        (λ j. set (y.counters j) 1 (made_is z y j + 1))
-        (fresh_again z st.cells (cells_made st.counters) env E (fits_is z y) v f b ty body
+        (on_cell h q Q hq (bind (closure true ty body E) E) access d a st (record st.counters { cells = own }) f env w r y
+        (λ j. record (y.counters j) { cells = made_is z y j + 1 })
+        (fresh_again z st.cells st.counters.cells env E (fits_is z y) v f b ty body
         (function_word_lem b own inside (omega (arith, few_cells z (balance y)))) k))
 
   pub sim_letrec : (h t b ty : ℕ) → t < 65536 → (body : Term) (q : StoreEvaluation) (Q : Evaluation z.interpretation X) → b < 65536 → Body z b body
@@ -679,7 +672,7 @@ module _ (z : Fixed) (X : Control) (enforce : Bool) (R : X.State → (access dep
 
   -- a body begins
   module _ (ev : ℕ → StoreEvaluation) (t f w access : ℕ) (st : Store) where
-    begin_is : (p q : Bool) (own : ℕ) → eqb (calls_left st.counters) 0 ≡ p → has_room st ≡ q → own_cell st ≡ own
+    begin_is : (p q : Bool) (own : ℕ) → eqb st.counters.calls_left 0 ≡ p → has_room st ≡ q → own_cell st ≡ own
         → begin ev t f w access st
         ≡ cond p (done_of (stop_word 20 t) st) (cond q (ev (payload_of f) own access (call_bound w (env_of f) st)) (done_of (stop_word 21 t) st))
     unfolding begin
@@ -695,13 +688,13 @@ module _ (z : Fixed) (X : Control) (enforce : Bool) (R : X.State → (access dep
           (sym (begin_is true (has_room st) (own_cell st) (λ j. eqb (calls_are z b j) 0) refl refl)) (meets_stop z (Calls t) i (balance b))
       begin_meets (balance {c = suc k} {d = zero} {r = u} {log = log} b) =
           subst (λ x. Meets z d st x (stops 21 t (budget (suc k) 0 u log)))
-          (sym (begin_is false false (own_cell st) (ne_eqb (calls_left st.counters) 0 (λ e. omega (arith, calls_are z b))) (room_none z b) refl))
+          (sym (begin_is false false (own_cell st) (ne_eqb st.counters.calls_left 0 (λ e. omega (arith, calls_are z b))) (room_none z b) refl))
           (meets_stop z (Cells t) i (balance b))
       begin_meets (balance {c = suc k} {d = suc c} {r = u} {log = log} b) =
-          let own : ℕ = cells_made st.counters + 1 in
-          let less_one : calls_left st.counters - 1 ≡ k = omega (arith, calls_are z b) in
+          let own : ℕ = st.counters.cells + 1 in
+          let less_one : st.counters.calls_left - 1 ≡ k = omega (arith, calls_are z b) in
           subst (λ x. Meets z d st x (Q a (entered ag ty body E y) (budget k c u log)))
-          (sym (begin_is false true own (ne_eqb (calls_left st.counters) 0 (λ e. omega (arith, calls_are z b))) (room_some z b) (own_is z b)))
+          (sym (begin_is false true own (ne_eqb st.counters.calls_left 0 (λ e. omega (arith, calls_are z b))) (room_some z b) (own_is z b)))
           (on_cell h (ev (payload_of f)) Q hq (entered ag ty body E y) access d a st (call_bound w (env_of f) st).counters w (env_of f) l r b
-          (λ j. set (set (b.counters j) 0 (less_one j)) 1 (made_is z b j + 1))
-          (entered_env z st.cells (cells_made st.counters) (fits_is z b) f ty ag body E w y rf rx))
+          (λ j. record (b.counters j) { calls_left = less_one j; cells = made_is z b j + 1 })
+          (entered_env z st.cells st.counters.cells (fits_is z b) f ty ag body E w y rf rx))

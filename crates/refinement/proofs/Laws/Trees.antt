@@ -16,6 +16,7 @@ use Rattle.program.specs.declared.records.Counts.{Counts}
 use Rattle.semantics.specs.Domains.{Interpretation}
 use Rattle.stores.specs.Words.{interval_word}
 use Rattle.termtable.specs.Table.{word_kind, word_small, word_first, word_second, word_third, word_authority, word_guard, OwnParts, WordOf}
+use Rattle.access.specs.declared.Mode.{Mode}
 use Rattle.refinement.proofs.Laws.Codings.{Coding}
 use Rattle.refinement.proofs.Laws.Relation.{Fixed, word_at, Represents, on_boolean, on_number, on_variable, on_function, on_letrec, on_call, on_if, on_check, on_enable, on_sign, on_test, on_binary, on_post}
 
@@ -25,18 +26,18 @@ flag_is (suc zero) h = refl
 flag_is (suc (suc n)) h = absurd (omega arith)
 
 -- what stays in a run of a sheet
-abbrev pub fixed_of : (I : Interpretation) {mode : ℕ} → Coding I.domain mode → (s table posts noted : List ℕ) → Fixed
+abbrev pub fixed_of : (I : Interpretation) {mode : Mode} → Coding I.domain mode → (s table posts noted : List ℕ) → Fixed
 fixed_of I {mode} K s table posts noted =
     record { interpretation = I; terms = table; authorised = authority s; posts = posts; noted = noted; mode = mode; coding = K }
 
 -- the words of a sheet's terms: as decoded, but that of a number term stands for what the term is interpreted as
-pub record Tabled (I : Interpretation) {mode : ℕ} (K : Coding I.domain mode) (s : List ℕ) (c : Counts) (table : List ℕ) : Type 0 where
+pub record Tabled (I : Interpretation) {mode : Mode} (K : Coding I.domain mode) (s : List ℕ) (c : Counts) (table : List ℕ) : Type 0 where
   pub others : (t : ℕ) → t < terms s → (kind_byte s t ≡ 1 → ⊥) → WordOf s c t (get_or table t 0)
   pub number_kind : (t : ℕ) → t < terms s → kind_byte s t ≡ 1 → word_kind (get_or table t 0) ≡ 1
   pub number_coded : (t : ℕ) → t < terms s → kind_byte s t ≡ 1
       → K.Number (interval_word (word_first (get_or table t 0)) (word_second (get_or table t 0))) (I.literal t (first s t))
 
-module _ (I : Interpretation) {mode : ℕ} (K : Coding I.domain mode) (s : List ℕ) (w : WellFormed s) (c : Counts) (counts_are : CountsOf s c)
+module _ (I : Interpretation) {mode : Mode} (K : Coding I.domain mode) (s : List ℕ) (w : WellFormed s) (c : Counts) (counts_are : CountsOf s c)
     (table : List ℕ) (tabled : Tabled I K s c table) (posts noted : List ℕ) where
   abbrev run : Fixed
   run = fixed_of I K s table posts noted

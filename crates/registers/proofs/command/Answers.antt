@@ -8,6 +8,6 @@ use Rattle.registers.proofs.command.Goals as goal
 
 pub of_run-requires : goal.of_run-requires
 of_run-requires c =
-    few_calls c.args.sheet.now c.pair-calls.result c.args.cells.now c.args.posts.now
+    few_calls c.args.sheet.now c.from-calls.result c.args.cells.now c.args.posts.now
     (are_largest (buffers_of c.args.cells.now c.args.posts.now [])) c.run_largest-r.result _ _
     c.run_largest-r.ensures

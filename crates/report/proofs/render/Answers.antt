@@ -2,21 +2,17 @@
 -- run (rejected_reported), an accepted one is told with its run (accepted_reported). The run's answer depends on the lengths of the buffers alone, and these
 -- are the largest, as in the definition of the print, by the precondition (buffers_largest).
 use mathlib.Core.Path.{sym, ap, ◌∙◌}
-use Rattle.typing.specs.Answers.{verdict_model}
+use Rattle.typing.specs.Answers.{rejection_cause, rejection_place, verdict_model}
 use Rattle.report.proofs.ReportLaws.{rejected_reported, accepted_reported, buffers_largest}
 use Rattle.report.proofs.render.Goals as goal
 
-pub returns-in-Unreadable : goal.returns-in-Unreadable
-returns-in-Unreadable c =
-    rejected_reported c.args.sheet.now _ (sym (ap verdict_model c.in-Unreadable.is) ∙ c.typecheck-v.ensures)
-    c.of_decoding.ensures c.refusal.ensures
+pub returns-in-Err : goal.returns-in-Err
+returns-in-Err c =
+    rejected_reported c.args.sheet.now _ {c = rejection_cause c.in-Err.f} {p = rejection_place c.in-Err.f}
+    (sym (ap verdict_model c.in-Err.is) ∙ c.typecheck.ensures)
+    c.from.ensures c.refusal.ensures
 
-pub returns-in-Refused : goal.returns-in-Refused
-returns-in-Refused c =
-    rejected_reported c.args.sheet.now _ (sym (ap verdict_model c.in-Refused.is) ∙ c.typecheck-v.ensures)
-    c.of_fault.ensures c.refusal-in-Refused.ensures
-
-pub returns-in-Accepted : goal.returns-in-Accepted
-returns-in-Accepted c =
-    accepted_reported c.args.sheet.now _ (sym (ap verdict_model c.in-Accepted.is) ∙ c.typecheck-v.ensures)
+pub returns-in-Ok : goal.returns-in-Ok
+returns-in-Ok c =
+    accepted_reported c.args.sheet.now _ (sym (ap verdict_model c.in-Ok.is) ∙ c.typecheck.ensures)
     (buffers_largest c.args.cells.now c.args.posts.now c.requires) c.run_accepted.ensures

@@ -6,7 +6,7 @@ use Rattle.report.specs.Theorems.{text_written}
 use Rattle.sovzedal.proofs.main.Goals as goal
 
 pub slice_bounds-text-end : goal.slice_bounds-text-end
-slice_bounds-text-end c = (text_written _ _ _ _ _ _ c.in-Written.is c.report-reported.ensures).fits
+slice_bounds-text-end c = (text_written _ _ _ _ _ _ c.in-Ok.is c.report-reported.ensures).fits
 
 pub slice_bounds-print-end : goal.slice_bounds-print-end
-slice_bounds-print-end c = sym (length-take-le _ _ (text_written _ _ _ _ _ _ c.in-Written.is c.report-reported.ensures).fits)
+slice_bounds-print-end c = sym (length-take-le _ _ (text_written _ _ _ _ _ _ c.in-Ok.is c.report-reported.ensures).fits)

@@ -1,5 +1,4 @@
--- The first t words are there, and the others zero, until all terms have theirs. What falls is count - t, the terms that are left, since each turn writes the
--- word of the next.
+-- The first t words are there, and the others zero, until all terms have theirs.
 use Rattle.termtable.proofs.TableLaws.{filled_more, filled_whole}
 use Rattle.termtable.proofs.decode_terms.Goals as goal
 

@@ -1,6 +1,5 @@
 -- The lowest type record at fault is found in ascending order. All types below t are right and their depths stand in the list, which has room for
--- 256, the most types of a sheet, so that the search from t on finds what the whole search finds (Laws/Search). The types that are left, n - t, fall, since
--- each turn adds 1 to t.
+-- 256, the most types of a sheet, so that the search from t on finds what the whole search finds (Laws/Search).
 use mathlib.Core.Path.{refl, sym, ap, ◌∙◌, subst}
 use native.Mathlib.Omega.{arith}
 use lib.ListN.{length-set}
@@ -24,16 +23,16 @@ loop-t-init c =
       depths = depths_none c.args.s.now _;
     }
 
-pub returns-in-Fault : goal.returns-in-Fault
-returns-in-Fault c =
+pub returns-in_default : goal.returns-in_default
+returns-in_default c =
     lowest_here (type_ok c.args.s.now) _ _ c.loop-t-test.true
-    (subst (DepthIs c.args.s.now c.loop-t.t) c.in-Fault.is c.type_depth.ensures) ∙ sym
+    (subst (DepthIs c.args.s.now c.loop-t.t) c.in_default.is c.type_depth.ensures) ∙ sym
     c.loop-t.invariant.passed.rest_is ∙ (ap (lowest (type_ok c.args.s.now) 0) c.loop-t.invariant.passed.all)
 
 pub loop-t-preserved : goal.loop-t-preserved
 loop-t-preserved c =
     let passed = c.loop-t.invariant.passed in
-    let deep = subst (DepthIs c.args.s.now c.loop-t.t) c.in-Is.is c.type_depth.ensures in
+    let deep = subst (DepthIs c.args.s.now c.loop-t.t) c.in-Some.is c.type_depth.ensures in
     record {
       passed = record {
         below = omega arith;

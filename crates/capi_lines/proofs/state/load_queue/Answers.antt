@@ -1,11 +1,12 @@
--- `load_queue` reads the eight places of a line and how many of them have a job (queue_read_lem).
-use Rattle.capi_lines.proofs.StateLaws.{queue_read_lem}
+-- `load_queue` reads the jobs that wait on a line (job_more), and no more than eight (queue_read_lem).
+use native.Mathlib.Omega.{arith}
+use Rattle.capi_lines.proofs.StateLaws.{job_more, queue_read_lem}
 use Rattle.capi_lines.proofs.state.load_queue.Goals as goal
 
+pub loop-k-preserved : goal.loop-k-preserved
+loop-k-preserved c =
+    job_more c.args.state.now c.args.line c.loop-k.k (omega arith) c.loop-k.queue.items c.loop-k.invariant c.load_job.result
+    c.load_job.ensures c.push.new.self.items c.push.ensures.items
+
 pub returns : goal.returns
-returns c =
-    queue_read_lem c.args.state.now c.args.line c.load_job.result c.load_job-2.result c.load_job-3.result
-    c.load_job-4.result c.load_job-5.result c.load_job-6.result c.load_job-7.result
-    c.load_job-8.result c.load_job.ensures c.load_job-2.ensures c.load_job-3.ensures
-    c.load_job-4.ensures c.load_job-5.ensures c.load_job-6.ensures c.load_job-7.ensures
-    c.load_job-8.ensures
+returns c = queue_read_lem c.args.state.now c.args.line c.loop-k.k (omega arith) c.loop-k.queue.items c.loop-k.invariant

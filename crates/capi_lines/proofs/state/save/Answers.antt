@@ -1,6 +1,5 @@
 -- `save` writes the state's 102 numbers to the list. The invariant: the first i are the state's, the others as they were, and i is at most 102;
--- written_more makes it one number more. The measure is 102 - i, the numbers left, and falls since each turn adds 1 to i. When the test fails, i is 102
--- (written_over).
+-- written_more makes it one number more. When the loop ends, i is 102 (written_over).
 use native.Mathlib.Omega.{arith}
 use mathlib.Core.Path.{sym, ap, ◌∙◌}
 use lib.ListN.{set}
@@ -16,13 +15,13 @@ loop-i-preserved c =
     record {
       below = omega (arith, c.loop-i-test.true);
       copied = ap (set c.loop-i.state c.loop-i.i)
-          (c.number_at.ensures ∙ sym (written_at (lines_model c.args.q) c.loop-i.i c.loop-i-test.true))
+          (c.number_at.ensures ∙ sym (written_at (lines_model c.args.lines.now) c.loop-i.i c.loop-i-test.true))
           ∙ (written_more state_numbers
-          (state_written (lines_model c.args.q)) c.args.state.now c.loop-i.i (written_size (lines_model c.args.q))
+          (state_written (lines_model c.args.lines.now)) c.args.state.now c.loop-i.i (written_size (lines_model c.args.lines.now))
           c.loop-i.invariant (omega (arith, c.requires)) c.loop-i-test.true).copied;
     }
 
 pub returns : goal.returns
 returns c =
-    written_over state_numbers (state_written (lines_model c.args.q)) c.args.state.now c.loop-i.i
-    (written_size (lines_model c.args.q)) c.loop-i.invariant c.requires c.loop-i-test.false
+    written_over state_numbers (state_written (lines_model c.args.lines.now)) c.args.state.now c.loop-i.i
+    (written_size (lines_model c.args.lines.now)) c.loop-i.invariant c.requires c.loop-i-test.false

@@ -4,6 +4,7 @@
 -- calls `infer` at a child, which is lower.
 use native.Mathlib.Omega.{arith}
 use mathlib.Core.Path.{refl}
+use Rattle.std.proofs.Common.{rules}
 use Rattle.checker.proofs.TermLaws.{read_at, kind_most, check_child, enable_child, sign_child, post_child, post_guard_byte, check_privilege, enable_privilege, test_privilege, call_first, call_second, test_first, test_second, binary_first, binary_second, if_first, if_second, if_third, function_room, function_child, letrec_room, letrec_body, letrec_rest}
 use Rattle.checker.proofs.TermLaws.{leaf_is, check_is, enable_is, sign_is, post_is, test_stops, test_is, call_stops, call_is, binary_stops, binary_is, if_stops, branch_stops, if_is, function_is, letrec_stops, letrec_is}
 use Rattle.checker.proofs.infer.+inference.Goals as goal
@@ -94,65 +95,65 @@ pub infer-infer_post-requires : goal.infer-infer_post-requires
 infer-infer_post-requires t c =
     let h = kind_most (read_at c.requires c.table_term-x.ensures) in (
       omega (arith, c.decreases),
-      record { at = read_at c.requires c.table_term-x.ensures; kind_is = omega (arith, h, c.in_default.if-kind-lt14-own.false) },
+      record { at = read_at c.requires c.table_term-x.ensures; kind_is = omega (arith, h) },
     )
 
 pub infer-returns-in-0-to-2 : goal.infer-returns-in-0-to-2
 infer-returns-in-0-to-2 t c =
     record {
       is = leaf_is (read_at c.requires c.table_term-x.ensures) _
-          (omega (arith, c.in-0-to-2.if-kind-lt3-own.true)) c.leaf.ensures;
+          (omega arith) c.leaf.ensures;
       known = c.requires.known;
     }
 
-pub infer_binary-infer-j-requires : goal.infer_binary-infer-j-requires
-infer_binary-infer-j-requires t c =
+pub infer_binary-infer-requires : goal.infer_binary-infer-requires
+infer_binary-infer-requires t c =
     let h = binary_first c.requires.at c.requires.kind_least c.requires.kind_most in
     (omega (arith, c.decreases, h.lower), record { ready = h.ready; known = c.requires.at.known })
 
-pub infer_binary-returns-in_default : goal.infer_binary-returns-in_default
-infer_binary-returns-in_default t c =
+pub infer_binary-returns-in_err-first : goal.infer_binary-returns-in_err-first
+infer_binary-returns-in_err-first t c =
     record {
-      is = binary_stops c.requires.at _ c.requires.kind_least c.requires.kind_most c.infer-j.result c.infer-j.ensures.is
-          c.in_default.in_default-own.keys2;
-      known = c.infer-j.ensures.known;
+      is = binary_stops c.requires.at _ c.requires.kind_least c.requires.kind_most c.infer.ensures.is
+          c.in_err-first.was (search rules);
+      known = c.infer.ensures.known;
     }
 
-pub infer_binary-infer-k-requires : goal.infer_binary-infer-k-requires
-infer_binary-infer-k-requires t c =
+pub infer_binary-infer-second-requires : goal.infer_binary-infer-second-requires
+infer_binary-infer-second-requires t c =
     let h = binary_second c.requires.at c.requires.kind_least c.requires.kind_most in
-    (omega (arith, c.decreases, h.lower), record { ready = h.ready; known = c.infer-j.ensures.known })
+    (omega (arith, c.decreases, h.lower), record { ready = h.ready; known = c.infer.ensures.known })
 
 pub infer_binary-returns : goal.infer_binary-returns
 infer_binary-returns t c =
     record {
-      is = binary_is c.requires.at _ c.requires.kind_least c.requires.kind_most c.in-Typed.is c.infer-j.ensures.is
-          c.infer-k.ensures.is c.binary_result-result.ensures c.computed.ensures;
-      known = c.infer-k.ensures.known;
+      is = binary_is c.requires.at _ c.requires.kind_least c.requires.kind_most c.infer.ensures.is c.in_ok-first.was
+          c.infer-second.ensures.is c.binary_result-result.ensures c.computed.ensures;
+      known = c.infer-second.ensures.known;
     }
 
-pub infer_call-infer-j-requires : goal.infer_call-infer-j-requires
-infer_call-infer-j-requires t c =
+pub infer_call-infer-requires : goal.infer_call-infer-requires
+infer_call-infer-requires t c =
     let h = call_first c.requires.at c.requires.kind_is in
     (omega (arith, c.decreases, h.lower), record { ready = h.ready; known = c.requires.at.known })
 
-pub infer_call-returns-in_default : goal.infer_call-returns-in_default
-infer_call-returns-in_default t c =
+pub infer_call-returns-in_err-function : goal.infer_call-returns-in_err-function
+infer_call-returns-in_err-function t c =
     record {
-      is = call_stops c.requires.at _ c.requires.kind_is c.infer-j.result c.infer-j.ensures.is
-          c.in_default.in_default-own.keys2;
-      known = c.infer-j.ensures.known;
+      is = call_stops c.requires.at _ c.requires.kind_is c.infer.ensures.is
+          c.in_err-function.was (search rules);
+      known = c.infer.ensures.known;
     }
 
-pub infer_call-infer-k-requires : goal.infer_call-infer-k-requires
-infer_call-infer-k-requires t c =
+pub infer_call-infer-argument-requires : goal.infer_call-infer-argument-requires
+infer_call-infer-argument-requires t c =
     let h = call_second c.requires.at c.requires.kind_is in
-    (omega (arith, c.decreases, h.lower), record { ready = h.ready; known = c.infer-j.ensures.known })
+    (omega (arith, c.decreases, h.lower), record { ready = h.ready; known = c.infer.ensures.known })
 
 pub infer_call-returns : goal.infer_call-returns
 infer_call-returns t c =
     record {
-      is = call_is c.requires.at _ c.requires.kind_is c.in-Typed.is c.infer-j.ensures.is c.infer-k.ensures.is
+      is = call_is c.requires.at _ c.requires.kind_is c.infer.ensures.is c.in_ok-function.was c.infer-argument.ensures.is
           c.call_of.ensures.is;
       known = c.call_of.ensures.known;
     }
@@ -205,42 +206,41 @@ infer_function-returns t c =
       known = c.infer-j.ensures.known;
     }
 
-pub infer_if-infer-i-requires : goal.infer_if-infer-i-requires
-infer_if-infer-i-requires t c =
+pub infer_if-infer-requires : goal.infer_if-infer-requires
+infer_if-infer-requires t c =
     let h = if_first c.requires.at c.requires.kind_is in
     (omega (arith, c.decreases, h.lower), record { ready = h.ready; known = c.requires.at.known })
 
-pub infer_if-returns-in_default : goal.infer_if-returns-in_default
-infer_if-returns-in_default t c =
+pub infer_if-returns-in_err-condition : goal.infer_if-returns-in_err-condition
+infer_if-returns-in_err-condition t c =
     record {
-      is = if_stops c.requires.at _ c.requires.kind_is c.infer-i.result c.infer-i.ensures.is
-          c.in_default.in_default-own.keys2;
-      known = c.infer-i.ensures.known;
+      is = if_stops c.requires.at _ c.requires.kind_is c.infer.ensures.is
+          c.in_err-condition.was (search rules);
+      known = c.infer.ensures.known;
     }
 
-pub infer_if-infer-j-requires : goal.infer_if-infer-j-requires
-infer_if-infer-j-requires t c =
+pub infer_if-infer-requires-2 : goal.infer_if-infer-requires-2
+infer_if-infer-requires-2 t c =
     let h = if_second c.requires.at c.requires.kind_is in
-    (omega (arith, c.decreases, h.lower), record { ready = h.ready; known = c.infer-i.ensures.known })
+    (omega (arith, c.decreases, h.lower), record { ready = h.ready; known = c.infer.ensures.known })
 
-pub infer_if-returns-in_default-j : goal.infer_if-returns-in_default-j
-infer_if-returns-in_default-j t c =
+pub infer_if-returns-in_err-first : goal.infer_if-returns-in_err-first
+infer_if-returns-in_err-first t c =
     record {
-      is = branch_stops c.requires.at _ c.requires.kind_is c.in-Typed.is c.infer-i.ensures.is c.infer-j.result
-          c.infer-j.ensures.is c.in_default-j.in_default-j-own.keys2;
-      known = c.infer-j.ensures.known;
+      is = branch_stops c.requires.at _ c.requires.kind_is c.infer.ensures.is c.in_ok-condition.was c.infer-2.ensures.is c.in_err-first.was (search rules);
+      known = c.infer-2.ensures.known;
     }
 
-pub infer_if-infer-k-requires : goal.infer_if-infer-k-requires
-infer_if-infer-k-requires t c =
+pub infer_if-infer-second-requires : goal.infer_if-infer-second-requires
+infer_if-infer-second-requires t c =
     let h = if_third c.requires.at c.requires.kind_is in
-    (omega (arith, c.decreases, h.lower), record { ready = h.ready; known = c.infer-j.ensures.known })
+    (omega (arith, c.decreases, h.lower), record { ready = h.ready; known = c.infer-2.ensures.known })
 
 pub infer_if-returns : goal.infer_if-returns
 infer_if-returns t c =
     record {
-      is = if_is c.requires.at _ c.requires.kind_is c.in-Typed.is c.infer-i.ensures.is c.in-Typed-j.is
-          c.infer-j.ensures.is c.infer-k.ensures.is c.branched.ensures.is;
+      is = if_is c.requires.at _ c.requires.kind_is c.infer.ensures.is c.in_ok-condition.was
+          c.infer-2.ensures.is c.in_ok-first.was c.infer-second.ensures.is c.branched.ensures.is;
       known = c.branched.ensures.known;
     }
 
@@ -250,31 +250,31 @@ infer_letrec-push-outer-requires t c = let h = letrec_room c.requires.at c.requi
 pub infer_letrec-push-inner-requires : goal.infer_letrec-push-inner-requires
 infer_letrec-push-inner-requires t c = let h = letrec_room c.requires.at c.requires.kind_is in omega (arith, c.push-outer.ensures.len_is)
 
-pub infer_letrec-infer-j-requires : goal.infer_letrec-infer-j-requires
-infer_letrec-infer-j-requires t c =
+pub infer_letrec-infer-requires : goal.infer_letrec-infer-requires
+infer_letrec-infer-requires t c =
     let h = letrec_body c.requires.at c.requires.kind_is c.push-outer.ensures c.push-inner.ensures in
     (omega (arith, c.decreases, h.lower), record { ready = h.ready; known = c.requires.at.known })
 
-pub infer_letrec-returns-in_default : goal.infer_letrec-returns-in_default
-infer_letrec-returns-in_default t c =
+pub infer_letrec-returns-in_err-body : goal.infer_letrec-returns-in_err-body
+infer_letrec-returns-in_err-body t c =
     record {
       is = letrec_stops c.requires.at _ _ c.type_record-f.ensures refl c.requires.kind_is c.push-outer.ensures
-          c.push-inner.ensures c.infer-j.result c.infer-j.ensures.is c.in_default.in_default-own.keys2;
-      known = c.infer-j.ensures.known;
+          c.push-inner.ensures c.infer.ensures.is c.in_err-body.was (search rules);
+      known = c.infer.ensures.known;
     }
 
-pub infer_letrec-infer-k-requires : goal.infer_letrec-infer-k-requires
-infer_letrec-infer-k-requires t c =
+pub infer_letrec-infer-rest-requires : goal.infer_letrec-infer-rest-requires
+infer_letrec-infer-rest-requires t c =
     let h = letrec_rest c.requires.at c.requires.kind_is c.push-outer.ensures in
-    (omega (arith, c.decreases, h.lower), record { ready = h.ready; known = c.infer-j.ensures.known })
+    (omega (arith, c.decreases, h.lower), record { ready = h.ready; known = c.infer.ensures.known })
 
 pub infer_letrec-returns : goal.infer_letrec-returns
 infer_letrec-returns t c =
     record {
       is = letrec_is c.requires.at _ _ c.type_record-f.ensures refl c.requires.kind_is c.push-outer.ensures
-          c.push-inner.ensures c.in-Typed.is c.infer-j.ensures.is c.infer-k.ensures.is
+          c.push-inner.ensures c.infer.ensures.is c.in_ok-body.was c.infer-rest.ensures.is
           c.letrec_of.ensures;
-      known = c.infer-k.ensures.known;
+      known = c.infer-rest.ensures.known;
     }
 
 pub infer_post-infer-j-requires : goal.infer_post-infer-j-requires
@@ -305,35 +305,35 @@ infer_sign-returns t c =
       known = c.infer-j.ensures.known;
     }
 
-pub infer_test-infer-j-requires : goal.infer_test-infer-j-requires
-infer_test-infer-j-requires t c =
+pub infer_test-infer-requires : goal.infer_test-infer-requires
+infer_test-infer-requires t c =
     let h = test_first c.requires.at c.requires.kind_is in
     (omega (arith, c.decreases, h.lower), record { ready = h.ready; known = c.requires.at.known })
 
-pub infer_test-returns-in_default : goal.infer_test-returns-in_default
-infer_test-returns-in_default t c =
+pub infer_test-returns-in_err-first : goal.infer_test-returns-in_err-first
+infer_test-returns-in_err-first t c =
     record {
-      is = test_stops c.requires.at _ c.requires.kind_is c.infer-j.result c.infer-j.ensures.is
-          c.in_default.in_default-own.keys2;
-      known = c.infer-j.ensures.known;
+      is = test_stops c.requires.at _ c.requires.kind_is c.infer.ensures.is
+          c.in_err-first.was (search rules);
+      known = c.infer.ensures.known;
     }
 
-pub infer_test-infer-k-requires : goal.infer_test-infer-k-requires
-infer_test-infer-k-requires t c =
+pub infer_test-infer-second-requires : goal.infer_test-infer-second-requires
+infer_test-infer-second-requires t c =
     let h = test_second c.requires.at c.requires.kind_is in
-    (omega (arith, c.decreases, h.lower), record { ready = h.ready; known = c.infer-j.ensures.known })
+    (omega (arith, c.decreases, h.lower), record { ready = h.ready; known = c.infer.ensures.known })
 
 pub infer_test-tested-requires : goal.infer_test-tested-requires
 infer_test-tested-requires t c =
     record {
-      judging = record { sheet = c.requires.at.ready.sheet; known = c.infer-k.ensures.known };
+      judging = record { sheet = c.requires.at.ready.sheet; known = c.infer-second.ensures.known };
       privilege = test_privilege c.requires.at c.requires.kind_is;
     }
 
 pub infer_test-returns : goal.infer_test-returns
 infer_test-returns t c =
     record {
-      is = test_is c.requires.at _ c.requires.kind_is c.in-Typed.is c.infer-j.ensures.is c.infer-k.ensures.is
+      is = test_is c.requires.at _ c.requires.kind_is c.infer.ensures.is c.in_ok-first.was c.infer-second.ensures.is
           c.tested.ensures.is;
       known = c.tested.ensures.known;
     }

@@ -1,7 +1,7 @@
 -- A law for each shape: one `link` for each child, so that a term that stands k times among the children has t noted k times more.
--- `link` keeps the list's length, so that the later children are in it, too. A leaf and a wrong shape have no children and change nothing.
+-- `link` keeps the list's length, so that the later children are in it, too. A leaf has no children and changes nothing.
 use lib.ListN.{length}
-use Rattle.decoder.proofs.PlaceLaws.{by_shape, links_leaf, links_wrong, links_one, links_two, links_three, links_function, links_letrec}
+use Rattle.decoder.proofs.PlaceLaws.{by_shape, links_leaf, links_one, links_two, links_three, links_function, links_letrec}
 use Rattle.decoder.proofs.places.link_all.Goals as goal
 
 pub link-requires : goal.link-requires
@@ -42,6 +42,3 @@ pub returns-in-Letrec : goal.returns-in-Letrec
 returns-in-Letrec c =
     links_letrec c.args.parents.now c.args.t c.link-in-Letrec.new.parents c.link-in-Letrec-2.new.parents _ _ c.in-Letrec.is
     c.link-in-Letrec.auto.parents c.link-in-Letrec.ensures c.link-in-Letrec-2.ensures
-
-pub returns-in-Wrong : goal.returns-in-Wrong
-returns-in-Wrong c = links_wrong c.args.parents.now c.args.t c.in-Wrong.is

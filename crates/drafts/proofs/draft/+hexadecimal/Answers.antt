@@ -4,11 +4,8 @@ use Rattle.std.proofs.Common.{arith}
 use Rattle.drafts.proofs.DraftLaws.{no_digits, one_more_digit}
 use Rattle.drafts.proofs.draft.+hexadecimal.Goals as goal
 
-pub returns-then-k-eq0 : goal.returns-then-k-eq0
-returns-then-k-eq0 t c = no_digits c.args.d c.args.k c.args.n c.if-k-eq0.true
+pub returns-then-k-gt0 : goal.returns-then-k-gt0
+returns-then-k-gt0 t c = one_more_digit c.args.k c.args.n c.if-k-gt0.true c.hexadecimal.ensures c.digit-last.ensures c.push.ensures.items
 
-pub put-requires : goal.put-requires
-put-requires t c = omega (arith, c.hexadecimal-front.ensures.len_most, c.requires)
-
-pub returns : goal.returns
-returns t c = one_more_digit c.args.k c.args.n c.if-k-eq0.false c.hexadecimal-front.ensures c.digit-last.ensures c.put.ensures
+pub returns-else-k-gt0 : goal.returns-else-k-gt0
+returns-else-k-gt0 t c = no_digits _ c.args.k c.args.n (omega (arith, c.if-k-gt0.false))

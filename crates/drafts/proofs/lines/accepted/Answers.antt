@@ -6,6 +6,6 @@ use Rattle.drafts.proofs.lines.accepted.Goals as goal
 
 pub returns : goal.returns
 returns c =
-    then_held 209 (omega arith) c.acceptance-accepted.ensures
-    (chained 157 (omega arith) (chained 156 (omega arith) c.outcome-ended.ensures c.counts-counted.ensures)
+    then_held 209 (omega arith) c.acceptance-d.ensures
+    (chained 157 (omega arith) (chained 156 (omega arith) c.outcome.ensures c.counts.ensures)
     c.word.ensures)

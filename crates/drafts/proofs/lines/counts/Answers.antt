@@ -6,5 +6,5 @@ use Rattle.drafts.proofs.lines.counts.Goals as goal
 
 pub returns : goal.returns
 returns c =
-    chained 107 (omega arith) (chained 81 (omega arith) (chained 54 (omega arith) c.labelled-calls.ensures c.labelled-cells.ensures)
-    c.labelled-posts.ensures) c.labelled.ensures
+    chained 107 (omega arith) (chained 81 (omega arith) (chained 54 (omega arith) c.labelled.ensures c.labelled-2.ensures)
+    c.labelled-3.ensures) c.labelled-4.ensures

@@ -5,4 +5,4 @@ use Rattle.text.specs.Theorems.{decimal_most}
 use Rattle.drafts.proofs.lines.labelled.Goals as goal
 
 pub returns : goal.returns
-returns c = chained _ (omega (arith, decimal_most c.args.n)) c.word-front.ensures c.decimal.ensures
+returns c = chained _ (omega (arith, decimal_most c.args.n)) c.word.ensures c.decimal.ensures

@@ -5,5 +5,5 @@ use Rattle.drafts.proofs.lines.needs_line.Goals as goal
 
 pub returns : goal.returns
 returns c =
-    chained 15 (omega arith) (chained 14 (omega arith) c.word-front.ensures c.hexadecimal-digits.ensures)
-    c.word.ensures
+    chained 15 (omega arith) (chained 14 (omega arith) c.word.ensures c.hexadecimal.ensures)
+    c.word-2.ensures

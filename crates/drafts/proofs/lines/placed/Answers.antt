@@ -5,4 +5,4 @@ use Rattle.drafts.proofs.DraftLaws.{chained}
 use Rattle.drafts.proofs.lines.placed.Goals as goal
 
 pub returns : goal.returns
-returns c = chained _ (omega arith) c.labelled-front.ensures c.labelled.ensures
+returns c = chained _ (omega arith) c.labelled.ensures c.labelled-2.ensures

@@ -4,4 +4,4 @@ use Rattle.drafts.proofs.DraftLaws.{chained}
 use Rattle.drafts.proofs.lines.terms_line.Goals as goal
 
 pub returns : goal.returns
-returns c = chained 27 (omega arith) c.labelled-front.ensures c.word.ensures
+returns c = chained 27 (omega arith) c.labelled.ensures c.word.ensures

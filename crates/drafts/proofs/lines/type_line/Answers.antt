@@ -6,5 +6,5 @@ use Rattle.drafts.proofs.lines.type_line.Goals as goal
 pub returns-then-ty-eq0 : goal.returns-then-ty-eq0
 returns-then-ty-eq0 c = boolean_line c.args.ty c.if-ty-eq0.true c.word.ensures
 
-pub returns : goal.returns
-returns c = number_line c.args.ty c.if-ty-eq0.false c.word-2.ensures
+pub returns-else-ty-eq0 : goal.returns-else-ty-eq0
+returns-else-ty-eq0 c = number_line c.args.ty c.if-ty-eq0.false c.word-else-ty-eq0.ensures

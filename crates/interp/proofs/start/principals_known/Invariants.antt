@@ -1,12 +1,9 @@
--- Each turn passes one frame, from the innermost on: the principals before place i are known, so that the frames from i on decide as the whole stack. i is
--- even, so that a frame is never half. What falls is length - i, the numbers that are left, by two each turn, since a frame has two.
-use Prim.Native.Nat.{◌-◌}
-use lib.ListN.{length}
-use Rattle.interp.proofs.StartLaws.{KnownBefore}
+-- Each turn passes one frame, from the innermost on: the principals of the first i frames are known, so that the others decide as the whole stack.
+use mathlib.Core.Path.{◌≡◌}
+use Prim.Native.Nat.{◌*◌}
+use lib.ListN.{drop}
+use Rattle.semantics.specs.Runs.{stack, principals_known}
 use Rattle.interp.proofs.start.principals_known.Given as goal
 
 abbrev pub invariant-loop-i : goal.invariant-loop-i
-invariant-loop-i l = KnownBefore l.count l.start l.i
-
-abbrev pub decreases-loop-i : goal.decreases-loop-i
-decreases-loop-i l = length l.start - l.i
+invariant-loop-i l = principals_known l.count (stack l.start) ≡ principals_known l.count (stack (drop (2 * l.i) l.start))

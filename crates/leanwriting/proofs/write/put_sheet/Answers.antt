@@ -1,6 +1,8 @@
 -- Each part is written right behind the one before it, and together they are the lean sheet (sheet_put). The buffer has room for all of it (sheet_room) and
 -- keeps its length.
+use Prim.Native.Nat.{◌+◌, ◌*◌}
 use native.Mathlib.Omega.{arith}
+use lib.Seq.{length-take-le}
 use Rattle.leanwriting.proofs.WriteLaws.{size_small, prefix_in, sheet_room, sheet_put}
 use Rattle.leanwriting.proofs.write.put_sheet.Goals as goal
 
@@ -15,10 +17,11 @@ overflow_add-at c = omega (arith, size_small c.requires.ready)
 
 pub put-requires : goal.put-requires
 put-requires c =
-    record {
-      room = omega (arith, sheet_room c.requires.ready c.args.buffer.now c.requires.room);
-      enough = prefix_in c.requires.ready;
-    }
+    omega (
+      arith,
+      sheet_room c.requires.ready c.args.buffer.now c.requires.room,
+      length-take-le (8 + 4 * c.args.c.principals) c.args.s.now (prefix_in c.requires.ready),
+    )
 
 pub overflow_mul-y : goal.overflow_mul-y
 overflow_mul-y c = omega (arith, size_small c.requires.ready)

@@ -1,111 +1,57 @@
--- The records of those among the first `next` terms that are kept stand one after the other, and the count is how many they are. A term is kept
--- unless it is a check or an enable (kept_here, gone_here); its record then comes behind the others (gathered_yes). The terms that are left, n - next,
--- fall, since each turn adds 1 to `next`.
+-- The records of those among the first t terms that are kept stand one after the other, and the count is how many they are. A term is kept
+-- unless it is a check or an enable (kept_here, gone_here); its record then comes behind the others (gathered_yes).
 use native.Mathlib.Omega.{arith}
-use mathlib.Core.Path.{sym, ap}
+use mathlib.Core.Path.{ap, ◌∙◌}
 use lib.ListN.{length}
 use Rattle.erasure.specs.Lean.{kept_term, term_bytes}
 use Rattle.renumbering.proofs.TermLaws.{kept_here, gone_here}
-use Rattle.renumbering.proofs.TableLaws.{within, up_to, through}
-use Rattle.leanwriting.proofs.WriteLaws.{term_gathering, gathered_none, gathered_length, gathered_few, gathered_room, gathered_yes, gathered_no, gathered_all}
+use Rattle.renumbering.proofs.TableLaws.{within}
+use Rattle.leanwriting.proofs.WriteLaws.{term_gathering, gathered_none, gathered_length, gathered_few, gathered_room, gathered_yes, gathered_no}
 use Rattle.leanwriting.proofs.write.put_terms.Goals as goal
+use Rattle.leanwriting.proofs.write.put_terms.Goals.{then-not-is_erased, else-not-is_erased}
 
-pub loop-next-init : goal.loop-next-init
-loop-next-init c =
-    record {
-      below = omega arith;
-      all_are = c.requires.ready.types_ready.sheet.counts.terms_are;
-      gathered = gathered_none (kept_term c.args.s.now) (term_bytes c.args.s.now)
-          c.args.buffer.now c.args.at;
-    }
-
-pub overflow_add-next : goal.overflow_add-next
-overflow_add-next c = omega (arith, c.loop-next-test.true, c.loop-next.invariant.all_are, c.requires.ready.types_ready.sheet.well_formed.terms_most)
-
-pub term_bytes-r-requires : goal.term_bytes-r-requires
-term_bytes-r-requires c = record { ready = c.requires.ready; inside = within c.loop-next-test.true c.loop-next.invariant.all_are }
+pub loop-t-init : goal.loop-t-init
+loop-t-init c = gathered_none (kept_term c.args.s.now) (term_bytes c.args.s.now) c.args.buffer.now c.args.at
 
 pub overflow_mul-count : goal.overflow_mul-count
 overflow_mul-count c =
     omega (
       arith,
-      gathered_few (term_gathering c.args.s.now c.args.buffer.now c.args.at c.requires.room) c.loop-next.invariant.gathered,
-      c.loop-next.invariant.below,
-      c.loop-next.invariant.all_are,
+      gathered_few (term_gathering c.args.s.now c.args.buffer.now c.args.at c.requires.room) c.loop-t.invariant,
+      c.requires.ready.types_ready.sheet.counts.terms_are,
       c.requires.ready.types_ready.sheet.well_formed.terms_most,
     )
 
 pub overflow_add-at : goal.overflow_add-at
 overflow_add-at c =
-    let inside = within c.loop-next-test.true c.loop-next.invariant.all_are in omega (
+    let inside = within c.loop-t-test.true c.requires.ready.types_ready.sheet.counts.terms_are in omega (
       arith,
-      gathered_room (term_gathering c.args.s.now c.args.buffer.now c.args.at c.requires.room) c.loop-next.invariant.gathered inside
-          (kept_here c.requires.ready.types_ready.sheet inside c.term-x.ensures c.is_erased.ensures
-          c.if-not-is_erased.true),
-      gathered_length
-          (term_gathering c.args.s.now c.args.buffer.now c.args.at c.requires.room) c.loop-next.invariant.gathered
-          (up_to c.loop-next.invariant.below c.loop-next.invariant.all_are),
-      c.well_formed.1.1.1.1.0.0,
+      gathered_room (term_gathering c.args.s.now c.args.buffer.now c.args.at c.requires.room) c.loop-t.invariant inside
+          (kept_here c.requires.ready.types_ready.sheet inside c.term-x.ensures c.is_erased.ensures c.if-not-is_erased.true),
+      gathered_length (term_gathering c.args.s.now c.args.buffer.now c.args.at c.requires.room) c.loop-t.invariant (omega (arith, inside)),
+      c.ranges.at.fits,
+      ap length c.term_bytes-r.ensures,
     )
-
-pub slice_bounds-put-end : goal.slice_bounds-put-end
-slice_bounds-put-end c = sym (ap length c.term_bytes-r.ensures)
 
 pub put-requires : goal.put-requires
 put-requires c =
-    let inside = within c.loop-next-test.true c.loop-next.invariant.all_are in
-    record {
-      room = gathered_room (term_gathering c.args.s.now c.args.buffer.now c.args.at c.requires.room)
-          c.loop-next.invariant.gathered inside
-          (kept_here c.requires.ready.types_ready.sheet inside c.term-x.ensures c.is_erased.ensures
-          c.if-not-is_erased.true);
-      enough = omega (arith, ap length c.term_bytes-r.ensures);
-    }
-
-pub overflow_add-count : goal.overflow_add-count
-overflow_add-count c =
-    omega (
+    let inside = within c.loop-t-test.true c.requires.ready.types_ready.sheet.counts.terms_are in omega (
       arith,
-      gathered_few (term_gathering c.args.s.now c.args.buffer.now c.args.at c.requires.room) c.loop-next.invariant.gathered,
-      c.loop-next.invariant.below,
-      c.loop-next.invariant.all_are,
-      c.requires.ready.types_ready.sheet.well_formed.terms_most,
+      gathered_room (term_gathering c.args.s.now c.args.buffer.now c.args.at c.requires.room) c.loop-t.invariant inside
+          (kept_here c.requires.ready.types_ready.sheet inside c.term-x.ensures c.is_erased.ensures c.if-not-is_erased.true),
+      gathered_length (term_gathering c.args.s.now c.args.buffer.now c.args.at c.requires.room) c.loop-t.invariant (omega (arith, inside)),
+      c.ranges.at.fits,
+      ap length c.term_bytes-r.ensures,
     )
 
-pub loop-next-smaller-then-not-is_erased : goal.loop-next-smaller-then-not-is_erased
-loop-next-smaller-then-not-is_erased c = omega (arith, c.loop-next-test.true)
-
-pub loop-next-preserved-then-not-is_erased : goal.loop-next-preserved-then-not-is_erased
-loop-next-preserved-then-not-is_erased c =
-    let inside = within c.loop-next-test.true c.loop-next.invariant.all_are in
-    record {
-      below = omega (arith, c.loop-next-test.true);
-      all_are = c.loop-next.invariant.all_are;
-      gathered = gathered_yes
-          (term_gathering c.args.s.now c.args.buffer.now c.args.at c.requires.room) c.loop-next.invariant.gathered inside
-          (kept_here c.requires.ready.types_ready.sheet inside c.term-x.ensures c.is_erased.ensures
-          c.if-not-is_erased.true)
-          c.put.ensures c.term_bytes-r.ensures;
-    }
-
-pub loop-next-preserved : goal.loop-next-preserved
-loop-next-preserved c =
-    let inside = within c.loop-next-test.true c.loop-next.invariant.all_are in
-    record {
-      below = omega (arith, c.loop-next-test.true);
-      all_are = c.loop-next.invariant.all_are;
-      gathered = gathered_no
-          (term_gathering c.args.s.now c.args.buffer.now c.args.at c.requires.room) c.loop-next.invariant.gathered
-          (gone_here c.requires.ready.types_ready.sheet inside c.term-x.ensures c.is_erased.ensures
-          c.if-not-is_erased.false);
-    }
-
-pub shape_of-buffer : goal.shape_of-buffer
-shape_of-buffer c =
-    gathered_length (term_gathering c.args.s.now c.args.buffer.now c.args.at c.requires.room) c.loop-next.invariant.gathered
-    (up_to c.loop-next.invariant.below c.loop-next.invariant.all_are)
-
-pub returns : goal.returns
-returns c =
-    gathered_all (term_gathering c.args.s.now c.args.buffer.now c.args.at c.requires.room) c.loop-next.invariant.gathered
-    (through c.loop-next.invariant.below c.loop-next-test.false c.loop-next.invariant.all_are)
+pub loop-t-preserved : goal.loop-t-preserved
+loop-t-preserved c =
+    let g = (term_gathering c.args.s.now c.args.buffer.now c.args.at c.requires.room) in
+    let inside = within c.loop-t-test.true c.requires.ready.types_ready.sheet.counts.terms_are in
+    elim c.if-not-is_erased.branch [
+      | then-not-is_erased w ↦ gathered_yes g c.loop-t.invariant inside
+          (kept_here c.requires.ready.types_ready.sheet inside c.term-x.ensures c.is_erased.ensures w.if-not-is_erased.true)
+          (w.buffer-is ∙ w.put.ensures) w.term_bytes-r.ensures w.count-is
+      | else-not-is_erased w ↦ gathered_no g c.loop-t.invariant
+          (gone_here c.requires.ready.types_ready.sheet inside c.term-x.ensures c.is_erased.ensures w.if-not-is_erased.false) w.buffer-is w.count-is
+    ]

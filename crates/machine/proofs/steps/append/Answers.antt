@@ -1,6 +1,5 @@
 -- A post gives and leaves what the definition says in each of its three ends: stuck, not made for another cause, or made.
 use Rattle.std.proofs.Common.{length, arith}
-use Rattle.machine.specs.Steps.{posts_made}
 use Rattle.machine.proofs.StepLaws.{cause_byte, cause_room, post_stuck, post_stopped, post_done_lem}
 use Rattle.machine.proofs.steps.append.Goals as goal
 
@@ -19,7 +18,7 @@ pub offset_bounds-posts-at : goal.offset_bounds-posts-at
 offset_bounds-posts-at c =
     omega (
       arith,
-      cause_room _ (posts_made c.args.counters.now) (length c.args.posts.now) c.cause_of-cause.ensures
+      cause_room _ c.args.counters.now.posts (length c.args.posts.now) c.cause_of-cause.ensures
           c.if-cause-ne0.false,
     )
 
@@ -27,7 +26,7 @@ pub bounds-posts-at : goal.bounds-posts-at
 bounds-posts-at c =
     omega (
       arith,
-      cause_room _ (posts_made c.args.counters.now) (length c.args.posts.now) c.cause_of-cause.ensures
+      cause_room _ c.args.counters.now.posts (length c.args.posts.now) c.cause_of-cause.ensures
           c.if-cause-ne0.false,
     )
 
@@ -35,7 +34,7 @@ pub overflow_add-counters : goal.overflow_add-counters
 overflow_add-counters c =
     omega (
       arith,
-      cause_room _ (posts_made c.args.counters.now) (length c.args.posts.now) c.cause_of-cause.ensures
+      cause_room _ c.args.counters.now.posts (length c.args.posts.now) c.cause_of-cause.ensures
           c.if-cause-ne0.false,
     )
 

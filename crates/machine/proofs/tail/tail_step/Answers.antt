@@ -17,10 +17,10 @@ returns-then-kind-eq9 c =
     tail_sign _ _ _ _ _ _ _ _ c.kind_of-kind.ensures c.if-kind-eq9.true c.first_of.ensures c.authority_of.ensures
     c.sign.ensures.answer_is c.sign.ensures.store_is c.goes-then-kind-eq9.ensures
 
-pub returns-then-kind-enforces : goal.returns-then-kind-enforces
-returns-then-kind-enforces c =
-    let skip = skipped _ _ c.if-kind-enforces.true in tail_passed _ _ _ _ _ _ _ _ c.kind_of-kind.ensures skip.0
-    c.first_of-then-kind-enforces.ensures c.enforces.ensures skip.1 c.goes-then-kind-enforces.ensures
+pub returns-then-kind-counters : goal.returns-then-kind-counters
+returns-then-kind-counters c =
+    let skip = skipped _ _ c.if-kind-counters.true in tail_passed _ _ _ _ _ _ _ _ c.kind_of-kind.ensures skip.0
+    c.first_of-then-kind-counters.ensures skip.1 c.goes-then-kind-counters.ensures
 
 pub granted-yes-requires : goal.granted-yes-requires
 granted-yes-requires c =
@@ -37,13 +37,13 @@ pub returns-then-yes : goal.returns-then-yes
 returns-then-yes c =
     let check = only_check _ c.kind_of-kind.ensures c.requires.kind c.if-kind-eq4.false c.if-kind-eq9.false
     c.if-kind-eq10.false in tail_allowed _ _ _ _ _ _ _ _ c.kind_of-kind.ensures check c.first_of-then-yes.ensures
-    c.enforces.ensures (not_skipped _ _ check c.if-kind-enforces.false) c.small_of-p.ensures c.granted-yes.ensures.answer_is
+    (not_skipped _ _ check c.if-kind-counters.false) c.small_of-p.ensures c.granted-yes.ensures.answer_is
     c.granted-yes.ensures.store_is c.note.ensures c.if-yes.true c.goes-then-yes.ensures
 
 pub returns : goal.returns
 returns c =
     let check = only_check _ c.kind_of-kind.ensures c.requires.kind c.if-kind-eq4.false c.if-kind-eq9.false
-    c.if-kind-eq10.false in tail_refused _ _ _ _ _ _ _ _ c.kind_of-kind.ensures check c.first_of-2.ensures c.enforces.ensures
-    (not_skipped _ _ check c.if-kind-enforces.false) c.small_of-p.ensures c.granted-yes.ensures.answer_is
+    c.if-kind-eq10.false in tail_refused _ _ _ _ _ _ _ _ c.kind_of-kind.ensures check c.first_of-2.ensures
+    (not_skipped _ _ check c.if-kind-counters.false) c.small_of-p.ensures c.granted-yes.ensures.answer_is
     c.granted-yes.ensures.store_is c.note.ensures c.if-yes.false c.stop-2.ensures
     c.halts-2.ensures

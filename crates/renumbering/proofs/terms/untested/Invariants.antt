@@ -1,11 +1,8 @@
--- No term below t is a test (untested_more), and a test settles it (tested). The terms that are left, n - t, fall, since each turn adds 1
--- to t.
-use Prim.Native.Nat.{◌-◌}
-use Rattle.renumbering.proofs.TermLaws.{NoTestBelow}
+-- No term below t is a test (untested_more), and a test settles it (tested).
+use mathlib.Core.Bool.{true}
+use mathlib.Core.Path.{◌≡◌}
+use Rattle.erasure.specs.Lean.{untested}
 use Rattle.renumbering.proofs.terms.untested.Given as goal
 
 abbrev pub invariant-loop-t : goal.invariant-loop-t
-invariant-loop-t l = NoTestBelow l.s l.n l.t
-
-abbrev pub decreases-loop-t : goal.decreases-loop-t
-decreases-loop-t l = l.n - l.t
+invariant-loop-t l = untested l.s l.t ≡ true

@@ -1,17 +1,11 @@
 -- The first lower type whose record becomes equal is found in ascending order: none below u does, so that the search from u on finds what the whole
--- search finds (Laws/Search). The types that are left, t - u, fall, since each turn adds 1 to u.
+-- search finds (Laws/Search).
 use native.Mathlib.Omega.{arith}
 use mathlib.Core.Bool.{not}
 use mathlib.Core.Path.{sym, ap, ◌∙◌}
-use Rattle.program.proofs.Laws.Search.{lowest_here, lowest_more, lowest_past, lowest_starts}
+use Rattle.program.proofs.Laws.Search.{lowest_here, lowest_more, lowest_past}
 use Rattle.renumbering.proofs.TypeLaws.{differs, found_head, own_head}
 use Rattle.renumbering.proofs.types.first_alike.Goals as goal
-
-pub loop-u-init : goal.loop-u-init
-loop-u-init c = record { below = omega arith; rest_is = lowest_starts (differs c.args.s.now c.args.t) c.args.t }
-
-pub alike-requires : goal.alike-requires
-alike-requires c = record { merging = c.requires; below = c.loop-u-test.true }
 
 pub returns-then-alike : goal.returns-then-alike
 returns-then-alike c =

@@ -1,11 +1,8 @@
--- Each turn goes one cell behind, so that what is left of the walk leads to the same cell. What falls is `left`, since each turn takes one of the steps that
--- are left.
+-- Each turn goes one cell behind, so that what is left of the walk leads to the same cell.
 use mathlib.Core.Path.{◌≡◌}
+use Prim.Native.Nat.{◌-◌}
 use Rattle.stores.specs.Cells.{walk_of}
 use Rattle.stores.proofs.cells.walk.Given as goal
 
-abbrev pub invariant-loop-left : goal.invariant-loop-left
-invariant-loop-left l = walk_of l.cells l.e l.left ≡ walk_of l.cells l.env l.k
-
-abbrev pub decreases-loop-left : goal.decreases-loop-left
-decreases-loop-left l = l.left
+abbrev pub invariant-loop : goal.invariant-loop
+invariant-loop l = walk_of l.cells l.e (l.k - l.counter) ≡ walk_of l.cells l.env l.k

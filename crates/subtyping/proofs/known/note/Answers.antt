@@ -3,4 +3,5 @@ use Rattle.subtyping.proofs.KnownLaws.{note_word}
 use Rattle.subtyping.proofs.known.note.Goals as goal
 
 pub returns : goal.returns
-returns c = note_word _ _ _ c.insert.ensures
+returns c =
+    rw c.word_of-at.ensures (note_word c.args.known.now c.args.a c.args.b (rw c.word_of-at.ensures at c.insert.ensures))
