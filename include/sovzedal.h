@@ -3,7 +3,7 @@
  * sheets run; four lines on which jobs wait to be run in turn; records of what runs decide, a unit's held against the office's; and runs over ranges, of
  * numbers that are known within limits.
  *
- * For x86-64. Link libsovzedal.a (README.md, "Embed it", has the command that writes it). Of the C library it needs memcpy, memmove and memset alone: no heap,
+ * For x86-64. Link libsovzedal.a (README.md, "Embed it", has the command that writes it). Of the C library it needs memcpy and memset alone: no heap,
  * no system call, no global state, so that calls on buffers of their own may be made from several threads. A run recurses: SOVZEDAL_STACK bytes of
  * native stack are enough for any call, and a run that may have fewer calls open needs less (see there); what does not run uses far less.
  *

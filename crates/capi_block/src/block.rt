@@ -8,12 +8,15 @@ ghost use Rattle.replies.specs.Internal.{reply_model};
 use blocks::block::{BLOCK_BYTES, Block, NoRegister};
 use replies::Reply;
 
+// By a loop, here and in `save`: `copy_from_slice` asks first whether the two overlap, which takes as long as a read.
 pub fn load(block: &[u8]) -> Block
     requires { length block.now ≡ block_bytes }
     ensures { result.bytes ≡ block.now }
 {
     let mut bytes = [0; BLOCK_BYTES];
-    bytes.copy_from_slice(block);
+    for i in 0..BLOCK_BYTES {
+        bytes[i] = block[i];
+    }
     Block { bytes }
 }
 
@@ -21,7 +24,9 @@ pub fn save(b: Block, block: &mut [u8])
     requires { length block.old ≡ block_bytes }
     ensures { block.new ≡ b.bytes }
 {
-    block.copy_from_slice(&b.bytes);
+    for i in 0..BLOCK_BYTES {
+        block[i] = b.bytes[i];
+    }
 }
 
 fn accessed(status: u32, cause: u32, raised: bool, byte: u8) -> Reply

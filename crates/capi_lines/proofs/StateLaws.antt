@@ -1,19 +1,19 @@
 -- The lines' state, from the numbers of a list to the struct, and back.
 use mathlib.Core.Bool.{cond}
-use mathlib.Core.List.{List, [], ◌∷◌, ◌++◌, map}
+use mathlib.Core.List.{List, [], ◌∷◌, ◌++◌}
 use mathlib.Core.Path.{◌≡◌, refl, sym, ap, ◌∙◌}
-use Prim.Native.Nat.{ℕ, zero, suc, ◌+◌, ◌-◌, ◌*◌, ◌%◌, ◌<◌, ◌≤◌, min}
+use Prim.Native.Nat.{ℕ, zero, suc, ◌+◌, ◌-◌, ◌*◌, ◌%◌, ◌/◌, ◌<◌, ◌≤◌, min}
 use native.Mathlib.Nat.{add-zero}
 use native.Mathlib.Omega.{arith}
-use lib.ListN.{length, get_or, take, length-map}
+use lib.ListN.{length, get_or, take}
 use borrow.Author.Tests.{lt-ltb, le-ltb}
 use Rattle.queues.specs.Queues as queues
 use Rattle.queues.specs.Queues.{max_lines, max_jobs, Lines as LinesOf, queue_at}
-use Rattle.queues.specs.Answers.{Queue, job_model, queue_model, lines_model}
+use Rattle.queues.specs.Answers.{no_job, job_model, queue_model, lines_model}
+use Rattle.queues.specs.Internal.{SizeIs}
+use Rattle.queues.specs.declared.state.Queue.{Queue}
 use Rattle.queues.specs.Laws.{queue_read_is}
 use Rattle.lines.proofs.ListLaws.{take_least}
-use Rattle.arrayvec.specs.ArrayVec.{array_vec_len}
-use Rattle.std.proofs.lemmas.List.{map-append}
 use Rattle.std.proofs.Common.{length-append}
 use Rattle.queues.specs.declared.state.Job.{Job}
 use Rattle.queues.specs.declared.state.Lines.{Lines}
@@ -26,9 +26,9 @@ job_read_lem n at e = λ i. record { offset = get_or n at 0; length = get_or n (
 
 -- the first k jobs of a line are read
 module _ (n : List ℕ) (l : ℕ) where
-  pub record JobsRead (k : ℕ) (jobs : List Job) : Type 0 where
+  pub record JobsRead (k : ℕ) (jobs : List queues.Job) : Type 0 where
     pub as_many : length jobs ≡ k
-    pub read : map job_model jobs ≡ take k (places_read n l)
+    pub read : jobs ≡ take k (places_read n l)
 
   next_place : (k : ℕ) → k < max_jobs → take k (places_read n l) ++ (job_read n (6 + 24 * l + 3 * k) ∷ []) ≡ take (suc k) (places_read n l)
   next_place zero h = refl
@@ -41,17 +41,16 @@ module _ (n : List ℕ) (l : ℕ) where
   next_place (suc (suc (suc (suc (suc (suc (suc zero))))))) h = refl
   next_place (suc (suc (suc (suc (suc (suc (suc (suc k)))))))) h = absurd (omega arith)
 
-  pub job_more : (k : ℕ) → k < max_jobs → (jobs : List Job) → JobsRead k jobs → (j : Job) → job_model j ≡ job_read n (6 + 24 * l + 3 * k)
-      → (more : List Job) → more ≡ jobs ++ (j ∷ []) → JobsRead (k + 1) more
+  pub job_more : (k : ℕ) → k < max_jobs → (jobs : List queues.Job) → JobsRead k jobs → (j : queues.Job) → j ≡ job_read n (6 + 24 * l + 3 * k)
+      → (more : List queues.Job) → more ≡ jobs ++ (j ∷ []) → JobsRead (k + 1) more
   job_more k h jobs p j e more grown = record {
     as_many = ap length grown ∙ length-append jobs (j ∷ []) ∙ ap (λ (m : ℕ). m + 1) p.as_many;
     read =
         let step : suc k ≡ k + 1 = omega arith in
-        ap (map job_model) grown ∙ map-append job_model jobs (j ∷ []) ∙ (λ i. p.read i ++ (e i ∷ [])) ∙ next_place k h
-        ∙ ap (λ (m : ℕ). take m (places_read n l)) step;
+        grown ∙ (λ i. p.read i ++ (e i ∷ [])) ∙ next_place k h ∙ ap (λ (m : ℕ). take m (places_read n l)) step;
   }
 
-  pub queue_read_lem : (k : ℕ) → k ≡ min (get_or n (2 + l) 0) max_jobs → (jobs : List Job) → JobsRead k jobs → map job_model jobs ≡ queue_read n l
+  pub queue_read_lem : (k : ℕ) → k ≡ min (get_or n (2 + l) 0) max_jobs → (jobs : List queues.Job) → JobsRead k jobs → jobs ≡ queue_read n l
   queue_read_lem k e jobs p =
       p.read ∙ ap (λ (m : ℕ). take m (places_read n l)) e ∙ take_least (get_or n (2 + l) 0) (places_read n l)
 
@@ -70,6 +69,12 @@ module _ (q : Lines) where
   abbrev S : LinesOf
   S = lines_model q
 
+  pub job_number_lem : (i : ℕ) → length q.queues ≡ max_lines → i < 96 → (none : Queue) {j : Job} {r : ℕ}
+      → job_model j ≡ get_or (queue_model (get_or q.queues (i / 24) none)) (i % 24 / 3) no_job → r ≡ job_part (i % 3) (job_model j) → r ≡ job_number S i
+  job_number_lem i four h none e f =
+      f ∙ ap (job_part (i % 3))
+      (e ∙ ap (λ (js : List queues.Job). get_or js (i % 24 / 3) no_job) (sym (queue_read_is q (i / 24) none (omega (arith, four, h)))))
+
   pub is_turn : (i : ℕ) → i ≡ 0 → q.turn % max_lines ≡ number_at S i
   is_turn i e = ap (number_at S) (sym e)
 
@@ -85,9 +90,9 @@ module _ (q : Lines) where
         go (suc zero) h g = absurd (g refl)
         go (suc (suc k)) h g = let e : k ≡ suc (suc k) - 2 = omega arith in ap past e
 
-    pub is_count : length q.queues ≡ max_lines → i < 6 → (none : Queue) (n : ℕ) → n ≡ array_vec_len (get_or q.queues (i - 2) none) → n ≡ number_at S i
+    pub is_count : length q.queues ≡ max_lines → i < 6 → (none : Queue) (n : ℕ) → SizeIs (get_or q.queues (i - 2) none) n → n ≡ number_at S i
     is_count four h none n size =
-        size ∙ sym (ap length (queue_read_is q (i - 2) none (omega (arith, four, h))) ∙ length-map (get_or q.queues (i - 2) none).items job_model)
+        size.size_is ∙ ap length (sym (queue_read_is q (i - 2) none (omega (arith, four, h))))
         ∙ (λ k. cond (sym (lt-ltb (i - 2) max_lines (omega arith)) k) (length (queue_at S (i - 2))) (job_number S (i - 2 - 4)))
         ∙ sym past_two
 

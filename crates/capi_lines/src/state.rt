@@ -78,13 +78,8 @@ fn job_number(lines: &Lines, i: usize) -> u64
     requires { i < 96 }
     ensures { result ≡ job_number (lines_model lines.now) i }
 {
-    let queue = &lines.queues[i / 24];
-    let k = i % 24 / 3;
-    if k < queue.len() {
-        part(queue[k], i % 3)
-    } else {
-        0
-    }
+    let job = lines.queues[i / 24].job_at(i % 24 / 3);
+    part(job, i % 3)
 }
 
 // The number at a place of the list.

@@ -1,19 +1,16 @@
 -- What the loops of a comparison keep, and what each of its answers says.
 use mathlib.Core.Bool.{Bool, true, false, cond, ◌&&◌, false≢true}
-use mathlib.Core.List.{List, [], ◌∷◌}
-use mathlib.Core.Path.{◌≡◌, refl, sym, ap, ◌∙◌, subst}
+use mathlib.Core.List.{List, ◌∷◌}
+use mathlib.Core.Path.{◌≡◌, sym, ap, ◌∙◌, subst}
 use Prim.Native.Nat.{ℕ, suc, ◌+◌, ◌/◌, ◌%◌, ◌-◌, ◌<◌, ◌≤◌}
 use native.Mathlib.Omega.{arith}
-use lib.Dec.{leb, eqb}
-use lib.Pointwise.{pointwise}
-use Rattle.std.proofs.lemmas.Bool.Decides.{nat_tests}
-use Rattle.std.proofs.Common.{add-one, drop-cons}
-use lib.ListN.{length, take, drop}
+use lib.Dec.{leb}
+use lib.ListN.{length, drop}
 use lib.Seq.{drop-length}
 use borrow.Author.Tests.{le-leb, lt-leb}
 use Rattle.privileges.specs.Booleans.{bool_ext}
 use Rattle.program.specs.Bytes.{byte}
-use Rattle.traces.specs.Traces.{Event, event_of, event_at, well_formed_record, trace}
+use Rattle.traces.specs.Traces.{Event, event_at, well_formed_record, trace}
 use Rattle.traces.specs.Comparing.{same_event, refused, fits, diverges, compared, if_both, comparison}
 use Rattle.traces.proofs.Laws.Greedy.{matched, placed_none, placed_room, compared_fits, compared_diverges}
 use Rattle.traces.proofs.Laws.Records.{trace_length, well_formed_true, trace_next, well_formed_next, whole_entry, decision_at}
@@ -47,35 +44,6 @@ module _ (s : List ℕ) where
   formed_all i f h =
       let e : i ≡ length s = omega (arith, f.within) in
       sym (f.so_far ∙ ap (λ (x : ℕ). well_formed_record (drop x s)) e ∙ ap well_formed_record (drop-length s))
-
--- ---- two entries
-entry_bytes : (s : List ℕ) (i : ℕ) → i + 4 ≤ length s → take (i + 4 - i) (drop i s) ≡ byte s i ∷ byte s (i + 1) ∷ byte s (i + 2) ∷ byte s (i + 3) ∷ []
-entry_bytes s i inside = ap (λ (n : ℕ). take n (drop i s)) four ∙ ap (take 4) bytes
-  where
-    four : i + 4 - i ≡ 4
-    four = omega arith
-
-    next_byte : (j k : ℕ) → j < length s → k ≡ j + 1 → drop j s ≡ byte s j ∷ drop k s
-    next_byte j k h e = drop-cons s j 0 h ∙ ap (λ (x : ℕ). byte s j ∷ drop x s) (sym (add-one j) ∙ sym e)
-
-    bytes : drop i s ≡ byte s i ∷ byte s (i + 1) ∷ byte s (i + 2) ∷ byte s (i + 3) ∷ drop (i + 4) s
-    bytes =
-        next_byte i (i + 1) (omega arith) refl ∙ ap (λ (l : List ℕ). byte s i ∷ l)
-        (next_byte (i + 1) (i + 2) (omega arith) (omega arith) ∙ ap (λ (l : List ℕ). byte s (i + 1) ∷ l)
-        (next_byte (i + 2) (i + 3) (omega arith) (omega arith) ∙ ap (λ (l : List ℕ). byte s (i + 2) ∷ l)
-        (next_byte (i + 3) (i + 4) (omega arith) (omega arith))))
-
--- events are equal if their bytes are
-same_bytes : (h l p d h' l' p' d' : ℕ) → l < 256 → l' < 256 → d ≤ 1 → d' ≤ 1
-    → pointwise eqb (h ∷ l ∷ p ∷ d ∷ []) (h' ∷ l' ∷ p' ∷ d' ∷ []) ≡ same_event (event_of h l p d) (event_of h' l' p' d')
-same_bytes h l p d h' l' p' d' low low' bit bit' = grind (arith, nat_tests)
-
-pub same_entry : (u o : List ℕ) (i j : ℕ) → EntryAt u i → EntryAt o j → byte u (i + 1) < 256 → byte o (j + 1) < 256
-    → pointwise eqb (take (i + 4 - i) (drop i u)) (take (j + 4 - j) (drop j o)) ≡ same_event (event_at u i) (event_at o j)
-same_entry u o i j of_unit of_office low low' =
-    (λ k. pointwise eqb (entry_bytes u i of_unit.inside k) (entry_bytes o j of_office.inside k))
-    ∙ same_bytes (byte u i) (byte u (i + 1)) (byte u (i + 2)) (byte u (i + 3)) (byte o j) (byte o (j + 1)) (byte o (j + 2)) (byte o (j + 3))
-    low low' of_unit.decision of_office.decision
 
 -- ---- placing the entries: those of the unit before byte i are placed before byte j of the office's record
 pub record Placing (u o : List ℕ) (i j : ℕ) : Type 0 where

@@ -47,27 +47,31 @@ fn well_formed(s: &[u8]) -> bool
     true
 }
 
-// How many of the unit's entries can be placed, from the first on.
+// How many of the unit's entries can be placed, from the first on: those before byte i. By bytes, since the compiler adds to a number of entries what a
+// comparison gives, without a branch, and each entry then waits for the one before it.
 fn count_matched(unit: &[u8], office: &[u8]) -> usize
     requires { TwoFormed unit.now office.now }
     ensures { result ≡ matched_entries unit.now office.now }
 {
-    let mut placed = 0;
+    let mut i = 0;
     for j in 0..office.len() / ENTRY {
-        if placed == unit.len() / ENTRY {
-            return placed;
+        if i == unit.len() {
+            return i / ENTRY;
         }
-        if same(unit, ENTRY * placed, office, ENTRY * j) {
-            placed += 1;
+        if same(unit, i, office, ENTRY * j) {
+            i += ENTRY;
         }
     }
-    placed
+    i / ENTRY
 }
 
-// Whether the entries at two places are equal: events are if their bytes are.
+// Whether the entries at two places are equal: events are if their bytes are. Byte by byte, since two slices compared by `==` double the time of all.
 fn same(unit: &[u8], i: usize, office: &[u8], j: usize) -> bool
     requires { TwoEntries unit.now i office.now j }
     ensures { result ≡ same_event (event_at unit.now i) (event_at office.now j) }
 {
-    unit[i..i + ENTRY] == office[j..j + ENTRY]
+    unit[i] == office[j]
+        && unit[i + 1] == office[j + 1]
+        && unit[i + 2] == office[j + 2]
+        && unit[i + 3] == office[j + 3]
 }

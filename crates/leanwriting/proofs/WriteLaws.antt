@@ -4,9 +4,10 @@ use mathlib.Core.List.{List, [], ◌∷◌, ◌++◌, append_assoc}
 use mathlib.Core.Path.{◌≡◌, refl, sym, ap, ◌∙◌}
 use Prim.Native.Nat.{ℕ, suc, ◌+◌, ◌*◌, ◌<◌, ◌≤◌}
 use native.Mathlib.Nat.{mul-le-mul_left}
+use native.Mathlib.Numerals.{add-one}
 use native.Mathlib.Omega.{arith}
-use lib.ListN.{length, take, drop, length-append, length-drop}
-use lib.Seq.{paste-zero, length-take-le, take_at, drop-append-add, drop-drop}
+use lib.ListN.{length, take, drop, get_or, set, length-append, length-drop}
+use lib.Seq.{paste, paste-zero, paste-suc, length-take-le, take_all, take_at, drop-append-add, drop-drop}
 use Rattle.program.specs.Bytes.{overwrite}
 use Rattle.program.specs.Layout.{type_field, types, terms}
 use Rattle.program.specs.declared.records.Counts.{Counts}
@@ -45,6 +46,25 @@ module _ (b : List ℕ) (at : ℕ) where
         (λ i. overwrite (e i) (q i) ys)
         ∙ (λ i. take_at (take at b ++ xs) (drop (at + length xs) b) (at + length xs) front_length i ++ ys ++ behind ys i)
         ∙ (λ i. append_assoc (take at b) xs ys i ++ drop (both i) b)
+
+-- ---- bytes that are copied one by one, the first i already
+pub record Pasted (b : List ℕ) (at : ℕ) (bytes : List ℕ) (i : ℕ) (x : List ℕ) : Type 0 where
+  pub below : i ≤ length bytes
+  pub list_is : x ≡ paste b at bytes i
+
+module _ (b : List ℕ) (at : ℕ) (bytes : List ℕ) (room : at + length bytes ≤ length b) (i : ℕ) {x : List ℕ} (P : Pasted b at bytes i x) where
+  pub pasted_more : i < length bytes → Pasted b at bytes (i + 1) (set x (at + i) (get_or bytes i 0))
+  pasted_more h = record {
+    below = omega arith;
+    list_is = ap (λ (y : List ℕ). set y (at + i) (get_or bytes i 0)) P.list_is ∙ paste-suc b at bytes i 0 (omega arith) (omega arith)
+        ∙ ap (paste b at bytes) (sym (add-one i));
+  }
+
+  pub pasted_all : length bytes ≤ i → x ≡ overwrite b at bytes
+  pasted_all h =
+      let done : i ≡ length bytes = omega (arith, P.below) in
+      P.list_is ∙ ap (paste b at bytes) done
+      ∙ ap (λ (ys : List ℕ). take at b ++ ys ++ drop (at + length bytes) b) (take_all (length bytes) bytes (omega arith))
 
 -- ---- the records of those that are kept, of one width
 -- a place for all of them

@@ -13,12 +13,14 @@ use program::records::Counts;
 use renumbering::numbers::Numbers;
 use renumbering::terms::is_erased;
 
-// Writes bytes at a place of the buffer.
+// Writes bytes at a place of the buffer. By a loop, since `copy_from_slice` of a length that is not known asks the C library for memmove.
 fn put(buffer: &mut [u8], at: usize, bytes: &[u8])
     requires { at + length bytes.now ≤ length buffer.old }
     ensures { buffer.new ≡ overwrite buffer.old at bytes.now }
 {
-    buffer[at..at + bytes.len()].copy_from_slice(bytes);
+    for i in 0..bytes.len() {
+        buffer[at + i] = bytes[i];
+    }
 }
 
 // Writes a field's tag and length.

@@ -28,9 +28,9 @@ use Rattle.largest.specs.Largest.{is_largest, largest_conditions, refused_with, 
 use Rattle.lines.specs.Sessions.{Operation, add, serve, stepped, session, serves_in, only, added_if, added_by, in_turn, served_by, added_in, served_in, Sound}
 use Rattle.largest.specs.Theorems.{same_run, largest_few, largest_untouched, largest_lengths}
 use Rattle.queues.specs.Queues.{max_lines, max_jobs, Job, Lines as LinesOf, new_lines, queue_at, add_conditions, enqueued, added_to, add_of, inside, Turn, nobody, serves, turn_at, next_line, turn_from, turn_of, job_sheet, after_turn}
-use Rattle.arrayvec.specs.ArrayVec.{array_vec_len}
 use Rattle.queues.specs.Answers.{no_queue, job_model, queue_model, lines_model}
 use Rattle.queues.specs.Laws.{queue_is}
+use Rattle.queues.specs.declared.state.Queue.{Queue}
 use Rattle.queues.specs.declared.state.Lines.{Lines}
 use Rattle.queues.specs.Theorems.{FirstWaiting, served_first, nobody_waiting}
 use Rattle.lines.specs.Serving.{rest_from, behind, job_run, job_after, idle, answered, Served, served_as, serve_turn, serve_of}
@@ -46,24 +46,26 @@ none_waits (suc (suc (suc (suc l)))) = refl
 pub start_sound : Sound new_lines
 start_sound = record { four = refl; turn_below = omega arith; few = λ l. omega (arith, ap length (none_waits l)) }
 
--- Any struct is read as one, whoever made it: it has four queues with room for eight jobs.
-pub read_sound : (q : Lines) → length q.queues ≡ max_lines → ((l : ℕ) → l < max_lines → array_vec_len (get_or q.queues l no_queue) ≤ max_jobs)
+-- Any struct is read as one, whoever made it: it has four queues of eight places.
+pub read_sound : (q : Lines) → length q.queues ≡ max_lines → ((l : ℕ) → l < max_lines → length (get_or q.queues l no_queue).jobs ≡ max_jobs)
     → Sound (lines_model q)
 read_sound q four eight = record {
   four = length-map q.queues queue_model ∙ four;
   turn_below = omega arith;
   few = λ l.
+      let h = get_or q.queues l no_queue in
       omega (
         arith,
         ap length (queue_is q l),
-        length-map (get_or q.queues l no_queue).items job_model,
-        jobs l (dec_lt l max_lines),
+        length-map (take h.count h.jobs) job_model,
+        length-take h.count h.jobs,
+        places l (dec_lt l max_lines),
       );
 }
   where
-    jobs : (l : ℕ) → Dec (l < max_lines) → array_vec_len (get_or q.queues l no_queue) ≤ max_jobs
-    jobs l (yes h) = eight l h
-    jobs l (no h) = omega (arith, ap array_vec_len (get_or-eq_default q.queues no_queue {n = l} (omega (arith, four))))
+    places : (l : ℕ) → Dec (l < max_lines) → length (get_or q.queues l no_queue).jobs ≤ max_jobs
+    places l (yes h) = omega (arith, eight l h)
+    places l (no h) = omega (arith, ap (λ (x : Queue). length x.jobs) (get_or-eq_default q.queues no_queue {n = l} (omega (arith, four))))
 
 -- one queue is another one
 module _ (qs : List (List Job)) (four : length qs ≡ max_lines) (k : ℕ) (below : k < max_lines) (js : List Job) where

@@ -1,2 +1,3 @@
 pub mod ListLaws
+pub mod QueueLaws
 pub mod LineLaws

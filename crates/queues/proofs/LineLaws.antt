@@ -1,19 +1,17 @@
--- The four lines, from the struct to the state that it stands for: which line is served, and what an add leaves.
+-- The four lines, from the struct to the state that it stands for: which line is served, what an add leaves, and what a turn leaves.
 use mathlib.Core.Bool.{Bool, true, false, true≢false}
 use mathlib.Core.List.{List, [], ◌∷◌, ◌++◌, map}
 use mathlib.Core.Path.{◌≡◌, refl, sym, ap, ◌∙◌}
 use Prim.Native.Nat.{ℕ, suc, ◌+◌, ◌-◌, ◌%◌, ◌<◌, ◌≤◌}
 use native.Mathlib.Omega.{arith}
-use lib.Dec.{ltb, eqb}
-use Rattle.std.proofs.lemmas.List.{map-append}
-use lib.ListN.{length, get_or, set, length-map}
-use Rattle.arrayvec.specs.ArrayVec.{array_vec_len}
-use borrow.Author.Tests.{lt-ltb, le-ltb, eqb-true, eqb-false}
+use lib.Dec.{ltb}
+use lib.ListN.{length, get_or, set}
+use borrow.Author.Tests.{lt-ltb, le-ltb}
 use Rattle.program.specs.Screening.{clear, found, refuse_at, screen, unless}
-use Rattle.queues.specs.Queues.{max_lines, max_jobs, Job, Lines as LinesOf, queue_at, inside, Added, added_to, add_of, nobody, turn_at, next_line, turn_from, turn_of}
-use Rattle.queues.specs.Answers.{Queue, job_model, queue_model, lines_model}
-use Rattle.queues.specs.Internal.{has_job, NextLine}
-use Rattle.queues.specs.declared.state.Job as queued
+use Rattle.queues.specs.Queues.{max_lines, max_jobs, Job, Lines as LinesOf, queue_at, inside, Added, added_to, add_of, nobody, turn_at, next_line, turn_from, turn_of, after_turn}
+use Rattle.queues.specs.Answers.{queue_model, lines_model}
+use Rattle.queues.specs.Internal.{has_job, SizeIs, NextLine}
+use Rattle.queues.specs.declared.state.Queue.{Queue}
 use Rattle.queues.specs.declared.state.Lines.{Lines}
 use Rattle.queues.specs.Laws.{queue_read_is}
 use Rattle.queues.proofs.ListLaws.{map_set}
@@ -71,10 +69,14 @@ module _ (q : Lines) where
   unfolding turn_from
   none_at_all k h none = let e : max_lines - k ≡ 0 = omega arith in none ∙ ap (λ (n : ℕ). turn_from n S (line_on k)) e
 
--- ---- an add, by its tests
-cases_room : {n m k : ℕ} → n ≤ k → m ≡ n → (n ≡ k → ⊥) → m < k
-cases_room h e f = omega (arith, h, e, f)
+-- ---- a line has had its turn
+pub turn_over : (q : Lines) (l at : ℕ) (rest : Queue) → lines_model (record { queues = set q.queues l rest; turn = (l + 1) % max_lines; place = at })
+    ≡ after_turn (lines_model q) l (queue_model rest) at
+turn_over q l at rest =
+    let same : (l + 1) % max_lines % max_lines ≡ next_line l = omega arith in
+    λ i. record { queues = map_set queue_model q.queues l rest i; turn = same i; place = at }
 
+-- ---- an add, by its tests
 module _ (q : Lines) (l : ℕ) (j : Job) (store : List ℕ) where
   abbrev tested : (below within room : Bool) → Added
   tested x y z = added_to (screen (unless 27 x ∷ unless 28 y ∷ unless 29 z ∷ [])) (lines_model q) l j
@@ -93,35 +95,25 @@ module _ (q : Lines) (l : ℕ) (j : Job) (store : List ℕ) where
     unfolding screen refuse_at
     outside_answered e = sym (by_tests (lt-ltb l max_lines below) (sym within ∙ e) refl)
 
-    module _ (f : x ≡ true) (none : Queue) (four : length q.queues ≡ max_lines) {full : Bool}
-        (is : full ≡ eqb (array_vec_len (get_or q.queues l none)) max_jobs) where
-      abbrev on_line : Queue
-      on_line = get_or q.queues l none
+    module _ (f : x ≡ true) (none : Queue) (four : length q.queues ≡ max_lines) (n : ℕ) (size : SizeIs (get_or q.queues l none) n) where
+      size_of : length (queue_at (lines_model q) l) ≡ n
+      size_of = ap length (queue_read_is q l none (omega arith)) ∙ sym size.size_is
 
-      line_is : queue_at (lines_model q) l ≡ queue_model on_line
-      line_is = queue_read_is q l none (omega arith)
-
-      size_of : length (queue_at (lines_model q) l) ≡ array_vec_len on_line
-      size_of = ap length line_is ∙ length-map on_line.items job_model
-
-      pub full_answered : full ≡ true → record { answer = found 29 0; state = lines_model q } ≡ add_of (lines_model q) l j store
+      pub full_answered : max_jobs ≤ n → record { answer = found 29 0; state = lines_model q } ≡ add_of (lines_model q) l j store
       unfolding screen refuse_at
       full_answered e =
           sym (by_tests (lt-ltb l max_lines below) (sym within ∙ f)
-          (le-ltb (length (queue_at (lines_model q) l)) max_jobs (omega (arith, size_of, eqb-true (array_vec_len on_line) max_jobs (sym is ∙ e)))))
+          (le-ltb (length (queue_at (lines_model q) l)) max_jobs (omega (arith, size_of, e))))
 
-      pub has_added : full ≡ false → array_vec_len on_line ≤ max_jobs → (more again : Queue) (x : queued.Job) → job_model x ≡ j
-          → more.items ≡ (get_or q.queues l again).items ++ (x ∷ [])
+      pub has_added : n < max_jobs → (more again : Queue) → queue_model more ≡ queue_model (get_or q.queues l again) ++ (j ∷ [])
           → record { answer = clear; state = lines_model (record { queues = set q.queues l more; turn = q.turn; place = q.place }) }
           ≡ add_of (lines_model q) l j store
       unfolding screen refuse_at
-      has_added e fits more again x same grown =
+      has_added e more again grown =
           let behind : queue_model more ≡ queue_at (lines_model q) l ++ (j ∷ []) =
-          ap (map job_model) grown ∙ map-append job_model (get_or q.queues l again).items (x ∷ [])
-          ∙ (λ i. sym (queue_read_is q l again (omega arith)) i ++ (same i ∷ [])) in
+          grown ∙ ap (λ (js : List Job). js ++ (j ∷ [])) (sym (queue_read_is q l again (omega arith))) in
           let queues-are : map queue_model (set q.queues l more) ≡ set (map queue_model q.queues) l (queue_at (lines_model q) l ++ (j ∷ [])) =
           map_set queue_model q.queues l more ∙ ap (set (map queue_model q.queues) l) behind in
-          let room : length (queue_at (lines_model q) l) < max_jobs = cases_room fits size_of (eqb-false (array_vec_len on_line) max_jobs (sym is ∙ e)) in
           (λ i. record { answer = clear; state = record { queues = queues-are i; turn = q.turn % max_lines; place = q.place } })
           ∙ sym (by_tests (lt-ltb l max_lines below) (sym within ∙ f)
-          (lt-ltb (length (queue_at (lines_model q) l)) max_jobs room))
+          (lt-ltb (length (queue_at (lines_model q) l)) max_jobs (omega (arith, e, size_of))))

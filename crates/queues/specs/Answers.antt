@@ -1,10 +1,10 @@
 -- The queues as 02 speaks of them, however the struct was made, and 02's number for each case of an add's answer.
-use Rattle.std.specs.Prelude.{List, [], map, ℕ, ◌%◌, Result, Ok, Err}
-use Rattle.arrayvec.specs.ArrayVec.{ArrayVec}
+use Rattle.std.specs.Prelude.{List, [], map, ℕ, ◌%◌, take, Result, Ok, Err}
 use Rattle.program.specs.Screening.{Screening, clear, found}
 use Rattle.queues.specs.Queues as queues
 use Rattle.queues.specs.Queues.{Lines as LinesOf, max_lines}
 use Rattle.queues.specs.declared.state.Job.{Job}
+use Rattle.queues.specs.declared.state.Queue.{Queue}
 use Rattle.queues.specs.declared.state.Lines.{Lines}
 use Rattle.queues.specs.declared.state.AddRefusal.{AddRefusal}
 use Rattle.queues.specs.declared.state.AddRefusal.TheVariants.{NoLine, Outside, Full}
@@ -18,15 +18,13 @@ no_job = job_of 0 0 0
 abbrev pub job_model : Job → queues.Job
 job_model j = job_of j.offset j.length j.calls
 
-abbrev pub Queue : Type 0
-Queue = ArrayVec Job
-
 -- the queue of a line that is not there
 abbrev pub no_queue : Queue
-no_queue = record { items = [] }
+no_queue = record { jobs = []; count = 0 }
 
+-- the first `count` of eight places, so that a count above 8 is read as 8
 abbrev pub queue_model : Queue → List queues.Job
-queue_model q = map job_model q.items
+queue_model q = map job_model (take q.count q.jobs)
 
 -- a turn above 3 is read modulo 4
 abbrev pub lines_model : Lines → LinesOf

@@ -4,7 +4,8 @@ use Rattle.std.proofs.Common.{ap, ◌∙◌}
 use Rattle.std.proofs.Math.ListN.{get_or-map}
 use Rattle.std.proofs.lemmas.List.{get_or_default}
 use Rattle.queues.specs.Queues.{queue_at}
-use Rattle.queues.specs.Answers.{Queue, no_queue, queue_model, lines_model}
+use Rattle.queues.specs.Answers.{no_queue, queue_model, lines_model}
+use Rattle.queues.specs.declared.state.Queue.{Queue}
 use Rattle.queues.specs.declared.state.Lines.{Lines}
 
 pub queue_is : (q : Lines) (l : ℕ) → queue_at (lines_model q) l ≡ queue_model (get_or q.queues l no_queue)

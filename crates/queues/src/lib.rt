@@ -3,12 +3,13 @@
 
 ghost use Rattle.std.specs.Prelude.{true, ◌∷◌, ◌≡◌, ◌+◌, ◌<◌, leb, drop};
 ghost use Rattle.queues.specs.Queues.{max_lines, new_lines, queue_at, add_of, after_turn};
-ghost use Rattle.queues.specs.Answers.{job_model, lines_model, added_model};
+ghost use Rattle.queues.specs.Answers.{job_model, queue_model, lines_model, added_model};
 ghost use Rattle.queues.specs.Internal.{has_job, Next};
 
+pub mod queue;
 pub mod state;
 
-use state::{AddRefusal, Job, Lines, MAX_LINES, Queue};
+use state::{AddRefusal, Job, Lines, MAX_JOBS, MAX_LINES, Queue};
 
 // Whether a part lies in a store of so many bytes.
 pub fn inside(offset: usize, length: usize, size: usize) -> bool
@@ -41,7 +42,7 @@ impl Lines {
         if !inside(job.offset, job.length, store.len()) {
             return Err(AddRefusal::Outside);
         }
-        if self.queues[at].is_full() {
+        if MAX_JOBS <= self.queues[at].len() {
             return Err(AddRefusal::Full);
         }
         self.queues[at].push(job);
@@ -53,7 +54,7 @@ impl Lines {
         requires { line < max_lines }
         ensures { result ≡ has_job (queue_at (lines_model self.now) line) }
     {
-        !self.queues[line].is_empty()
+        0 < self.queues[line].len()
     }
 
     // The line whose turn it is: the first from `turn` on that has a job.
@@ -69,6 +70,16 @@ impl Lines {
         None
     }
 
+    // A line has had its turn: these jobs are left of it, the next line is due, and posts go on at this place.
+    pub fn after_turn(&mut self, line: usize, rest: Queue, place: usize)
+        requires { line < max_lines }
+        ensures { lines_model self.new ≡ after_turn (lines_model self.old) line (queue_model rest) place }
+    {
+        self.queues[line] = rest;
+        self.turn = (line + 1) % MAX_LINES;
+        self.place = place;
+    }
+
     // A line has its turn: its oldest job leaves the queue, and the next line is due.
     pub fn take_turn(&mut self, line: usize) -> Job
         requires below { line < max_lines }
@@ -78,8 +89,9 @@ impl Lines {
         ensures left { lines_model self.new
             ≡ after_turn (lines_model self.old) line (drop 1 (queue_at (lines_model self.old) line)) self.old.place }
     {
-        let job = self.queues[line].remove(0);
-        self.turn = (line + 1) % MAX_LINES;
+        let mut rest = self.queues[line];
+        let job = rest.take_first();
+        self.after_turn(line, rest, self.place);
         job
     }
 }

@@ -1,6 +1,4 @@
 // The queues by value, and why an add is refused. specs/Answers.antt gives the paper's number of each case.
-use arrayvec::ArrayVec;
-
 pub const MAX_LINES: usize = 4;
 
 pub const MAX_JOBS: usize = 8;
@@ -13,11 +11,15 @@ pub struct Job {
     pub calls: u32,
 }
 
-// The jobs that wait on a line, the oldest first.
-pub type Queue = ArrayVec<Job, MAX_JOBS>;
+// The first `count` jobs wait on a line, the oldest first.
+#[derive(Clone, Copy)]
+pub struct Queue {
+    pub jobs: [Job; MAX_JOBS],
+    pub count: usize,
+}
 
 // The queues of lines 0 to 3, the line whose turn it is, and the place in the list of posts where the last job stopped.
-#[derive(Drop)]
+#[derive(Clone, Copy)]
 pub struct Lines {
     pub queues: [Queue; MAX_LINES],
     pub turn: usize,

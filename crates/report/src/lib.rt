@@ -34,14 +34,14 @@ pub fn report(
         return Err(Undelivered::Unfit);
     }
     let d = render(sheet, cells, posts);
-    deliver(&d, text)
+    deliver(d.as_bytes(), text)
 }
 
 // The whole text, and the run behind it.
 fn render(sheet: &[u8], cells: &mut [u8], posts: &mut [u32]) -> Draft
     requires { LargestBuffers cells.old posts.old }
     ensures { Rendered sheet.now (buffers_of cells.old posts.old [])
-        (buffers_of cells.new posts.new []) result.items }
+        (buffers_of cells.new posts.new []) result }
 {
     match typecheck(sheet) {
         Ok(x) => run_accepted(sheet, cells, posts, x),
@@ -52,7 +52,7 @@ fn render(sheet: &[u8], cells: &mut [u8], posts: &mut [u32]) -> Draft
 // The run of an accepted sheet, and its text.
 fn run_accepted(sheet: &[u8], cells: &mut [u8], posts: &mut [u32], x: Accepted) -> Draft
     ensures { RunReported sheet.now x.terms x.ty x.needs (buffers_of cells.old posts.old [])
-        (buffers_of cells.new posts.new []) result.items }
+        (buffers_of cells.new posts.new []) result }
 {
     let r = run_eager(sheet, &[], MAX_CALLS, MAX_DEPTH, true, cells, posts);
     match r {

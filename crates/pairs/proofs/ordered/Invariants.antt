@@ -1,4 +1,4 @@
--- The first i pairs are in order (ordered_next); one that is not decides (ordered_not).
+-- The first i pairs are in order; one that is not decides (ordered_not).
 use Rattle.pairs.proofs.PairLaws.{OrderedBelow}
 use Rattle.pairs.proofs.ordered.Given as goal
 

@@ -15,4 +15,4 @@ returns-then-posts-ne-MAX_POSTS c = other_posts c.args.sheet.now c.args.cells.no
 pub returns : goal.returns
 returns c =
     all_reported c.args.sheet.now c.args.cells.now c.args.posts.now c.args.text.now c.if-cells-ne-MAX_CELLS.false c.if-posts-ne-MAX_POSTS.false
-    c.render-d.ensures (subst (λ (d : List ℕ). Delivered d c.args.text.now c.deliver.result c.deliver.new.text) c.deref.ensures.0 c.deliver.ensures)
+    c.render-d.ensures (subst (λ (d : List ℕ). Delivered d c.args.text.now c.deliver.result c.deliver.new.text) c.as_bytes.ensures c.deliver.ensures)

@@ -1,5 +1,5 @@
 -- Each turn adds one frame, from the outermost on: the set is what the frames from frame i on grant. A frame grants, of its principal's set, what it
--- enables or the frames behind it grant (grants_more).
+-- enables or the frames behind it grant.
 use mathlib.Core.Path.{◌≡◌}
 use Prim.Native.Nat.{◌*◌}
 use lib.ListN.{drop}
