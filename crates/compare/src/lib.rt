@@ -65,7 +65,7 @@ fn count_matched(unit: &[u8], office: &[u8]) -> usize
     i / ENTRY
 }
 
-// Whether the entries at two places are equal: events are if their bytes are. Byte by byte, since two slices compared by `==` double the time of all.
+// Whether the entries at two places are equal: events are if their bytes are. Byte by byte: `==` of two slices takes as long again as all the rest.
 fn same(unit: &[u8], i: usize, office: &[u8], j: usize) -> bool
     requires { TwoEntries unit.now i office.now j }
     ensures { result ≡ same_event (event_at unit.now i) (event_at office.now j) }
