@@ -10,7 +10,6 @@ use borrow.Author.Tests.{lt-ltb, le-ltb}
 use Rattle.queues.specs.Queues as queues
 use Rattle.queues.specs.Queues.{max_lines, max_jobs, Lines as LinesOf, queue_at}
 use Rattle.queues.specs.Answers.{no_job, job_model, queue_model, lines_model}
-use Rattle.queues.specs.Internal.{SizeIs}
 use Rattle.queues.specs.declared.state.Queue.{Queue}
 use Rattle.queues.specs.Laws.{queue_read_is}
 use Rattle.lines.proofs.ListLaws.{take_least}
@@ -90,9 +89,9 @@ module _ (q : Lines) where
         go (suc zero) h g = absurd (g refl)
         go (suc (suc k)) h g = let e : k ≡ suc (suc k) - 2 = omega arith in ap past e
 
-    pub is_count : length q.queues ≡ max_lines → i < 6 → (none : Queue) (n : ℕ) → SizeIs (get_or q.queues (i - 2) none) n → n ≡ number_at S i
+    pub is_count : length q.queues ≡ max_lines → i < 6 → (none : Queue) (n : ℕ) → n ≡ length (queue_model (get_or q.queues (i - 2) none)) → n ≡ number_at S i
     is_count four h none n size =
-        size.size_is ∙ ap length (sym (queue_read_is q (i - 2) none (omega (arith, four, h))))
+        size ∙ ap length (sym (queue_read_is q (i - 2) none (omega (arith, four, h))))
         ∙ (λ k. cond (sym (lt-ltb (i - 2) max_lines (omega arith)) k) (length (queue_at S (i - 2))) (job_number S (i - 2 - 4)))
         ∙ sym past_two
 
